@@ -161,11 +161,11 @@ static const uint8_t switch_table_dfu_slots_layout_is_sized[4] = {
 static const uint16_t switch_table_dfu_boot_c_trial_flash_prepared[4] = {
     0x10, 0x10, 0x40, 0x100
 };
-static const uint32_t switch_table_dfu_core_install_next[3] = {
-    0xfffffffa, 0xfffffff1, 0xfffffff9
-};
 static const uint32_t switch_table_dfu_core_home_next[3] = {
     0xfffffff0, 0xfffffffd, 0xfffffff8
+};
+static const uint32_t switch_table_dfu_core_install_next[3] = {
+    0xfffffffa, 0xfffffff1, 0xfffffff9
 };
 
 #ifdef DFU_READ
@@ -177,10 +177,6 @@ static struct i8_i32 dfu_boot_install_compare_first_difference(unsigned char *a0
 static uint8_t dfu_boot_install_compare_is_same(unsigned char *a0, unsigned char *a2, size_t a4);
 #endif
 static uint8_t dfu_home_bytes_are_same(unsigned char *a0, size_t a1, unsigned char *a2);
-static void dfu_boot_install_deciding_next(unsigned char *a0, unsigned char *a1, size_t a2, unsigned char *a3, uint64_t a4, uint32_t a5, uint8_t a6, uint32_t a7);
-#ifdef DFU_READ
-static void dfu_boot_install_pieces_piece(unsigned char *a0, size_t a1, uint32_t a2, unsigned char *a3);
-#endif
 static void dfu_boot_c_home_flash_medium(unsigned char *a0, unsigned char *a1, unsigned char *a2, size_t a3);
 static void dfu_boot_c_trial_flash_medium_of(unsigned char *a0, unsigned char *a1, unsigned char *a2, size_t a3);
 static struct i8_i8 dfu_home_asking_is_home(unsigned char *a0);
@@ -199,6 +195,10 @@ static uint8_t dfu_slots_read_generation(unsigned char *a0, uint32_t a1);
 #endif
 static uint8_t dfu_slots_places_has_newest(unsigned char *a0, uint32_t a1, uint32_t a2, uint8_t a3, uint8_t a4);
 static uint8_t dfu_slots_read_header_len(unsigned char *a0, uint32_t a1);
+static void dfu_boot_install_deciding_next(unsigned char *a0, unsigned char *a1, size_t a2, unsigned char *a3, uint64_t a4, uint32_t a5, uint8_t a6, uint32_t a7);
+#ifdef DFU_READ
+static void dfu_boot_install_pieces_piece(unsigned char *a0, size_t a1, uint32_t a2, unsigned char *a3);
+#endif
 static void dfu_home_copying_head(unsigned char *a0, unsigned char *a1, unsigned char *a2, unsigned char *a4, size_t a5, uint8_t a6, uint32_t a7, unsigned char *a8);
 static void dfu_home_copying_unit_due(unsigned char *a0, unsigned char *a1, unsigned char *a2, uint32_t a4, uint8_t a5, uint32_t a6, unsigned char *a7, size_t a8, unsigned char *a9);
 static void dfu_boot_c_trial_flash_looked(unsigned char *a0, unsigned char *a1, unsigned char *a2, size_t a3);
@@ -306,74 +306,7 @@ static uint8_t dfu_boot_install_area_are_blank(unsigned char *a0, uint32_t a2, u
     }
     return r8_not_not_not_not_not_not_not_not_not_not;
 }
-#endif
 
-#ifndef DFU_READ
-/* dfu_boot::install::deciding::next: crates/dfu_boot/src/install/deciding.rt */
-static void dfu_boot_install_deciding_next(unsigned char *a0, unsigned char *a1, size_t a2, unsigned char *a3, uint64_t a4, uint32_t a5, uint8_t a6, uint32_t a7) {
-    uint8_t trunc;
-    uint32_t r7_0, r9_4_0, r16_2, r19_631_0;
-    struct i8_i32 r21_pn;
-    size_t v5, indvars_iv;
-    uint8_t r19_0_0;
-    if ((a4 < 0x100000000ULL) & (((a5 - 1) < 0x40000U) & ((a5 & 255) == 0))) {
-        if (((uint32_t)a4 % a5) == 0) {
-            if (a2 == 0) {
-                *a0 = 0;
-                a0[1] = 1;
-                return;
-            }
-            if (a4 < (uint64_t)a2) {
-                *a0 = 0;
-                a0[1] = 2;
-                return;
-            }
-            trunc = a6 & 1;
-            uint32_t r16 = (uint32_t)a2;
-            r7_0 = (uint32_t)(trunc ? umin32(r16, a7) : 0);
-            struct i8_i32 r21 = dfu_boot_install_compare_first_difference(a1, a3, r7_0, r16);
-            if (r21.a == 1) r21_pn = r21;
-            else {
-                struct i8_i32 r37 = dfu_boot_install_compare_first_difference(a1, a3, 0, r7_0);
-                if (r37.a != 1) {
-                    r19_631_0 = 0;
-                    r19_0_0 = 3;
-                    goto join_13;
-                }
-                r21_pn = r37;
-            }
-            r9_4_0 = r21_pn.b;
-            r16_2 = r9_4_0 & 0xffffff00U;
-            if (trunc ? (a7 <= r16_2) : 0) {
-                if ((a7 - (a7 % a5)) == (r16_2 - (r16_2 % a5))) {
-                    v5 = (size_t)(r16_2 + 256);
-                    indvars_iv = (size_t)r16_2;
-                    for (;;) {
-                        if (indvars_iv >= v5) {
-                            r19_631_0 = r16_2;
-                            r19_0_0 = 2;
-                            goto join_13;
-                        }
-                        uint8_t r3_0_0_copyload = a3[indvars_iv];
-                        if (r3_0_0_copyload != 255) break;
-                        indvars_iv = indvars_iv + 1;
-                    }
-                }
-            }
-            r19_631_0 = r9_4_0 - (r9_4_0 % a5);
-            r19_0_0 = 1;
-join_13:
-            *a0 = r19_0_0;
-            a0[1] = 0;
-            store32(a0 + 4, r19_631_0);
-            return;
-        }
-    }
-    *a0 = 0;
-    a0[1] = 0;
-    return;
-}
-#else
 /* dfu_boot::install::compare::first_difference: crates/dfu_boot/src/install/compare.rt */
 static struct i8_i32 dfu_boot_install_compare_first_difference(unsigned char *a0, unsigned char *a2, uint32_t a4, uint32_t a5) {
     uint32_t r5_0, r0_4_0;
@@ -440,72 +373,6 @@ static uint8_t dfu_home_bytes_are_same(unsigned char *a0, size_t a1, unsigned ch
         r5_0 = r5_0 + 1;
     }
     return r5_0_lcssa >= a1;
-}
-
-/* dfu_boot::install::deciding::next: crates/dfu_boot/src/install/deciding.rt */
-static void dfu_boot_install_deciding_next(unsigned char *a0, unsigned char *a1, size_t a2, unsigned char *a3, uint64_t a4, uint32_t a5, uint8_t a6, uint32_t a7) {
-    uint8_t trunc;
-    uint32_t r7_0, r9_4_0, r16_2, r19_631_0;
-    struct i8_i32 r21_pn;
-    uint8_t r19_0_0;
-    if ((a4 < 0x100000000ULL) & (((a5 - 1) < 0x40000U) & ((a5 & 255) == 0))) {
-        if (((uint32_t)a4 % a5) == 0) {
-            if (a2 == 0) {
-                *a0 = 0;
-                a0[1] = 1;
-                return;
-            }
-            if (a4 < (uint64_t)a2) {
-                *a0 = 0;
-                a0[1] = 2;
-                return;
-            }
-            trunc = a6 & 1;
-            uint32_t r16 = (uint32_t)a2;
-            r7_0 = (uint32_t)(trunc ? umin32(r16, a7) : 0);
-            struct i8_i32 r21 = dfu_boot_install_compare_first_difference(a1, a3, r7_0, r16);
-            if (r21.a == 1) r21_pn = r21;
-            else {
-                struct i8_i32 r37 = dfu_boot_install_compare_first_difference(a1, a3, 0, r7_0);
-                if (r37.a != 1) {
-                    r19_631_0 = 0;
-                    r19_0_0 = 3;
-                    goto join_13;
-                }
-                r21_pn = r37;
-            }
-            r9_4_0 = r21_pn.b;
-            r16_2 = r9_4_0 & 0xffffff00U;
-            if (trunc ? (a7 <= r16_2) : 0) {
-                if ((a7 - (a7 % a5)) == (r16_2 - (r16_2 % a5))) {
-                    uint8_t r47 = dfu_boot_install_area_are_blank(a3, r16_2, r16_2 + 256);
-                    if (r47) {
-                        r19_631_0 = r16_2;
-                        r19_0_0 = 2;
-                        goto join_13;
-                    }
-                }
-            }
-            r19_631_0 = r9_4_0 - (r9_4_0 % a5);
-            r19_0_0 = 1;
-join_13:
-            *a0 = r19_0_0;
-            a0[1] = 0;
-            store32(a0 + 4, r19_631_0);
-            return;
-        }
-    }
-    *a0 = 0;
-    a0[1] = 0;
-    return;
-}
-
-/* dfu_boot::install::pieces::piece: crates/dfu_boot/src/install/pieces.rt */
-static void dfu_boot_install_pieces_piece(unsigned char *a0, size_t a1, uint32_t a2, unsigned char *a3) {
-    size_t a1_a0 = umin_size(a1, (size_t)a2);
-    memset(a3, 255, 256);
-    DFU_READ(a0 + a1_a0, a3, umin_size(a1 - a1_a0, 256));
-    return;
 }
 #endif
 
@@ -947,6 +814,87 @@ static uint8_t dfu_slots_read_generation(unsigned char *a0, uint32_t a1) {
 #endif
 
 #ifndef DFU_READ
+/* dfu_boot::install::deciding::next: crates/dfu_boot/src/install/deciding.rt */
+static void dfu_boot_install_deciding_next(unsigned char *a0, unsigned char *a1, size_t a2, unsigned char *a3, uint64_t a4, uint32_t a5, uint8_t a6, uint32_t a7) {
+    uint8_t trunc;
+    uint32_t r7_0, r9_4_0, r16_2, r19_631_0;
+    struct i8_i32 r21_pn;
+    size_t v5, indvars_iv;
+    uint8_t r19_0_0;
+    if ((a4 < 0x100000000ULL) & (((a5 - 1) < 0x40000U) & ((a5 & 255) == 0))) {
+        if (((uint32_t)a4 % a5) == 0) {
+            if (a2 == 0) {
+                *a0 = 0;
+                a0[1] = 1;
+                return;
+            }
+            if (a4 < (uint64_t)a2) {
+                *a0 = 0;
+                a0[1] = 2;
+                return;
+            }
+            trunc = a6 & 1;
+            uint32_t r16 = (uint32_t)a2;
+            r7_0 = (uint32_t)(trunc ? umin32(r16, a7) : 0);
+            struct i8_i32 r21 = dfu_boot_install_compare_first_difference(a1, a3, r7_0, r16);
+            if (r21.a == 1) r21_pn = r21;
+            else {
+                struct i8_i32 r37 = dfu_boot_install_compare_first_difference(a1, a3, 0, r7_0);
+                if (r37.a != 1) {
+                    r19_631_0 = 0;
+                    r19_0_0 = 3;
+                    goto join_13;
+                }
+                r21_pn = r37;
+            }
+            r9_4_0 = r21_pn.b;
+            r16_2 = r9_4_0 & 0xffffff00U;
+            if (trunc ? (a7 <= r16_2) : 0) {
+                if ((a7 - (a7 % a5)) == (r16_2 - (r16_2 % a5))) {
+                    v5 = (size_t)(r16_2 + 256);
+                    indvars_iv = (size_t)r16_2;
+                    for (;;) {
+                        if (indvars_iv >= v5) {
+                            r19_631_0 = r16_2;
+                            r19_0_0 = 2;
+                            goto join_13;
+                        }
+                        uint8_t r3_0_0_copyload = a3[indvars_iv];
+                        if (r3_0_0_copyload != 255) break;
+                        indvars_iv = indvars_iv + 1;
+                    }
+                }
+            }
+            r19_631_0 = r9_4_0 - (r9_4_0 % a5);
+            r19_0_0 = 1;
+join_13:
+            *a0 = r19_0_0;
+            a0[1] = 0;
+            store32(a0 + 4, r19_631_0);
+            return;
+        }
+    }
+    *a0 = 0;
+    a0[1] = 0;
+    return;
+}
+#else
+/* dfu_slots::places::has_newest::<#f31be65e8793cebb>: crates/dfu_slots/src/places.rt */
+static uint8_t dfu_slots_places_has_newest(unsigned char *a0, uint32_t a1, uint32_t a2, uint8_t a3, uint8_t a4) {
+    uint8_t r8_0_in;
+    if (a1 == 0) {
+        uint8_t r24 = dfu_slots_places_is_newest(a0, 0, a2, a3 & 1, a4 & 1);
+        r8_0_in = r24;
+    }
+    else {
+        uint8_t r33 = dfu_slots_places_is_newest(a0, a1, a2, a4 & 1, a3 & 1);
+        r8_0_in = r33;
+    }
+    return r8_0_in;
+}
+#endif
+
+#ifndef DFU_READ
 /* dfu_home::copying::head::<#f31be65e8793cebb>: crates/dfu_home/src/copying.rt */
 static void dfu_home_copying_head(unsigned char *a0, unsigned char *a1, unsigned char *a2, unsigned char *a4, size_t a5, uint8_t a6, uint32_t a7, unsigned char *a8) {
     _Alignas(4) unsigned char r8[16];
@@ -984,18 +932,30 @@ static void dfu_home_copying_head(unsigned char *a0, unsigned char *a1, unsigned
     return;
 }
 #else
-/* dfu_slots::places::has_newest::<#f31be65e8793cebb>: crates/dfu_slots/src/places.rt */
-static uint8_t dfu_slots_places_has_newest(unsigned char *a0, uint32_t a1, uint32_t a2, uint8_t a3, uint8_t a4) {
-    uint8_t r8_0_in;
-    if (a1 == 0) {
-        uint8_t r24 = dfu_slots_places_is_newest(a0, 0, a2, a3 & 1, a4 & 1);
-        r8_0_in = r24;
-    }
+/* dfu_slots::read::header_len::<#f31be65e8793cebb>: crates/dfu_slots/src/read.rt */
+static uint8_t dfu_slots_read_header_len(unsigned char *a0, uint32_t a1) {
+    _Alignas(1) unsigned char r3[16];
+    uint8_t r1_2_0_copyload, r0_0_0_0;
+    uint32_t r1_9_0_copyload;
+    dfu_slots_read_header_of(r3, a0, a1);
+    r1_2_0_copyload = r3[1];
+    r1_9_0_copyload = load32u(r3 + 12);
+    if (r1_2_0_copyload == 2) r0_0_0_0 = 1;
     else {
-        uint8_t r33 = dfu_slots_places_is_newest(a0, a1, a2, a4 & 1, a3 & 1);
-        r8_0_in = r33;
+        uint32_t r1_6_0_copyload = load32u(r3 + 4);
+        uint32_t r1_8_0_copyload = load32u(r3 + 8);
+        uint8_t r1_5_0_copyload = r3[3];
+        uint8_t r1_4_0_copyload = r3[2];
+        size_t r3_2 = load_size(a0 + 8);
+        uint8_t r0_0_0_copyload = a0[16];
+        uint32_t r1_0_0_copyload = load32(a0 + 20);
+        uint32_t switch_load = (uint32_t)switch_table_dfu_boot_c_trial_flash_prepared[(size_t)r0_0_0_copyload];
+        if (((((r1_2_0_copyload == 1) & (r1_6_0_copyload <= (((uint32_t)r3_2 >> 1) - (umax32(r1_0_0_copyload, switch_load) << 1)))) ? (r1_4_0_copyload == 0) : 0) ? (r1_5_0_copyload == 0) : 0) ? (r1_8_0_copyload == 0) : 0) r0_0_0_0 = r1_9_0_copyload == 0;
+        else {
+            r0_0_0_0 = 0;
+        }
     }
-    return r8_0_in;
+    return r0_0_0_0;
 }
 #endif
 
@@ -1038,30 +998,62 @@ common_ret:
     return;
 }
 #else
-/* dfu_slots::read::header_len::<#f31be65e8793cebb>: crates/dfu_slots/src/read.rt */
-static uint8_t dfu_slots_read_header_len(unsigned char *a0, uint32_t a1) {
-    _Alignas(1) unsigned char r3[16];
-    uint8_t r1_2_0_copyload, r0_0_0_0;
-    uint32_t r1_9_0_copyload;
-    dfu_slots_read_header_of(r3, a0, a1);
-    r1_2_0_copyload = r3[1];
-    r1_9_0_copyload = load32u(r3 + 12);
-    if (r1_2_0_copyload == 2) r0_0_0_0 = 1;
-    else {
-        uint32_t r1_6_0_copyload = load32u(r3 + 4);
-        uint32_t r1_8_0_copyload = load32u(r3 + 8);
-        uint8_t r1_5_0_copyload = r3[3];
-        uint8_t r1_4_0_copyload = r3[2];
-        size_t r3_2 = load_size(a0 + 8);
-        uint8_t r0_0_0_copyload = a0[16];
-        uint32_t r1_0_0_copyload = load32(a0 + 20);
-        uint32_t switch_load = (uint32_t)switch_table_dfu_boot_c_trial_flash_prepared[(size_t)r0_0_0_copyload];
-        if (((((r1_2_0_copyload == 1) & (r1_6_0_copyload <= (((uint32_t)r3_2 >> 1) - (umax32(r1_0_0_copyload, switch_load) << 1)))) ? (r1_4_0_copyload == 0) : 0) ? (r1_5_0_copyload == 0) : 0) ? (r1_8_0_copyload == 0) : 0) r0_0_0_0 = r1_9_0_copyload == 0;
-        else {
-            r0_0_0_0 = 0;
+/* dfu_boot::install::deciding::next: crates/dfu_boot/src/install/deciding.rt */
+static void dfu_boot_install_deciding_next(unsigned char *a0, unsigned char *a1, size_t a2, unsigned char *a3, uint64_t a4, uint32_t a5, uint8_t a6, uint32_t a7) {
+    uint8_t trunc;
+    uint32_t r7_0, r9_4_0, r16_2, r19_631_0;
+    struct i8_i32 r21_pn;
+    uint8_t r19_0_0;
+    if ((a4 < 0x100000000ULL) & (((a5 - 1) < 0x40000U) & ((a5 & 255) == 0))) {
+        if (((uint32_t)a4 % a5) == 0) {
+            if (a2 == 0) {
+                *a0 = 0;
+                a0[1] = 1;
+                return;
+            }
+            if (a4 < (uint64_t)a2) {
+                *a0 = 0;
+                a0[1] = 2;
+                return;
+            }
+            trunc = a6 & 1;
+            uint32_t r16 = (uint32_t)a2;
+            r7_0 = (uint32_t)(trunc ? umin32(r16, a7) : 0);
+            struct i8_i32 r21 = dfu_boot_install_compare_first_difference(a1, a3, r7_0, r16);
+            if (r21.a == 1) r21_pn = r21;
+            else {
+                struct i8_i32 r37 = dfu_boot_install_compare_first_difference(a1, a3, 0, r7_0);
+                if (r37.a != 1) {
+                    r19_631_0 = 0;
+                    r19_0_0 = 3;
+                    goto join_13;
+                }
+                r21_pn = r37;
+            }
+            r9_4_0 = r21_pn.b;
+            r16_2 = r9_4_0 & 0xffffff00U;
+            if (trunc ? (a7 <= r16_2) : 0) {
+                if ((a7 - (a7 % a5)) == (r16_2 - (r16_2 % a5))) {
+                    uint8_t r47 = dfu_boot_install_area_are_blank(a3, r16_2, r16_2 + 256);
+                    if (r47) {
+                        r19_631_0 = r16_2;
+                        r19_0_0 = 2;
+                        goto join_13;
+                    }
+                }
+            }
+            r19_631_0 = r9_4_0 - (r9_4_0 % a5);
+            r19_0_0 = 1;
+join_13:
+            *a0 = r19_0_0;
+            a0[1] = 0;
+            store32(a0 + 4, r19_631_0);
+            return;
         }
     }
-    return r0_0_0_0;
+    *a0 = 0;
+    a0[1] = 0;
+    return;
 }
 #endif
 
@@ -1177,6 +1169,14 @@ arm_5:
     return;
 }
 #else
+/* dfu_boot::install::pieces::piece: crates/dfu_boot/src/install/pieces.rt */
+static void dfu_boot_install_pieces_piece(unsigned char *a0, size_t a1, uint32_t a2, unsigned char *a3) {
+    size_t a1_a0 = umin_size(a1, (size_t)a2);
+    memset(a3, 255, 256);
+    DFU_READ(a0 + a1_a0, a3, umin_size(a1 - a1_a0, 256));
+    return;
+}
+
 /* dfu_home::copying::head::<#f31be65e8793cebb>: crates/dfu_home/src/copying.rt */
 static void dfu_home_copying_head(unsigned char *a0, unsigned char *a1, unsigned char *a2, unsigned char *a4, size_t a5, uint8_t a6, uint32_t a7, unsigned char *a8) {
     _Alignas(1) unsigned char r4[64];
@@ -1567,7 +1567,7 @@ static uint32_t dfu_boot_c_trial_again_start_from(unsigned char *a0, unsigned ch
                     if (r1_0_0_copyload_4 == 165) {
                         uint8_t r1_0_0_copyload_5 = r18[(size_t)(a0_a1 + r4_0_0_extract_trunc)];
                         uint8_t r1_0_0_copyload_6 = r18[(size_t)(a0_a1 + r4_4_0_extract_trunc)];
-                        if (r1_0_0_copyload_5 != (uint8_t)(r1_0_0_copyload_6 + 1)) goto dfu_boot_c_trial_again_looked_again_exit;
+                        if (r1_0_0_copyload_5 != (uint8_t)(r1_0_0_copyload_6 + 1)) goto dfu_boot_c_trial_again_standing_from_earlier_look_exit;
                     }
                     r112 = dfu_boot_trial_marks_is_set(r7, r4_0_0_extract_trunc, 0);
                     if (!r112) {
@@ -1575,20 +1575,20 @@ static uint32_t dfu_boot_c_trial_again_start_from(unsigned char *a0, unsigned ch
                         if (r1_0_0_copyload_7 == 165) {
                             uint8_t r138 = dfu_boot_trial_marks_is_set(r7, r4_4_0_extract_trunc, 0);
                             if (r138) {
-                                if (r8_not) goto dfu_boot_c_trial_again_looked_again_exit;
-                                if (r3_4_0 != ((r48 - r4_0_0_extract_trunc) + r4_4_0_extract_trunc)) goto dfu_boot_c_trial_again_looked_again_exit;
+                                if (r8_not) goto dfu_boot_c_trial_again_standing_from_earlier_look_exit;
+                                if (r3_4_0 != ((r48 - r4_0_0_extract_trunc) + r4_4_0_extract_trunc)) goto dfu_boot_c_trial_again_standing_from_earlier_look_exit;
                                 uint32_t r227 = dfu_boot_trial_marks_starts(r7, r47, r4_0_0_extract_trunc);
                                 r11_9_0_0 = 1;
                                 r11_15_0 = r4_4_0_extract_trunc;
                                 r11_17_0 = r227;
-                                goto dfu_boot_c_trial_again_looked_again_exit_thread67;
+                                goto dfu_boot_c_trial_again_standing_from_earlier_look_exit_thread67;
                             }
                         }
                     }
                     r11_9_0_0 = 0;
                     r11_15_0 = (uint32_t)r112;
                     r11_17_0 = 0;
-dfu_boot_c_trial_again_looked_again_exit_thread67:
+dfu_boot_c_trial_again_standing_from_earlier_look_exit_thread67:
                     memcpy(r15 + 8, r7, 24);
                     size_t r6_10_0_0_0_copyload73 = load_size(r15 + 8);
                     uint8_t r6_10_0_3_0_copyload75 = r15[24];
@@ -1604,7 +1604,7 @@ dfu_boot_c_trial_again_looked_again_exit_thread67:
                 }
             }
         }
-dfu_boot_c_trial_again_looked_again_exit:
+dfu_boot_c_trial_again_standing_from_earlier_look_exit:
         dfu_boot_c_trial_flash_looked(r15, a0, a1, a2);
         uint8_t pre = *r15;
         uint8_t pre60 = r15[1];
@@ -1867,7 +1867,7 @@ arm_5:
                     v3 = 0;
                     v4 = 0;
                     v5 = 1;
-                    goto dfu_boot_c_trial_again_looked_again_exit;
+                    goto dfu_boot_c_trial_again_standing_from_earlier_look_exit;
                 }
             }
         }
@@ -1881,7 +1881,7 @@ arm_6:
         v3 = pre61;
         v4 = pre60;
         v5 = pre == 0;
-dfu_boot_c_trial_again_looked_again_exit:
+dfu_boot_c_trial_again_standing_from_earlier_look_exit:
         memcpy(r6_10_0, r15 + 8, 24);
         memcpy(r6_15, r15 + 36, 12);
         if (v5) {
@@ -2275,60 +2275,7 @@ dfu_boot_c_install_calls_dfu_core_install_took_exit:
     store32(a0 + 4, v3);
     return signed32(0);
 }
-#endif
 
-#ifndef DFU_READ
-/* dfu_core_install_next: crates/dfu_boot_c/src/install/calls.rt */
-int32_t dfu_core_install_next(const struct dfu_run_area *area, const uint8_t *image, size_t length, const uint8_t *run, size_t size, struct dfu_ask *ask) {
-    unsigned char *a0 = (unsigned char *)(uintptr_t)area;
-    unsigned char *a1 = (unsigned char *)(uintptr_t)image;
-    size_t a2 = (size_t)length;
-    unsigned char *a3 = (unsigned char *)(uintptr_t)run;
-    size_t a4 = (size_t)size;
-    unsigned char *a5 = (unsigned char *)(uintptr_t)ask;
-    _Alignas(8) unsigned char r5[8];
-    unsigned char *r4;
-    uint32_t r10, r1_52_4_copyload, r11_0;
-    r4 = (unsigned char *)((uintptr_t)a1 + (uintptr_t)(size_t)((a1 == NULL) ? 4096 : 0));
-    store64(r5, 0);
-    r10 = load32(a0);
-    uint32_t r12 = load32(a0 + 4);
-    uint8_t r3 = r12 != 0xffffffffU;
-    dfu_boot_install_deciding_next(r5, r4, a2, (unsigned char *)((uintptr_t)a3 + (uintptr_t)(size_t)((a3 == NULL) ? 4096 : 0)), a4, r10, r3, (uint32_t)(r3 ? r12 : 0));
-    uint8_t r1_0_0_copyload = *r5;
-    r1_52_4_copyload = load32(r5 + 4);
-    switch (r1_0_0_copyload) {
-    case 0: {
-        uint8_t r1_3_1_copyload = r5[1];
-        uint32_t switch_load = (uint32_t)switch_table_dfu_core_install_next[(size_t)r1_3_1_copyload];
-        r11_0 = switch_load;
-        break;
-    }
-    case 3:
-        r11_0 = 0;
-        break;
-    case 1:
-        store32(a5, 1);
-        store32(a5 + 4, r1_52_4_copyload);
-        store32(a5 + 8, r10);
-        r11_0 = 0xfffffff5U;
-        break;
-    case 2: {
-        store32(a5, 2);
-        store32(a5 + 4, r1_52_4_copyload);
-        store32(a5 + 8, 256);
-        unsigned char *r27 = a5 + 12;
-        size_t a1_a0 = umin_size(a2, (size_t)r1_52_4_copyload);
-        memset(r27, 255, 256);
-        memmove(r27, r4 + a1_a0, umin_size(a2 - a1_a0, 256));
-        r11_0 = 0xfffffff5U;
-        break;
-    }
-    default: never();
-    }
-    return signed32(r11_0);
-}
-#else
 /* dfu_core_home_took: crates/dfu_boot_c/src/home/calls.rt */
 int32_t dfu_core_home_took(struct dfu_home_record *record, const uint8_t *flash, size_t size, const struct dfu_ask *ask, uint32_t failed) {
     unsigned char *a0 = (unsigned char *)(uintptr_t)record;
@@ -2400,55 +2347,6 @@ dfu_boot_c_home_calls_dfu_core_home_took_exit:
     store32(a0, a1_2);
     store32(r11_2, uadd_sat32(r12, 1));
     return signed32(0);
-}
-
-/* dfu_core_install_next: crates/dfu_boot_c/src/install/calls.rt */
-int32_t dfu_core_install_next(const struct dfu_run_area *area, const uint8_t *image, size_t length, const uint8_t *run, size_t size, struct dfu_ask *ask) {
-    unsigned char *a0 = (unsigned char *)(uintptr_t)area;
-    unsigned char *a1 = (unsigned char *)(uintptr_t)image;
-    size_t a2 = (size_t)length;
-    unsigned char *a3 = (unsigned char *)(uintptr_t)run;
-    size_t a4 = (size_t)size;
-    unsigned char *a5 = (unsigned char *)(uintptr_t)ask;
-    _Alignas(8) unsigned char r5[8];
-    unsigned char *r4;
-    uint32_t r1_52_4_copyload, r11_0;
-    r4 = (unsigned char *)((uintptr_t)a1 + (uintptr_t)(size_t)((a1 == NULL) ? 4096 : 0));
-    store64(r5, 0);
-    uint32_t r10 = load32(a0);
-    uint32_t r12 = load32(a0 + 4);
-    uint8_t r3 = r12 != 0xffffffffU;
-    dfu_boot_install_deciding_next(r5, r4, a2, (unsigned char *)((uintptr_t)a3 + (uintptr_t)(size_t)((a3 == NULL) ? 4096 : 0)), a4, r10, r3, (uint32_t)(r3 ? r12 : 0));
-    uint8_t r1_0_0_copyload = *r5;
-    r1_52_4_copyload = load32(r5 + 4);
-    switch (r1_0_0_copyload) {
-    case 0: {
-        uint8_t r1_3_1_copyload = r5[1];
-        uint32_t switch_load = (uint32_t)switch_table_dfu_core_install_next[(size_t)r1_3_1_copyload];
-        r11_0 = switch_load;
-        break;
-    }
-    case 3:
-        r11_0 = 0;
-        break;
-    case 1: {
-        uint32_t r29 = load32(a0);
-        store32(a5, 1);
-        store32(a5 + 4, r1_52_4_copyload);
-        store32(a5 + 8, r29);
-        r11_0 = 0xfffffff5U;
-        break;
-    }
-    case 2:
-        store32(a5, 2);
-        store32(a5 + 4, r1_52_4_copyload);
-        store32(a5 + 8, 256);
-        dfu_boot_install_pieces_piece(r4, a2, r1_52_4_copyload, a5 + 12);
-        r11_0 = 0xfffffff5U;
-        break;
-    default: never();
-    }
-    return signed32(r11_0);
 }
 #endif
 
@@ -2832,114 +2730,6 @@ dfu_boot_c_home_calls_dfu_core_home_next_exit:
 }
 #endif
 
-/* dfu_core_trial_confirm: crates/dfu_boot_c/src/trial/calls.rt */
-int32_t dfu_core_trial_confirm(const struct dfu_tries *tries, const uint8_t *flash, size_t size, uint32_t at, struct dfu_ask *ask) {
-    unsigned char *a0 = (unsigned char *)(uintptr_t)tries;
-    unsigned char *a1 = (unsigned char *)(uintptr_t)flash;
-    size_t a2 = (size_t)size;
-    uint32_t a3 = at;
-    unsigned char *a4 = (unsigned char *)(uintptr_t)ask;
-    _Alignas(8) unsigned char r6[48];
-    uint32_t r3_1133_28_copyload, r3_13_28_copyload, switch_load, a0_a1, r5, r7_0;
-    uint8_t r18_not;
-    dfu_boot_c_trial_flash_looked(r6, a0, (unsigned char *)((uintptr_t)a1 + (uintptr_t)(size_t)((a1 == NULL) ? 4096 : 0)), a2);
-    uint8_t r19 = *r6;
-    if (r19 != 0) {
-        uint8_t r5_0_0_copyload = r6[1];
-        switch (r5_0_0_copyload) {
-        case 0:
-            r7_0 = 0xfffffffeU;
-            break;
-        case 1: {
-            uint8_t r5_3_1_copyload = r6[2];
-            r7_0 = (uint32_t)0xfffffff0U - (uint32_t)r5_3_1_copyload;
-            break;
-        }
-        case 2:
-            r7_0 = 0xfffffffdU;
-            break;
-        default: never();
-        }
-    }
-    else {
-        uint8_t r3_3_0_copyload = r6[24];
-        uint32_t r3_729_0_copyload = load32(r6 + 28);
-        uint8_t r23 = r6[32];
-        r3_1133_28_copyload = load32(r6 + 36);
-        r3_13_28_copyload = load32(r6 + 40);
-        switch_load = (uint32_t)switch_table_dfu_boot_c_trial_flash_prepared[(size_t)r3_3_0_copyload];
-        a0_a1 = umax32(r3_729_0_copyload, switch_load);
-        r5 = a0_a1 << 1;
-        r18_not = a3 == (r5 + r3_1133_28_copyload);
-        if (r23 == 0) {
-            if (!r18_not) goto arm_7;
-            if (r3_13_28_copyload & 1) {
-                r7_0 = 0;
-                goto dfu_boot_c_trial_calls_dfu_core_trial_confirm_exit;
-            }
-        }
-        else {
-            if (!r18_not) {
-                if (a3 != (r5 + r3_13_28_copyload)) goto arm_7;
-                r7_0 = 0;
-                goto dfu_boot_c_trial_calls_dfu_core_trial_confirm_exit;
-            }
-        }
-        store32(a4, 2);
-        store32(a4 + 4, (switch_load + r3_1133_28_copyload) + a0_a1);
-        store32(a4 + 8, switch_load);
-        memset(a4 + 12, 0, 256);
-        r7_0 = 0xfffffff5U;
-        goto dfu_boot_c_trial_calls_dfu_core_trial_confirm_exit;
-arm_7:
-        r7_0 = 0xffffffedU;
-    }
-dfu_boot_c_trial_calls_dfu_core_trial_confirm_exit:
-    return signed32(r7_0);
-}
-
-/* dfu_core_trial_end: crates/dfu_boot_c/src/trial/calls.rt */
-int32_t dfu_core_trial_end(const struct dfu_tries *tries, const uint8_t *flash, size_t size, struct dfu_ask *ask) {
-    unsigned char *a0 = (unsigned char *)(uintptr_t)tries;
-    unsigned char *a1 = (unsigned char *)(uintptr_t)flash;
-    size_t a2 = (size_t)size;
-    unsigned char *a3 = (unsigned char *)(uintptr_t)ask;
-    _Alignas(8) unsigned char r5[48];
-    uint32_t r6_0;
-    dfu_boot_c_trial_flash_looked(r5, a0, (unsigned char *)((uintptr_t)a1 + (uintptr_t)(size_t)((a1 == NULL) ? 4096 : 0)), a2);
-    uint8_t r16 = *r5;
-    if (r16 == 0) {
-        uint8_t r20 = r5[32];
-        if (r20 == 0) r6_0 = 0;
-        else {
-            uint32_t r34 = load32(a0 + 4);
-            uint32_t r3_4_28_copyload = load32(r5 + 36);
-            store32(a3, 1);
-            store32(a3 + 4, r3_4_28_copyload);
-            store32(a3 + 8, r34);
-            r6_0 = 0xfffffff5U;
-        }
-    }
-    else {
-        uint8_t r4_0_0_copyload = r5[1];
-        switch (r4_0_0_copyload) {
-        case 0:
-            r6_0 = 0xfffffffeU;
-            break;
-        case 1: {
-            uint8_t r4_3_1_copyload = r5[2];
-            r6_0 = (uint32_t)0xfffffff0U - (uint32_t)r4_3_1_copyload;
-            break;
-        }
-        case 2:
-            r6_0 = 0xfffffffdU;
-            break;
-        default: never();
-        }
-    }
-    return signed32(r6_0);
-}
-
 #ifndef DFU_READ
 /* dfu_core_trial_look: crates/dfu_boot_c/src/trial/calls.rt */
 int32_t dfu_core_trial_look(const struct dfu_tries *tries, const uint8_t *flash, size_t size, struct dfu_standing *standing) {
@@ -3087,6 +2877,216 @@ int32_t dfu_core_trial_look(const struct dfu_tries *tries, const uint8_t *flash,
     return signed32(r6_0);
 }
 #endif
+
+#ifndef DFU_READ
+/* dfu_core_install_next: crates/dfu_boot_c/src/install/calls.rt */
+int32_t dfu_core_install_next(const struct dfu_run_area *area, const uint8_t *image, size_t length, const uint8_t *run, size_t size, struct dfu_ask *ask) {
+    unsigned char *a0 = (unsigned char *)(uintptr_t)area;
+    unsigned char *a1 = (unsigned char *)(uintptr_t)image;
+    size_t a2 = (size_t)length;
+    unsigned char *a3 = (unsigned char *)(uintptr_t)run;
+    size_t a4 = (size_t)size;
+    unsigned char *a5 = (unsigned char *)(uintptr_t)ask;
+    _Alignas(8) unsigned char r5[8];
+    unsigned char *r4;
+    uint32_t r10, r1_52_4_copyload, r11_0;
+    r4 = (unsigned char *)((uintptr_t)a1 + (uintptr_t)(size_t)((a1 == NULL) ? 4096 : 0));
+    store64(r5, 0);
+    r10 = load32(a0);
+    uint32_t r12 = load32(a0 + 4);
+    uint8_t r3 = r12 != 0xffffffffU;
+    dfu_boot_install_deciding_next(r5, r4, a2, (unsigned char *)((uintptr_t)a3 + (uintptr_t)(size_t)((a3 == NULL) ? 4096 : 0)), a4, r10, r3, (uint32_t)(r3 ? r12 : 0));
+    uint8_t r1_0_0_copyload = *r5;
+    r1_52_4_copyload = load32(r5 + 4);
+    switch (r1_0_0_copyload) {
+    case 0: {
+        uint8_t r1_3_1_copyload = r5[1];
+        uint32_t switch_load = (uint32_t)switch_table_dfu_core_install_next[(size_t)r1_3_1_copyload];
+        r11_0 = switch_load;
+        break;
+    }
+    case 3:
+        r11_0 = 0;
+        break;
+    case 1:
+        store32(a5, 1);
+        store32(a5 + 4, r1_52_4_copyload);
+        store32(a5 + 8, r10);
+        r11_0 = 0xfffffff5U;
+        break;
+    case 2: {
+        store32(a5, 2);
+        store32(a5 + 4, r1_52_4_copyload);
+        store32(a5 + 8, 256);
+        unsigned char *r27 = a5 + 12;
+        size_t a1_a0 = umin_size(a2, (size_t)r1_52_4_copyload);
+        memset(r27, 255, 256);
+        memmove(r27, r4 + a1_a0, umin_size(a2 - a1_a0, 256));
+        r11_0 = 0xfffffff5U;
+        break;
+    }
+    default: never();
+    }
+    return signed32(r11_0);
+}
+#else
+/* dfu_core_install_next: crates/dfu_boot_c/src/install/calls.rt */
+int32_t dfu_core_install_next(const struct dfu_run_area *area, const uint8_t *image, size_t length, const uint8_t *run, size_t size, struct dfu_ask *ask) {
+    unsigned char *a0 = (unsigned char *)(uintptr_t)area;
+    unsigned char *a1 = (unsigned char *)(uintptr_t)image;
+    size_t a2 = (size_t)length;
+    unsigned char *a3 = (unsigned char *)(uintptr_t)run;
+    size_t a4 = (size_t)size;
+    unsigned char *a5 = (unsigned char *)(uintptr_t)ask;
+    _Alignas(8) unsigned char r5[8];
+    unsigned char *r4;
+    uint32_t r1_52_4_copyload, r11_0;
+    r4 = (unsigned char *)((uintptr_t)a1 + (uintptr_t)(size_t)((a1 == NULL) ? 4096 : 0));
+    store64(r5, 0);
+    uint32_t r10 = load32(a0);
+    uint32_t r12 = load32(a0 + 4);
+    uint8_t r3 = r12 != 0xffffffffU;
+    dfu_boot_install_deciding_next(r5, r4, a2, (unsigned char *)((uintptr_t)a3 + (uintptr_t)(size_t)((a3 == NULL) ? 4096 : 0)), a4, r10, r3, (uint32_t)(r3 ? r12 : 0));
+    uint8_t r1_0_0_copyload = *r5;
+    r1_52_4_copyload = load32(r5 + 4);
+    switch (r1_0_0_copyload) {
+    case 0: {
+        uint8_t r1_3_1_copyload = r5[1];
+        uint32_t switch_load = (uint32_t)switch_table_dfu_core_install_next[(size_t)r1_3_1_copyload];
+        r11_0 = switch_load;
+        break;
+    }
+    case 3:
+        r11_0 = 0;
+        break;
+    case 1: {
+        uint32_t r29 = load32(a0);
+        store32(a5, 1);
+        store32(a5 + 4, r1_52_4_copyload);
+        store32(a5 + 8, r29);
+        r11_0 = 0xfffffff5U;
+        break;
+    }
+    case 2:
+        store32(a5, 2);
+        store32(a5 + 4, r1_52_4_copyload);
+        store32(a5 + 8, 256);
+        dfu_boot_install_pieces_piece(r4, a2, r1_52_4_copyload, a5 + 12);
+        r11_0 = 0xfffffff5U;
+        break;
+    default: never();
+    }
+    return signed32(r11_0);
+}
+#endif
+
+/* dfu_core_trial_confirm: crates/dfu_boot_c/src/trial/calls.rt */
+int32_t dfu_core_trial_confirm(const struct dfu_tries *tries, const uint8_t *flash, size_t size, uint32_t at, struct dfu_ask *ask) {
+    unsigned char *a0 = (unsigned char *)(uintptr_t)tries;
+    unsigned char *a1 = (unsigned char *)(uintptr_t)flash;
+    size_t a2 = (size_t)size;
+    uint32_t a3 = at;
+    unsigned char *a4 = (unsigned char *)(uintptr_t)ask;
+    _Alignas(8) unsigned char r6[48];
+    uint32_t r3_1133_28_copyload, r3_13_28_copyload, switch_load, a0_a1, r5, r7_0;
+    uint8_t r18_not;
+    dfu_boot_c_trial_flash_looked(r6, a0, (unsigned char *)((uintptr_t)a1 + (uintptr_t)(size_t)((a1 == NULL) ? 4096 : 0)), a2);
+    uint8_t r19 = *r6;
+    if (r19 != 0) {
+        uint8_t r5_0_0_copyload = r6[1];
+        switch (r5_0_0_copyload) {
+        case 0:
+            r7_0 = 0xfffffffeU;
+            break;
+        case 1: {
+            uint8_t r5_3_1_copyload = r6[2];
+            r7_0 = (uint32_t)0xfffffff0U - (uint32_t)r5_3_1_copyload;
+            break;
+        }
+        case 2:
+            r7_0 = 0xfffffffdU;
+            break;
+        default: never();
+        }
+    }
+    else {
+        uint8_t r3_3_0_copyload = r6[24];
+        uint32_t r3_729_0_copyload = load32(r6 + 28);
+        uint8_t r23 = r6[32];
+        r3_1133_28_copyload = load32(r6 + 36);
+        r3_13_28_copyload = load32(r6 + 40);
+        switch_load = (uint32_t)switch_table_dfu_boot_c_trial_flash_prepared[(size_t)r3_3_0_copyload];
+        a0_a1 = umax32(r3_729_0_copyload, switch_load);
+        r5 = a0_a1 << 1;
+        r18_not = a3 == (r5 + r3_1133_28_copyload);
+        if (r23 == 0) {
+            if (!r18_not) goto arm_7;
+            if (r3_13_28_copyload & 1) {
+                r7_0 = 0;
+                goto dfu_boot_c_trial_calls_dfu_core_trial_confirm_exit;
+            }
+        }
+        else {
+            if (!r18_not) {
+                if (a3 != (r5 + r3_13_28_copyload)) goto arm_7;
+                r7_0 = 0;
+                goto dfu_boot_c_trial_calls_dfu_core_trial_confirm_exit;
+            }
+        }
+        store32(a4, 2);
+        store32(a4 + 4, (switch_load + r3_1133_28_copyload) + a0_a1);
+        store32(a4 + 8, switch_load);
+        memset(a4 + 12, 0, 256);
+        r7_0 = 0xfffffff5U;
+        goto dfu_boot_c_trial_calls_dfu_core_trial_confirm_exit;
+arm_7:
+        r7_0 = 0xffffffedU;
+    }
+dfu_boot_c_trial_calls_dfu_core_trial_confirm_exit:
+    return signed32(r7_0);
+}
+
+/* dfu_core_trial_end: crates/dfu_boot_c/src/trial/calls.rt */
+int32_t dfu_core_trial_end(const struct dfu_tries *tries, const uint8_t *flash, size_t size, struct dfu_ask *ask) {
+    unsigned char *a0 = (unsigned char *)(uintptr_t)tries;
+    unsigned char *a1 = (unsigned char *)(uintptr_t)flash;
+    size_t a2 = (size_t)size;
+    unsigned char *a3 = (unsigned char *)(uintptr_t)ask;
+    _Alignas(8) unsigned char r5[48];
+    uint32_t r6_0;
+    dfu_boot_c_trial_flash_looked(r5, a0, (unsigned char *)((uintptr_t)a1 + (uintptr_t)(size_t)((a1 == NULL) ? 4096 : 0)), a2);
+    uint8_t r16 = *r5;
+    if (r16 == 0) {
+        uint8_t r20 = r5[32];
+        if (r20 == 0) r6_0 = 0;
+        else {
+            uint32_t r34 = load32(a0 + 4);
+            uint32_t r3_4_28_copyload = load32(r5 + 36);
+            store32(a3, 1);
+            store32(a3 + 4, r3_4_28_copyload);
+            store32(a3 + 8, r34);
+            r6_0 = 0xfffffff5U;
+        }
+    }
+    else {
+        uint8_t r4_0_0_copyload = r5[1];
+        switch (r4_0_0_copyload) {
+        case 0:
+            r6_0 = 0xfffffffeU;
+            break;
+        case 1: {
+            uint8_t r4_3_1_copyload = r5[2];
+            r6_0 = (uint32_t)0xfffffff0U - (uint32_t)r4_3_1_copyload;
+            break;
+        }
+        case 2:
+            r6_0 = 0xfffffffdU;
+            break;
+        default: never();
+        }
+    }
+    return signed32(r6_0);
+}
 
 /* dfu_core_trial_upload: crates/dfu_boot_c/src/trial/calls.rt */
 int32_t dfu_core_trial_upload(const struct dfu_tries *tries, const uint8_t *flash, size_t size, struct dfu_ask *ask) {

@@ -285,7 +285,7 @@ static void dfu_formats_memory_place_take_address(unsigned char *a0, unsigned ch
 static void dfu_formats_memory_digits_take_number(unsigned char *a0, size_t a1, size_t a2, unsigned char *a3, uint64_t a4);
 static uint64_t dfu_formats_memory_digits_digit_value(uint8_t a0);
 static void dfu_host_c_file_file_in(unsigned char *a0, unsigned char *a1, size_t a2);
-static uint8_t dfu_formats_images_endings_ends_in(unsigned char *a0, size_t a1, unsigned char *a2, size_t a3);
+static uint8_t dfu_formats_images_endings_name_ends_in(unsigned char *a0, size_t a1, unsigned char *a2, size_t a3);
 static uint8_t dfu_formats_images_looks_has_digits(unsigned char *a0, uint64_t a1);
 static uint8_t dfu_formats_images_digits_hex_digit(uint8_t a0);
 static uint8_t core_slice_reads_slice_T_starts_with_i8_core_cmp_numbers_U8PartialEq(unsigned char *a0, size_t a1, unsigned char *a2, size_t a3);
@@ -338,18 +338,18 @@ static void dfuse_host_asking_download(unsigned char *a0, unsigned char *a1, uin
 static struct i32_i32 dfu_host_c_dfuse_reports_report_numbers(uint8_t a0, uint8_t a1);
 static uint8_t dfuse_host_plan_Plan_grants(unsigned char *a0, unsigned char *a1);
 static void dfu_host_c_dfuse_holding_record_of(unsigned char *a0, unsigned char *a1);
-static void dfuse_host_session_Session_restarted_once(unsigned char *a0, unsigned char *a1, unsigned char *a2);
-static void dfuse_host_plan_Plan_unsure(unsigned char *a0, unsigned char *a1, unsigned char *a2, uint8_t a3);
+static void dfuse_host_session_Session_take_restart(unsigned char *a0, unsigned char *a1, unsigned char *a2);
+static void dfuse_host_plan_Plan_phase_when_unsure(unsigned char *a0, unsigned char *a1, unsigned char *a2, uint8_t a3);
 static void dfuse_host_plan_Plan_settle(unsigned char *a0, unsigned char *a1, unsigned char *a2, uint8_t a3, uint64_t a4);
 static void dfuse_host_plan_Plan_to_erase(unsigned char *a0, unsigned char *a1, uint8_t a2, uint64_t a3, uint64_t a4);
 static struct i8_i64 dfuse_host_plan_Plan_byte_in(unsigned char *a0, uint64_t a1, uint64_t a2);
 static void dfuse_host_plan_Plan_to_write(unsigned char *a0, unsigned char *a1, uint8_t a2, uint64_t a3, uint64_t a4, uint64_t a5);
 static void dfuse_host_plan_Plan_to_compare(unsigned char *a0, unsigned char *a1, uint8_t a2, uint64_t a3, uint64_t a4);
-static uint8_t dfuse_host_plan_Plan_comparing(unsigned char *a0, uint64_t a1, uint8_t a2, uint64_t a3);
+static uint8_t dfuse_host_plan_Plan_read_step(unsigned char *a0, uint64_t a1, uint8_t a2, uint64_t a3);
 static void dfuse_host_plan_Plan_to_write_front(unsigned char *a0, unsigned char *a1, uint8_t a2, uint64_t a3, uint64_t a4);
 static void dfuse_host_plan_Plan_to_compare_front(unsigned char *a0, unsigned char *a1, uint8_t a2, uint64_t a3, uint64_t a4);
-static void dfuse_host_plan_Plan_unsure_of(unsigned char *a0, unsigned char *a1, unsigned char *a2, uint8_t a3, uint64_t a4);
-static void dfuse_host_session_Session_spent(unsigned char *a0, unsigned char *a1, unsigned char *a2, uint16_t a3);
+static void dfuse_host_plan_Plan_on_unsure_command(unsigned char *a0, unsigned char *a1, unsigned char *a2, uint8_t a3, uint64_t a4);
+static void dfuse_host_session_Session_spend_action(unsigned char *a0, unsigned char *a1, unsigned char *a2, uint16_t a3);
 
 /* dfu_host_c::watching::is_other: crates/dfu_host_c/src/watching.rt */
 static uint8_t dfu_host_c_watching_is_other(unsigned char *a0, unsigned char *a1) {
@@ -1341,8 +1341,8 @@ static void dfu_host_c_file_file_in(unsigned char *a0, unsigned char *a1, size_t
     return;
 }
 
-/* dfu_formats::images::endings::ends_in: crates/dfu_formats/src/images/endings.rt */
-static uint8_t dfu_formats_images_endings_ends_in(unsigned char *a0, size_t a1, unsigned char *a2, size_t a3) {
+/* dfu_formats::images::endings::name_ends_in: crates/dfu_formats/src/images/endings.rt */
+static uint8_t dfu_formats_images_endings_name_ends_in(unsigned char *a0, size_t a1, unsigned char *a2, size_t a3) {
     unsigned char *r16;
     size_t r5_0;
     uint8_t exitcond_not, common_ret_op;
@@ -4726,8 +4726,8 @@ static void dfu_host_c_dfuse_holding_record_of(unsigned char *a0, unsigned char 
     return;
 }
 
-/* dfuse_host::session::Session::restarted_once: crates/dfuse_host/src/session.rt */
-static void dfuse_host_session_Session_restarted_once(unsigned char *a0, unsigned char *a1, unsigned char *a2) {
+/* dfuse_host::session::Session::take_restart: crates/dfuse_host/src/session.rt */
+static void dfuse_host_session_Session_take_restart(unsigned char *a0, unsigned char *a1, unsigned char *a2) {
     _Alignas(8) unsigned char r0[104];
     unsigned char *const r1_0 = r0;
     _Alignas(8) unsigned char r10[104];
@@ -4749,7 +4749,7 @@ static void dfuse_host_session_Session_restarted_once(unsigned char *a0, unsigne
     if (r1_5_0_copyload == 0) {
         *r8 = 1;
         r8[1] = 5;
-        dfuse_host_session_Session_spent(r0, a1, r8, 0);
+        dfuse_host_session_Session_spend_action(r0, a1, r8, 0);
     }
     else {
         if ((uint8_t)(r2_7_0_copyload + 249) >= 2) {
@@ -4763,7 +4763,7 @@ static void dfuse_host_session_Session_restarted_once(unsigned char *a0, unsigne
         }
         else {
             struct i8_i64 r35 = dfuse_host_plan_Plan_command_of(a1, a2, r2_5_0_copyload, r2_69_0_copyload);
-            dfuse_host_plan_Plan_unsure(r4, a1, a2, r35.a);
+            dfuse_host_plan_Plan_phase_when_unsure(r4, a1, a2, r35.a);
             uint8_t pre = *r4;
             uint8_t pre10 = r4[1];
             uint8_t pre11 = r4[2];
@@ -4776,14 +4776,14 @@ static void dfuse_host_session_Session_restarted_once(unsigned char *a0, unsigne
         r3[2] = v0;
         memcpy(r3 + 8, r4 + 8, 48);
         memcpy(r10, r1_0, 100);
-        dfuse_host_session_Session_spent(r0, r10, r3, (uint16_t)(r1_5_0_copyload + 0xffffU));
+        dfuse_host_session_Session_spend_action(r0, r10, r3, (uint16_t)(r1_5_0_copyload + 0xffffU));
     }
     memcpy(a0, r0, 104);
     return;
 }
 
-/* dfuse_host::plan::Plan::unsure: crates/dfuse_host/src/command.rt */
-static void dfuse_host_plan_Plan_unsure(unsigned char *a0, unsigned char *a1, unsigned char *a2, uint8_t a3) {
+/* dfuse_host::plan::Plan::phase_when_unsure: crates/dfuse_host/src/command.rt */
+static void dfuse_host_plan_Plan_phase_when_unsure(unsigned char *a0, unsigned char *a1, unsigned char *a2, uint8_t a3) {
     uint8_t r2, r11_1017_0_in;
     uint64_t v0, v1, r11_13_0, r11_15_0;
     r2 = *a2;
@@ -5051,7 +5051,7 @@ static void dfuse_host_plan_Plan_to_compare(unsigned char *a0, unsigned char *a1
     r19 = dfuse_host_plan_Plan_byte_in(a1, a4, r17);
     if (r19.a != 0) {
         uint64_t r21 = r19.b;
-        uint8_t r42 = dfuse_host_plan_Plan_comparing(a1, r21, a2, a3);
+        uint8_t r42 = dfuse_host_plan_Plan_read_step(a1, r21, a2, a3);
         store_size(r8 + 8, 3);
         store64(r8 + 16, r21);
         store64(r8 + 24, 0);
@@ -5084,8 +5084,8 @@ static void dfuse_host_plan_Plan_to_compare(unsigned char *a0, unsigned char *a1
     return;
 }
 
-/* dfuse_host::plan::Plan::comparing: crates/dfuse_host/src/settling.rt */
-static uint8_t dfuse_host_plan_Plan_comparing(unsigned char *a0, uint64_t a1, uint8_t a2, uint64_t a3) {
+/* dfuse_host::plan::Plan::read_step: crates/dfuse_host/src/settling.rt */
+static uint8_t dfuse_host_plan_Plan_read_step(unsigned char *a0, uint64_t a1, uint8_t a2, uint64_t a3) {
     _Alignas(8) unsigned char r9[32];
     uint64_t a3_fr;
     uint8_t r6_0_0_0;
@@ -5174,7 +5174,7 @@ static void dfuse_host_plan_Plan_to_compare_front(unsigned char *a0, unsigned ch
     r12 = dfuse_host_plan_Plan_byte_in(a1, a4, r10);
     if (r12.a != 0) {
         uint64_t r14 = r12.b;
-        uint8_t r29 = dfuse_host_plan_Plan_comparing(a1, r14, a2, a3);
+        uint8_t r29 = dfuse_host_plan_Plan_read_step(a1, r14, a2, a3);
         r7_0_0 = 0;
         r7_106_0 = 5;
         r7_13_0 = r14;
@@ -5237,11 +5237,11 @@ join_4:
     return;
 }
 
-/* dfuse_host::plan::Plan::unsure_of: crates/dfuse_host/src/sending.rt */
-static void dfuse_host_plan_Plan_unsure_of(unsigned char *a0, unsigned char *a1, unsigned char *a2, uint8_t a3, uint64_t a4) {
+/* dfuse_host::plan::Plan::on_unsure_command: crates/dfuse_host/src/sending.rt */
+static void dfuse_host_plan_Plan_on_unsure_command(unsigned char *a0, unsigned char *a1, unsigned char *a2, uint8_t a3, uint64_t a4) {
     _Alignas(8) unsigned char r0[56];
     struct i8_i64 r15 = dfuse_host_plan_Plan_command_of(a1, a2, a3, a4);
-    dfuse_host_plan_Plan_unsure(r0, a1, a2, r15.a);
+    dfuse_host_plan_Plan_phase_when_unsure(r0, a1, a2, r15.a);
     uint8_t v0 = *r0;
     *a0 = v0;
     uint8_t v1 = r0[1];
@@ -5252,8 +5252,8 @@ static void dfuse_host_plan_Plan_unsure_of(unsigned char *a0, unsigned char *a1,
     return;
 }
 
-/* dfuse_host::session::Session::spent: crates/dfuse_host/src/session.rt */
-static void dfuse_host_session_Session_spent(unsigned char *a0, unsigned char *a1, unsigned char *a2, uint16_t a3) {
+/* dfuse_host::session::Session::spend_action: crates/dfuse_host/src/session.rt */
+static void dfuse_host_session_Session_spend_action(unsigned char *a0, unsigned char *a1, unsigned char *a2, uint16_t a3) {
     _Alignas(8) unsigned char r9_21[16];
     uint32_t r1_3_0_copyload, r2_18_8_copyload, r9_27_0;
     uint8_t v1, v2, r2_73_8_copyload, r2_15_8_copyload, r9_0_0, r9_5_0, r9_9_0, r9_1328_0, r9_23_0;
@@ -5641,91 +5641,91 @@ uint32_t dfu_image_look(const uint8_t *file, size_t length, const uint8_t *name,
     uint32_t r9_0_2, r1_0_6_extract_trunc, r7_0_2, r7_0_3, r9_0, r7_0;
     r4 = (unsigned char *)((uintptr_t)a0 + (uintptr_t)(size_t)((a0 == NULL) ? 4096 : 0));
     r13 = (unsigned char *)((uintptr_t)a2 + (uintptr_t)(size_t)((a2 == NULL) ? 4096 : 0));
-    uint8_t r78 = dfu_formats_images_endings_ends_in(PLACE(static_2), 4, r13, a3);
+    uint8_t r78 = dfu_formats_images_endings_name_ends_in(PLACE(static_2), 4, r13, a3);
     if (r78) {
         r7_7_0 = 0;
         r7_4_0 = 1;
         r7_0_0 = 1;
     }
     else {
-        uint8_t r94 = dfu_formats_images_endings_ends_in(PLACE(static_3), 4, r13, a3);
+        uint8_t r94 = dfu_formats_images_endings_name_ends_in(PLACE(static_3), 4, r13, a3);
         if (r94) {
             r7_7_0 = 0;
             r7_4_0 = 0;
             r7_0_0 = 1;
         }
         else {
-            uint8_t r107 = dfu_formats_images_endings_ends_in(PLACE(static_4), 5, r13, a3);
+            uint8_t r107 = dfu_formats_images_endings_name_ends_in(PLACE(static_4), 5, r13, a3);
             if (r107) {
                 r7_7_0 = 0;
                 r7_4_0 = 0;
                 r7_0_0 = 1;
             }
             else {
-                uint8_t r123 = dfu_formats_images_endings_ends_in(PLACE(static_5), 4, r13, a3);
+                uint8_t r123 = dfu_formats_images_endings_name_ends_in(PLACE(static_5), 4, r13, a3);
                 if (r123) {
                     r7_7_0 = 0;
                     r7_4_0 = 0;
                     r7_0_0 = 1;
                 }
                 else {
-                    uint8_t r139 = dfu_formats_images_endings_ends_in(PLACE(static_6), 4, r13, a3);
+                    uint8_t r139 = dfu_formats_images_endings_name_ends_in(PLACE(static_6), 4, r13, a3);
                     if (r139) {
                         r7_7_0 = 0;
                         r7_4_0 = 0;
                         r7_0_0 = 1;
                     }
                     else {
-                        uint8_t r159 = dfu_formats_images_endings_ends_in(PLACE(static_7), 4, r13, a3);
+                        uint8_t r159 = dfu_formats_images_endings_name_ends_in(PLACE(static_7), 4, r13, a3);
                         if (r159) {
                             r7_7_0 = 1;
                             r7_4_0 = 0;
                             r7_0_0 = 1;
                         }
                         else {
-                            uint8_t r172 = dfu_formats_images_endings_ends_in(PLACE(static_8), 4, r13, a3);
+                            uint8_t r172 = dfu_formats_images_endings_name_ends_in(PLACE(static_8), 4, r13, a3);
                             if (r172) {
                                 r7_7_0 = 1;
                                 r7_4_0 = 0;
                                 r7_0_0 = 1;
                             }
                             else {
-                                uint8_t r188 = dfu_formats_images_endings_ends_in(PLACE(static_9), 4, r13, a3);
+                                uint8_t r188 = dfu_formats_images_endings_name_ends_in(PLACE(static_9), 4, r13, a3);
                                 if (r188) {
                                     r7_7_0 = 1;
                                     r7_4_0 = 0;
                                     r7_0_0 = 1;
                                 }
                                 else {
-                                    uint8_t r204 = dfu_formats_images_endings_ends_in(PLACE(static_10), 5, r13, a3);
+                                    uint8_t r204 = dfu_formats_images_endings_name_ends_in(PLACE(static_10), 5, r13, a3);
                                     if (r204) {
                                         r7_7_0 = 1;
                                         r7_4_0 = 0;
                                         r7_0_0 = 1;
                                     }
                                     else {
-                                        uint8_t r220 = dfu_formats_images_endings_ends_in(PLACE(static_11), 4, r13, a3);
+                                        uint8_t r220 = dfu_formats_images_endings_name_ends_in(PLACE(static_11), 4, r13, a3);
                                         if (r220) {
                                             r7_7_0 = 1;
                                             r7_4_0 = 0;
                                             r7_0_0 = 1;
                                         }
                                         else {
-                                            uint8_t r240 = dfu_formats_images_endings_ends_in(PLACE(static_12), 4, r13, a3);
+                                            uint8_t r240 = dfu_formats_images_endings_name_ends_in(PLACE(static_12), 4, r13, a3);
                                             if (r240) {
                                                 r7_7_0 = 2;
                                                 r7_4_0 = 0;
                                                 r7_0_0 = 1;
                                             }
                                             else {
-                                                uint8_t r257 = dfu_formats_images_endings_ends_in(PLACE(static_13), 4, r13, a3);
+                                                uint8_t r257 = dfu_formats_images_endings_name_ends_in(PLACE(static_13), 4, r13, a3);
                                                 if (r257) {
                                                     r7_7_0 = 3;
                                                     r7_4_0 = 0;
                                                     r7_0_0 = 1;
                                                 }
                                                 else {
-                                                    uint8_t r270 = dfu_formats_images_endings_ends_in(PLACE(static_14), 4, r13, a3);
+                                                    uint8_t r270 = dfu_formats_images_endings_name_ends_in(PLACE(static_14), 4, r13, a3);
                                                     r7_7_0 = (size_t)(r270 ? 3 : 0);
                                                     r7_4_0 = 0;
                                                     r7_0_0 = r270;
@@ -7409,7 +7409,7 @@ int32_t dfuse_take(struct dfuse_session *session, const uint8_t *map, size_t map
                         memcpy(r5_2, r31, 100);
                         store16(r5_2 + 100, r8_3_0_copyload);
                         store16(r5_2 + 102, r8_5_0_copyload);
-                        dfuse_host_session_Session_restarted_once(r3, r5_2, r2);
+                        dfuse_host_session_Session_take_restart(r3, r5_2, r2);
                     }
                     else {
                         *r2_2 = 6;
@@ -7423,13 +7423,13 @@ int32_t dfuse_take(struct dfuse_session *session, const uint8_t *map, size_t map
                             memcpy(r4_2, r31, 100);
                             *r7_2 = 1;
                             r7_2[2] = 2;
-                            dfuse_host_session_Session_spent(r3, r4_2, r7_2, r8_3_0_copyload);
+                            dfuse_host_session_Session_spend_action(r3, r4_2, r7_2, r8_3_0_copyload);
                         }
                         else {
                             memcpy(r9_2, r31, 100);
                             store16(r9_2 + 100, r8_3_0_copyload);
                             store16(r9_2 + 102, r8_5_0_copyload);
-                            dfuse_host_session_Session_restarted_once(r3, r9_2, r2_2);
+                            dfuse_host_session_Session_take_restart(r3, r9_2, r2_2);
                         }
                     }
                     goto dfuse_host_session_Session_after_exit;
@@ -7819,7 +7819,7 @@ dfuse_host_clearing_on_ask_status_exit:
                         case 7:
                         case 8:
                         case 9: {
-                            dfuse_host_plan_Plan_unsure_of(r12_3, r31, r1_4, r5_10_0_copyload, r5_13_0_copyload);
+                            dfuse_host_plan_Plan_on_unsure_command(r12_3, r31, r1_4, r5_10_0_copyload, r5_13_0_copyload);
                             uint8_t pre_2 = *r12_3;
                             uint8_t pre29 = r12_3[1];
                             uint8_t pre30 = r12_3[2];
@@ -7846,7 +7846,7 @@ dfuse_host_plan_Plan_probed_exit:
                         v17 = v14;
                         break;
                     case 4: {
-                        dfuse_host_plan_Plan_unsure_of(r12_2, r31, r1_3, r5_10_0_copyload, r5_13_0_copyload);
+                        dfuse_host_plan_Plan_on_unsure_command(r12_2, r31, r1_3, r5_10_0_copyload, r5_13_0_copyload);
                         uint8_t pre_3 = *r12_2;
                         uint8_t pre10_2 = r12_2[1];
                         uint8_t pre11 = r12_2[2];
@@ -7980,7 +7980,7 @@ dfuse_host_plan_Plan_probed_exit:
                             memset(r12_5, 0, 56);
                             switch (r17_10_3_0) {
                             case 15: {
-                                dfuse_host_plan_Plan_unsure_of(r12_5, r31, r1_7, r5_10_0_copyload, r5_13_0_copyload);
+                                dfuse_host_plan_Plan_on_unsure_command(r12_5, r31, r1_7, r5_10_0_copyload, r5_13_0_copyload);
                                 uint8_t pre_5 = *r12_5;
                                 uint8_t pre4 = r12_5[1];
                                 uint8_t pre5 = r12_5[2];
@@ -8026,7 +8026,7 @@ dfuse_host_plan_Plan_probed_exit:
                         case 7:
                         case 8:
                         case 9: {
-                            dfuse_host_plan_Plan_unsure_of(r12_4, r31, r1_5, r5_10_0_copyload, r5_13_0_copyload);
+                            dfuse_host_plan_Plan_on_unsure_command(r12_4, r31, r1_5, r5_10_0_copyload, r5_13_0_copyload);
                             uint8_t pre_6 = *r12_4;
                             uint8_t pre30_2 = r12_4[1];
                             uint8_t pre31 = r12_4[2];
@@ -8432,7 +8432,7 @@ dfuse_host_closing_on_close_poll_exit:
                 store64(r13_2 + 40, r17_94_0);
                 store32(r13_2 + 48, r17_101_0);
                 store32(r13_2 + 52, r17_111_0);
-                dfuse_host_session_Session_spent(r3, r12, r13_2, r8_3_0_copyload8);
+                dfuse_host_session_Session_spend_action(r3, r12, r13_2, r8_3_0_copyload8);
 dfuse_host_session_Session_after_exit:
                 memcpy(r8, r3, 104);
             }

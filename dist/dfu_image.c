@@ -87,10 +87,10 @@ static uint8_t std_alloc_vec_Vec_grow(unsigned char *a0, uint64_t a1, unsigned c
 static uint8_t std_alloc_vec_Vec_move_to(unsigned char *a0, uint64_t a1, unsigned char *a2);
 static void libc_heap_rattle_realloc(unsigned char *a0, unsigned char *a2, size_t a3, uint64_t a4, unsigned char *a6);
 static struct i8_ptr std_heap_GlobalAllocator_allocate(uint64_t a1, unsigned char *a3);
-static void dfu_formats_images_gathering_completed(unsigned char *a0, unsigned char *a1, size_t a2, unsigned char *a3, unsigned char *a4);
+static void dfu_formats_images_gathering_insert_grown(unsigned char *a0, unsigned char *a1, size_t a2, unsigned char *a3, unsigned char *a4);
 static void std_alloc_vec_Vec_put_at(unsigned char *a0, uint64_t a1, unsigned char *a2);
 static void core_slots_raw_move_up_dfu_formats_images_element_Element(unsigned char *a0, unsigned char *a1, uint64_t a2);
-static void dfu_formats_images_ihex_based(unsigned char *a0, uint64_t a1, size_t a2, unsigned char *a3, unsigned char *a4, unsigned char *a5);
+static void dfu_formats_images_ihex_with_base(unsigned char *a0, uint64_t a1, size_t a2, unsigned char *a3, unsigned char *a4, unsigned char *a5);
 static void dfu_formats_images_gathering_Gathering_finish(unsigned char *a0, unsigned char *a1, unsigned char *a2);
 static void std_alloc_vec_Vec_drop(unsigned char *a0, unsigned char *a1);
 
@@ -441,7 +441,7 @@ static void dfu_formats_images_gathering_Gathering_add(unsigned char *a0, unsign
         store_size(r26, r1_0_6_0_copyload);
         store64(r26 + 8, r1_0_8_0_copyload);
         store64(r26 + 16, r1_0_9_0_copyload);
-        dfu_formats_images_gathering_completed(r24, a1, (size_t)r1_0_5_0_copyload, r26, a6);
+        dfu_formats_images_gathering_insert_grown(r24, a1, (size_t)r1_0_5_0_copyload, r26, a6);
         uint8_t r79 = *r24;
         r80 = r24 + 8;
         if (r79 != 0) {
@@ -518,7 +518,7 @@ static void dfu_formats_images_gathering_Gathering_add(unsigned char *a0, unsign
                         r27_17_1 = r10_5_0_copyload;
                         r27_20_1 = a3;
                         r27_24_1 = r39;
-                        goto dfu_formats_images_gathering_begun_exit;
+                        goto dfu_formats_images_gathering_begin_element_exit;
                     }
                     uint64_t r17_312_0_copyload = load64(r4 + 16);
                     if (r17_312_0_copyload != 0) {
@@ -544,7 +544,7 @@ static void dfu_formats_images_gathering_Gathering_add(unsigned char *a0, unsign
                 r27_20_1 = 0;
                 r27_24_1 = 0;
             }
-dfu_formats_images_gathering_begun_exit:
+dfu_formats_images_gathering_begin_element_exit:
             r0_0_0_0 = r27_0_0_1;
             r0_7_0 = r27_5_1;
             r0_14_0 = r27_9_1;
@@ -717,8 +717,8 @@ static struct i8_ptr std_heap_GlobalAllocator_allocate(uint64_t a1, unsigned cha
     return r30;
 }
 
-/* dfu_formats::images::gathering::completed: crates/dfu_formats/src/images/gathering.rt */
-static void dfu_formats_images_gathering_completed(unsigned char *a0, unsigned char *a1, size_t a2, unsigned char *a3, unsigned char *a4) {
+/* dfu_formats::images::gathering::insert_grown: crates/dfu_formats/src/images/gathering.rt */
+static void dfu_formats_images_gathering_insert_grown(unsigned char *a0, unsigned char *a1, size_t a2, unsigned char *a3, unsigned char *a4) {
     _Alignas(8) unsigned char r1_3[32];
     unsigned char *const r8 = r1_3;
     _Alignas(8) unsigned char r3[24];
@@ -816,7 +816,7 @@ arm_5:
                 r14_7_0 = 0;
                 r14_8_0 = 0;
                 r14_9_0 = 0;
-                goto dfu_formats_images_gathering_placed_exit;
+                goto dfu_formats_images_gathering_insert_element_exit;
             }
 join_6:
             std_alloc_vec_Vec_put_at(r3, r3_0_lcssa, r1_3);
@@ -830,7 +830,7 @@ join_6:
         r14_7_0 = r15_3_0_copyload;
         r14_8_0 = r15_4_0_copyload;
         r14_9_0 = r15_5_0_copyload;
-dfu_formats_images_gathering_placed_exit:
+dfu_formats_images_gathering_insert_element_exit:
         store_size(a0, r11_0_026);
         store32(a0 + 8, r14_4_0);
         store32(a0 + 12, r14_7_0);
@@ -916,8 +916,8 @@ static void core_slots_raw_move_up_dfu_formats_images_element_Element(unsigned c
     }
 }
 
-/* dfu_formats::images::ihex::based: crates/dfu_formats/src/images/ihex.rt */
-static void dfu_formats_images_ihex_based(unsigned char *a0, uint64_t a1, size_t a2, unsigned char *a3, unsigned char *a4, unsigned char *a5) {
+/* dfu_formats::images::ihex::with_base: crates/dfu_formats/src/images/ihex.rt */
+static void dfu_formats_images_ihex_with_base(unsigned char *a0, uint64_t a1, size_t a2, unsigned char *a3, unsigned char *a4, unsigned char *a5) {
     size_t r1_6_5_0_copyload, r4_9_4_0, r4_0_0_0, r4_98_0, r4_12_0;
     uint64_t r1_6_7_0_copyload, r1, r4_9_0_0, r4_9_3_0, r4_9_5_0, r4_9_6_0, r4_9_7_0, r4_8_0;
     uint32_t r4_4_0, r4_7_0;
@@ -1044,7 +1044,7 @@ static void dfu_formats_images_gathering_Gathering_finish(unsigned char *a0, uns
     uint32_t r5_0_0_0_extract_trunc, r5_0_5_0_extract_trunc, r1, r17_4_0, r17_7_0;
     size_t r1_3_0_copyload = load_size(a1 + 24);
     memcpy(r11, a1 + 32, 24);
-    dfu_formats_images_gathering_completed(r9, a1, r1_3_0_copyload, r11, a2);
+    dfu_formats_images_gathering_insert_grown(r9, a1, r1_3_0_copyload, r11, a2);
     uint8_t r25 = *r9;
     r26 = r9 + 8;
     if (r25 != 0) {
@@ -1569,7 +1569,7 @@ dfu_formats_images_ihex_spelled_exit:
                         store64(r2_0_18_0_r12_sroa_idx, r4_0_8_20_0);
                         store_size(r2_1110_0_r12_sroa_idx, r4_810_0);
                         store_size(r2_12_0_r12_sroa_idx, r9_22_90);
-                        dfu_formats_images_ihex_based(r3_3, r5_0, 16, r12, r8_2, a7);
+                        dfu_formats_images_ihex_with_base(r3_3, r5_0, 16, r12, r8_2, a7);
                         goto dfu_formats_images_lines_line_read_exit;
                     case 4:
                         store32(r13_3, r4_0_0_0);
@@ -1583,7 +1583,7 @@ dfu_formats_images_ihex_spelled_exit:
                         store64(r2_0_18_0_r13_sroa_idx, r4_0_8_20_0);
                         store_size(r2_1110_0_r13_sroa_idx, r4_810_0);
                         store_size(r2_12_0_r13_sroa_idx, r9_22_90);
-                        dfu_formats_images_ihex_based(r3_3, r5_0, 0x10000U, r13_3, r8_2, a7);
+                        dfu_formats_images_ihex_with_base(r3_3, r5_0, 0x10000U, r13_3, r8_2, a7);
                         goto dfu_formats_images_lines_line_read_exit;
                     case 3:
                     case 5:

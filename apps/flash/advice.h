@@ -9,6 +9,7 @@
 #include <stdbool.h>
 #include <stdint.h>
 
+struct found;
 struct session;
 struct verdict;
 
@@ -40,7 +41,11 @@ void advise_raw(libusb_context *usb, const struct words *words);
 
 /* Advise on a session that was refused, and on one that has ended. */
 void advise_refused(const struct session *session, int32_t refusal);
+void advise_detach(const struct words *words);
 void advise_ended(const struct session *session, const struct verdict *verdict);
+
+/* Names the device that came in place of the one that was left, before the step. */
+void advise_other(const struct found *left, const struct found *came);
 
 /* Advises on a device that can't be opened, by the error of libusb. */
 void advise_access(int access);

@@ -5,6 +5,7 @@
 #include "one.h"
 #include "session.h"
 #include "standard.h"
+#include "../common/text.h"
 
 #include <inttypes.h>
 #include <stdio.h>
@@ -86,6 +87,20 @@ static void say_outside(const struct session *session)
     }
 }
 
+/* Names the numbers of the file and of the device; or, of two, those of run-time mode that --device names. */
+static void say_targets(const struct session *session)
+{
+    const struct found *info = &session->wire.device->info;
+    const uint8_t *end = session->file + session->file_length;
+    bool is_named = session->ids.vendor != info->vendor || session->ids.product != info->product;
+    char seen[120];
+    if (session->file_length < PRODUCT_BACK)
+        return;
+    snprintf(seen, sizeof seen, "the file is for %04x:%04x, and %s %04x:%04x", two_bytes(end - VENDOR_BACK), two_bytes(end - PRODUCT_BACK),
+             is_named ? "--device names" : "the board is", session->ids.vendor, session->ids.product);
+    advice_first(seen);
+}
+
 void advise_refused(const struct session *session, int32_t refusal)
 {
     const struct found *info = &session->wire.device->info;
@@ -98,6 +113,34 @@ void advise_refused(const struct session *session, int32_t refusal)
         (session->is_upload ? advice_run : run_there)(more);
     else if (refusal == DFUSE_OUTSIDE)
         say_outside(session);
+    else if (refusal == DFU_WRONG_TARGET)
+        say_targets(session);
+}
+
+/* Adds an option with its value, as a shell reads it. */
+static void add_option(char *line, size_t room, const char *option, const char *value)
+{
+    size_t length = strlen(line), more;
+    if (value == NULL || *value == '\0')
+        return;
+    more = length + (size_t)snprintf(line + length, room - length, " %s ", option);
+    if (more >= room || !text_word(value, line + more, room - more))
+        line[length] = '\0';
+}
+
+/* The device to bring to DFU mode is named as the words name it. */
+void advise_detach(const struct words *words)
+{
+    char ids[20] = "", line[400] = "run dfu-flash --detach", step[440];
+    if (words->has_ids && words->has_dfu_ids)
+        snprintf(ids, sizeof ids, "%04x:%04x,%04x:%04x", words->vendor, words->product, words->dfu_vendor, words->dfu_product);
+    else if (words->has_ids)
+        snprintf(ids, sizeof ids, "%04x:%04x", words->vendor, words->product);
+    add_option(line, sizeof line, "--device", ids);
+    add_option(line, sizeof line, "--path", words->path);
+    add_option(line, sizeof line, "--serial", words->serial);
+    snprintf(step, sizeof step, "%s, and then this again", line);
+    advice_is(step);
 }
 
 /* Names the place of the first byte that differs from the image. */
@@ -126,12 +169,22 @@ static bool is_too_large(const struct session *session)
            && session->transfer > two_bytes(info->descriptor + AT_TRANSFER);
 }
 
+/* Returns whether other blocks were asked for than the device says that it takes. */
+static bool is_other_size(const struct session *session)
+{
+    const struct found *info = &session->wire.device->info;
+    uint16_t most = info->descriptor_size > AT_TRANSFER + 1 ? two_bytes(info->descriptor + AT_TRANSFER) : 0;
+    return session->transfer != 0 && most != 0 && session->transfer != most;
+}
+
 /* The step of a session whose image was compared, and isn't the file's. Behind its bytes a device may give more of its memory. */
 static void advise_different(const struct session *session)
 {
     say_odd(session);
     if (session->difference.exists && session->difference.wanted < 0)
         advice_is("all bytes of the file are there, and more follow: if the device gives a whole partition, as U-Boot, use --no-verify");
+    else if (is_other_size(session))
+        advice_is("run it again without --transfer-size: the board may count places by blocks of its own size");
 }
 
 void advise_ended(const struct session *session, const struct verdict *verdict)
@@ -144,11 +197,21 @@ void advise_ended(const struct session *session, const struct verdict *verdict)
     else if (strcmp(name, "refused") == 0 && code_step(verdict->code) != NULL)
         advice_is(code_step(verdict->code));
     else if (strcmp(name, "gone") == 0 && session->goal == GOAL_VERIFIED && session->is_whole)
-        advice_is("look whether it runs the new image: if so, its application has no DFU, and --no-verify asks for no comparison");
+        advice_is("look whether it runs the new image: if so, --no-verify asks for no comparison; else plug it in, and run it again");
     else if (strcmp(name, "gave-up") == 0 && is_too_large(session))
         advice_is("run it again without --transfer-size: its blocks are larger than those that the device takes");
     else if (strcmp(name, "gave-up") == 0 && !session->wire.device->info.is_upgrade)
         advice_is("it stays in run-time mode: bring it to DFU mode by its button, and run it again");
+}
+
+void advise_other(const struct found *left, const struct found *came)
+{
+    bool has_serial = came->serial[0] != '\0';
+    bool is_like = left->vendor == came->vendor && left->product == came->product && strcmp(left->serial, came->serial) == 0;
+    char seen[TEXT_ROOM + 100];
+    snprintf(seen, sizeof seen, "%04x:%04x%s%s came in its place%s", came->vendor, came->product, has_serial ? " serial " : "",
+             came->serial, is_like ? ", with another interface, setting or descriptor" : "");
+    advice_first(seen);
 }
 
 void advise_access(int access)

@@ -2,6 +2,7 @@
 /* A board is known by its serial number, if no other board that is there has the same one. A board without a number may have been changed
    for another while it was away, so its entry counts as used. */
 #include "again.h"
+#include "advice.h"
 #include "clock.h"
 #include "device.h"
 #include "find.h"
@@ -35,6 +36,16 @@ bool again_is_same(const struct session *session)
 {
     const struct found *now = &session->wire.device->info, *before = seen_before(session, now->is_upgrade);
     return now->serial[0] != '\0' && strcmp(before->serial, now->serial) == 0 && !is_shared(session->wire.device);
+}
+
+bool again_is_doubtful(const struct session *session, uint32_t seen)
+{
+    const struct found *now = &session->wire.device->info, *before = seen_before(session, now->is_upgrade);
+    bool has_sent = (session->dfuse.is_active ? session->dfuse.watch.sent : session->watch.sent) != 0;
+    if (seen != DFU_SEEN_RESTART || !has_sent || stamp_taken() == NULL || (now->serial[0] != '\0' && before->serial[0] != '\0'))
+        return false;
+    advice_first("a board came that may be another one, as it has no serial number, and was sent nothing");
+    return true;
 }
 
 void again_leave_entry(const struct session *session, const struct words *words)

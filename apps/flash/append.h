@@ -10,6 +10,12 @@
    descriptor that a process gets that is begun from here on; -1 for the reason that is in `why`. */
 int append_open(const char *name, char *front, size_t room, const char **why);
 
+/* Takes away what is behind the last newline, unless `is_whole` says that it is a line, and says so. */
+void append_mend(int file, const char *name, bool (*is_whole)(const char *line, size_t length));
+
+/* Returns why the last line wasn't added. */
+const char *append_why(void);
+
 /* Adds a line, whole, in one call of the system. */
 bool append_line(int file, const char *line, size_t length);
 

@@ -5,8 +5,11 @@
    - If it was seen after it was done, and is away for two seconds, it was pulled out, and the next one is another.
    - If one comes within ten seconds after it was seen, or was done, it is another if it has another serial number than the one before
      had in the same mode.
-   - If one comes later, it is the same if it has the same serial number as before in that mode. */
+   - If one comes later, it is the same if it has the same serial number as before in that mode.
+   - If one can't be opened, it is another if the one before was opened in the same mode: rights go by identifiers.
+   - One that failed is tried again if it was away for two seconds, once unless it was seen in between, because it may start slowly. */
 #include "bays.h"
+#include "status.h"
 
 #include <stddef.h>
 #include <string.h>
@@ -24,16 +27,17 @@ static struct bay *find(struct bays *bays, const char *path)
 }
 
 /* A new bay, in place of one about which nothing is known; NULL if there is no room. */
-static struct bay *make(struct bays *bays, const char *path)
+static struct bay *make(struct bays *bays, const char *path, int64_t now_ms)
 {
     int at = 0;
-    while (at < bays->count && bays->list[at].state != BAY_FREE)
+    while (at < bays->count && (bays->list[at].state != BAY_FREE || bays->list[at].has_retried))
         at++;
     if (at == BAYS_ROOM)
         return NULL;
     bays->count += at == bays->count;
     memset(&bays->list[at], 0, sizeof bays->list[at]);
     memcpy(bays->list[at].path, path, sizeof bays->list[at].path);
+    bays->list[at].since_ms = now_ms;
     return &bays->list[at];
 }
 
@@ -41,12 +45,13 @@ struct bay *bays_see(struct bays *bays, const struct port *port, int64_t now_ms)
 {
     struct bay *bay = find(bays, port->path);
     if (bay == NULL)
-        return port->is_wanted ? make(bays, port->path) : NULL;
+        return port->is_wanted ? make(bays, port->path, now_ms) : NULL;
     if (bay->state == BAY_BUSY || (bay->state == BAY_FREE && !port->is_wanted))
         return NULL;
     if (port->is_wanted && (bay->state == BAY_FREE || !bay->is_there)) {
         bay->is_late = bay->state == BAY_DONE && now_ms - bay->since_ms >= LATE_MS;
         bay->is_doubtful = bay->state == BAY_DONE && (bay->was_back || now_ms - bay->since_ms >= PULLED_MS);
+        bay->since_ms = now_ms;
         return bay;
     }
     bay->was_back = bay->is_there = true;
@@ -62,17 +67,28 @@ static bool is_among(const struct bay *bay, const struct port *ports, int count)
     return false;
 }
 
+/* Returns whether a device that has left was pulled out. */
+static bool is_pulled(const struct bay *bay, int64_t now_ms)
+{
+    return (bay->was_back || (bay->has_failed && !bay->has_retried)) && now_ms - bay->since_ms >= PULLED_MS;
+}
+
 void bays_miss(struct bays *bays, const struct port *ports, int count, int64_t now_ms)
 {
     for (int at = 0; at < bays->count; at++) {
         struct bay *bay = &bays->list[at];
-        if (bay->state != BAY_DONE || is_among(bay, ports, count))
+        bool is_there = is_among(bay, ports, count);
+        if (bay->state == BAY_BUSY && is_there)
+            bay->since_ms = now_ms;
+        if (bay->state != BAY_DONE || is_there)
             continue;
         bay->is_there = false;
-        if (!bay->was_back || now_ms - bay->since_ms < PULLED_MS)
+        if (!is_pulled(bay, now_ms))
             continue;
         bay->state = BAY_FREE;
-        bay->has_serial[0] = bay->has_serial[1] = false;
+        bay->has_retried = !bay->was_back;
+        if (!bay->has_retried)
+            bay->has_serial[0] = bay->has_serial[1] = false;
     }
 }
 
@@ -99,9 +115,56 @@ int bay_verdict(const struct bay *bay, const struct found *info)
     return info->serial[0] == '\0' ? BAY_TAKEN : BAY_SAME;
 }
 
-void bay_end(struct bay *bay, bool is_same, int64_t now_ms)
+int bay_verdict_unused(const struct bay *bay, const struct found *info, int status)
+{
+    if (!bay_is_early(bay))
+        return 0;
+    if (status != STATUS_NO_ACCESS && status != STATUS_SEVERAL)
+        return BAY_LEFT;
+    return status == STATUS_NO_ACCESS && bay->has_serial[info->is_upgrade] ? 0 : BAY_UNREAD;
+}
+
+static const char *words_of(const struct bay *bay, int status)
+{
+    if (status == BAY_LEFT || (!bay->is_doubtful && !bay->is_late))
+        return NULL;
+    if (status == BAY_UNREAD)
+        return "a device that can't be opened, or has several settings, came soon after, and counts as the one of before; if it is another "
+               "one, unplug it for three seconds";
+    if (bay->has_failed)
+        return "the board here failed, and isn't tried again: to try it, unplug it for three seconds";
+    if (status == BAY_TAKEN)
+        return "a device without a serial number came soon after, and counts as the one that was flashed here; if it is another one, "
+               "unplug it for three seconds";
+    if (bay->is_late)
+        return "the device that was flashed here is back; another one with its serial number has to be plugged in again";
+    /* Once is what the device that was flashed does by itself. */
+    return bay->was_back ? "a device came soon after the one that was flashed here, and counts as it; if it is another one, unplug it for "
+                           "three seconds"
+                         : NULL;
+}
+
+const char *bay_words(struct bay *bay, int status)
+{
+    const char *words = bay->has_said ? NULL : words_of(bay, status);
+    bay->has_said = bay->has_said || words != NULL;
+    return words;
+}
+
+void bay_end_same(struct bay *bay, int64_t now_ms)
 {
     bay->state = BAY_DONE;
-    bay->was_back = bay->is_there = is_same;
+    bay->was_back = bay->is_there = true;
     bay->since_ms = now_ms;
+}
+
+/* One that failed counts as away since it was seen last, if it is the first time. */
+void bay_end(struct bay *bay, bool has_failed, int64_t now_ms)
+{
+    bay->state = BAY_DONE;
+    bay->was_back = bay->is_there = bay->has_said = false;
+    bay->has_failed = has_failed;
+    bay->has_retried = bay->has_retried && has_failed;
+    if (!has_failed || bay->has_retried)
+        bay->since_ms = now_ms;
 }

@@ -10,7 +10,7 @@
 
 #define BAYS_ROOM 256
 
-/* The exit status of a process that found the device of before: it has done nothing, and reports nothing. */
+/* The exit status of a process that found the device of before by its serial number: it has done nothing, and reports nothing. */
 #define BAY_SAME 100
 
 /* The exit status if nothing tells the device from the one before, because it has no serial number. */
@@ -19,6 +19,12 @@
 /* The exit status if a board came back of which it isn't known that it is the one of before, so that it must have another entry of
    --stamp. Nothing was sent to it. */
 #define BAY_NEXT 103
+
+/* The exit status if a device can't be used, so that its serial number isn't known, and counts as the one of before. */
+#define BAY_UNREAD 104
+
+/* The exit status if the device left while it was looked at. */
+#define BAY_LEFT 105
 
 enum bay_state {
     BAY_FREE, /* a device that comes is another one */
@@ -33,6 +39,9 @@ struct bay {
     int64_t since_ms;          /* and when it was there last, or when it was done */
     bool is_late;              /* what is looked at now came late, so that it may be another one; */
     bool is_doubtful;          /* or as late as one may that was changed by hand, or for the second time */
+    bool has_said;             /* a device that came since was named, and counts as the one of before */
+    bool has_failed;           /* the device of before doesn't have the image, */
+    bool has_retried;          /* and was tried again without having been seen in between */
     bool has_serial[2];        /* whether the device of before was seen in run-time mode, and in DFU mode, */
     char serial[2][TEXT_ROOM]; /* and with which serial number */
 };
@@ -54,7 +63,17 @@ bool bay_is_early(const struct bay *bay);
 /* BAY_SAME or BAY_TAKEN if the device in a bay is, or counts as, the one of before; else 0. */
 int bay_verdict(const struct bay *bay, const struct found *info);
 
-/* Notes that the process at work with the bay's device has ended; with `is_same` it has done nothing. */
-void bay_end(struct bay *bay, bool is_same, int64_t now_ms);
+/* BAY_LEFT or BAY_UNREAD if a device for which there is no session, with this exit status, counts as the one of before; else 0. */
+int bay_verdict_unused(const struct bay *bay, const struct found *info, int status);
+
+/* Returns what is to be said of a device that counts as the one of before, with this exit status, though it may be another; NULL if it is
+   nothing, or was said since that one ended. */
+const char *bay_words(struct bay *bay, int status);
+
+/* Notes that the process at work with the bay's device has ended, and done nothing, because that counts as the one of before. */
+void bay_end_same(struct bay *bay, int64_t now_ms);
+
+/* Notes that it has ended otherwise, and whether the device failed, so that it doesn't have the image. */
+void bay_end(struct bay *bay, bool has_failed, int64_t now_ms);
 
 #endif

@@ -2,20 +2,22 @@
 /* Begins a session: with the device's functional descriptor, and with limits. */
 #include "facts.h"
 #include "properties.h"
+#include "say.h"
 #include "session.h"
 #include "standard.h"
 
+#include <stdio.h>
 #include <string.h>
 
 /* Linux carries at most 4,096 bytes in a control transfer, and libusb refuses more. A host may send smaller blocks than a device
    takes (USB DFU 1.1, section 4.1.3: wTransferSize is the most that it takes). */
-#define MOST_BYTES 4096
+#define MAX_BYTES 4096
 
 /* A descriptor as the host gets it: with the bytes of a block that were asked for, or else with no more than are carried. */
 static void cut(uint8_t descriptor[9], size_t size, uint16_t asked)
 {
-    uint16_t bytes = asked != 0 ? asked : MOST_BYTES;
-    if (size < FUNCTIONAL_BYTES_1_0 || (asked == 0 && two_bytes(descriptor + AT_TRANSFER) <= MOST_BYTES))
+    uint16_t bytes = asked != 0 ? asked : MAX_BYTES;
+    if (size < FUNCTIONAL_BYTES_1_0 || (asked == 0 && two_bytes(descriptor + AT_TRANSFER) <= MAX_BYTES))
         return;
     descriptor[AT_TRANSFER] = (uint8_t)(bytes & 0xff);
     descriptor[AT_TRANSFER + 1] = (uint8_t)(bytes >> 8);
@@ -108,6 +110,24 @@ static size_t stand_in(const struct session *session, uint8_t descriptor[9])
     return sizeof other;
 }
 
+/* Warns, once for each size, of blocks that are smaller than the board's own. A board that places block k at k times its own size writes
+   all but the first elsewhere; and since it reads them from there too, a comparison sees no difference. */
+static void warn_of_blocks(const struct session *session)
+{
+    static unsigned said;
+    const struct found *info = &session->wire.device->info;
+    unsigned bytes = session->host.transfer, most;
+    if (info->descriptor_size < FUNCTIONAL_BYTES_1_0 || (session->goal != GOAL_UPLOAD && session->payload_length <= bytes))
+        return;
+    most = two_bytes(info->descriptor + AT_TRANSFER);
+    if (bytes >= most || said == most)
+        return;
+    said = most;
+    fprintf(stderr, "%sdfu-flash: blocks have %u byte%s, and the board takes %u: a board that counts places by its own size %s\n", say_mark,
+            bytes, bytes == 1 ? "" : "s", most,
+            session->goal == GOAL_UPLOAD ? "reads elsewhere" : "writes elsewhere, which a comparison can't see");
+}
+
 int32_t session_begin(struct session *session)
 {
     const struct found *info = &session->wire.device->info;
@@ -130,5 +150,7 @@ int32_t session_begin(struct session *session)
     size = stand_in(session, descriptor);
     cut(descriptor, size, session->transfer);
     refusal = begin(session, descriptor, size);
+    if (refusal == 0)
+        warn_of_blocks(session);
     return refusal == 0 ? 0 : begin_by_another(session, refusal);
 }

@@ -12,7 +12,8 @@
 #include <string.h>
 
 #define LOOK_MS 100
-#define SETTLE_MS 2000 /* by then udev has settled who may open a device that came */
+#define SETTLE_MS 2000 /* by then udev has settled who may open a device that came, */
+#define BACK_MS 4000   /* and by then at the latest, also if many come at once */
 
 struct wanted wanted_of(const struct words *words)
 {
@@ -84,7 +85,7 @@ static int say_unusable(struct device *device)
 }
 
 /* Returns whether one of the devices can be opened, or has had its time: the rights of a device come a moment after it does. */
-static bool is_settled(const struct found *list, int count, int64_t *seen_ms)
+static bool is_settled(const struct patience *patience, const struct found *list, int count, int64_t *seen_ms)
 {
     int64_t now_ms = clock_ms();
     if (count == 0)
@@ -92,7 +93,7 @@ static bool is_settled(const struct found *list, int count, int64_t *seen_ms)
     for (int at = 0; at < count; at++)
         if (list[at].access == 0)
             return true;
-    return count > 0 && now_ms - *seen_ms >= SETTLE_MS;
+    return count > 0 && now_ms - *seen_ms >= (patience->is_back ? BACK_MS : SETTLE_MS);
 }
 
 static void say_waiting(const struct patience *patience)
@@ -115,12 +116,15 @@ static int look(const struct device *device, const struct wanted *wanted, struct
         if (count < 0)
             return count;
         count = drop_unread(wanted, list, count);
-        if (!patience->is_asked || is_settled(list, count, &seen_ms))
+        if (!patience->is_asked || is_settled(patience, list, count, &seen_ms))
             return count;
         if (*device->is_stop || (patience->seconds > 0 && clock_ms() - began_ms >= (int64_t)patience->seconds * 1000))
             return count;
         if (is_first)
             say_waiting(patience);
+        /* One that was opened before is tried again, and the others were there then too. */
+        if (is_first && count == 0 && !patience->is_quiet && device->opened == 0)
+            say_not_yet(device->usb, wanted);
         found_drop(list, count);
         clock_wait(LOOK_MS);
     }

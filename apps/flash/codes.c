@@ -13,9 +13,12 @@ enum {
     ERR_VERIFY = 7,
     ERR_ADDRESS = 8,
     ERR_NOTDONE = 9,
+    ERR_FIRMWARE = 10,
+    ERR_VENDOR = 11,
     ERR_USBR = 12,
     ERR_POR = 13,
     ERR_UNKNOWN = 14,
+    ERR_STALLED = 15,
 };
 
 /* As the standard has it, and of the commonest also what is the matter as a rule. */
@@ -49,9 +52,12 @@ static const char *const steps[] = {
     [ERR_VERIFY] = "run it again; if it stays so, the board's memory is worn or locked",
     [ERR_ADDRESS] = "make the image smaller, or get the file for this board, and run it again",
     [ERR_NOTDONE] = "give the whole image, or get the file for this board, and run it again",
+    [ERR_FIRMWARE] = "run it again: until an image is whole the board stays in DFU mode; if it stays so, ask its maker",
+    [ERR_VENDOR] = "look up in its maker's documents what the board means by it, and run it again",
     [ERR_USBR] = "check cable and power, and run it again",
     [ERR_POR] = "check cable and power, and run it again",
     [ERR_UNKNOWN] = "run it again: U-Boot answers so once after a run that was broken off; if it stays so, get the file for this board",
+    [ERR_STALLED] = "run it again; if it stays so, try smaller blocks by --transfer-size, or the maker's tool",
 };
 
 const char *code_step(uint32_t code)

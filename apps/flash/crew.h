@@ -14,7 +14,9 @@ struct crew {
     int64_t came_ms;          /* when the last device came or ended */
     int worst;                /* the exit status so far: the highest, but 8 only if no device has another than 0 and 8; */
     unsigned flashed, failed; /* of so many devices; */
-    unsigned taken;           /* and so many have the whole image, those that are unconfirmed too */
+    unsigned unwritten;       /* of those that are flashed so many lack their line in the log or the report, */
+    unsigned unconfirmed;     /* of those that failed so many are unconfirmed, */
+    unsigned taken;           /* and so many have the whole image, these too */
     uint16_t vendor, product; /* which they are for */
     bool is_json, is_out;     /* whether all records came to standard output */
     const struct words *words;

@@ -15,6 +15,7 @@ struct patience {
     bool is_asked;    /* a device that isn't there yet is waited for, */
     uint32_t seconds; /* for so long; 0 is for ever */
     bool is_quiet;
+    bool is_back; /* it may be the one of before: its rights are waited for longer, because without them it is reported as another */
 };
 
 struct device {

@@ -18,6 +18,7 @@ static const struct outcome outcomes[] = {
     {STATUS_STALLED, "not-detached", "the device stays in run-time mode: bring it to DFU mode by hand, as by its button"},
     {STATUS_ABORTED, "aborted", "given up by Ctrl-C or a signal; the device may come to DFU mode still"},
     {STATUS_GIVEN_UP, "timed-out", "the time is spent; the device may come to DFU mode still"},
+    {STATUS_DONE, "detached", "the device was in DFU mode already: nothing was sent"},
 };
 
 /* A device that came back with several settings is in DFU mode too: in run-time mode there is one. */
@@ -35,8 +36,8 @@ static const struct outcome *outcome_of(const struct device *device, bool is_det
 struct verdict dfu_mode(struct session *session)
 {
     struct device *device = session->wire.device;
-    bool is_detached = device->info.is_upgrade || detach(&session->wire);
-    const struct outcome *outcome = outcome_of(device, is_detached);
+    bool was_there = device->info.is_upgrade;
+    const struct outcome *outcome = was_there ? &outcomes[5] : outcome_of(device, detach(&session->wire));
     struct verdict verdict = {.status = outcome->status};
     snprintf(verdict.name, sizeof verdict.name, "%s", outcome->name);
     snprintf(verdict.words, sizeof verdict.words, "%s", outcome->words);

@@ -22,17 +22,20 @@ static const struct {
     {"detach-delay", 'E', true},
 };
 
-/* Options that are passed over, each with the reason why it isn't needed here. */
+/* Options that are passed over, each with the reason why. */
 static struct {
     int option;
     const char *note;
     bool was_given;
 } notes[] = {
     {'Z', "-Z of dfu-util isn't needed: an upload ends by itself", false},
-    {'c', "-c of dfu-util isn't needed: a device is used in the configuration that it is in", false},
+    {'c', "-c of dfu-util isn't looked at: the active configuration is taken", false},
     {'E', "-E of dfu-util isn't needed: a device that left is asked for until it is back, 10 seconds or those of --wait", false},
     {'s', ":leave of dfu-util isn't done behind an upload: the device stays in DFU mode, and its reset starts the application", false},
-    {'e', "-e of dfu-util isn't needed with -D: a download brings the device to DFU mode by itself", false},
+    {'e', "-e of dfu-util isn't done with -D: a download brings a board to DFU mode by itself; one of DfuSe needs dfu-flash --detach first",
+     false},
+    {'R', "-R of dfu-util isn't needed: a session ends with a reset, and with DfuSe as -s says; U-Boot's `dfu` stays in DFU mode",
+     false},
 };
 /* clang-format on */
 
@@ -108,9 +111,9 @@ bool dfu_util_is_same(int option, const char *value)
     return is_passed(option, value);
 }
 
-void dfu_util_notes(void)
+void dfu_util_notes(bool is_quiet)
 {
     for (size_t at = 0; at < COUNT(notes); at++)
-        if (notes[at].was_given)
+        if (notes[at].was_given && (!is_quiet || notes[at].option == 's'))
             fprintf(stderr, "dfu-flash: %s\n", notes[at].note);
 }

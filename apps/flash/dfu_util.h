@@ -21,8 +21,8 @@ bool dfu_util_is_same(int option, const char *value);
 /* Notes an option that isn't needed together with the others. */
 void dfu_util_pass(int option);
 
-/* Says which options were given that aren't needed here. */
-void dfu_util_notes(void);
+/* Says which options were given that are passed over; if `is_quiet`, only what was asked for and isn't done. */
+void dfu_util_notes(bool is_quiet);
 
 /* Reads the values of -d, -S and -s as dfu-util does. Each returns false, after printing why, if it isn't understood, or isn't taken. */
 bool dfu_util_device(const char *text, struct words *words);

@@ -8,16 +8,17 @@
 #include "values.h"
 
 #include <ctype.h>
+#include <stdio.h>
 #include <stdlib.h>
 #include <string.h>
 
-#define MOST_DIGITS 4
+#define MAX_DIGITS 4
 
 /* One identifier at the front of `text`: up to four hexadecimal digits, with or without 0x, or * for any. A number that isn't there stays
    as it is. Returns its end; NULL if it has more digits. */
 static const char *take_id(const char *text, uint16_t *id)
 {
-    char digits[MOST_DIGITS + 1] = {0};
+    char digits[MAX_DIGITS + 1] = {0};
     size_t count = 0;
     if (*text == '*') {
         *id = ANY_ID;
@@ -27,7 +28,7 @@ static const char *take_id(const char *text, uint16_t *id)
         text += 2;
     while (isxdigit((unsigned char)text[count]))
         count++;
-    if (count > MOST_DIGITS)
+    if (count > MAX_DIGITS)
         return NULL;
     memcpy(digits, text, count);
     if (count > 0)
@@ -45,7 +46,7 @@ static const char *take_ids(const char *text, uint16_t *vendor, uint16_t *produc
 }
 
 /* Behind a comma are the identifiers of DFU mode, which are those of run-time mode if they are left out; with nothing before the comma
-   the device has to be in DFU mode. */
+   the device has to be in DFU mode, and so it has with a hyphen, which is no device. */
 bool dfu_util_ids(const char *text, struct words *words)
 {
     const char *end = text, *rest;
@@ -53,6 +54,8 @@ bool dfu_util_ids(const char *text, struct words *words)
     words->has_ids = true;
     words->has_dfu_ids = words->is_upgrade = false;
     words->vendor = words->product = ANY_ID;
+    if (text[0] == '-' && text[1] == ',')
+        end = ++text;
     if (*text == ',')
         words->is_upgrade = true;
     else
@@ -106,16 +109,29 @@ static bool is_modifier(const char *text, const char *word)
     return strncmp(text, word, length) == 0 && (text[length] == '\0' || text[length] == ':');
 }
 
-/* Returns whether none of these modifiers is among the words behind colons. */
+/* Returns the reason why the word at the front isn't taken here, or NULL. */
+static const char *answer_to(const char *text)
+{
+    for (size_t number = 0; number < sizeof modifiers / sizeof *modifiers; number++)
+        if (is_modifier(text, modifiers[number].word))
+            return modifiers[number].answer;
+    return NULL;
+}
+
+/* Returns whether none of these modifiers is among the words behind colons. Each is answered, a line for each, and the last ends it. */
 static bool is_harmless(const char *text)
 {
-    for (const char *at = strchr(text, ':'); at != NULL; at = strchr(at + 1, ':'))
-        for (size_t number = 0; number < sizeof modifiers / sizeof *modifiers; number++)
-            if (is_modifier(at + 1, modifiers[number].word)) {
-                advice_is("leave that word out");
-                return words_refuse(modifiers[number].answer, text);
-            }
-    return true;
+    const char *last = NULL;
+    for (const char *at = strchr(text, ':'); at != NULL; at = strchr(at + 1, ':')) {
+        const char *answer = answer_to(at + 1);
+        if (answer == NULL || answer == last)
+            continue;
+        if (last != NULL)
+            fprintf(stderr, "dfu-flash: %s\n", last);
+        advice_is(last != NULL ? "leave those words out" : "leave that word out");
+        last = answer;
+    }
+    return last == NULL || words_refuse(last, text);
 }
 
 /* dfu-util stays in DFU mode unless `leave` is said, and reads to the end of the segment if no length is. Without an address it goes with a

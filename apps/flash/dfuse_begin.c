@@ -5,7 +5,7 @@
 
 #include <string.h>
 
-#define MOST_BYTES 4096  /* what Linux carries in a control transfer: a block is asked for by its number, so that it can't be smaller */
+#define MAX_BYTES 4096   /* what Linux carries in a control transfer: a block is asked for by its number, so that it can't be smaller */
 #define FRONT_BYTES 32   /* of the image, which are written last: with less than them an application doesn't start */
 #define PAGE_POLLS 1000  /* GETSTATUS while a page is erased, if the device reports no times */
 #define BLOCK_ACTIONS 60 /* of a block, with one that is asked for its status again and again */
@@ -90,6 +90,9 @@ int32_t dfuse_begin_session(struct session *session)
     int32_t refusal = session->is_upload ? 0 : file_refusal(session);
     session->goal = session->is_upload ? GOAL_UPLOAD : GOAL_VERIFIED;
     dfuse->is_active = true;
+    /* An address, or another mode, doesn't make it the board that the file is for. */
+    if (refusal == DFU_WRONG_TARGET)
+        return refusal;
     if (!info->is_upgrade)
         return REFUSED_RUN_TIME;
     if (!dfuse->has_address && dfuse->file == NULL)
@@ -105,7 +108,7 @@ int32_t dfuse_begin_session(struct session *session)
     dfuse->map = (const uint8_t *)session->first[1].name;
     dfuse->map_length = strlen(session->first[1].name);
     dfuse->plan.transfer = session->host.transfer = two_bytes(info->descriptor + AT_TRANSFER);
-    if (dfuse->plan.transfer > MOST_BYTES)
+    if (dfuse->plan.transfer > MAX_BYTES)
         return REFUSED_LARGE_BLOCKS;
     return session->is_upload ? begin_upload(session) : begin_download(session);
 }

@@ -34,11 +34,21 @@ static void print_range(const struct dfuse_range *range)
            range->count == 1 ? "" : "s", range->size, range->size == 1 ? "" : "s", access);
 }
 
+/* Of a device that can't be opened no name was read, so nothing is known of its map. */
+static bool is_unread(const struct found *found)
+{
+    return found->access != 0 && found->name[0] == '\0';
+}
+
 void dfuse_print_map(const struct found *found)
 {
     struct dfuse_range range;
     size_t length = strlen(found->name);
     int32_t refusal = 0;
+    if (is_unread(found)) {
+        puts("    the memory map can't be read without access");
+        return;
+    }
     for (uint32_t number = 0; refusal == 0; number++) {
         refusal = dfuse_read_range(bytes_of(found), length, number, &range);
         if (refusal == 0)
@@ -65,6 +75,8 @@ void dfuse_print_json(const struct found *found)
     size_t length = strlen(found->name);
     int32_t refusal = dfuse_read_range(bytes_of(found), length, 0, &range);
     json_text("protocol", "DfuSe");
+    if (is_unread(found))
+        return;
     if (refusal != 0) {
         json_text("no_map", refusal_name(refusal));
         return;

@@ -1,5 +1,6 @@
 /* SPDX-License-Identifier: MIT OR Apache-2.0 */
 /* The loop of a download with DfuSe: what the host asks for is carried out, and what came of that is reported to it. */
+#include "again.h"
 #include "compare.h"
 #include "session.h"
 #include "standard.h"
@@ -148,6 +149,8 @@ static bool step(struct session *session, const struct dfuse_action *action, con
         return true;
     if (course == DFU_GOES_RESTARTED)
         answer.seen = DFU_SEEN_RESTART;
+    if ((course == DFU_GOES_ON || course == DFU_GOES_RESTARTED) && again_is_doubtful(session, answer.seen))
+        return end(session, END_GONE);
     return course == DFU_GOES_ON || course == DFU_GOES_RESTARTED ? tell(session, action, &answer) : dfuse_end(session, course);
 }
 

@@ -1,6 +1,7 @@
 /* SPDX-License-Identifier: MIT OR Apache-2.0 */
 /* Facts of the device after an action, for dfu_watch.h. */
 #include "facts.h"
+#include "stamp.h"
 
 #include <string.h>
 
@@ -12,11 +13,14 @@ static bool is_as_begun(const struct session *session)
            && memcmp(info->descriptor, session->begin_descriptor, sizeof info->descriptor) == 0;
 }
 
-/* Returns whether the device is the one that was found first in this mode. */
+/* Returns whether the device is the one that was found first in this mode. With --stamp one that had no serial number still has none. */
 static bool is_first_again(const struct session *session)
 {
     const struct found *info = &session->wire.device->info;
-    return !session->has_first[info->is_upgrade] || is_again(&session->first[info->is_upgrade], info);
+    const struct found *first = &session->first[info->is_upgrade];
+    if (!session->has_first[info->is_upgrade])
+        return true;
+    return is_again(first, info) && (stamp_taken() == NULL || first->serial[0] != '\0' || info->serial[0] == '\0');
 }
 
 void facts_note(struct session *session)

@@ -5,6 +5,7 @@
 #include "../common/text.h"
 
 #include <stdio.h>
+#include <string.h>
 
 /* Returns whether the options go with --all. Each device is flashed by itself, so no option may name one. */
 static bool is_fit_for_all(const struct words *words)
@@ -60,51 +61,84 @@ static bool is_fit_for_station(const struct words *words)
            || words_refuse("--retry goes with a FILE that is flashed", "");
 }
 
-/* The first option that doesn't go with --demo, or NULL. */
-static const char *not_for_demo(const struct words *words)
+/* An option, and whether it was given. */
+struct given {
+    bool is_given;
+    const char *name;
+};
+
+/* Adds the names of those that were given, with commas between. */
+static void name_given(const struct given *all, size_t count, char *names, size_t room)
 {
-    const struct {
-        bool is_given;
-        const char *name;
-    } all[] = {
+    for (size_t at = 0; at < count; at++) {
+        size_t length = strlen(names);
+        if (all[at].is_given)
+            snprintf(names + length, room - length, "%s%s", length > 0 ? ", " : "", all[at].name);
+    }
+}
+
+/* Names the options that don't go with --demo: what is to be done, which board is meant, and how its session goes. */
+static void name_session(const struct words *words, char *names, size_t room)
+{
+    const struct given all[] = {
         {words->all, "--all"},
+        {words->beside == JOB_LIST, "--list"},
+        {words->beside == JOB_UPLOAD, "--upload"},
+        {words->beside == JOB_DETACH, "--detach"},
         {words->has_ids, "--device"},
         {words->path != NULL, "--path"},
         {words->serial != NULL, "--serial"},
         {words->interface >= 0, "--interface"},
         {words->alternate >= 0 || words->setting != NULL, "--alt"},
+        {!words->verify, "--no-verify"},
+        {words->raw, "--raw"},
+        {words->force, "--force"},
         {words->wait, "--wait"},
         {words->timeout != 0, "--timeout"},
         {words->has_limits, "--limits"},
-        {words->dry_run, "--dry-run"},
         {words->transfer != 0, "--transfer-size"},
-        {words->verbose || words->log != NULL, "--verbose"},
-        {words->stamp != NULL, "--stamp"},
-        {words->stamp_bytes != 0, "--stamp-at"},
-        {words->report != NULL, "--report"},
-        {words->ports != NULL, "--ports"},
-        {words->boards != 0, "--count"},
-        {words->retry != 0, "--retry"},
+        {words->is_to_end || words->leaves, "-s"},
+        {words->has_address && !words->is_to_end, "--address"},
+        {words->length != 0 && !words->is_to_end, "--length"},
+        {words->stays && !words->is_to_end, "--no-leave"},
+        {words->dry_run, "--dry-run"},
     };
-    for (size_t at = 0; at < sizeof all / sizeof *all; at++)
-        if (all[at].is_given)
-            return all[at].name;
-    return NULL;
+    name_given(all, sizeof all / sizeof *all, names, room);
 }
 
-/* Says what to type for --demo. */
-static bool refuse_for_demo(const struct words *words)
+/* The same of those for what is printed, and for a station. */
+static void name_station(const struct words *words, char *names, size_t room)
 {
-    char line[1100], file[1000] = "";
+    const struct given all[] = {
+        {words->verbose || words->log != NULL, "--verbose"},
+        {words->folder != NULL, "--log"},
+        {words->report != NULL, "--report"},
+        {words->ports != NULL, "--ports"},
+        {words->retry != 0, "--retry"},
+        {words->boards != 0, "--count"},
+        {words->stamp != NULL, "--stamp"},
+        {words->stamp_bytes != 0, "--stamp-at"},
+    };
+    name_given(all, sizeof all / sizeof *all, names, room);
+}
+
+/* Returns whether all options go with --demo; if not, says what to type. */
+static bool is_fit_for_demo(const struct words *words)
+{
+    char line[1100], file[1000] = "", names[400];
     bool has_file = words->file != NULL && text_word(words->file, file, sizeof file);
+    names[0] = '\0';
+    name_session(words, names, sizeof names);
+    name_station(words, names, sizeof names);
+    if (names[0] == '\0')
+        return true;
     snprintf(line, sizeof line, "run: dfu-flash --demo%s%s%s%s", words->json ? " --json" : "", words->quiet ? " --quiet" : "",
              has_file              ? " "
              : words->file != NULL ? " FILE"
                                    : "",
              has_file ? file : "");
     advice_is(line);
-    return words_refuse("--demo goes with a FILE, --json and --quiet alone, because its one board is simulated; leave out",
-                        not_for_demo(words));
+    return words_refuse("--demo goes with a FILE, --json and --quiet alone, because its one board is simulated; leave out", names);
 }
 
 /* Returns whether the options go with the job: a download, an upload, a list or a detach. */
@@ -112,6 +146,8 @@ bool words_fit(const struct words *words)
 {
     bool has_session = words->has_limits || words->dry_run || words->transfer != 0;
     bool has_log = words->log != NULL;
+    if (words->job == JOB_DEMO)
+        return is_fit_for_demo(words);
     if (words->force && words->job != JOB_UPLOAD)
         return words_refuse("--force goes with --upload alone", "");
     if (!words->verify && words->job != JOB_DOWNLOAD)
@@ -120,8 +156,6 @@ bool words_fit(const struct words *words)
         return words_refuse("--raw goes with a FILE that is downloaded", "");
     if (words->job == JOB_LIST && (has_session || words->quiet || has_log || words->wait || words->timeout != 0))
         return words_refuse("--list goes with what chooses devices, and with --json, alone", "");
-    if (words->job == JOB_DEMO && not_for_demo(words) != NULL)
-        return refuse_for_demo(words);
     if (words->job == JOB_DETACH && has_session)
         return words_refuse("--detach goes with no --limits, --dry-run or --transfer-size", "");
     return is_fit_for_station(words) && is_fit_for_dfuse(words) && is_fit_for_all(words);

@@ -81,15 +81,6 @@ static void say_empty(void)
     advice_is("build it anew: it is empty");
 }
 
-/* A file with a suffix is sent, since it says for which device. But `dfu add` without --format takes a build's text for the image. */
-static void warn(const struct image *image)
-{
-    const char *name, *format = looks_text_format(image->bytes, image->payload, &name);
-    if (format != NULL)
-        fprintf(stderr, "dfu-flash: the image in the file looks like %s: `dfu add --format %s` takes out the image that it describes\n",
-                name, format);
-}
-
 /* Takes the fields of the suffix into the image. */
 static int32_t take_suffix(struct image *image)
 {
@@ -148,6 +139,15 @@ static bool is_fit(const struct words *words, bool has_suffix, bool is_dfuse)
     return is_dfuse || !words->stays || words->has_address || words_refuse("--no-leave goes with --address, or with a DfuSe file", "");
 }
 
+/* dfu-util stays in DFU mode behind such a file, unless it has `:leave`. */
+static void note_leaving(const struct words *words)
+{
+    if (words->is_by_letter && !words->leaves && !words->stays && !words->quiet)
+        fputs(
+            "dfu-flash: the application is started at the end; --no-leave keeps the board in DFU mode, as for the next of several files\n",
+            stderr);
+}
+
 /* A DfuSe file, whole. With targets of several settings it is asked for one: none is passed over in silence. */
 static int32_t read_dfuse(struct image *image, const struct words *words)
 {
@@ -158,7 +158,10 @@ static int32_t read_dfuse(struct image *image, const struct words *words)
         return refusal;
     image->vendor = image->dfuse_info.vendor;
     image->product = image->dfuse_info.product;
-    return image->dfuse_info.setting == DFUSE_SEVERAL && words->alternate < 0 && words->setting == NULL ? REFUSED_MIXED : 0;
+    if (image->dfuse_info.setting == DFUSE_SEVERAL && words->alternate < 0 && words->setting == NULL)
+        return REFUSED_MIXED;
+    note_leaving(words);
+    return 0;
 }
 
 /* A file without a suffix: all of it is the image, if it looks like nothing else or the words say so. It gets a suffix. */
@@ -171,11 +174,11 @@ static int32_t read_raw(struct image *image, const struct words *words, const st
     if (!has_target(words, image->length == 0))
         return refusal;
     if (!words->quiet && words->has_address && image->length > 0)
-        fprintf(stderr, "dfu-flash: there is no suffix: all %zu bytes are written, from %08lx on\n", image->length,
-                (unsigned long)words->address);
+        fprintf(stderr, "dfu-flash: there is no suffix: all %zu bytes %s written, from %08lx on\n", image->length,
+                words->dry_run ? "would be" : "are", (unsigned long)words->address);
     else if (!words->quiet && image->length > 0)
-        fprintf(stderr, "dfu-flash: there is no suffix: all %zu bytes are sent, to %04x:%04x\n", image->length, words->vendor,
-                words->product);
+        fprintf(stderr, "dfu-flash: there is no suffix: all %zu bytes %s sent, to %04x:%04x\n", image->length,
+                words->dry_run ? "would be" : "are", words->vendor, words->product);
     add_suffix(image, words->has_ids ? words->vendor : ANY_ID, words->has_ids ? words->product : ANY_ID);
     return take_suffix(image);
 }
@@ -205,8 +208,9 @@ static int32_t take_bytes(struct image *image, const struct words *words)
         return IMAGE_WORDS;
     if (image->is_dfuse)
         return read_dfuse(image, words);
+    /* It is sent, since it says for which device; but `dfu add` without --format takes a build's text for the image. */
     if (refusal == 0)
-        warn(image);
+        looks_warn(image->bytes, image->payload);
     return refusal == DFU_FILE_NO_SIGNATURE || refusal == DFU_FILE_TOO_SHORT ? read_raw(image, words, &look, refusal) : refusal;
 }
 

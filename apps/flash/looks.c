@@ -36,13 +36,20 @@ struct dfu_look looks_of(const uint8_t *bytes, size_t length, const char *file)
     return look;
 }
 
-const char *looks_text_format(const uint8_t *bytes, size_t length, const char **name)
+void looks_warn(const uint8_t *bytes, size_t length)
 {
     uint32_t looks = looks_of(bytes, length, "-").looks;
-    if (looks != DFU_LOOKS_IHEX && looks != DFU_LOOKS_SREC)
-        return NULL;
-    *name = formats[looks].name;
-    return formats[looks].format;
+    const char *less = looks == DFU_LOOKS_ELF ? "unless the board loads ELF files, " : "";
+    if (looks == DFU_LOOKS_IHEX || looks == DFU_LOOKS_SREC || looks == DFU_LOOKS_UF2 || looks == DFU_LOOKS_ELF)
+        fprintf(stderr, "%sdfu-flash: the image in the file looks like %s: %s`dfu add --format %s` takes out the image that it describes\n",
+                say_mark, formats[looks].name, less, formats[looks].format);
+    else if (looks == DFU_LOOKS_ZIP || looks == DFU_LOOKS_GZIP)
+        fprintf(stderr,
+                "%sdfu-flash: the image in the file looks like a %s archive: unless the board unpacks it, add a suffix to what is in it\n",
+                say_mark, looks == DFU_LOOKS_ZIP ? "zip" : "gzip");
+    else if (looks == DFU_LOOKS_TEXT)
+        fprintf(stderr, "%sdfu-flash: the image in the file is text: unless the board takes text, add a suffix to the build's image\n",
+                say_mark);
 }
 
 /* The name as one word of a shell's line, behind which a blank follows. One that can't be typed is FILE. */

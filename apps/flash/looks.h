@@ -11,9 +11,9 @@
    none. */
 struct dfu_look looks_of(const uint8_t *bytes, size_t length, const char *file);
 
-/* Returns the name by which --format of `dfu add` takes the bytes, if they look like records of text, and the format's own
-   name; else NULL. */
-const char *looks_text_format(const uint8_t *bytes, size_t length, const char **name);
+/* Warns, on standard error, of an image with a suffix that looks like a file of another format, or like text. It may be meant, as for a
+   board that loads ELF files, so nothing is refused. */
+void looks_warn(const uint8_t *bytes, size_t length);
 
 /* Says of a file that isn't raw what it is, and what to do with it: a line on standard error, which for a file that `dfu add` takes is
    followed by what a DfuSe device needs. The refusal: one of image.h. */

@@ -8,6 +8,7 @@
 #include "status.h"
 
 #include <stdio.h>
+#include <string.h>
 
 /* Criteria, in the order in which they are applied. */
 enum criterion { IDENTIFIERS, PATH, SERIAL, INTERFACE, SETTING, CRITERIA };
@@ -70,14 +71,24 @@ static void say_list(const struct found *list, int count)
         say_found(stderr, &list[at]);
 }
 
-/* In DFU mode a device may have other identifiers than those that a file is for. */
+/* In DFU mode a device may have other identifiers than those that a file is for. If one device is in that mode its are named. */
 static void say_modes(const struct wanted *wanted, const struct found *list, int count)
 {
-    bool is_upgrade = false;
-    for (int at = 0; at < count; at++)
-        is_upgrade = is_upgrade || list[at].is_upgrade;
-    if (!wanted->has_dfu_ids && is_upgrade)
-        fputs("dfu-flash: in DFU mode a device may have another product: see --device RUN,DFU\n", stderr);
+    const struct found *one = NULL;
+    bool is_one = wanted->vendor != ANY_ID && wanted->product != ANY_ID;
+    for (int at = 0; at < count; at++) {
+        is_one = is_one && (!list[at].is_upgrade || one == NULL || strcmp(one->path, list[at].path) == 0);
+        one = list[at].is_upgrade ? &list[at] : one;
+    }
+    if (wanted->has_dfu_ids || one == NULL)
+        return;
+    fputs("dfu-flash: in DFU mode a device may have other numbers: ", stderr);
+    if (is_one)
+        fprintf(stderr, "if the one at %s is %s: --device %04x:%04x,%04x:%04x\n", one->path,
+                wanted->is_of_file ? "the board that the file is for" : "the board that is meant", wanted->vendor, wanted->product,
+                one->vendor, one->product);
+    else
+        fputs("see --device RUN,DFU\n", stderr);
 }
 
 static void say_nothing(void)
@@ -89,25 +100,24 @@ static void say_nothing(void)
     advice_is("run it on the computer that the device is plugged into, or give the container its /dev/bus/usb and /sys/bus/usb");
 }
 
-int say_missing(libusb_context *usb, const struct wanted *wanted)
+/* Sorts out which devices fit up to which criterion. Those that fit come first in the list; `left` is their number. */
+static enum criterion find_failed(const struct wanted *wanted, struct found *list, int count, int *left)
 {
-    const struct wanted any = {.place = ANYWHERE};
-    struct found list[FOUND_ROOM];
-    int count = find_all(usb, &any, list, FOUND_ROOM), left = count;
     enum criterion failed = IDENTIFIERS;
-    if (count <= 0) {
-        say_nothing();
-        return STATUS_NO_DEVICE;
-    }
+    *left = count;
     for (; failed < CRITERIA; failed++) {
         struct wanted part = up_to(wanted, failed);
-        int fitting = take_fitting(&part, list, left);
+        int fitting = take_fitting(&part, list, *left);
         if (fitting == 0)
             break;
-        left = fitting;
+        *left = fitting;
     }
-    advice_is("choose one of those that are there, or plug in the one that is meant");
-    fputs("dfu-flash: no device is the one that is asked for: ", stderr);
+    return failed;
+}
+
+/* Prints what no device meets, and which devices are there. */
+static void say_failed_by(const struct wanted *wanted, enum criterion failed, const struct found *list, int left, int count)
+{
     if (failed == CRITERIA) /* it came just now */
         fputs("none was there in time", stderr);
     else
@@ -119,6 +129,35 @@ int say_missing(libusb_context *usb, const struct wanted *wanted)
     say_list(list + left, count - left);
     if (failed == IDENTIFIERS)
         say_modes(wanted, list, count);
+}
+
+int say_missing(libusb_context *usb, const struct wanted *wanted)
+{
+    const struct wanted any = {.place = ANYWHERE};
+    struct found list[FOUND_ROOM];
+    int count = find_all(usb, &any, list, FOUND_ROOM), left;
+    enum criterion failed;
+    if (count <= 0) {
+        say_nothing();
+        return STATUS_NO_DEVICE;
+    }
+    failed = find_failed(wanted, list, count, &left);
+    advice_is("choose one of those that are there, or plug in the one that is meant");
+    fputs("dfu-flash: no device is the one that is asked for: ", stderr);
+    say_failed_by(wanted, failed, list, left, count);
     found_drop(list, count);
     return STATUS_NO_DEVICE;
+}
+
+void say_not_yet(libusb_context *usb, const struct wanted *wanted)
+{
+    const struct wanted any = {.place = ANYWHERE};
+    struct found list[FOUND_ROOM];
+    int count = find_all(usb, &any, list, FOUND_ROOM), left = 0;
+    enum criterion failed = count <= 0 ? CRITERIA : find_failed(wanted, list, count, &left);
+    if (failed < CRITERIA) {
+        fputs("dfu-flash: no device that is there now is the one that is asked for: ", stderr);
+        say_failed_by(wanted, failed, list, left, count);
+    }
+    found_drop(list, count);
 }

@@ -57,10 +57,10 @@ static const struct {
     {DFU_FILE_NO_SIGNATURE, NAMED},
     {IMAGE_FORMAT, "run `dfu add --format auto`, and flash what it makes"},
     {IMAGE_DAMAGED, BUILD},
-    {IMAGE_ARCHIVE, "unpack it, and flash the file that is in it"},
-    {IMAGE_TEXT, "flash the .bin, .hex, .elf or .dfu file of the build, a .hex or .elf by way of `dfu add --format auto`"},
+    {IMAGE_ARCHIVE, "unpack it, and flash the file that is in it; if the board takes the archive, add --raw"},
+    {IMAGE_TEXT, "flash the build's .bin, .dfu, .hex or .elf, the last two by `dfu add --format auto`; if the board takes text, add --raw"},
     {IMAGE_NAMED, BUILD},
-    {IMAGE_CUT, ANEW},
+    {IMAGE_CUT, "get the file anew; if it is whole, and never had a suffix, add --raw"},
     {DFU_FILE_BAD_LENGTH, ANEW},
     {DFU_FILE_BAD_CRC, ANEW},
     {DFU_FILE_TOO_LARGE, "give a file of at most 16777216 bytes"},
@@ -124,10 +124,12 @@ static const struct {
 
 #define COUNT(table) (sizeof(table) / sizeof *(table))
 
-static bool is_hushed;
+static bool is_hushed, is_for_all;
 
 const char *next_of_end(const char *name)
 {
+    if (is_for_all && strcmp(name, "broken") == 0)
+        return advice_or("report it, with the log of --log FOLDER");
     for (size_t at = 0; at < COUNT(ends); at++)
         if (strcmp(ends[at].name, name) == 0)
             return advice_or(ends[at].step);
@@ -146,6 +148,11 @@ const char *next_of_refusal(int32_t refusal)
         if (refusals[at].number == refusal)
             return advice_or(refusals[at].step);
     return NULL;
+}
+
+void next_for_all(void)
+{
+    is_for_all = true;
 }
 
 void next_hush(void)

@@ -21,4 +21,7 @@ void next_say(const char *step);
 /* Has no line printed from here on, as with --quiet. */
 void next_hush(void);
 
+/* Has the steps be those of --all. */
+void next_for_all(void);
+
 #endif

@@ -98,17 +98,15 @@ static int run_detach(const struct words *words, const struct wanted *wanted)
     return work_print(&session, words, &verdict);
 }
 
-/* Writes this board's entry into the image, and says which. */
+/* Writes this board's entry into the image; a dry run says which. */
 static int32_t take_stamp(const struct words *words, struct image *image)
 {
     int32_t refusal = stamp_image(image, words);
     if (refusal != 0)
         return refusal;
     station_image(words, image);
-    if (!words->quiet) {
-        say_text(stderr, "dfu-flash: ", stamp_next(), "");
-        fprintf(stderr, " is written at 0x%" PRIx64 "\n", words->stamp_place);
-    }
+    if (!words->quiet && words->dry_run)
+        fprintf(stderr, "dfu-flash: %s would be written at 0x%" PRIx64 "\n", stamp_next(), words->stamp_place);
     return 0;
 }
 
@@ -133,15 +131,30 @@ static int begin_again(const struct words *words, struct image *image, struct wa
     bool is_next = words->stamp != NULL && !again_is_same(&session);
     if (is_next)
         again_leave_entry(&session, words);
+    advice_forget();
     forget();
     return is_next && words->bay != NULL ? BAY_NEXT : take_file(words, image, wanted);
+}
+
+/* Returns the exit status that says why the device counts as the one that its bay had before, or 0 if it is a new one. The first process is
+   told the serial number of a new one. */
+static int compare_before(const struct bay *bay, int status)
+{
+    int same = 0;
+    if (session.tries == 0 && status != STATUS_DONE)
+        same = bay_verdict_unused(bay, &device.info, stop_cause != STOP_NONE ? STATUS_ABORTED : status);
+    else if (session.tries == 0)
+        same = bay_verdict(bay, &device.info);
+    if (same == 0 && status == STATUS_DONE)
+        worker_print_serial(device.info.is_upgrade, device.info.serial);
+    return same;
 }
 
 /* Sends nothing: file and device are looked for, and the session begins, or is refused. */
 static int prepare(const struct words *words, struct image *image, struct wanted *wanted)
 {
     int32_t refusal;
-    int status = words->job == JOB_UPLOAD ? STATUS_DONE : take_file(words, image, wanted), same = 0;
+    int status = words->job == JOB_UPLOAD ? STATUS_DONE : take_file(words, image, wanted), same;
     if (status != STATUS_DONE)
         return status;
     if (words->job == JOB_UPLOAD && !file_may_make(words->file, words->force))
@@ -153,8 +166,7 @@ static int prepare(const struct words *words, struct image *image, struct wanted
         status = begin_again(words, image, wanted);
     if (status == BAY_NEXT)
         return status;
-    if (words->bay != NULL && session.tries == 0)
-        same = status == STATUS_DONE ? bay_verdict(words->bay, &device.info) : bay_is_early(words->bay) ? BAY_SAME : 0;
+    same = words->bay != NULL ? compare_before(words->bay, status) : 0;
     if (same != 0)
         return same;
     if (status != STATUS_DONE)
@@ -162,6 +174,8 @@ static int prepare(const struct words *words, struct image *image, struct wanted
     work_ask(&session, words);
     refusal = words->stamp == NULL ? 0 : take_stamp(words, image);
     refusal = refusal != 0 ? refusal : session_begin(&session);
+    if (refusal == 0 && !is_again_now)
+        work_say_board(&session, words, image);
     return refusal < 0 ? work_refused(&session, words, refusal) : STATUS_DONE;
 }
 
@@ -221,7 +235,8 @@ int one_run(const struct words *words, struct image *image, enum progress_style 
         return say_none(words, STATUS_NO_DEVICE);
     }
     device.is_stop = &stop_cause;
-    device.patience = (struct patience){words->away_ms, words->wait, words->patience, words->quiet || words->bay != NULL};
+    device.patience = (struct patience){words->away_ms, words->wait, words->patience, words->quiet || words->bay != NULL, false};
+    device.patience.is_back = words->bay != NULL && bay_is_early(words->bay);
     if (words->job == JOB_LIST)
         status = list_devices(device.usb, &wanted, words->json);
     else

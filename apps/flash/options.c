@@ -96,17 +96,17 @@ static const char *nearest(const char *word)
 {
     static const char download[] = "download";
     const char *best = NULL;
-    size_t best_far = strlen(word) / 3 + 1;
+    size_t fewest = strlen(word) / 3 + 1;
     bool is_one = false;
     if (distance(word, download) <= 1 || (strlen(word) > 2 && strncmp(download, word, strlen(word)) == 0))
         return download;
     for (const struct option *option = options; option->name != NULL; option++) {
-        size_t far = distance(word, option->name);
-        if (far > best_far || (far == best_far && best != NULL && !is_one))
+        size_t edits = distance(word, option->name);
+        if (edits > fewest || (edits == fewest && best != NULL && !is_one))
             continue;
-        is_one = best == NULL || far < best_far;
+        is_one = best == NULL || edits < fewest;
         best = option->name;
-        best_far = far;
+        fewest = edits;
     }
     return is_one ? best : NULL;
 }

@@ -27,6 +27,15 @@ static char *trim(char *text)
     return text;
 }
 
+/* Returns whether a path has this name. Two ports of one name couldn't be told apart in a report. */
+static bool is_taken(const char *name)
+{
+    for (size_t at = 0; at < count; at++)
+        if (strcmp(ports[at].name, name) == 0)
+            return true;
+    return false;
+}
+
 static bool fail(const char *file, size_t line, const char *why)
 {
     char place[40];
@@ -36,7 +45,7 @@ static bool fail(const char *file, size_t line, const char *why)
 
 static bool take_line(const char *file, size_t number, char *line)
 {
-    char *sign = strchr(line, '='), *path;
+    char *sign = strchr(line, '='), *path, *name;
     void *more;
     line = trim(line);
     if (*line == '\0' || *line == '#')
@@ -45,18 +54,21 @@ static bool take_line(const char *file, size_t number, char *line)
         return fail(file, number, "a line is a path, = and a name, as 3-1.4 = bay 7");
     *sign = '\0';
     path = trim(line);
+    name = trim(sign + 1);
     if (!has_ports(path) || path[strspn(path, "0123456789-.")] != '\0' || strlen(path) >= PATH_ROOM)
         return fail(file, number, "what is before = is no path, as 3-1.4");
-    if (*trim(sign + 1) == '\0')
+    if (*name == '\0')
         return fail(file, number, "there is no name after =");
     if (ports_file_name(path) != NULL)
         return fail(file, number, "this path has a name already");
+    if (is_taken(name))
+        return fail(file, number, "another path has this name already");
     more = realloc(ports, (count + 1) * sizeof *ports);
     if (more == NULL)
         return fail(file, number, "there is no memory");
     ports = more;
     ports[count].path = path;
-    ports[count++].name = trim(sign + 1);
+    ports[count++].name = name;
     return true;
 }
 

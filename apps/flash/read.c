@@ -10,7 +10,7 @@
 #include <stdlib.h>
 #include <string.h>
 
-#define MOST 16777216 /* bytes of a DFU file; with one more it is refused as TooLarge */
+#define MAX_FILE_BYTES 16777216 /* bytes of a DFU file; with one more it is refused as TooLarge */
 
 /* A file that is called - is ./- */
 static FILE *open_file(const char *name)
@@ -26,9 +26,9 @@ bool file_read(const char *name, uint8_t **bytes, size_t *length)
 {
     FILE *file = open_file(name);
     bool is_read = false;
-    *bytes = file == NULL ? NULL : malloc(MOST + 1 + FILE_SPARE);
+    *bytes = file == NULL ? NULL : malloc(MAX_FILE_BYTES + 1 + FILE_SPARE);
     if (*bytes != NULL) {
-        *length = fread(*bytes, 1, MOST + 1, file);
+        *length = fread(*bytes, 1, MAX_FILE_BYTES + 1, file);
         is_read = !ferror(file);
     }
     if (!is_read) {

@@ -34,6 +34,9 @@ int say_no_access(const struct found *found);
 /* Prints why no device is the wanted one, and which devices are there. Returns the exit status for that. */
 int say_missing(libusb_context *usb, const struct wanted *wanted);
 
+/* Prints, at the begin of a wait, why none of the devices that are there is the wanted one; nothing if none is there. */
+void say_not_yet(libusb_context *usb, const struct wanted *wanted);
+
 /* The name of a refusal of the host, and what it means in words. */
 const char *refusal_name(int32_t refusal);
 const char *refusal_words(int32_t refusal);

@@ -1,6 +1,7 @@
 /* SPDX-License-Identifier: MIT OR Apache-2.0 */
 /* The loop: what the host asks for is carried out, and what came of that is reported to it. Nothing else is sent, but for the DETACH of
    stalls.c. */
+#include "again.h"
 #include "compare.h"
 #include "facts.h"
 #include "session.h"
@@ -157,6 +158,12 @@ static bool follow(struct session *session, uint32_t course, const struct answer
     return course == DFU_BEGINS_ANEW ? begin_anew(session) : end(session, end_of(course));
 }
 
+/* Returns whether a device that leaves with this was asked to. */
+static bool is_asked(const struct dfu_action *action)
+{
+    return action->what == DFU_RESET || is_request(action->setup, KIND_OUT, REQUEST_DETACH);
+}
+
 /* One action. */
 static bool step(struct session *session, const struct dfu_action *action)
 {
@@ -177,6 +184,8 @@ static bool step(struct session *session, const struct dfu_action *action)
         facts_note(session);
     if (answer.is_gone)
         answer.seen = DFU_SEEN_NOTHING;
+    if (course == DFU_GOES_ON && !is_asked(action) && again_is_doubtful(session, answer.seen))
+        return end(session, END_GONE);
     return follow(session, course, &answer);
 }
 

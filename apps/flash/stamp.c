@@ -2,6 +2,7 @@
 /* Chooses the entry of the list for a board. A line of LIST.used has a time, an entry's name, a path and a report, separated by tabs.
    The first report of each board is `begun`. */
 #include "stamp.h"
+#include "advice.h"
 #include "find.h"
 #include "say.h"
 #include "stamp_list.h"
@@ -83,12 +84,19 @@ static bool take_record(size_t number, char *line, void *with)
     return take_used(number, line, with);
 }
 
+/* The record was made just now, or is empty: then boards may have entries of the list, and nothing says so. */
+static void say_new(void)
+{
+    say_text(stderr, "dfu-flash: ", stamp_list.file, ".used is new, so the list begins with ");
+    say_text(stderr, "", stamp_list.stamps[0].name, "\n");
+}
+
 bool stamp_begin(const struct words *words)
 {
     struct stamp **sorted;
     const char *why;
     char *text;
-    bool is_begun;
+    bool is_begun, is_new;
     if (words->stamp == NULL)
         return true;
     stamp_list.file = words->stamp;
@@ -99,9 +107,14 @@ bool stamp_begin(const struct words *words)
     sorted = malloc(2 * stamp_list.count * sizeof(struct stamp *));
     if (sorted == NULL)
         return stamp_list_fail("", 0, "there is no memory");
-    is_begun = stamp_list_sort(sorted) && (used_open(stamp_list.file, words->dry_run, &text, &why) || stamp_list_fail(".used", 0, why))
-               && stamp_list_lines(text, sorted, take_record);
+    is_begun = stamp_list_sort(sorted) && (used_open(stamp_list.file, words->dry_run, &text, &why) || stamp_list_fail(".used", 0, why));
+    is_new = is_begun && *text == '\0';
+    is_begun = is_begun && stamp_list_lines(text, sorted, take_record);
     free(sorted);
+    if (is_begun)
+        stamp_list_warn();
+    if (is_new && !words->quiet && !words->dry_run)
+        say_new();
     if (is_begun && !words->quiet && !words->dry_run)
         say_lost();
     return is_begun;
@@ -156,6 +169,10 @@ bool stamp_take(const char *path)
     if (board.mine == NULL || board.is_taken)
         return true;
     snprintf(board.path, sizeof board.path, "%s", path);
+    if (!used_is_there()) {
+        advice_is("bring that same file back, since it says which entries are used; then run it again");
+        return stamp_list_fail(".used", 0, "it was removed or replaced while the program ran, so nothing is sent");
+    }
     if (!add(board.mine->name, path, "begun"))
         return stamp_list_fail(".used", 0, "it can't be written, so nothing is sent");
     board.mine->state = STAMP_USED;
@@ -169,7 +186,8 @@ void stamp_end(int status, const char *report)
         return;
     board.is_ended = true;
     if (!add(board.mine->name, board.path, report))
-        stamp_list_fail(".used", 0, "how the board ended can't be written");
+        stamp_list_fail(".used", 0,
+                        used_is_there() ? "how the board ended can't be written" : "it was removed or replaced while the program ran");
     if (status != STATUS_DONE && status != STATUS_UNCONFIRMED && !board.is_quiet)
         say_text(stderr, "dfu-flash: ", board.mine->name, " is used: this board may have it, and no other gets it\n");
 }

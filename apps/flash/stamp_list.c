@@ -4,6 +4,7 @@
 #include "stamp_list.h"
 #include "files.h"
 #include "say.h"
+#include "used.h"
 #include "../common/text.h"
 
 #include <ctype.h>
@@ -67,11 +68,50 @@ static void name_it(struct stamp *stamp)
             *at = (char)tolower((unsigned char)*at);
 }
 
+/* Returns why a line is no entry, before its blanks are taken away; NULL if it may be one. */
+static const char *why_none(char *line)
+{
+    size_t length;
+    line += strspn(line, " \r");
+    for (length = strlen(line); length > 0 && strchr(" \r", line[length - 1]) != NULL; length--)
+        ;
+    if (length > 0 && (line[0] == '\t' || line[length - 1] == '\t'))
+        return "it has a tab with nothing before it, or behind it";
+    return line[0] == '"' ? "it begins with a quotation mark, which would be written too" : NULL;
+}
+
+/* Returns whether a text looks as if it had more in it than an entry. */
+static bool is_odd(const char *text)
+{
+    return strpbrk(text, ",;") != NULL || strstr(text, " #") != NULL || strstr(text, "  ") != NULL;
+}
+
+void stamp_list_warn(void)
+{
+    const struct stamp *first = NULL;
+    size_t more = 0;
+    for (size_t at = stamp_list.count; at-- > 0;) {
+        const struct stamp *stamp = &stamp_list.stamps[at];
+        if (stamp->state == STAMP_USED || (!is_odd(stamp->name) && !is_odd(stamp->value)))
+            continue;
+        more += first != NULL;
+        first = stamp;
+    }
+    if (first == NULL)
+        return;
+    say_text(stderr, "dfu-flash: ", stamp_list.file, ", ");
+    fprintf(stderr, "line %zu is taken as it stands: ", first->line);
+    say_text(stderr, "", first->name, "");
+    if (more > 0)
+        fprintf(stderr, "; so are %zu more", more);
+    fputc('\n', stderr);
+}
+
 static bool take_line(size_t number, char *line, size_t *room)
 {
     uint8_t bytes[STAMP_BYTES];
     struct stamp *stamp;
-    const char *why;
+    const char *why = why_none(line);
     line = trim(line);
     if (*line == '\0' || *line == '#')
         return true;
@@ -85,7 +125,9 @@ static bool take_line(size_t number, char *line, size_t *room)
     stamp = &stamp_list.stamps[stamp_list.count++];
     *stamp = (struct stamp){.name = line, .line = number};
     name_it(stamp);
-    why = stamp_list_bytes(stamp->value, bytes);
+    if (why == NULL && *stamp->value == '"')
+        why = "it begins with a quotation mark, which would be written too";
+    why = why != NULL ? why : stamp_list_bytes(stamp->value, bytes);
     if (why == NULL && (!text_is_typed(stamp->name) || strlen(stamp->name) > 2 * STAMP_BYTES + 2))
         why = "its name is too long, has a control character, or is no UTF-8";
     return why == NULL || stamp_list_fail("", number, why);
@@ -154,6 +196,24 @@ bool stamp_list_lines(char *text, void *with, bool (*take)(size_t number, char *
         line = end;
     }
     return true;
+}
+
+/* Returns whether a line has its four fields, and a report that isn't broken off in `begun`. */
+static bool is_record(const char *line)
+{
+    for (int tab = 0; tab < 3; tab++) {
+        line = strchr(line, '\t');
+        if (line == NULL)
+            return false;
+        line++;
+    }
+    return strncmp("begun", line, strlen(line)) != 0 || strcmp("begun", line) == 0;
+}
+
+size_t used_whole(const char *text)
+{
+    const char *end = strrchr(text, '\n'), *last = end == NULL ? text : end + 1;
+    return (size_t)(last - text) + (is_record(last) ? strlen(last) : 0);
 }
 
 static bool take_entry(size_t number, char *line, void *with)

@@ -40,6 +40,9 @@ const char *stamp_list_bytes(const char *value, uint8_t bytes[STAMP_BYTES]);
 /* Prints what is wrong with the list, or with LIST.used; line 0 is none. Returns false. */
 bool stamp_list_fail(const char *ending, size_t line, const char *why);
 
+/* Prints the first entry that is free and may have more in it than was meant, such as another column, and how many more there are. */
+void stamp_list_warn(void);
+
 /* Hands each line to `take`, from number 1 on, as long as that is true. */
 bool stamp_list_lines(char *text, void *with, bool (*take)(size_t number, char *line, void *with));
 

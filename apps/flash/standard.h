@@ -72,6 +72,10 @@ const char *code_words(uint32_t code, bool is_upload);
 /* The next step behind a code of a download; NULL if there is none of its own. */
 const char *code_step(uint32_t code);
 
+/* Bytes of a suffix, from the file's end (appendix B). */
+#define PRODUCT_BACK 14
+#define VENDOR_BACK 12
+
 /* The number of two bytes, low byte first. */
 static inline uint16_t two_bytes(const uint8_t *bytes)
 {

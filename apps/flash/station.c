@@ -108,7 +108,7 @@ void station_time(char text[32])
 static bool say_unwritten(bool is_full, const char *step)
 {
     if (!station.has_failed)
-        say_failed(station.name, " can't be written", is_full || errno == 0 ? "there is no room for the whole line" : strerror(errno));
+        say_failed(station.name, " can't be written", is_full ? "there is no room for the whole line" : append_why());
     if (!station.has_failed)
         next_say(step);
     station.has_failed = true;
@@ -145,7 +145,7 @@ static bool open_report(const char *name)
     if (station.file < 0)
         return say_failed(name, " can't be the report", why);
     station.is_open = true;
-    errno = 0;
+    report_mend(station.file, name, station.is_csv ? header : NULL);
     return front[0] != '\0' || !station.is_csv || append_line(station.file, header, strlen(header))
            || say_unwritten(false, "make room, or name another file by --report, and run it again");
 }

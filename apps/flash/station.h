@@ -14,6 +14,9 @@
 /* Opens the files that --report and --ports name. Returns false, after printing why, if one can't be used. */
 bool station_begin(const struct words *words);
 
+/* Takes away the report's last line if it was broken off. The header is that of CSV, or NULL. */
+void report_mend(int file, const char *name, const char *header);
+
 /* The image of the records from here on. */
 void station_image(const struct words *words, const struct image *image);
 

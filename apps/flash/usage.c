@@ -7,7 +7,7 @@
 #include <string.h>
 
 #define OF_THE_LIST "copy it from what dfu-flash --list shows"
-#define MOST_DIGITS 8
+#define MAX_DIGITS 8
 
 /* clang-format off */
 static const struct {
@@ -65,7 +65,7 @@ void usage_advise_address(const char *option, const char *text)
 {
     char step[80];
     size_t digits = strspn(text, "0123456789abcdefABCDEF");
-    if (digits < 1 || digits > MOST_DIGITS || (text[digits] != '\0' && text[digits] != ':') || strlen(text) > 40)
+    if (digits < 1 || digits > MAX_DIGITS || (text[digits] != '\0' && text[digits] != ':') || strlen(text) > 40)
         return;
     snprintf(step, sizeof step, "type it as %s 0x%s", option, text);
     advice_is(step);

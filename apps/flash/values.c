@@ -11,8 +11,8 @@
 #include <stdlib.h>
 #include <string.h>
 
-#define MOST_SECONDS 1000000 /* some eleven days */
-#define MOST_TRANSFER 4096   /* bytes of a block: what Linux carries */
+#define MAX_SECONDS 1000000 /* some eleven days */
+#define MAX_TRANSFER 4096   /* bytes of a block: what Linux carries */
 #define DIGITS "0123456789"
 
 /* A decimal number up to `most`, with no sign and no other character. */
@@ -111,7 +111,7 @@ static bool is_count(const char *what, const char *text, unsigned long most, uin
 {
     unsigned long number;
     if (!is_number(text, most, &number) || number == 0) {
-        advice_is("give it a decimal number behind it");
+        advice_unless("give it a decimal number behind it");
         return words_refuse(what, text);
     }
     *count = (uint32_t)number;
@@ -120,12 +120,12 @@ static bool is_count(const char *what, const char *text, unsigned long most, uin
 
 bool value_timeout(const char *text, struct words *words)
 {
-    return is_count("--timeout takes seconds, from 1 to 1000000", text, MOST_SECONDS, &words->timeout);
+    return is_count("--timeout takes seconds, from 1 to 1000000", text, MAX_SECONDS, &words->timeout);
 }
 
 bool value_boards(const char *text, struct words *words)
 {
-    return is_count("--count takes boards, from 1 to 1000000", text, MOST_SECONDS, &words->boards);
+    return is_count("--count takes boards, from 1 to 1000000", text, MAX_SECONDS, &words->boards);
 }
 
 bool value_retry(const char *text, struct words *words)
@@ -137,7 +137,7 @@ bool value_wait(const char *text, struct words *words)
 {
     words->wait = true;
     words->patience = 0;
-    return text == NULL || is_count("--wait takes seconds, as --wait=30, from 1 to 1000000", text, MOST_SECONDS, &words->patience);
+    return text == NULL || is_count("--wait takes seconds, as --wait=30, from 1 to 1000000", text, MAX_SECONDS, &words->patience);
 }
 
 bool value_is_seconds(const char *word)
@@ -156,7 +156,10 @@ bool value_verbose(const char *text, struct words *words)
 bool value_transfer(const char *text, struct words *words)
 {
     uint32_t bytes = 0;
-    bool is_read = is_count("--transfer-size takes bytes, from 1 to 4096", text, MOST_TRANSFER, &bytes);
+    bool is_read;
+    if (*text != '\0' && text[strspn(text, DIGITS)] == '\0' && strcmp(text, "0") != 0)
+        advice_is("leave it out, or type 4096: a control transfer carries no more on Linux, and a device's larger blocks are cut to that");
+    is_read = is_count("--transfer-size takes bytes, from 1 to 4096", text, MAX_TRANSFER, &bytes);
     words->transfer = (uint16_t)bytes;
     return is_read;
 }

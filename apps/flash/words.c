@@ -23,6 +23,13 @@ bool words_refuse(const char *what, const char *word)
 /* --upload, --detach and --list each say what is to be done, in place of a download. */
 static bool is_job(struct words *words, enum job job)
 {
+    /* A list, an upload or a detach beside a demo is answered together with the other words that don't go with it. */
+    if (words->job == JOB_DEMO || (job == JOB_DEMO && words->job != JOB_DOWNLOAD)) {
+        words->file = job == JOB_DEMO && words->job == JOB_UPLOAD ? NULL : words->file;
+        words->beside = job == JOB_DEMO ? words->job : job;
+        words->job = JOB_DEMO;
+        return true;
+    }
     if (words->file != NULL && words->job == JOB_DOWNLOAD && job == JOB_DETACH)
         advice_is("to flash FILE leave out -e or --detach: a download brings the device to DFU mode by itself");
     if ((words->file != NULL && job != JOB_DEMO) || (words->job != JOB_DOWNLOAD && words->job != job))
@@ -36,7 +43,7 @@ static bool is_job(struct words *words, enum job job)
 static bool is_upload(struct words *words, const char *out)
 {
     bool is_taken = is_job(words, JOB_UPLOAD);
-    words->file = out;
+    words->file = words->job == JOB_DEMO ? words->file : out;
     return is_taken;
 }
 
@@ -51,6 +58,7 @@ static bool is_download(struct words *words, const char *file)
     if (words->file != NULL || (words->job != JOB_DOWNLOAD && words->job != JOB_DEMO))
         return words_refuse("one -D, --upload, --detach or --list says what is to be done", "");
     words->file = file;
+    words->is_by_letter = true;
     return true;
 }
 
@@ -117,8 +125,8 @@ static bool take_option(struct words *words, int code, int count, char **texts)
     case LIST: return is_job(words, JOB_LIST);
     case 'c':
     case 'E':
-    case 'Z':              /* noted */
-    case 'R': return true; /* each session ends with a reset */
+    case 'Z': return true; /* noted */
+    case 'R': dfu_util_pass('R'); return true;
     case REPORT: words->report = optarg; return *optarg != '\0' || words_refuse("--report takes the name of a file", "");
     case PORTS: words->ports = optarg; return *optarg != '\0' || words_refuse("--ports takes the name of a file", "");
     case BOARDS: return value_boards(optarg, words);
@@ -226,7 +234,6 @@ bool words_read(struct words *words, int count, char **texts)
     advice_forget();
     if (words->leaves && words->job == JOB_UPLOAD)
         dfu_util_pass('s');
-    if (!words->quiet)
-        dfu_util_notes();
+    dfu_util_notes(words->quiet);
     return is_whole(words, &plain);
 }

@@ -14,7 +14,8 @@ struct words {
     enum job job;
     const char *file; /* FILE, or OUT of an upload */
     bool verify, force, dry_run, quiet, json, verbose;
-    bool has_ids; /* --device was given */
+    enum job beside; /* what was asked for beside --demo; JOB_DOWNLOAD if nothing was */
+    bool has_ids;    /* --device was given */
     uint16_t vendor, product;
     bool has_dfu_ids; /* as RUN,DFU: in DFU mode it may have these */
     uint16_t dfu_vendor, dfu_product;
@@ -36,6 +37,7 @@ struct words {
     uint32_t address, length;   /* and --length, 0 if it wasn't; */
     bool is_to_end;             /* then an upload has all up to the end of the segment, as with -s */
     bool leaves;                /* :leave was given with -s */
+    bool is_by_letter;          /* FILE was given by -D */
     bool stays;                 /* --no-leave was given */
     bool raw;                   /* --raw was given */
     bool all;                   /* --all was given, */

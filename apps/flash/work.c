@@ -15,16 +15,27 @@
 #include "stop.h"
 #include "worker.h"
 
+#include <inttypes.h>
 #include <stdio.h>
 
 int work_refused(const struct session *session, const struct words *words, int32_t refusal)
 {
     advise_refused(session, refusal);
+    if (refusal == REFUSED_RUN_TIME)
+        advise_detach(words);
     return record_refused(refusal, words->json) ? STATUS_REFUSED : STATUS_FILE;
 }
 
+/* Returns whether the suffix has the identifiers that the words name for DFU mode. */
+static bool is_for_dfu_mode(const struct session *session, const struct words *words)
+{
+    const uint8_t *end = session->file + session->file_length;
+    return words->job == JOB_DOWNLOAD && words->has_dfu_ids && session->file_length >= PRODUCT_BACK
+           && two_bytes(end - VENDOR_BACK) == words->dfu_vendor && two_bytes(end - PRODUCT_BACK) == words->dfu_product;
+}
+
 /* For which device the file has to be: the one that was found; or, if the identifiers of both modes were given, that of run-time
-   mode. */
+   mode, unless the file is for the one of DFU mode. */
 static struct dfu_ids target(const struct session *session, const struct words *words)
 {
     struct dfu_ids ids = {session->wire.device->info.release, session->wire.device->info.product, session->wire.device->info.vendor};
@@ -32,6 +43,10 @@ static struct dfu_ids target(const struct session *session, const struct words *
         ids.vendor = words->vendor;
     if (words->has_dfu_ids && words->product != ANY_ID)
         ids.product = words->product;
+    if (is_for_dfu_mode(session, words)) {
+        ids.vendor = words->dfu_vendor;
+        ids.product = words->dfu_product;
+    }
     return ids;
 }
 
@@ -51,12 +66,32 @@ void work_ask(struct session *session, const struct words *words)
     session->wire.trace.is_on = words->verbose || words->log != NULL;
 }
 
+void work_say_board(const struct session *session, const struct words *words, const struct image *image)
+{
+    const struct found *info = &session->wire.device->info;
+    if (words->job != JOB_DOWNLOAD || words->quiet || words->has_ids || words->path != NULL || words->serial != NULL
+        || (image->vendor != ANY_ID && image->product != ANY_ID))
+        return;
+    fputs("dfu-flash: the file is for any board", stderr);
+    if (image->vendor != ANY_ID)
+        fprintf(stderr, " of vendor %04x", image->vendor);
+    if (image->product != ANY_ID)
+        fprintf(stderr, " with product %04x", image->product);
+    fprintf(stderr, "; it %s sent to %04x:%04x at %s\n", words->dry_run ? "would be" : "is", info->vendor, info->product, info->path);
+}
+
 /* From here on the entry of --stamp is this board's. The first process of several knows before the record does. */
 static bool take_entry(const struct session *session, const struct words *words)
 {
     if (words->bay != NULL && !worker_print_begun(session->tries + 1, words->stamp != NULL))
         return false;
-    return stamp_take(session->wire.device->path);
+    if (!stamp_take(session->wire.device->path))
+        return false;
+    if (words->stamp != NULL && !words->quiet) {
+        say_text(stderr, "dfu-flash: the board gets ", stamp_taken(), "");
+        fprintf(stderr, " at 0x%" PRIx64 "\n", words->stamp_place);
+    }
+    return true;
 }
 
 /* Opens the device; from here on signals and --timeout end what is done with it. */
@@ -80,7 +115,11 @@ int work_begin(struct session *session, const struct words *words)
 
 int work_print(const struct session *session, const struct words *words, const struct verdict *verdict)
 {
-    bool is_out = record_print(session, verdict, words->json);
+    bool has_image = verdict->status == STATUS_DONE || verdict->status == STATUS_UNCONFIRMED;
+    bool is_out;
+    if (words->bay != NULL && has_image)
+        worker_print_taken(verdict->status == STATUS_DONE);
+    is_out = record_print(session, verdict, words->json);
     if (verdict->code != 0 && !words->json && !words->quiet)
         fprintf(stderr, "dfu-flash: %s: %s\n", code_name(verdict->code), code_words(verdict->code, session->is_upload));
     if (!words->json)
@@ -114,6 +153,19 @@ static bool is_tried_again(struct session *session, const struct words *words, c
     return true;
 }
 
+/* Another device came: what is printed is of the one that was left, as it was seen first in that mode, and the step names the other. */
+static void name_left(struct session *session)
+{
+    struct found *info = &session->wire.device->info;
+    libusb_device *opened = info->device;
+    const struct found *left = &session->first[session->has_first[info->is_upgrade] ? info->is_upgrade : !info->is_upgrade];
+    if (session->end != END_OTHER || left->path[0] == '\0')
+        return;
+    advise_other(left, info);
+    *info = *left;
+    info->device = opened;
+}
+
 int work_end(struct session *session, const struct words *words)
 {
     const struct verdict verdict = verdict_of(session);
@@ -137,6 +189,7 @@ int work_run(struct session *session, const struct words *words, enum progress_s
     is_whole = verdict.status == STATUS_DONE || (verdict.status == STATUS_UNRESET && session->is_fetched);
     if (is_tried_again(session, words, &verdict))
         return WORK_AGAIN;
+    name_left(session);
     if (session->goal == GOAL_UPLOAD && is_whole && !make_file(session, words))
         return record_none(STATUS_FILE, words->json);
     return work_print(session, words, &verdict);

@@ -3,6 +3,7 @@
 #ifndef DFU_FLASH_WORK_H
 #define DFU_FLASH_WORK_H
 
+#include "image.h"
 #include "progress.h"
 #include "session.h"
 #include "words.h"
@@ -12,6 +13,9 @@
 
 /* Takes into the session what the words ask for. */
 void work_ask(struct session *session, const struct words *words);
+
+/* Says which board gets a file that is for any one, unless the words name the board. */
+void work_say_board(const struct session *session, const struct words *words, const struct image *image);
 
 /* Opens the device; from here on signals and --timeout end what is done with it. */
 int work_begin(struct session *session, const struct words *words);

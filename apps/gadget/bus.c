@@ -99,9 +99,9 @@ static bool is_refused(struct bus *bus, const uint8_t setup[8])
 }
 
 /* The data stage is taken, unless the library stalls the setup before it: DFU_STALL, or its answer; and false if the host gave up. */
-static bool decide(struct bus *bus, const uint8_t setup[8], uint8_t out[MOST_TRANSFER], int32_t *answer)
+static bool decide(struct bus *bus, const uint8_t setup[8], uint8_t out[MAX_TRANSFER], int32_t *answer)
 {
-    uint8_t body[MOST_TRANSFER];
+    uint8_t body[MAX_TRANSFER];
     size_t length = (size_t)(setup[6] | setup[7] << 8);
     switch (machine_plan(&bus->machine, setup)) {
     case PLAN_STALL:
@@ -132,7 +132,7 @@ static bool decide(struct bus *bus, const uint8_t setup[8], uint8_t out[MOST_TRA
 void bus_serve(struct bus *bus, const uint8_t setup[8])
 {
     struct function *function = &bus->functions[bus->mode];
-    uint8_t out[MOST_TRANSFER];
+    uint8_t out[MAX_TRANSFER];
     int32_t answer = DFU_STALL;
     int64_t began = clock_ms();
     bus_pass(bus);

@@ -8,18 +8,18 @@
 #include <stdlib.h>
 #include <string.h>
 
-#define MOST 65536 /* bytes of the file */
+#define MAX_CONFIG_BYTES 65536 /* bytes of the file */
 
 /* The bytes stay until the program ends: the words point into them. */
 static char *read_all(const char *name)
 {
-    static char bytes[MOST + 1];
+    static char bytes[MAX_CONFIG_BYTES + 1];
     FILE *file = fopen(name, "re");
-    size_t length = file == NULL ? 0 : fread(bytes, 1, MOST, file);
+    size_t length = file == NULL ? 0 : fread(bytes, 1, MAX_CONFIG_BYTES, file);
     bool is_read = file != NULL && !ferror(file);
     if (!is_read)
         say_failed(name, "can't be read");
-    else if (length == MOST || memchr(bytes, '\0', length) != NULL)
+    else if (length == MAX_CONFIG_BYTES || memchr(bytes, '\0', length) != NULL)
         is_read = say_wrong(name, "it is no file of lines, of up to 65535 bytes");
     if (file != NULL)
         fclose(file);

@@ -13,11 +13,11 @@
 #include <string.h>
 #include <unistd.h>
 
-#define MOST_LINE 256
+#define MAX_LINE 256
 
 bool controller_open(struct controller *controller, const char *name)
 {
-    char path[MOST_PATH], line[MOST_LINE];
+    char path[MAX_PATH_BYTES], line[MAX_LINE];
     *controller = (struct controller){.name = name, .state = -1};
     if (!path_is_name(name) || !path_of_controller(path, name, "state"))
         return say_wrong(name, "it is no name of a controller");
@@ -37,7 +37,7 @@ void controller_close(struct controller *controller)
 /* To read it from its beginning is what makes poll wait for the next time. If the controller is gone, so is the file. */
 bool controller_is_new_state(struct controller *controller)
 {
-    char line[MOST_LINE];
+    char line[MAX_LINE];
     struct pollfd wait = {.fd = controller->state, .events = POLLPRI};
     if (controller->state < 0)
         return true;
@@ -50,7 +50,7 @@ bool controller_is_new_state(struct controller *controller)
 
 static bool set_controller(const char *gadget, const char *name)
 {
-    char path[MOST_PATH], line[MOST_LINE];
+    char path[MAX_PATH_BYTES], line[MAX_LINE];
     int length = snprintf(line, sizeof line, "%s\n", name), file, error;
     bool is_set;
     if (!path_of_gadget(path, gadget, "UDC"))
@@ -77,7 +77,7 @@ bool controller_leave(const char *gadget)
 
 bool controller_number(const char *gadget, const char *attribute, uint16_t *number)
 {
-    char path[MOST_PATH], line[MOST_LINE], *end;
+    char path[MAX_PATH_BYTES], line[MAX_LINE], *end;
     unsigned long found;
     if (!path_is_name(gadget) || !path_of_gadget(path, gadget, attribute))
         return say_wrong(gadget, "it is no name of a gadget");

@@ -19,8 +19,8 @@ static bool put_back(const struct medium *medium, uint32_t at, const uint8_t *be
 /* One write, and how it went: 0 if it is on the disk. After one that failed the library reads what the disk has. */
 static int write_once(const struct medium *medium, uint32_t at, const uint8_t *bytes, uint32_t length)
 {
-    uint8_t before[MEDIUM_MOST_WRITE];
-    bool is_sound = length <= MEDIUM_MOST_WRITE && at <= medium->size && length <= medium->size - at;
+    uint8_t before[MEDIUM_MAX_WRITE];
+    bool is_sound = length <= MEDIUM_MAX_WRITE && at <= medium->size && length <= medium->size - at;
     errno = EINVAL;
     if (is_sound)
         memcpy(before, medium->bytes + at, length);

@@ -18,7 +18,7 @@
 #include <sys/eventfd.h>
 #include <unistd.h>
 
-#define MOST_EVENTS 4 /* as many as FunctionFS keeps */
+#define MAX_EVENTS 4 /* as many as FunctionFS keeps */
 
 static int open_signals(void)
 {
@@ -27,7 +27,7 @@ static int open_signals(void)
 
 bool function_open(struct function *function, const char *gadget, uint8_t protocol, const uint8_t functional[9], const char *name)
 {
-    char path[MOST_PATH];
+    char path[MAX_PATH_BYTES];
     *function = (struct function){.gadget = gadget, .protocol = protocol, .ep0 = -1, .signals = -1};
     memcpy(function->functional, functional, sizeof function->functional);
     snprintf(function->name, sizeof function->name, "%s", name);
@@ -76,9 +76,9 @@ static bool has_event(const struct function *function)
 }
 
 /* Reads the events that wait. Returns their number, or -1. */
-static int read_events(struct function *function, struct usb_functionfs_event events[MOST_EVENTS])
+static int read_events(struct function *function, struct usb_functionfs_event events[MAX_EVENTS])
 {
-    ssize_t length = read(function->ep0, events, MOST_EVENTS * sizeof *events);
+    ssize_t length = read(function->ep0, events, MAX_EVENTS * sizeof *events);
     int found = length < 0 ? -1 : (int)(length / (ssize_t)sizeof *events);
     if (found > 0)
         function->unread -= found;
@@ -95,8 +95,8 @@ void function_rest(struct function *function)
 
 void function_begin(struct function *function)
 {
-    struct usb_functionfs_event events[MOST_EVENTS];
-    for (int turn = 0; turn < MOST_EVENTS && has_event(function); turn++)
+    struct usb_functionfs_event events[MAX_EVENTS];
+    for (int turn = 0; turn < MAX_EVENTS && has_event(function); turn++)
         if (read_events(function, events) < 0)
             break;
     function_rest(function);
@@ -134,7 +134,7 @@ static void take_event(struct function *function, const struct usb_functionfs_ev
 /* EIDRM: the host gave up the setup that waited there. */
 bool function_read(struct function *function, bool is_new_state, struct events *events)
 {
-    struct usb_functionfs_event found[MOST_EVENTS];
+    struct usb_functionfs_event found[MAX_EVENTS];
     int many = read_events(function, found);
     bool may_be_reset, has_setup = false;
     *events = (struct events){0};

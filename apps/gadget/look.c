@@ -30,7 +30,7 @@ static void line(const char *what, const char *which, const char *wrong)
 
 static void look_at_kernel(void)
 {
-    char path[MOST_PATH], version[128] = "";
+    char path[MAX_PATH_BYTES], version[128] = "";
     unsigned major = 0, minor = 0;
     bool is_read = path_of_kernel(path, "sys/kernel/osrelease") && path_line(path, version, sizeof version)
                    && sscanf(version, "%u.%u", &major, &minor) == 2;
@@ -41,7 +41,7 @@ static void look_at_kernel(void)
 /* It comes with the first gadget that has a function of it. */
 static void look_at_module(void)
 {
-    char path[MOST_PATH], name[128] = "";
+    char path[MAX_PATH_BYTES], name[128] = "";
     FILE *file = path_of_kernel(path, "filesystems") ? fopen(path, "re") : NULL;
     bool is_there = false;
     while (file != NULL && fgets(name, sizeof name, file) != NULL)
@@ -54,7 +54,7 @@ static void look_at_module(void)
 /* Which gadget has the controller; "" if none has it. */
 static void find_user(const char *controller, char *user, size_t room)
 {
-    char path[MOST_PATH], text[256];
+    char path[MAX_PATH_BYTES], text[256];
     const struct dirent *entry;
     DIR *folder = path_of_gadget(path, ".", "") ? opendir(path) : NULL;
     *user = '\0';
@@ -68,7 +68,7 @@ static void find_user(const char *controller, char *user, size_t room)
 
 static void look_at_controller(const char *name)
 {
-    char path[MOST_PATH], user[256], wrong[512] = "";
+    char path[MAX_PATH_BYTES], user[256], wrong[512] = "";
     bool is_there = path_is_name(name) && path_of_controller(path, name, "state") && access(path, R_OK) == 0;
     if (is_there)
         find_user(name, user, sizeof user);
@@ -82,7 +82,7 @@ static void look_at_controller(const char *name)
 /* To open endpoint 0 changes nothing before descriptors are written. */
 static void look_at_gadget(const char *name)
 {
-    char path[MOST_PATH], ep0[MOST_PATH];
+    char path[MAX_PATH_BYTES], ep0[MAX_PATH_BYTES];
     int file;
     if (!path_is_name(name) || !path_of_gadget(path, name, "UDC") || !path_of_function(ep0, name)) {
         line("gadget", name, "it is no name of a gadget");

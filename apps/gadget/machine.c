@@ -126,15 +126,15 @@ enum plan machine_plan(struct machine *machine, const uint8_t setup[8])
     if (note(machine, dfu_device_would_stall(&machine->device, setup)) == 0)
         return PLAN_TAKE;
     if (machine->refusal == 0) {
-        uint8_t out[MOST_TRANSFER], body[MOST_TRANSFER] = {0};
+        uint8_t out[MAX_TRANSFER], body[MAX_TRANSFER] = {0};
         machine_handle(machine, setup, body, out);
     }
     return PLAN_STALL;
 }
 
-int32_t machine_handle(struct machine *machine, const uint8_t setup[8], const uint8_t *body, uint8_t out[MOST_TRANSFER])
+int32_t machine_handle(struct machine *machine, const uint8_t setup[8], const uint8_t *body, uint8_t out[MAX_TRANSFER])
 {
-    return settle(machine, dfu_device_handle(&machine->device, setup, body, out, MOST_TRANSFER), out, MOST_TRANSFER);
+    return settle(machine, dfu_device_handle(&machine->device, setup, body, out, MAX_TRANSFER), out, MAX_TRANSFER);
 }
 
 /* A byte of the image is on the disk as soon as it was taken, since the medium's unit is a byte: none is held back in memory. */
@@ -152,7 +152,7 @@ bool machine_refuse_close(struct machine *machine, const uint8_t setup[8], uint8
 
 void machine_pass(struct machine *machine, int64_t ms)
 {
-    uint8_t out[MOST_TRANSFER];
+    uint8_t out[MAX_TRANSFER];
     uint32_t passed = ms < 0 ? 0 : ms > UINT32_MAX ? UINT32_MAX : (uint32_t)ms;
     settle(machine, dfu_device_elapse(&machine->device, passed), out, sizeof out);
 }

@@ -10,15 +10,15 @@
 
 #include <stdbool.h>
 
-#define MOST_TRANSFER 4096 /* bytes of a block */
-#define MACHINE_UNIT 1     /* a file is written byte by byte, as far as its layout goes */
-#define MACHINE_GATE 16    /* bytes of the gate, at the begin of a slot */
+#define MAX_TRANSFER 4096 /* bytes of a block */
+#define MACHINE_UNIT 1    /* a file is written byte by byte, as far as its layout goes */
+#define MACHINE_GATE 16   /* bytes of the gate, at the begin of a slot */
 
 struct machine {
     struct dfu_config config;
     struct dfu_device device;
     struct dfu_driver driver;
-    uint8_t block[DFU_BLOCK_SIZE(MOST_TRANSFER, MACHINE_UNIT)];
+    uint8_t block[DFU_BLOCK_SIZE(MAX_TRANSFER, MACHINE_UNIT)];
     const struct medium *medium;
     struct dfu_place place; /* of the active image */
     bool is_installed;      /* another image was put in place, and nobody has looked at this yet */
@@ -41,7 +41,7 @@ enum plan machine_plan(struct machine *machine, const uint8_t setup[8]);
 
 /* Handles a setup. Returns the number of bytes of its answer in `out`, or a negative number for a stall. If the host sends, the body has
    wLength bytes. */
-int32_t machine_handle(struct machine *machine, const uint8_t setup[8], const uint8_t *body, uint8_t out[MOST_TRANSFER]);
+int32_t machine_handle(struct machine *machine, const uint8_t setup[8], const uint8_t *body, uint8_t out[MAX_TRANSFER]);
 
 /* machine_closes returns whether this setup closes a download, and finds its image; machine_refuse_close refuses that image, with errTARGET
    or errFILE, and returns false if the setup closes none. */

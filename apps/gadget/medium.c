@@ -13,20 +13,20 @@
 #include <sys/stat.h>
 #include <unistd.h>
 
-#define SECTOR 4096         /* bytes, the largest sector of common disks and cards */
-#define MOST_IMAGE 16777216 /* bytes, the library's limit */
+#define SECTOR 4096              /* bytes, the largest sector of common disks and cards */
+#define MAX_IMAGE_BYTES 16777216 /* bytes, the library's limit */
 
 /* The largest slot is a whole number of sectors too. */
 size_t medium_slots(size_t size, size_t sector, size_t head)
 {
-    size_t slot = size / 2 / sector * sector, largest = (head + MOST_IMAGE) / sector * sector;
+    size_t slot = size / 2 / sector * sector, largest = (head + MAX_IMAGE_BYTES) / sector * sector;
     return 2 * (slot < largest ? slot : largest);
 }
 
 size_t medium_wanted(size_t most, size_t sector, size_t head)
 {
-    size_t slot = most > MOST_IMAGE ? 0 : (head + most + sector - 1) / sector * sector;
-    return slot == 0 || slot > head + MOST_IMAGE ? 0 : 2 * slot;
+    size_t slot = most > MAX_IMAGE_BYTES ? 0 : (head + most + sector - 1) / sector * sector;
+    return slot == 0 || slot > head + MAX_IMAGE_BYTES ? 0 : 2 * slot;
 }
 
 size_t medium_most(size_t size, size_t head)
@@ -180,7 +180,7 @@ bool medium_write(const struct medium *medium, size_t at, const uint8_t *bytes, 
 static bool is_kept(const struct medium *medium, size_t at, size_t length)
 {
     size_t page = (size_t)sysconf(_SC_PAGESIZE), from = at / page * page;
-    unsigned char kept[MEDIUM_MOST_WRITE / 4096 + 2] = {0};
+    unsigned char kept[MEDIUM_MAX_WRITE / 4096 + 2] = {0};
     bool has_page = mincore((void *)(uintptr_t)(medium->bytes + from), at + length - from, kept) != 0;
     for (size_t each = 0; each < sizeof kept; each++)
         has_page = has_page || (kept[each] & 1) != 0;

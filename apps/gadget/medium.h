@@ -52,8 +52,8 @@ size_t medium_most(size_t size, size_t head);
 bool medium_write(const struct medium *medium, size_t at, const uint8_t *bytes, size_t length);
 
 /* Drops the bytes of a write that failed from Linux's memory, because Linux would give them to readers though the disk hasn't got them.
-   Returns false if they stay. Of a medium that is mapped, `length` must be at most MEDIUM_MOST_WRITE. */
-#define MEDIUM_MOST_WRITE 4096
+   Returns false if they stay. Of a medium that is mapped, `length` must be at most MEDIUM_MAX_WRITE. */
+#define MEDIUM_MAX_WRITE 4096
 bool medium_forget(const struct medium *medium, size_t at, size_t length);
 
 #endif

@@ -11,28 +11,28 @@
 
 const char *paths_root = "";
 
-static bool make(char path[MOST_PATH], const char *folder, const char *name, const char *file)
+static bool make(char path[MAX_PATH_BYTES], const char *folder, const char *name, const char *file)
 {
-    int length = snprintf(path, MOST_PATH, "%s%s/%s%s%s", paths_root, folder, name, *file == '\0' ? "" : "/", file);
-    return length > 0 && length < MOST_PATH;
+    int length = snprintf(path, MAX_PATH_BYTES, "%s%s/%s%s%s", paths_root, folder, name, *file == '\0' ? "" : "/", file);
+    return length > 0 && length < MAX_PATH_BYTES;
 }
 
-bool path_of_gadget(char path[MOST_PATH], const char *gadget, const char *attribute)
+bool path_of_gadget(char path[MAX_PATH_BYTES], const char *gadget, const char *attribute)
 {
     return make(path, "/sys/kernel/config/usb_gadget", gadget, attribute);
 }
 
-bool path_of_function(char path[MOST_PATH], const char *gadget)
+bool path_of_function(char path[MAX_PATH_BYTES], const char *gadget)
 {
     return make(path, "/dev/usb-ffs", gadget, "ep0");
 }
 
-bool path_of_controller(char path[MOST_PATH], const char *controller, const char *attribute)
+bool path_of_controller(char path[MAX_PATH_BYTES], const char *controller, const char *attribute)
 {
     return make(path, "/sys/class/udc", controller, attribute);
 }
 
-bool path_of_kernel(char path[MOST_PATH], const char *name)
+bool path_of_kernel(char path[MAX_PATH_BYTES], const char *name)
 {
     return make(path, "/proc", name, "");
 }

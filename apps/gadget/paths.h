@@ -6,19 +6,19 @@
 #include <stdbool.h>
 #include <stddef.h>
 
-#define MOST_PATH 512
+#define MAX_PATH_BYTES 512
 
 /* The folder in front of all of these: "" but in tests (--root). */
 extern const char *paths_root;
 
 /* Make /sys/kernel/config/usb_gadget/GADGET/ATTRIBUTE, /dev/usb-ffs/GADGET/ep0 and /sys/class/udc/CONTROLLER/ATTRIBUTE. Return false if
    the path is too long. */
-bool path_of_gadget(char path[MOST_PATH], const char *gadget, const char *attribute);
-bool path_of_function(char path[MOST_PATH], const char *gadget);
-bool path_of_controller(char path[MOST_PATH], const char *controller, const char *attribute);
+bool path_of_gadget(char path[MAX_PATH_BYTES], const char *gadget, const char *attribute);
+bool path_of_function(char path[MAX_PATH_BYTES], const char *gadget);
+bool path_of_controller(char path[MAX_PATH_BYTES], const char *controller, const char *attribute);
 
 /* Below /proc: sys/kernel/osrelease and filesystems. */
-bool path_of_kernel(char path[MOST_PATH], const char *name);
+bool path_of_kernel(char path[MAX_PATH_BYTES], const char *name);
 
 /* Reads the first line of a file, without its end. Returns false, with errno, if it can't be read. */
 bool path_line(const char *path, char *line, size_t room);

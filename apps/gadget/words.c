@@ -41,9 +41,9 @@ static const struct option options[] = {
 };
 /* clang-format on */
 
-#define MOST_IMAGE 16777216 /* bytes */
-#define MOST_MS 16777215
-#define MOST_TRIES 254           /* what a sector has marks for */
+#define MAX_IMAGE_BYTES 16777216 /* bytes */
+#define MAX_MS 16777215
+#define MAX_TRIES 254            /* what a sector has marks for */
 #define BY_ATTRIBUTES UINT32_MAX /* of --manifest that isn't given */
 
 static bool refuse_to(const char *name, const char *why, const char *next)
@@ -77,12 +77,12 @@ static bool take_number(const char *text, bool is_size, uint32_t least, uint32_t
 
 static bool take_size(const char *text, uint32_t *number)
 {
-    return take_number(text, true, 1, MOST_IMAGE, number) || refuse(text, "it is no number of bytes, from 1 to 16M");
+    return take_number(text, true, 1, MAX_IMAGE_BYTES, number) || refuse(text, "it is no number of bytes, from 1 to 16M");
 }
 
 static bool take_ms(const char *text, uint32_t *number)
 {
-    return take_number(text, false, 0, MOST_MS, number) || refuse(text, "it is no number of milliseconds, from 0 to 16777215");
+    return take_number(text, false, 0, MAX_MS, number) || refuse(text, "it is no number of milliseconds, from 0 to 16777215");
 }
 
 static bool take_short(const char *text, uint32_t least, uint32_t most, const char *why, uint16_t *number)
@@ -134,7 +134,7 @@ static bool take(struct words *words, int code, const char *value)
     case UPGRADE: return take_text(value, &words->upgrade);
     case CHECK: return take_text(value, &words->check);
     case TRIES:
-        return take_number(value, false, 2, MOST_TRIES, &words->tries)
+        return take_number(value, false, 2, MAX_TRIES, &words->tries)
                || refuse(value, "it is no number of starts, from 2 to 254: a download that is verified starts a new image twice");
     case ON_INSTALLED: return take_text(value, &words->command);
     case DFU_MODE: return words->dfu_mode = true;

@@ -6,7 +6,7 @@ import { CODES, REQUEST, REQUESTS, STATES, hexOf, partsOf, pollOf, stateOf } fro
 const HEARS = ['it is acknowledged', '', 'a stall', 'nothing', 'the time has passed', 'the bus was reset', 'the device restarted']
 const FATES = { pass: 'it goes well', lostout: 'the request is lost', lostback: 'the answer is lost', twice: 'it comes twice',
   twicelostback: 'it comes twice, the answer is lost' }
-const MOST_SHOWN = 16 // bytes of an answer
+const MAX_SHOWN = 16 // bytes of an answer
 
 export function fateOf({ fate, ms, writes, tear }) {
   if (fate === 'slip') return `${ms} ms pass`
@@ -37,5 +37,5 @@ function meaningOf({ setup }, bytes) {
 export function hearsOf({ action, seen, bytes }) {
   if (seen !== SEEN.BYTES) return [HEARS[seen], '']
   if (bytes.length === 0) return ['no bytes', '']
-  return [meaningOf(action, bytes), `${hexOf(bytes.slice(0, MOST_SHOWN))}${bytes.length > MOST_SHOWN ? ' ..' : ''}`]
+  return [meaningOf(action, bytes), `${hexOf(bytes.slice(0, MAX_SHOWN))}${bytes.length > MAX_SHOWN ? ' ..' : ''}`]
 }

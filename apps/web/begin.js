@@ -7,9 +7,9 @@ import { canReset } from './system.js'
 
 // Linux carries at most 4,096 bytes in a control transfer. A host may send smaller blocks than a device takes (USB DFU 1.1, section
 // 4.1.3: wTransferSize is the most that it takes).
-const MOST_BYTES = 4096
+const MAX_BYTES = 4096
 const RESTARTS = 3
-const MOST_ACTIONS = 0xffffffff
+const MAX_ACTIONS = 0xffffffff
 
 export const canUpload = ({ descriptor }) => hasAttribute(descriptor, ATTRIBUTE.CAN_UPLOAD)
 
@@ -27,9 +27,9 @@ export const goalOf = (info, wantsVerified) => (wantsVerified && canCompare(info
 // A descriptor with no more bytes of a block than are carried.
 export function cut(descriptor) {
   const bytes = descriptor.slice()
-  if (bytes.length < FUNCTIONAL.BYTES_1_0 || transferOf(bytes) <= MOST_BYTES) return bytes
-  bytes[5] = MOST_BYTES & 0xff
-  bytes[6] = MOST_BYTES >> 8
+  if (bytes.length < FUNCTIONAL.BYTES_1_0 || transferOf(bytes) <= MAX_BYTES) return bytes
+  bytes[5] = MAX_BYTES & 0xff
+  bytes[6] = MAX_BYTES >> 8
   return bytes
 }
 
@@ -39,7 +39,7 @@ export function cut(descriptor) {
 export function limitsOf(payload, descriptor) {
   const transfer = transferOf(descriptor)
   const blocks = transfer > 0 ? Math.floor(payload / transfer) + 1 : 65536
-  return { actions: Math.min(10 * blocks * (RESTARTS + 1) + 300, MOST_ACTIONS), restarts: RESTARTS }
+  return { actions: Math.min(10 * blocks * (RESTARTS + 1) + 300, MAX_ACTIONS), restarts: RESTARTS }
 }
 
 // The host's refusals of a functional descriptor that is missing, or is none that a session can go by.

@@ -12,8 +12,8 @@ import { RawImage } from './raw.js'
 import { refusalOf } from './refusals.js'
 import { FILL, FILL_NONE, FORMATS, isFormat, takeImage, takingRefusal, TAKE } from './taking.js'
 
-const MOST_FILE = 16777216
-const MOST_SHOWN = 8 // elements
+const MAX_FILE = 16777216
+const MAX_SHOWN = 8 // elements
 const ANY = 0xffff
 
 const orAny = number => (number === ANY ? 'any' : digits(number, 4))
@@ -78,7 +78,7 @@ export class ChosenFile {
   async read(file) {
     const choice = ++this.choices
     const failed = error => say('file-refused', `The file can't be read: ${error.message}`)
-    const buffer = await file.slice(0, MOST_FILE + 1).arrayBuffer().catch(failed)
+    const buffer = await file.slice(0, MAX_FILE + 1).arrayBuffer().catch(failed)
     if (this.isLocked || buffer === undefined || choice !== this.choices) return
     this.shown = file
     by('file').files = listOf(file)
@@ -159,8 +159,8 @@ export class ChosenFile {
     const isOfSeveral = this.said.setting === FILE.SEVERAL
     const setting = isOfSeveral ? this.setting : this.said.setting
     const { elements = [] } = setting === null ? {} : new DfuseHost(this.module, this.bytes).readElements(setting)
-    const lines = elements.slice(0, MOST_SHOWN).map(elementText)
-    if (elements.length > MOST_SHOWN) lines.push(`and ${elements.length - MOST_SHOWN} more`)
+    const lines = elements.slice(0, MAX_SHOWN).map(elementText)
+    if (elements.length > MAX_SHOWN) lines.push(`and ${elements.length - MAX_SHOWN} more`)
     return [['Format', 'DfuSe, and its check sum is right'], ['For the device', target(this.said)],
       ['For the memory', isOfSeveral ? 'several alternate settings' : `alternate setting ${setting}`],
       ...(lines.length > 0 ? [['Elements', lines.join('\n')]] : [])]
@@ -170,7 +170,7 @@ export class ChosenFile {
   refuse() {
     const isSuffixed = !lacksSuffix(this, this.bytes)
     const isOther = !isSuffixed && !mayBeRaw(this, this.bytes)
-    const { name, words, advice } = refusalOf(isOther ? REFUSAL.FILE_NO_SIGNATURE : this.said.refusal)
+    const { name, shown: words, advice } = refusalOf(isOther ? REFUSAL.FILE_NO_SIGNATURE : this.said.refusal)
     const said = isOther ? otherThanRaw(this.look) : { words, advice }
     say('file-refused', `${name}: ${said.words}. ${said.advice}`)
     if (!isSuffixed && !isCut(this.look)) this.raw.ask(this.bytes, isOther)

@@ -10,9 +10,9 @@ const NO_CANDIDATE = -20
 const ERR_FILE = 2
 const ERASE = 1
 const ERASED = 0xff
-const MOST_BODY = 65536
-const MOST_ANSWER = 4096
-const MOST_BLOCK = 4096 + 256 // a block, and behind it a unit
+const MAX_BODY = 65536
+const MAX_ANSWER = 4096
+const MAX_BLOCK = 4096 + 256 // a block, and behind it a unit
 
 // A device is refused: `number` is that of dfu_core.h.
 export class Refused extends Error {
@@ -35,15 +35,15 @@ export class Device extends Library {
     this.config = this.record('dfu_config', whole)
     this.kept = this.record('dfu_record')
     this.ask = this.record('dfu_ask')
-    this.block = this.reserve(MOST_BLOCK)
+    this.block = this.reserve(MAX_BLOCK)
     this.transfer = whole.transfer
     this.gate = Math.max(16, whole.unit, whole.sector) // bytes of a slot's gate, and of its header
     this.size = 2 * (2 * this.gate + capacity)
     this.medium = this.reserve(this.size)
     this.mediumBytes().fill(ERASED)
     this.setup = this.reserve(8)
-    this.body = this.reserve(MOST_BODY)
-    this.out = this.reserve(MOST_ANSWER)
+    this.body = this.reserve(MAX_BODY)
+    this.out = this.reserve(MAX_ANSWER)
     this.place = this.record('dfu_place')
     this.driver = operation => this.carryOut(operation)
     this.format(image)
@@ -75,13 +75,13 @@ export class Device extends Library {
   }
 
   words() {
-    return [this.config, this.kept, this.block, MOST_BLOCK, this.medium, this.size].map(BigInt)
+    return [this.config, this.kept, this.block, MAX_BLOCK, this.medium, this.size].map(BigInt)
   }
 
   work(number) {
     const { dfu_core_next: next, dfu_core_took: took } = this.calls
     return this.settle(number, () => next(...this.words(), BigInt(this.ask)),
-      failed => took(...this.words(), failed, BigInt(this.out), BigInt(MOST_ANSWER)))
+      failed => took(...this.words(), failed, BigInt(this.out), BigInt(MAX_ANSWER)))
   }
 
   format(image) {
@@ -99,7 +99,7 @@ export class Device extends Library {
   handle(setup, body = new Uint8Array(0)) {
     this.bytes(this.setup, 8).set(setup)
     this.bytes(this.body, body.length).set(body)
-    const rest = [this.setup, this.body, body.length, this.out, MOST_ANSWER].map(BigInt)
+    const rest = [this.setup, this.body, body.length, this.out, MAX_ANSWER].map(BigInt)
     const count = this.work(this.calls.dfu_core_handle(...this.words(), ...rest))
     return count === STALL ? null : this.copy(this.out, taken(count))
   }

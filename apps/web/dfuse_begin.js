@@ -10,12 +10,12 @@ import { fileOf } from './suffix.js'
 
 // Linux carries at most 4,096 bytes in a control transfer, and a device counts in blocks of its own size: none can be smaller. Of the image
 // 32 bytes are written last: without them an application doesn't start.
-const MOST_BYTES = 4096
+const MAX_BYTES = 4096
 const FRONT_BYTES = 32
 const PAGE_POLLS = 1000  // GETSTATUS while a page is erased, if the device reports no times
 const BLOCK_ACTIONS = 60 // of a block, with one that is asked for its status again and again
 const RESTARTS = 3
-const MOST_ACTIONS = 0xffffffff
+const MAX_ACTIONS = 0xffffffff
 const ANY_ID = 0xffff
 // By it the host for DFU 1.1 says what there is to say of a file, whichever device it goes to.
 const ANY_DESCRIPTOR = new Uint8Array([FUNCTIONAL.BYTES, FUNCTIONAL.TYPE, ATTRIBUTE.CAN_DOWNLOAD, 0, 0, 64, 0,
@@ -34,7 +34,7 @@ export function wordsRefusal({ file, address, isChosen }) {
 export function deviceRefusal({ descriptor }) {
   if (!hasAttribute(descriptor, ATTRIBUTE.CAN_DOWNLOAD)) return REFUSAL.CANNOT_DOWNLOAD
   if (!canUpload({ descriptor })) return REFUSAL.CANNOT_UPLOAD
-  return transferOf(descriptor) > MOST_BYTES ? 'LargeBlocks' : null
+  return transferOf(descriptor) > MAX_BYTES ? 'LargeBlocks' : null
 }
 
 // Those of a DfuSe file for the setting, by their addresses. A session wants them in that order.
@@ -62,7 +62,7 @@ export function limitsOf(ranges, elements, transfer) {
   if (transfer === 0) return { actions: 0, restarts: 0 }
   const pages = elements.reduce((sum, { address, length }) => sum + pagesOf(ranges, address, address + length), 0)
   const blocks = Math.floor(totalOf(elements) / transfer) + elements.length + pages + 3
-  return { actions: Math.min((PAGE_POLLS * pages + BLOCK_ACTIONS * blocks) * (RESTARTS + 1) + 300, MOST_ACTIONS), restarts: RESTARTS }
+  return { actions: Math.min((PAGE_POLLS * pages + BLOCK_ACTIONS * blocks) * (RESTARTS + 1) + 300, MAX_ACTIONS), restarts: RESTARTS }
 }
 
 // It starts at the lowest address, whose first bytes are written last.

@@ -11,9 +11,9 @@ export const LEAVING = { STAYED: 0, LEFT: 1, UNKNOWN: 2 }
 export const ACCESS = { READABLE: 1, ERASABLE: 2, WRITABLE: 4 }
 export const FILE = { SEVERAL: 256 }
 
-const MOST_ELEMENTS = 256
-const MOST_BODY = 65536
-const MOST_ANSWER = 65536
+const MAX_ELEMENTS = 256
+const MAX_BODY = 65536
+const MAX_ANSWER = 65536
 
 export class DfuseHost extends Library {
   constructor(module, file = new Uint8Array(0)) {
@@ -22,8 +22,8 @@ export class DfuseHost extends Library {
     this.fileWords = [BigInt(this.file), BigInt(file.length)]
     this.session = this.record('dfuse_session')
     this.action = this.record('dfuse_action')
-    this.body = this.reserve(MOST_BODY)
-    this.answer = this.reserve(MOST_ANSWER)
+    this.body = this.reserve(MAX_BODY)
+    this.answer = this.reserve(MAX_ANSWER)
   }
 
   // Returns the fields of a DfuSe file, or { refusal }, a negative number.
@@ -43,9 +43,9 @@ export class DfuseHost extends Library {
 
   // The elements of a DfuSe file for a setting, in the order of the file; or { refusal }. Their bytes are in the file.
   readElements(setting) {
-    const places = this.putElements(Array.from({ length: MOST_ELEMENTS }, () => ({ address: 0, bytes: this.file, length: 0 })))
+    const places = this.putElements(Array.from({ length: MAX_ELEMENTS }, () => ({ address: 0, bytes: this.file, length: 0 })))
     const count = this.reserve(8)
-    const refusal = this.calls.dfuse_file_image(...this.fileWords, setting, BigInt(places), BigInt(MOST_ELEMENTS), BigInt(count))
+    const refusal = this.calls.dfuse_file_image(...this.fileWords, setting, BigInt(places), BigInt(MAX_ELEMENTS), BigInt(count))
     if (refusal !== 0) return { refusal }
     const found = Number(this.view().getBigUint64(count, true))
     const { size } = LAYOUT.dfuse_element
@@ -85,7 +85,7 @@ export class DfuseHost extends Library {
 
   // Returns the next action, with its setup and its body; null if the library refuses the record.
   next() {
-    const words = [BigInt(this.session), ...this.words, BigInt(this.body), BigInt(MOST_BODY), BigInt(this.action)]
+    const words = [BigInt(this.session), ...this.words, BigInt(this.body), BigInt(MAX_BODY), BigInt(this.action)]
     if (this.calls.dfuse_next(...words) !== 0) return null
     const action = this.read('dfuse_action', this.action)
     action.setup = this.copy(this.action + LAYOUT.dfuse_action.fields.setup.at, 8)

@@ -214,9 +214,9 @@ export class FlashView {
   }
 
   refuse(number) {
-    const { name, words, advice } = refusalOf(number)
+    const { name, shown, advice } = refusalOf(number)
     this.refused = true
-    say('device-refused', `${name}: ${words}. ${advice}`)
+    say('device-refused', `${name}: ${shown}. ${advice}`)
     by('sure-row').hidden = number !== REFUSAL.WRONG_TARGET || !this.board.info.isUpgrade
   }
 

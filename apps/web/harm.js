@@ -3,7 +3,7 @@
 // for a write in operations of at most 256 bytes, so the call is made twice: to see which operations make up each write, and once all is
 // as before, with that write harmed. tests/apps/web holds what comes of it against `dfu run`.
 
-const MOST_OPERATION = 256
+const MAX_OPERATION = 256
 
 class Cut extends Error {}
 
@@ -27,8 +27,8 @@ function writesOf(device, call) {
   let before = null
   callWith(device, operation => {
     const { isErase, at, bytes } = operation
-    const isWhole = before === null || isErase || before.isErase || before.bytes.length < MOST_OPERATION ||
-      before.at + MOST_OPERATION !== at || (first > 0 && held > 0 && writes.filter(one => !one.isErase).length === 1)
+    const isWhole = before === null || isErase || before.isErase || before.bytes.length < MAX_OPERATION ||
+      before.at + MAX_OPERATION !== at || (first > 0 && held > 0 && writes.filter(one => !one.isErase).length === 1)
     if (isWhole) writes.push({ isErase, at, length: 0, first: count })
     Object.assign(writes.at(-1), { length: at + bytes.length - writes.at(-1).at, last: count++ })
     before = operation

@@ -14,7 +14,7 @@ export const REFUSAL = { FILE_TOO_SHORT: -1, FILE_NO_SIGNATURE: -2, FILE_DFUSE: 
 export const LOOKS = { RAW: 0, IHEX: 1, SREC: 2, UF2: 3, ELF: 4, DFUSE: 5, ZIP: 6, GZIP: 7, TEXT: 8, NAMED: 9 }
 export const NAMED = { NONE: 0, IHEX: 1, SREC: 2, UF2: 3, ELF: 4, DFU: 5 }
 
-const MOST_ANSWER = 65536
+const MAX_ANSWER = 65536
 const NAME_ROOM = 16
 
 export class Host extends Library {
@@ -24,7 +24,7 @@ export class Host extends Library {
     this.fileLength = file.length
     this.session = this.record('dfu_session')
     this.action = this.record('dfu_action')
-    this.answer = this.reserve(MOST_ANSWER)
+    this.answer = this.reserve(MAX_ANSWER)
     this.payload = 0
     this.kept = this.reserve(0)
     this.room = 0
@@ -104,7 +104,7 @@ export class Host extends Library {
   // An upload has room for one more answer after what came. The buffer is last in the memory, and grows there.
   growKept() {
     if (!this.isUpload) return
-    const wanted = this.state().kept + MOST_ANSWER
+    const wanted = this.state().kept + MAX_ANSWER
     if (this.room === 0) this.kept = this.reserve(0)
     if (wanted <= this.room) return
     this.reserve(2 * wanted - this.room)

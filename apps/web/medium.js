@@ -5,7 +5,7 @@ import { digits } from './names.js'
 
 const OPEN = 0xa5
 const HEAD = 16 // bytes of a gate and of a header that say something
-const MOST_SHOWN = 256 // bytes of a slot's data, a multiple of 16
+const MAX_SHOWN = 256 // bytes of a slot's data, a multiple of 16
 const ACROSS = 8 // bytes of a row; style.css sets two rows side by side if there is room
 
 const number4 = (bytes, at) => new DataView(bytes.buffer, bytes.byteOffset).getUint32(at, true)
@@ -32,7 +32,7 @@ function rowOf(bytes, before, gate, from) {
 
 // Of a gate and a header that are longer than what they say, the rest is left out.
 function slotOf(name, bytes, before, gate, isActive) {
-  const end = Math.min(2 * gate + MOST_SHOWN, bytes.length)
+  const end = Math.min(2 * gate + MAX_SHOWN, bytes.length)
   const rows = []
   for (const [first, behind] of [[0, HEAD], [gate, gate + HEAD], [2 * gate, end]])
     for (let from = first; from < behind; from += ACROSS) rows.push(rowOf(bytes, before, gate, from))

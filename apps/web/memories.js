@@ -44,7 +44,7 @@ export class Memories {
     const { title, ranges, refusal } = new DfuseHost(this.module).readMap(name)
     if (refusal === undefined) return { title, lines: ranges.map(rangeText) }
     const said = refusalOf(refusal)
-    return { lines: [`no memory map: ${said.name}: ${said.words}`] }
+    return { lines: [`no memory map: ${said.name}: ${said.shown}`] }
   }
 
   choose(one) {

@@ -40,9 +40,9 @@ export class Outcome {
 
   // The report. isReal: it is of a board, and not of a simulated one.
   show(verdict, trace, isReal) {
-    const { title = 'Refused', means = '', not = '', words, advice = '', status, code, name, deviceText = '' } = verdict
+    const { title = 'Refused', means = '', not = '', words, shown, advice = '', status, code, name, deviceText = '' } = verdict
     const kind = status === 0 ? 'good' : name === 'unconfirmed' ? 'unsure' : 'bad'
-    const parts = [means === '' ? `${words}. ${advice}` : means, code === '' ? '' : `It says ${code}.`,
+    const parts = [means === '' ? `${shown}. ${advice}` : means, code === '' ? '' : `It says ${code}.`,
       deviceText === '' ? '' : `In its own words: ${plain(deviceText)}`, not,
       isReal ? '' : 'This was a simulated board: no hardware was touched.']
     const rows = parts.filter(text => text !== '').map(text => make('p', {}, text))

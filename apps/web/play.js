@@ -12,9 +12,9 @@ import { ScriptEnd, World } from './world.js'
 
 const OPENS_ON = 'clean-run'
 const OPENS_AFTER = 6 // actions
-const MOST_ROWS = 500
-const MOST_AT_ONCE = 10000
-const MOST_PASSES = 1000000 // of a line
+const MAX_ROWS = 500
+const MAX_AT_ONCE = 10000
+const MAX_PASSES = 1000000 // of a line
 const SETUP = ['blank', 'ids', 'device', 'unit', 'erase', 'pace', 'capacity', 'image', 'check', 'limits']
 export class PlayView {
   constructor(modules, examples) {
@@ -92,7 +92,7 @@ export class PlayView {
   note(line) {
     const [last, now] = [this.script.at(-1), line].map(text => /^go pass ([0-9]+)$/.exec(text ?? ''))
     const passes = last && now ? Number(last[1]) + Number(now[1]) : Infinity
-    if (passes <= MOST_PASSES) this.script[this.script.length - 1] = `go pass ${passes}`
+    if (passes <= MAX_PASSES) this.script[this.script.length - 1] = `go pass ${passes}`
     else this.script.push(line)
   }
 
@@ -103,7 +103,7 @@ export class PlayView {
   }
 
   toEnd() {
-    for (let turn = 0; turn < MOST_AT_ONCE && this.world.host !== null && !this.isOver; turn++) this.play('go pass 1')
+    for (let turn = 0; turn < MAX_AT_ONCE && this.world.host !== null && !this.isOver; turn++) this.play('go pass 1')
     this.refresh()
   }
 
@@ -121,7 +121,7 @@ export class PlayView {
     const cells = [[String(entry.number)], [actionOf(entry.action)], [fateOf(entry.line)], hears, [entry.state]]
     const isHarmed = entry.line.fate !== 'pass'
     body.append(make('tr', { className: isHarmed ? 'fault' : '' }, ...cells.map(parts => make('td', {}, ...parts))))
-    if (body.rows.length > MOST_ROWS) body.rows[0].remove()
+    if (body.rows.length > MAX_ROWS) body.rows[0].remove()
   }
 
   copy() {

@@ -26,7 +26,8 @@ const REFUSALS = {
   DfuSeDevice: ['DfuSeDevice', 'the device speaks DfuSe, which is another protocol', 'Connect it again, now that it is in DFU mode.'],
 }
 
+// shown: the words without options of dfu-flash: the page has none.
 export function refusalOf(number) {
   const [name, words, advice] = REFUSALS[number] ?? DFUSE_REFUSALS[number] ?? ['Unknown', 'the host refuses it', '']
-  return { name, words, advice, status: 1, code: '' }
+  return { name, words, shown: words.replace(/[:,][^:,]* --.*/, ''), advice, status: 1, code: '' }
 }

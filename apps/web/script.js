@@ -1,7 +1,7 @@
 // SPDX-License-Identifier: MIT OR Apache-2.0
 // A line of a script, read as docs/SCRIPT.md has it. Null if it is none; { what: 'blank' } if it has no words or is a comment.
 
-const MOST_LINE = 65536
+const MAX_LINE = 65536
 const DIGITS = /^[0-9]{1,10}$/
 const FOUR = /^[0-9a-f]{4}$/i
 const UNITS = [1, 16, 64, 256]
@@ -64,7 +64,7 @@ function go([fate, ...rest]) {
 }
 
 export function lineOf(text) {
-  if (new TextEncoder().encode(text).length > MOST_LINE) return null
+  if (new TextEncoder().encode(text).length > MAX_LINE) return null
   const [first, ...rest] = text.split(' ').filter(word => word !== '')
   if (first === undefined || first.startsWith('#')) return { what: 'blank' }
   if (first === 'go') return go(rest)

@@ -12,7 +12,7 @@ const BYTES = 3000
 const OLD = new TextEncoder().encode('the image that the board came with')
 const NONE = new Uint8Array(0)
 const DETACH = new Uint8Array([KIND.OUT, REQUEST.DETACH, 0, 0, 0, 0, 0, 0])
-const LEAVES_MS = 30 // behind a DETACH it leaves by itself, unasked
+const DETACH_LEAVE_MS = 30 // after a DETACH the board leaves the bus by itself, without a reset
 
 const viewOf = bytes => new DataView(bytes.buffer, bytes.byteOffset, bytes.byteLength)
 
@@ -95,7 +95,7 @@ export class SimulatedUsb extends EventTarget {
     const two = number => [number & 255, number >> 8]
     const bytes = this.device.handle(new Uint8Array([kind, request, ...two(value), ...two(index), ...two(length)]), body.slice())
     this.look()
-    if (request === REQUEST.DETACH) setTimeout(() => this.catchUp(), LEAVES_MS)
+    if (request === REQUEST.DETACH) setTimeout(() => this.catchUp(), DETACH_LEAVE_MS)
     return bytes
   }
 

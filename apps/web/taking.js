@@ -12,9 +12,9 @@ export const TAKE = { NO_MEMORY: -103, NO_MARK: -104, TOO_LARGE: -123, TOO_MANY_
 export const FILL_NONE = 256
 export const FILL = 0xff
 
-const MOST_IMAGE = 16777216
+const MAX_IMAGE_BYTES = 16777216
 // More than a file with the largest image takes.
-const MEMORY = 4 * MOST_IMAGE + 200000
+const MEMORY = 4 * MAX_IMAGE_BYTES + 200000
 const ANEW = 'Build it anew.'
 
 // From NO_MARK on: the name of a fault, what it counts, and its words.
@@ -56,9 +56,9 @@ export const isFormat = ({ looks }) => FORMATS[looks] !== undefined
 // The image of a file of a format: { format, fill, address, bytes }; or { format, refusal, from, to }. fill is a byte or FILL_NONE.
 export function takeImage(module, file, format, fill) {
   const library = new Library(module)
-  const [at, taken, room] = [library.put(file), library.record('dfu_taken'), library.reserve(MOST_IMAGE)]
+  const [at, taken, room] = [library.put(file), library.record('dfu_taken'), library.reserve(MAX_IMAGE_BYTES)]
   const memory = library.reserve(MEMORY)
-  const [ofFile, ofRest] = [[at, file.length], [room, MOST_IMAGE, taken, memory, MEMORY / 8]].map(words => words.map(BigInt))
+  const [ofFile, ofRest] = [[at, file.length], [room, MAX_IMAGE_BYTES, taken, memory, MEMORY / 8]].map(words => words.map(BigInt))
   const result = library.calls.dfu_image_take(...ofFile, format, fill, ...ofRest)
   const { length, address, from, to } = library.read('dfu_taken', taken)
   return result === 0 ? { format, fill, address, bytes: library.copy(room, length) } : { format, refusal: result, from, to }

@@ -37,7 +37,7 @@ complete -c dfu-flash -x -s s -l address -d 'Write FILE to a DfuSe device, or re
 complete -c dfu-flash -x -l length -d 'Read so many bytes, with --upload and --address'
 complete -c dfu-flash -l no-leave -d 'Let a DfuSe device stay in DFU mode once all is compared'
 complete -c dfu-flash -l dry-run -d 'Look for file and device, and send nothing'
-complete -c dfu-flash -l quiet -d 'Print no progress'
+complete -c dfu-flash -l quiet -d 'Print no progress, no notes, no next step, and not what a code means'
 complete -c dfu-flash -l verbose -d 'Print a line for each transfer, wait and reset; --verbose=<FILE> logs them'
 complete -c dfu-flash -l json -d 'Print one record in JSON at the end'
 complete -c dfu-flash -l all -d 'Flash every device that the file is for, with --wait also those that come'

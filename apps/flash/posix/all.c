@@ -5,6 +5,7 @@
 #include "../bays.h"
 #include "../clock.h"
 #include "../crew.h"
+#include "../next.h"
 #include "../one.h"
 #include "../record.h"
 #include "../say.h"
@@ -152,6 +153,17 @@ static void loop(void)
     crew_end(&all.crew);
 }
 
+/* Says what is waited for; and, if no device was taken, which are there, and why not. */
+static void say_wait(void)
+{
+    libusb_context *usb;
+    fputs("dfu-flash: each device that comes is flashed; Ctrl-C ends it\n", stderr);
+    if (all.crew.count > 0 || transport->begin(&usb) != 0)
+        return;
+    say_not_yet(usb, &all.wanted);
+    transport->end(usb);
+}
+
 /* No device was flashed. */
 static int say_none(void)
 {
@@ -170,6 +182,7 @@ int all_run(const struct words *words)
     int64_t began_ms = clock_ms();
     int status;
     all.words = words;
+    next_for_all();
     status = has_folder() ? take_file() : say_file();
     if (status != STATUS_DONE)
         return status;
@@ -180,7 +193,7 @@ int all_run(const struct words *words)
     if (look() != 0)
         return record_none(STATUS_NO_DEVICE, words->json);
     if (words->wait && !words->quiet)
-        fputs("dfu-flash: each device that comes is flashed; Ctrl-C ends it\n", stderr);
+        say_wait();
     loop();
     if (all.crew.flashed + all.crew.failed == 0)
         return say_none();

@@ -13,6 +13,7 @@
 
 #include <poll.h>
 #include <stdio.h>
+#include <stdlib.h>
 #include <string.h>
 
 #define ENDING_MS 5
@@ -29,12 +30,26 @@ void crew_make(struct crew *crew, const struct words *words)
     rows_begin(&rows, words->quiet);
 }
 
-static void say(void *with, const char *line)
+/* Prints the lines that were kept of a process, since its device is another one than before. */
+static void say_kept(struct worker *worker)
 {
-    const struct worker *worker = with;
-    /* A process that only looks whether the device is another one than before prints nothing. */
-    if (worker->is_early)
+    for (char *line = worker->kept, *end; line != NULL && (end = strchr(line, '\n')) != NULL; line = end + 1) {
+        rows_clear(&rows);
+        fprintf(stderr, "%s: %.*s\n", worker->bay->path, (int)(end - line), line);
+    }
+    free(worker->kept);
+    worker->kept = NULL;
+}
+
+/* Prints a line of a worker behind its path. While the worker only looks whether the device is a new one, its lines are kept. */
+static void print_worker_line(void *with, const char *line)
+{
+    struct worker *worker = with;
+    if (worker->is_early) {
+        worker_keep(worker, line);
         return;
+    }
+    say_kept(worker);
     rows_clear(&rows);
     fprintf(stderr, "%s: %s\n", worker->bay->path, line);
 }
@@ -50,12 +65,16 @@ static bool is_worse(int status, int than)
     return status > than;
 }
 
-static void count_end(struct crew *crew, int status)
+/* One that has the image, and lacks only its line in the log or the report, is flashed. */
+static void count_end(struct crew *crew, int status, bool has_image, bool is_proved)
 {
+    bool is_unwritten = status == STATUS_FILE && is_proved, is_flashed = status == STATUS_DONE || is_unwritten;
     crew->worst = is_worse(status, crew->worst) ? status : crew->worst;
-    crew->flashed += status == STATUS_DONE;
-    crew->failed += status != STATUS_DONE;
-    crew->taken += status == STATUS_DONE || status == STATUS_UNCONFIRMED;
+    crew->flashed += is_flashed;
+    crew->unwritten += is_unwritten;
+    crew->failed += !is_flashed;
+    crew->unconfirmed += status == STATUS_UNCONFIRMED;
+    crew->taken += has_image;
     crew->came_ms = clock_ms();
 }
 
@@ -67,8 +86,8 @@ static bool begin_at(struct crew *crew, int at, struct bay *bay, uint32_t tries)
     rows_clear(&rows);
     if (worker_begin(&crew->workers[at], &words, crew->image, bay, rows.are_on))
         return true;
-    count_end(crew, STATUS_FILE);
-    bay_end(bay, false, crew->came_ms);
+    count_end(crew, STATUS_FILE, false, false);
+    bay_end(bay, true, crew->came_ms);
     return false;
 }
 
@@ -87,21 +106,16 @@ static void print_lost(const struct crew *crew, const struct worker *worker, int
     unread.vendor = crew->vendor;
     unread.product = crew->product;
     unread.lacks_release = true;
+    snprintf(unread.serial, sizeof unread.serial, "%s", worker->has_serial ? worker->bay->serial[worker->mode] : "");
     record_each(worker->bay->path, &unread, &none);
     record_since(worker->began_ms);
     record_short(status, status == STATUS_GONE ? "silent" : status == STATUS_ABORTED ? "aborted" : "broken", why, crew->is_json);
 }
 
-/* A device is passed over. One that may be another than the one that was flashed must not go unnoticed. */
+/* A device is passed over. One that may be another than the one of before must not go unnoticed. */
 static void say_same(const struct worker *worker, int status)
 {
-    const char *what = NULL;
-    if (status == BAY_TAKEN && worker->bay->is_doubtful)
-        what =
-            "a device without a serial number came soon after, and counts as the one that was flashed here; if it is another one, unplug "
-            "it for three seconds";
-    else if (worker->bay->is_late)
-        what = "the device that was flashed here is back; another one with its serial number has to be plugged in again";
+    const char *what = bay_words(worker->bay, status);
     if (what != NULL)
         fprintf(stderr, "%s: %s\n", worker->bay->path, what);
 }
@@ -114,26 +128,39 @@ static void leave_stamp(struct worker *worker)
     stamp_is(worker->has_stamp ? worker->stamp : NULL, worker->has_stamp ? worker->bay->path : NULL);
 }
 
+/* The device was worked with, or can't be: it is counted, and the next one at this bay is compared with it. */
+static void end_other(struct crew *crew, struct worker *worker, int status)
+{
+    bool has_image = worker->has_image || status == STATUS_DONE || status == STATUS_UNCONFIRMED;
+    if (!worker->has_serial)
+        worker->bay->has_serial[0] = worker->bay->has_serial[1] = false;
+    count_end(crew, status, has_image, worker->is_proved);
+    bay_end(worker->bay, !has_image, clock_ms());
+}
+
 static void end(struct crew *crew, struct worker *worker, int status, const char *why)
 {
-    bool is_same = status == BAY_SAME || status == BAY_TAKEN;
+    bool is_same = status == BAY_SAME || status == BAY_TAKEN || status == BAY_UNREAD || status == BAY_LEFT;
     rows_clear(&rows);
     leave_stamp(worker);
     station_try(worker->tries);
+    if (is_same)
+        say_same(worker, status);
+    else
+        say_kept(worker);
     if (why != NULL)
         print_lost(crew, worker, status, why);
     else if (!is_same)
         puts(worker->record);
-    else
-        say_same(worker, status);
     if (!record_out()) {
         crew->is_out = false;
         if (why == NULL && !is_same)
             fprintf(stderr, "%s\n", worker->record);
     }
-    if (!is_same)
-        count_end(crew, status);
-    bay_end(worker->bay, is_same, clock_ms());
+    if (is_same)
+        bay_end_same(worker->bay, clock_ms());
+    else
+        end_other(crew, worker, status);
     stamp_is(NULL, NULL);
     station_try(0);
     worker_drop(worker);
@@ -187,8 +214,11 @@ void crew_step(struct crew *crew, int ms)
     if (stop_cause == STOP_NONE)
         polls[count++] = (struct pollfd){stop_descriptor(), POLLIN, 0};
     poll(polls, count, ms);
-    for (int at = 0; at < crew->count; at++)
-        worker_read(&crew->workers[at], say);
+    for (int at = 0; at < crew->count; at++) {
+        worker_read(&crew->workers[at], print_worker_line);
+        if (!crew->workers[at].is_early)
+            say_kept(&crew->workers[at]);
+    }
     reap(crew);
 }
 

@@ -8,7 +8,7 @@
 #include <string.h>
 #include <unistd.h>
 
-#define MOST_LINE 65536
+#define MAX_LINE 65536
 
 void reader_begin(struct reader *reader, int from)
 {
@@ -31,7 +31,7 @@ static bool has_room(struct reader *reader)
     char *more;
     if (reader->length + 1 < reader->room)
         return true;
-    more = room > MOST_LINE ? NULL : realloc(reader->text, room);
+    more = room > MAX_LINE ? NULL : realloc(reader->text, room);
     if (more == NULL)
         return false;
     reader->text = more;

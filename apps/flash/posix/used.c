@@ -59,11 +59,10 @@ static bool read_all(int file, char **text, const char **why)
     return strlen(*text) == (size_t)count;
 }
 
-/* A board is flashed only behind a line that is whole. */
+/* A board is flashed only behind a line that is whole; one that lacks only its end gets it from end_torn. */
 static bool drop_torn(int file, char *text, bool only_looks, const char **why)
 {
-    char *end = strrchr(text, '\n');
-    size_t whole = end == NULL ? 0 : (size_t)(end + 1 - text);
+    size_t whole = used_whole(text);
     bool is_torn = text[whole] != '\0';
     text[whole] = '\0';
     if (!is_torn || only_looks || ftruncate(file, (off_t)whole) == 0)
@@ -145,4 +144,9 @@ static bool end_torn(void)
 bool used_add(const char *line, size_t length)
 {
     return used >= 0 && is_in_place(used, used_name) && end_torn() && write(used, line, length) == (ssize_t)length && fsync(used) == 0;
+}
+
+bool used_is_there(void)
+{
+    return used >= 0 && is_in_place(used, used_name);
 }

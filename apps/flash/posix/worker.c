@@ -9,7 +9,6 @@
 #include "../stamp.h"
 #include "../status.h"
 #include "../stop.h"
-#include "../../common/text.h"
 #include "own.h"
 #include "wake.h"
 
@@ -145,65 +144,10 @@ bool worker_begin(struct worker *worker, const struct words *words, struct image
     return true;
 }
 
-/* The first character of a line that is for the first process alone. */
-#define ROW_MARK '\t'
-#define SERIAL_MARK '\v'
-#define BEGUN_MARK '\f'
-
-void worker_print_serial(bool is_upgrade, const char *serial)
-{
-    printf("%c%d", SERIAL_MARK, is_upgrade);
-    text_hex(stdout, (const uint8_t *)serial, strlen(serial));
-    putchar('\n');
-}
-
-bool worker_print_begun(uint32_t number, bool has_stamp)
-{
-    printf("%c%u %d\n", BEGUN_MARK, (unsigned)number, has_stamp);
-    return fflush(stdout) == 0 && !ferror(stdout);
-}
-
-/* The serial number in a line, by its bytes. */
-static void take_serial(struct bay *bay, const char *line)
-{
-    int mode = line[0] == '1';
-    size_t length = 0;
-    unsigned byte;
-    for (const char *at = line + (line[0] != '\0'); length < TEXT_ROOM - 1 && sscanf(at, "%2x", &byte) == 1 && at[1] != '\0'; at += 2)
-        bay->serial[mode][length++] = (char)byte;
-    bay->serial[mode][length] = '\0';
-    bay->has_serial[mode] = true;
-}
-
-static void take_begun(struct worker *worker, const char *line)
-{
-    char *rest;
-    worker->tries = (uint32_t)strtoul(line, &rest, 10);
-    worker->has_stamp = worker->has_stamp || strcmp(rest, " 1") == 0;
-    /* A session begins only if the device is another one than before, so that what it says is printed. */
-    worker->is_early = false;
-}
-
-/* A line of standard output that has come whole. */
-static void take_line(void *with, const char *line)
-{
-    struct worker *worker = with;
-    if (line[0] == ROW_MARK)
-        snprintf(worker->row, sizeof worker->row, "%s", line + 1);
-    else if (line[0] == BEGUN_MARK)
-        take_begun(worker, line + 1);
-    else if (line[0] == SERIAL_MARK)
-        take_serial(worker->bay, line + 1);
-    else {
-        free(worker->record);
-        worker->record = strdup(line);
-    }
-}
-
 void worker_read(struct worker *worker, void (*say)(void *worker, const char *line))
 {
     reader_read(&worker->err, say, worker);
-    reader_read(&worker->out, take_line, worker);
+    reader_read(&worker->out, worker_take, worker);
 }
 
 bool worker_is_ending(const struct worker *worker)
@@ -221,7 +165,7 @@ bool worker_has_ended(struct worker *worker, int *status, const char **why)
         return false;
     *why = NULL;
     *status = WIFEXITED(how) ? WEXITSTATUS(how) : 0;
-    if (WIFEXITED(how) && (worker->record != NULL || (*status >= BAY_SAME && *status <= BAY_NEXT)))
+    if (WIFEXITED(how) && (worker->record != NULL || (*status >= BAY_SAME && *status <= BAY_LEFT)))
         return true;
     *status = worker->is_killed ? STATUS_GONE : STATUS_BROKEN;
     *why = worker->is_killed ? late : failed;
@@ -248,5 +192,6 @@ void worker_drop(struct worker *worker)
     reader_drop(&worker->out);
     reader_drop(&worker->err);
     free(worker->record);
+    free(worker->kept);
     memset(worker, 0, sizeof *worker);
 }

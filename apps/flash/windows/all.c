@@ -26,3 +26,8 @@ bool worker_print_begun(uint32_t number, bool has_stamp)
     (void)has_stamp;
     return true;
 }
+
+void worker_print_taken(bool is_proved)
+{
+    (void)is_proved;
+}

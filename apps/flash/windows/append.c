@@ -1,11 +1,13 @@
 /* SPDX-License-Identifier: MIT OR Apache-2.0 */
 /* Windows has one process here (there is no --all), so that no other's lines come between. */
 #include "../append.h"
+#include "../say.h"
 #include "utf16.h"
 
 #include <errno.h>
 #include <fcntl.h>
 #include <io.h>
+#include <stdio.h>
 #include <stdlib.h>
 #include <string.h>
 #include <sys/stat.h>
@@ -28,4 +30,26 @@ int append_open(const char *name, char *front, size_t room, const char **why)
 bool append_line(int file, const char *line, size_t length)
 {
     return _write(file, line, (unsigned)length) == (int)length;
+}
+
+/* One process has the file. */
+void append_mend(int file, const char *name, bool (*is_whole)(const char *line, size_t length))
+{
+    static char tail[65536];
+    long size = _lseek(file, 0, SEEK_END), room = size < (long)sizeof tail ? size : (long)sizeof tail, at = room;
+    if (size <= 0 || _lseek(file, size - room, SEEK_SET) < 0 || _read(file, tail, (unsigned)room) != room)
+        return;
+    while (at > 0 && tail[at - 1] != '\n')
+        at--;
+    if (at == room || (at == 0 && size > room))
+        return;
+    if (is_whole(tail + at, (size_t)(room - at)))
+        append_line(file, "\n", 1);
+    else if (_chsize(file, size - room + at) == 0)
+        say_text(stderr, "dfu-flash: ", name, ": its last line was broken off, and is taken away\n");
+}
+
+const char *append_why(void)
+{
+    return errno == 0 ? "there is no room for the whole line" : strerror(errno);
 }

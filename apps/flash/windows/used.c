@@ -48,14 +48,19 @@ static bool read_all(int file, char **text, const char **why)
     return strlen(*text) == (size_t)count;
 }
 
-/* Cuts off a last line that was not ended, because a board is flashed only behind a whole line. A run that only looks leaves the file. */
+static bool end_last(int file, const char *text, size_t length)
+{
+    return length == 0 || text[length - 1] == '\n' || _write(file, "\n", 1) == 1;
+}
+
+/* Cuts off a last line that isn't whole, because a board is flashed only behind one that is, or ends one that lacks only its end. A run that
+   only looks leaves the file. */
 static bool drop_torn(int file, char *text, bool only_looks, const char **why)
 {
-    char *end = strrchr(text, '\n');
-    size_t whole = end == NULL ? 0 : (size_t)(end + 1 - text);
+    size_t whole = used_whole(text);
     bool is_torn = text[whole] != '\0';
     text[whole] = '\0';
-    if (!is_torn || only_looks || _chsize(file, (long)whole) == 0)
+    if (only_looks || (is_torn ? _chsize(file, (long)whole) == 0 : end_last(file, text, whole)))
         return true;
     *why = strerror(errno);
     return false;
@@ -82,4 +87,10 @@ bool used_open(const char *list, bool only_looks, char **text, const char **why)
 bool used_add(const char *line, size_t length)
 {
     return used >= 0 && _write(used, line, (unsigned)length) == (int)length && _commit(used) == 0;
+}
+
+/* No other program can move a file that is open here. */
+bool used_is_there(void)
+{
+    return true;
 }

@@ -13,8 +13,8 @@
 #include <windows.h>
 
 #define SHARED (FILE_SHARE_READ | FILE_SHARE_WRITE | FILE_SHARE_DELETE)
-#define MOST_BESIDE 100 /* names that are tried */
-#define MOST_WRITE 1048576
+#define MAX_BESIDE 100 /* names that are tried */
+#define MAX_WRITE 1048576
 
 static bool fail(const char *name, const char *why)
 {
@@ -87,7 +87,7 @@ static HANDLE open_beside(const wchar_t *wide, wchar_t **beside, DWORD flags)
     size_t room = wcslen(wide) + 32;
     HANDLE file = INVALID_HANDLE_VALUE;
     *beside = malloc(sizeof **beside * room);
-    for (DWORD number = 0; *beside != NULL && number < MOST_BESIDE; number++) {
+    for (DWORD number = 0; *beside != NULL && number < MAX_BESIDE; number++) {
         DWORD name = (GetTickCount() * 16 + GetCurrentProcessId() + number) & 0xffffff;
         swprintf(*beside, room, L"%.*ls.dfu-flash-%06x", folder_of(wide), wide, (unsigned)name);
         file = CreateFileW(*beside, GENERIC_WRITE | DELETE, 0, NULL, CREATE_NEW, FILE_FLAG_OPEN_REPARSE_POINT | flags, NULL);
@@ -118,7 +118,7 @@ bool file_may_make(const char *name, bool is_forced)
 static bool write_all(HANDLE out, const uint8_t *bytes, size_t length)
 {
     while (length > 0) {
-        DWORD count, most = length > MOST_WRITE ? MOST_WRITE : (DWORD)length;
+        DWORD count, most = length > MAX_WRITE ? MAX_WRITE : (DWORD)length;
         if (!WriteFile(out, bytes, most, &count, NULL) || count == 0)
             return false;
         bytes += count;

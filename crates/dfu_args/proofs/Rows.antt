@@ -1,4 +1,4 @@
--- Rows of arguments that all have a value, as a walk without a fault leaves them.
+-- Rows of arguments: each has a value after a walk without a fault.
 use Rattle.std.proofs.Common.{◌≡◌, ◌<◌, ◌&&◌, ◌||◌, Bool, cond, true, false, not, refl, sym, ap, subst, arith, List, [], ◌∷◌, ◌++◌, length, Some, None, is_some, true≢false}
 use Rattle.std.specs.Prelude.{slice_get}
 use Rattle.std.specs.List.{find, fold, list_any}
@@ -34,23 +34,23 @@ changed_row_keeps_values id change missing (r ∷ rs) changed added f = go (byte
     go true rest = joined_rows_have_values (change r) rs (changed r f.0) f.1
     go false rest = (f.0, rest)
 
-more : (xs ys : List Text) → 0 < length ys → 0 < length (xs ++ ys)
-more [] ys lt = lt
-more (x ∷ xs) ys lt = omega arith
+added_values_make_some : (xs ys : List Text) → 0 < length ys → 0 < length (xs ++ ys)
+added_values_make_some [] ys lt = lt
+added_values_make_some (x ∷ xs) ys lt = omega arith
 
--- A row that is given values has one, and each other row keeps its own.
+-- If each row has a value, each has one after at least one value is added to the row of an argument, which is made if it is missing.
 pub given_values_keep_rows_full : (id : Text) (how : Reading) (s : ValueSource) (values : List Text) (rows : List Row) →
     0 < length values → EachRowHasValue rows
     → EachRowHasValue (with_values id how s values rows)
 given_values_keep_rows_full id how s values rows lt f = changed_row_keeps_values id (more_values s values) _ rows (λ r _. (
-  more r.values
+  added_values_make_some r.values
       values lt,
   tt,
 )) (lt, tt) f
 
--- Each row has a value, also if one is taken away.
-pub rest_has_values : (id : Text) (rows : List Row) → EachRowHasValue rows → EachRowHasValue (without id rows)
-rest_has_values id rows f = changed_row_keeps_values id (λ _. []) [] rows (λ _ _. tt) tt f
+-- If each row has a value, each has one after the first row of an argument, if it has one, is removed.
+pub removal_keeps_rows_full : (id : Text) (rows : List Row) → EachRowHasValue rows → EachRowHasValue (without id rows)
+removal_keeps_rows_full id rows f = changed_row_keeps_values id (λ _. []) [] rows (λ _ _. tt) tt f
 
 default_keeps_rows_full : (rows : List Row) (a : Rule) → EachRowHasValue rows → EachRowHasValue (with_default rows a)
 default_keeps_rows_full rows a f = go (has_row a.id rows)
@@ -63,7 +63,7 @@ default_keeps_rows_full rows a f = go (has_row a.id rows)
     go true = f
     go false = given a.defaults
 
--- Defaults leave each row with a value.
+-- If each row has a value, each has one after the defaults are added.
 pub defaults_keep_rows_full : (rules : List Rule) (rows : List Row) → EachRowHasValue rows → EachRowHasValue (fold with_default rows rules)
 defaults_keep_rows_full [] rows f = f
 defaults_keep_rows_full (a ∷ rest) rows f = defaults_keep_rows_full rest (with_default rows a) (default_keeps_rows_full rows a f)
@@ -117,7 +117,7 @@ added id how s values (r ∷ rs) = go (bytes_eq r.id id) refl (added id how s va
     go true is rest = ap (λ b. b || has_row id rs) is
     go false is rest = rw is rest
 
--- One of the arguments has the id, and a default.
+-- Some argument has this id, and a default.
 abbrev pub has_default : Text → List Rule → Bool
 has_default id rules = list_any (λ a. bytes_eq a.id id && not (is_empty a.defaults)) rules
 
@@ -132,7 +132,7 @@ default_adds_row rows a some = go (has_row a.id rows) refl
     go true is = is
     go false is = given a.defaults some
 
--- An argument with a default has a row once the defaults are there.
+-- An argument with a default has a row after the defaults are added.
 pub default_argument_has_row : (id : Text) (rules : List Rule) (rows : List Row) → has_default id rules ≡ true
     → has_row id (fold with_default rows rules) ≡ true
 default_argument_has_row id [] rows e = absurd (true≢false (sym e))
@@ -148,7 +148,7 @@ default_argument_has_row id (a ∷ rest) rows e = go (bytes_eq a.id id) (is_empt
     go true true is some e later = later e
     go false none is some e later = later e
 
--- One of the arguments has the id, and has to be there.
+-- Some argument has this id, and is required.
 abbrev pub is_required_argument : Text → List Rule → Bool
 is_required_argument id rules = list_any (λ a. bytes_eq a.id id && a.required) rules
 
@@ -162,7 +162,7 @@ given_argument_has_row id (r ∷ rs) g = go (bytes_eq r.id id) g (given_argument
     go true g later = refl
     go false g later = later g
 
--- If nothing is missing, an argument that has to be there has a row.
+-- If no required argument is missing, the required argument with this id has a row.
 pub required_argument_has_row : (id : Text) (rules : List Rule) (rows : List Row)
     → list_any (λ a. a.required && not (is_given a.id rows)) rules ≡ false → is_required_argument id rules ≡ true
     → has_row id rows ≡ true

@@ -1,4 +1,4 @@
--- Rows that a word without a fault leaves, each with a value.
+-- Rows of arguments: each has a value after a word without a fault.
 use Rattle.std.proofs.Common.{◌≡◌, ◌<◌, ◌&&◌, ℕ, Bool, cond, true, false, not, zero, suc, refl, sym, arith, List, [], ◌∷◌, length, drop, Option, Some, None, is_some, nat_lt, true≢false}
 use Rattle.std.specs.Prelude.{encode_utf8, slice_get}
 use Rattle.std.specs.List.{find, list_all}
@@ -13,23 +13,23 @@ use Rattle.clap.specs.declared.builder.action.ArgAction.{ArgAction}
 use Rattle.clap.specs.declared.builder.action.ArgAction.TheVariants.{Set, Append, SetTrue, SetFalse, Count, Help, HelpShort, HelpLong, Version}
 use Rattle.clap.specs.declared.parser.matches.ValueSource.TheVariants.{CommandLine}
 use Rattle.clap.specs.declared.error.kind.ErrorKind.TheVariants as kind
-use Rattle.dfu_args.proofs.Rows.{EachRowHasValue, given_values_keep_rows_full, rest_has_values}
+use Rattle.dfu_args.proofs.Rows.{EachRowHasValue, given_values_keep_rows_full, removal_keeps_rows_full}
 
 -- If two parts together have no fault, the first part has none.
-pub first_part_faultless : (a b : Kinds) → or_else a b ≡ [] → a ≡ []
-first_part_faultless [] b e = refl
-first_part_faultless (k ∷ ks) b e = e
+pub first_is_faultless : (a b : Kinds) → or_else a b ≡ [] → a ≡ []
+first_is_faultless [] b e = refl
+first_is_faultless (k ∷ ks) b e = e
 
 -- If two parts together have no fault, the second part has none.
-pub second_part_faultless : (a b : Kinds) → or_else a b ≡ [] → b ≡ []
-second_part_faultless [] b e = e
-second_part_faultless (k ∷ ks) b e = cc
+pub second_is_faultless : (a b : Kinds) → or_else a b ≡ [] → b ≡ []
+second_is_faultless [] b e = e
+second_is_faultless (k ∷ ks) b e = cc
 
--- If all elements pass a test, the element that is found passes it.
-pub found_argument_passes : {X : Type 0} (p q : X → Bool) (xs : List X) (x : X) → list_all p xs ≡ true → find q xs ≡ Some x
+-- If all elements pass a first test, the element that is found by a second one passes both.
+pub found_element_passes : {X : Type 0} (p q : X → Bool) (xs : List X) (x : X) → list_all p xs ≡ true → find q xs ≡ Some x
     → (p x ≡ true) × (q x ≡ true)
-found_argument_passes p q [] x all is = (cc, cc)
-found_argument_passes p q (y ∷ ys) x all is = go (p y) (q y) refl refl all is (found_argument_passes p q ys x)
+found_element_passes p q [] x all is = (cc, cc)
+found_element_passes p q (y ∷ ys) x all is = go (p y) (q y) refl refl all is (found_element_passes p q ys x)
   where
     go : (a b : Bool) → p y ≡ a → q y ≡ b → (a && list_all p ys) ≡ true → cond b (Some y) (find q ys) ≡ Some x
         → (list_all p ys ≡ true → find q ys ≡ Some x → (p x ≡ true) × (q x ≡ true)) → (p x ≡ true) × (q x ≡ true)
@@ -45,23 +45,23 @@ action_sets_value Help least missing = true
 action_sets_value Version least missing = true
 action_sets_value _ least missing = false
 
--- A use of the argument gives a value, or asks for help or the version.
+-- Each faultless use of the argument gives a value, or asks for help or the version.
 abbrev pub sets_value : Rule → Bool
 sets_value a = action_sets_value (action_of a) (unwrap_or_range a.range).start_inclusive a.missing
 
-values_in_range_not_empty : (a : Rule) (values : List Text) (least most : ℕ) → nat_lt 0 least ≡ true →
+values_in_range_are_not_empty : (a : Rule) (values : List Text) (least most : ℕ) → nat_lt 0 least ≡ true →
     range_kinds least most (length values) ≡ []
     → 0 < length (values_or_missing a values)
-values_in_range_not_empty a [] least most some e = let bad : kind.InvalidValue ∷ [] ≡ [] = rw some at e in cc
-values_in_range_not_empty a (v ∷ vs) least most some e = omega arith
+values_in_range_are_not_empty a [] least most some e = let bad : kind.InvalidValue ∷ [] ≡ [] = rw some at e in cc
+values_in_range_are_not_empty a (v ∷ vs) least most some e = omega arith
 
-missing_value_not_empty : (a : Rule) (values : List Text) → not (is_empty a.missing) ≡ true → 0 < length (values_or_missing a values)
-missing_value_not_empty a [] some = go a.missing some
+missing_value_is_not_empty : (a : Rule) (values : List Text) → not (is_empty a.missing) ≡ true → 0 < length (values_or_missing a values)
+missing_value_is_not_empty a [] some = go a.missing some
   where
     go : (vs : List Text) → not (is_empty vs) ≡ true → 0 < length vs
     go [] some = absurd (true≢false (sym some))
     go (v ∷ vs) some = omega arith
-missing_value_not_empty a (v ∷ vs) some = omega arith
+missing_value_is_not_empty a (v ∷ vs) some = omega arith
 
 use_keeps_rows_full : (again : Bool) (a : Rule) (values : List Text) (rows : List Row) → sets_value a ≡ true
     → use_fault again a values rows ≡ [] → EachRowHasValue rows
@@ -69,25 +69,25 @@ use_keeps_rows_full : (again : Bool) (a : Rule) (values : List Text) (rows : Lis
 use_keeps_rows_full again a values rows ok e f = go (action_of a) ok
   where
     range : range_kinds (unwrap_or_range a.range).start_inclusive (most_values a) (length values) ≡ []
-    range = first_part_faultless _ _ e
+    range = first_is_faultless _ _ e
 
     go : (x : ArgAction) → action_sets_value x (unwrap_or_range a.range).start_inclusive a.missing ≡ true
         → EachRowHasValue (used_as x a.id (reading_by a) (values_or_missing a values) rows)
     go Set ok = given_values_keep_rows_full a.id (reading_by a) CommandLine (values_or_missing a values) (without a.id rows)
-        (values_in_range_not_empty a values _ (most_values a) ok range) (rest_has_values a.id rows f)
+        (values_in_range_are_not_empty a values _ (most_values a) ok range) (removal_keeps_rows_full a.id rows f)
     go SetTrue ok = given_values_keep_rows_full a.id (reading_by a) CommandLine (values_or_missing a values) (without a.id rows)
-        (missing_value_not_empty a values ok) (rest_has_values a.id rows f)
+        (missing_value_is_not_empty a values ok) (removal_keeps_rows_full a.id rows f)
     go Help ok = f
     go Version ok = f
     go Append ok = given_values_keep_rows_full a.id (reading_by a) CommandLine (values_or_missing a values) rows
-        (values_in_range_not_empty a values _ (most_values a) ok range) f
+        (values_in_range_are_not_empty a values _ (most_values a) ok range) f
     go SetFalse ok = absurd (true≢false (sym ok))
     go Count ok = absurd (true≢false (sym ok))
     go HelpShort ok = absurd (true≢false (sym ok))
     go HelpLong ok = absurd (true≢false (sym ok))
 
 module _ (c : List Rule) (all : list_all sets_value c ≡ true) (again : Bool) where
-  -- The values that are pending are settled, and each row still has a value.
+  -- If each row has a value, each has one after the pending values are settled without a fault.
   pub settled_rows_are_full : (h : Held) → settle_fault c again h ≡ [] → EachRowHasValue h.rows → EachRowHasValue (settled c h).rows
   settled_rows_are_full h e f = go h.pending e
     where
@@ -95,7 +95,7 @@ module _ (c : List Rule) (all : list_all sets_value c ≡ true) (again : Bool) w
           option_map_or (λ a. use_fault again a p.1 h.rows) o [] ≡ []
           → EachRowHasValue (used_by_id o p.1 h.rows)
       used_argument_keeps_rows_full p None is e = f
-      used_argument_keeps_rows_full p (Some a) is e = use_keeps_rows_full again a p.1 h.rows (found_argument_passes sets_value _ c a all
+      used_argument_keeps_rows_full p (Some a) is e = use_keeps_rows_full again a p.1 h.rows (found_element_passes sets_value _ c a all
           is).0 e f
 
       go : (p : Option (Text × List Text))
@@ -108,7 +108,7 @@ module _ (c : List Rule) (all : list_all sets_value c ≡ true) (again : Bool) w
       EachRowHasValue h.rows
       → EachRowHasValue (reacted c a values h).rows
   reaction_keeps_rows_full a values h ok e f =
-      use_keeps_rows_full again a values (settled c h).rows ok (second_part_faultless _ _ e) (settled_rows_are_full h (first_part_faultless
+      use_keeps_rows_full again a values (settled c h).rows ok (second_is_faultless _ _ e) (settled_rows_are_full h (first_is_faultless
       _ _ e) f)
 
   option_keeps_rows_full : (a : Rule) (v : Option Text) (h : Held) → sets_value a ≡ true → option_fault c again a v h ≡ [] →
@@ -149,7 +149,7 @@ module _ (c : List Rule) (all : list_all sets_value c ≡ true) (again : Bool) w
           → EachRowHasValue (cond b (option_met c a (attached_value rest) h) (bundle_met c k rest 0 done (reacted c a [] h))).0.rows
       takes a rest true ok e later = option_keeps_rows_full a (attached_value rest) h ok e f
       takes a rest false ok e later =
-          later rest 0 done (reacted c a [] h) (second_part_faultless _ _ e) (reaction_keeps_rows_full a [] h ok (first_part_faultless _ _
+          later rest 0 done (reacted c a [] h) (second_is_faultless _ _ e) (reaction_keeps_rows_full a [] h ok (first_is_faultless _ _
           e) f)
 
       short : (rest : Text) (o : Option Rule) → ((a : Rule) → o ≡ Some a → sets_value a ≡ true)
@@ -166,7 +166,7 @@ module _ (c : List Rule) (all : list_all sets_value c ≡ true) (again : Bool) w
           → EachRowHasValue (bundle_step c o flags skip so_far h (bundle_met c k)).0.rows
       go None skip e later = f
       go (Some x) zero e later =
-          short (drop (length (encode_utf8 x)) flags) (arg_by_short c x) (λ a is. (found_argument_passes sets_value _ c a all is).0) e later
+          short (drop (length (encode_utf8 x)) flags) (arg_by_short c x) (λ a is. (found_element_passes sets_value _ c a all is).0) e later
       go (Some x) (suc skip) e later = later (drop (length (encode_utf8 x)) flags) skip so_far h e f
 
   plain_word_keeps_rows_full : (waiting : Waiting) (word : Text) (h : Held) → EachRowHasValue h.rows →
@@ -186,7 +186,7 @@ module _ (c : List Rule) (all : list_all sets_value c ≡ true) (again : Bool) w
   word_after_flag_keeps_rows_full waiting word h plain f = plain_word_keeps_rows_full waiting word h f
   word_after_flag_keeps_rows_full waiting word h refused f = plain_word_keeps_rows_full waiting word h f
 
-  -- A word that is no subcommand leaves each row with a value.
+  -- If each row has a value, each has one after a word that is no subcommand and has no fault.
   pub flag_word_keeps_rows_full : (waiting : Waiting) (word : Text) (h : Held) → flag_word_fault c again (long_of word) word h ≡ [] →
       EachRowHasValue h.rows
       → EachRowHasValue (long_or_other c waiting word (long_of word) h).0.rows
@@ -203,5 +203,5 @@ module _ (c : List Rule) (all : list_all sets_value c ≡ true) (again : Bool) w
           EachRowHasValue (long_or_other c waiting word o h).0.rows
       go (Some p) e = word_after_flag_keeps_rows_full waiting word (long_met c (arg_by_long c p.0) p.1 h).0 (long_met c (arg_by_long c p.0)
           p.1 h).1
-          (long_option_keeps_rows_full (arg_by_long c p.0) p.1 h (λ a is. (found_argument_passes sets_value _ c a all is).0) e f)
+          (long_option_keeps_rows_full (arg_by_long c p.0) p.1 h (λ a is. (found_element_passes sets_value _ c a all is).0) e f)
       go None e = short (short_of word) e

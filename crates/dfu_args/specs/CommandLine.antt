@@ -1,4 +1,4 @@
--- The command line of the program, in clap's own words.
+-- The command line of `dfu`, in the terms of clap.
 use Rattle.std.specs.Prelude.{◌≡◌, ◌||◌, Bool, true, false, List, [], ◌∷◌, Option, Some, None, codes, map}
 use Rattle.std.specs.List.{fold}
 use Rattle.std.specs.Option.{option_map}
@@ -9,43 +9,43 @@ use Rattle.clap.specs.declared.builder.ArgAction.TheVariants.{Append, Set, SetTr
 use Rattle.dfu_args.specs.declared.subcommand.Subcommand.{Subcommand}
 use Rattle.dfu_args.specs.declared.subcommand.Subcommand.TheVariants.{Check, Add, Extract, Change, Show, Run, Judge, Plan}
 
--- A positional argument that is needed has to be there, with one value.
+-- Rule of a required positional argument, with one value.
 abbrev pub required_rule : Text → Rule
 required_rule id = record (new_rule id) { required = true; action = Some Set; value_names = 1 }
 
--- A positional argument that is repeated has to be there, with one value or more.
+-- Rule of a required positional argument, with one value or more.
 abbrev pub repeated_rule : Text → Rule
 repeated_rule id = record (new_rule id) { required = true; action = Some Append; value_names = 1 }
 
--- A positional argument that is optional has a default, and may have more values than one.
+-- Rule of an optional positional argument, with one value or more, or else its default.
 abbrev pub optional_rule : Text → Text → Rule
 optional_rule id default = record (new_rule id) { action = Some Append; value_names = 1; defaults = default ∷ [] }
 
--- An option `--ID` has a value, and a default if it isn't given.
+-- Rule of an option `--ID` with a value, which is the default if the option isn't given.
 abbrev pub option_rule : Text → Text → Rule
 option_rule id default = record (new_rule id) { long = Some id; action = Some Set; defaults = default ∷ [] }
 
--- An option `--ID` that is unset has no value if it isn't given.
+-- Rule of an option `--ID` with a value, and no value if the option isn't given.
 abbrev pub unset_option_rule : Text → Rule
 unset_option_rule id = record (new_rule id) { long = Some id; action = Some Set }
 
--- An option `--ID` that is wanted has to be there, with one value.
-abbrev pub wanted_option_rule : Text → Rule
-wanted_option_rule id = record (new_rule id) { long = Some id; required = true; action = Some Set }
+-- Rule of a required option `--ID`, with one value.
+abbrev pub required_option_rule : Text → Rule
+required_option_rule id = record (new_rule id) { long = Some id; required = true; action = Some Set }
 
--- A flag `--ID` has no value, and is off if it isn't given.
+-- Rule of a flag `--ID`, which has no value, and is off if it isn't given.
 abbrev pub flag_rule : Text → Rule
 flag_rule id = record (new_rule id) { long = Some id; action = Some SetTrue }
 
--- Each command takes the flag `--explain`.
+-- A command with the flag `--explain`, which each command takes.
 abbrev pub with_explain_flag : App → App
 with_explain_flag app = with_rule app (flag_rule (codes "explain"))
 
--- A command of this name takes arguments by these rules, and the flag `--explain`.
+-- A command with this name, arguments by these rules, and the flag `--explain`.
 abbrev pub command_with_rules : Text → List Rule → App
 command_with_rules name rules = with_explain_flag (fold with_rule (new_app name) rules)
 
--- The command `check` takes each FILE, and the flag `--json`.
+-- The command `check` takes one FILE or more, and the flag `--json`.
 abbrev pub check_app : App
 check_app = command_with_rules (codes "check") (repeated_rule (codes "file") ∷ flag_rule (codes "json") ∷ [])
 
@@ -62,7 +62,7 @@ extract_app = command_with_rules (codes "extract") (required_rule (codes "file")
 abbrev pub set_app : App
 set_app = command_with_rules (codes "set") (required_rule (codes "file") ∷ unset_option_rule (codes "vid") ∷ unset_option_rule (codes "pid") ∷ unset_option_rule (codes "did") ∷ [])
 
--- The command `show` takes KIND, each HEX and the flag `--json`.
+-- The command `show` takes KIND, one HEX or more, and the flag `--json`.
 abbrev pub show_app : App
 show_app = command_with_rules (codes "show") (required_rule (codes "kind") ∷ repeated_rule (codes "hex") ∷ flag_rule (codes "json") ∷ [])
 
@@ -70,27 +70,26 @@ show_app = command_with_rules (codes "show") (required_rule (codes "kind") ∷ r
 abbrev pub run_app : App
 run_app = command_with_rules (codes "run") (required_rule (codes "script") ∷ flag_rule (codes "trace") ∷ unset_option_rule (codes "file") ∷ [])
 
--- The command `judge` takes each FILE, `-` by default, the options `--interface`, `0` by default, and `--device`, `only` by default, and
--- the flags `--dfuse` and `--json`.
+-- The command `judge` takes one FILE or more, `-` by default, the options `--interface`, `0` by default, and `--device`, `only` by default,
+-- and the flags `--dfuse` and `--json`.
 abbrev pub judge_app : App
 judge_app = command_with_rules (codes "judge") (optional_rule (codes "file") (codes "-") ∷ option_rule (codes "interface") (codes "0")
     ∷ option_rule (codes "device") (codes "only") ∷ flag_rule (codes "dfuse") ∷ flag_rule (codes "json") ∷ [])
 
--- The command `plan` takes the options `--part` and `--boot`, which have to be there, `--areas`, `2` by default, and `--parts`, and the flag
--- `--json`.
+-- The command `plan` takes the required options `--part` and `--boot`, `--areas`, `2` by default, and `--parts`, and the flag `--json`.
 abbrev pub plan_app : App
-plan_app = command_with_rules (codes "plan") (wanted_option_rule (codes "part") ∷ wanted_option_rule (codes "boot")
+plan_app = command_with_rules (codes "plan") (required_option_rule (codes "part") ∷ required_option_rule (codes "boot")
     ∷ option_rule (codes "areas") (codes "2") ∷ unset_option_rule (codes "parts") ∷ flag_rule (codes "json") ∷ [])
 
--- The command `dfu` with no subcommand yet has to get one, and has a version.
-abbrev pub bare_app : App
-bare_app = record (new_app (codes "dfu")) {
+-- The command `dfu` without subcommands. It requires one, and has a version.
+abbrev pub app_without_subcommands : App
+app_without_subcommands = record (new_app (codes "dfu")) {
   top = record (new_app (codes "dfu")).top { subcommand_required = true; has_version = true };
 }
 
--- The command `dfu` takes the flag `--explain` before its subcommand too.
+-- The command `dfu` without subcommands, but with the flag `--explain`, which may precede a subcommand.
 abbrev pub top_app : App
-top_app = with_explain_flag bare_app
+top_app = with_explain_flag app_without_subcommands
 
 -- The whole command `dfu` has the subcommands `check`, `add`, `extract`, `set`, `show`, `run`, `judge` and `plan`.
 unfoldable pub dfu_app : App
@@ -99,41 +98,41 @@ dfu_app =
     (with_subcommand top_app check_app.top) add_app.top) extract_app.top) set_app.top) show_app.top) run_app.top) judge_app.top)
     plan_app.top
 
--- The text of a flag says that it is on.
+-- A flag is on: it has a text, which is `true`.
 abbrev pub is_on : Option Text → Bool
 is_on None = false
 is_on (Some text) = bytes_eq text (codes "true")
 
--- The subcommand is what clap states for the words, with each text in its own place.
-abbrev pub States : Option (Text × List Row) → Subcommand → Type 0
-States None subcommand = ⊥
-States (Some p) (Check files json) = (p.0 ≡ codes "check") × (all_of (codes "file") p.1 ≡ Some (map string_bytes files.items))
+-- The subcommand is the one that clap states by name, and each of its fields has the text, the texts or the flag of its own argument.
+abbrev pub IsStatedSubcommand : Option (Text × List Row) → Subcommand → Type 0
+IsStatedSubcommand None subcommand = ⊥
+IsStatedSubcommand (Some p) (Check files json) = (p.0 ≡ codes "check") × (all_of (codes "file") p.1 ≡ Some (map string_bytes files.items))
     × (json ≡ is_on (first_of (codes "json") p.1))
-States (Some p) (Add file to vid pid did format fill) =
+IsStatedSubcommand (Some p) (Add file to vid pid did format fill) =
     (p.0 ≡ codes "add") × (first_of (codes "file") p.1 ≡ Some (string_bytes file)) × (first_of (codes "to") p.1 ≡ Some (string_bytes to))
     × (first_of (codes "vid") p.1 ≡ Some (string_bytes vid)) × (first_of (codes "pid") p.1 ≡ Some (string_bytes pid))
     × (first_of (codes "did") p.1 ≡ Some (string_bytes did)) × (first_of (codes "format") p.1 ≡ option_map string_bytes format)
     × (first_of (codes "fill") p.1 ≡ option_map string_bytes fill)
-States (Some p) (Extract file to) = (p.0 ≡ codes "extract") × (first_of (codes "file") p.1 ≡ Some (string_bytes file))
+IsStatedSubcommand (Some p) (Extract file to) = (p.0 ≡ codes "extract") × (first_of (codes "file") p.1 ≡ Some (string_bytes file))
     × (first_of (codes "to") p.1 ≡ Some (string_bytes to))
-States (Some p) (Change file vid pid did) =
+IsStatedSubcommand (Some p) (Change file vid pid did) =
     (p.0 ≡ codes "set") × (first_of (codes "file") p.1 ≡ Some (string_bytes file))
     × (first_of (codes "vid") p.1 ≡ option_map string_bytes vid) × (first_of (codes "pid") p.1 ≡ option_map string_bytes pid)
     × (first_of (codes "did") p.1 ≡ option_map string_bytes did)
-States (Some p) (Show kind hex json) = (p.0 ≡ codes "show") × (first_of (codes "kind") p.1 ≡ Some (string_bytes kind))
+IsStatedSubcommand (Some p) (Show kind hex json) = (p.0 ≡ codes "show") × (first_of (codes "kind") p.1 ≡ Some (string_bytes kind))
     × (all_of (codes "hex") p.1 ≡ Some (map string_bytes hex.items)) × (json ≡ is_on (first_of (codes "json") p.1))
-States (Some p) (Run script trace file) = (p.0 ≡ codes "run") × (first_of (codes "script") p.1 ≡ Some (string_bytes script))
+IsStatedSubcommand (Some p) (Run script trace file) = (p.0 ≡ codes "run") × (first_of (codes "script") p.1 ≡ Some (string_bytes script))
     × (trace ≡ is_on (first_of (codes "trace") p.1)) × (first_of (codes "file") p.1 ≡ option_map string_bytes file)
-States (Some p) (Judge files interface device dfuse json) =
+IsStatedSubcommand (Some p) (Judge files interface device dfuse json) =
     (p.0 ≡ codes "judge") × (all_of (codes "file") p.1 ≡ Some (map string_bytes files.items))
     × (first_of (codes "interface") p.1 ≡ Some (string_bytes interface)) × (first_of (codes "device") p.1 ≡ Some (string_bytes device))
     × (dfuse ≡ is_on (first_of (codes "dfuse") p.1)) × (json ≡ is_on (first_of (codes "json") p.1))
-States (Some p) (Plan part boot areas parts json) =
+IsStatedSubcommand (Some p) (Plan part boot areas parts json) =
     (p.0 ≡ codes "plan") × (first_of (codes "part") p.1 ≡ Some (string_bytes part)) × (first_of (codes "boot") p.1 ≡ Some (string_bytes boot))
     × (first_of (codes "areas") p.1 ≡ Some (string_bytes areas)) × (first_of (codes "parts") p.1 ≡ option_map string_bytes parts)
     × (json ≡ is_on (first_of (codes "json") p.1))
 
--- The rows of a subcommand; none if there is no subcommand.
+-- The rows of a subcommand; no rows if there is no subcommand.
 abbrev pub rows_of_subcommand : Option (Text × List Row) → List Row
 rows_of_subcommand None = []
 rows_of_subcommand (Some p) = p.1

@@ -1,4 +1,4 @@
-//! The command line, as clap has it: made of the tables of the commands; and the matches of the words.
+//! The clap command of `dfu`, built from the tables of the commands, and its matches of words.
 
 ghost use Rattle.std.specs.Prelude.{◌≡◌, ℕ, IfOk, IfSome, List, false, map, true};
 ghost use Rattle.std.specs.List.{All, fold};
@@ -6,19 +6,19 @@ ghost use Rattle.std.specs.String.{string_bytes};
 ghost use Rattle.clap.specs.Words.{HasKind, Kinds, app_of, found_of, has_subcommand, matches_of, rows_of, rule_of, subcommand_of, subcommand_rows_of};
 ghost use Rattle.clap.specs.declared.builder.Command.TheViews.{out-Command};
 ghost use Rattle.dfu_args.specs.CommandLine.{dfu_app, top_app};
-ghost use Rattle.dfu_args.specs.Alone.{IsAlone, SaysAll};
+ghost use Rattle.dfu_args.specs.Alone.{AloneParsesAsWhole, ParsesAsWhole};
 ghost use Rattle.dfu_args.specs.Complete.{IsComplete};
-ghost use Rattle.dfu_args.specs.Refusals.{ResultOfKinds, IsFaultOfKinds, word_faults};
-ghost use Rattle.dfu_args.specs.Tables.{app_of_listed, rule_of_row, with_listed, with_row};
+ghost use Rattle.dfu_args.specs.Refusals.{IsResultOfKinds, IsFaultOfKinds, parse_fault_kinds};
+ghost use Rattle.dfu_args.specs.Tables.{app_of_listed, rule_of_row, with_listed_command, with_row};
 
-use crate::commands::{COMMANDS, DFU, Kind, Listed, Row};
+use crate::commands::{COMMANDS, DFU, Kind, ListedCommand, Row};
 use crate::help;
 use crate::subcommand::ArgsFault;
 use clap::error::ErrorKind;
 use clap::{Arg, ArgAction, ArgMatches, Command};
 use std::alloc::{AllocError, Global};
 
-/// Returns the argument that `row` states.
+/// Returns the clap argument of `row`.
 fn arg_of<'a>(alloc: Global, row: &Row<'a>) -> Arg<'a>
     ensures rule { rule_of result ≡ rule_of_row row.now }
     ensures local { result.global ≡ false }
@@ -42,7 +42,7 @@ fn arg_of<'a>(alloc: Global, row: &Row<'a>) -> Arg<'a>
     }
 }
 
-/// Adds the argument of each of `rows` to `command`.
+/// Returns `command` with one more argument for each of `rows`.
 fn with_rows<'a>(
     alloc: Global,
     command: Command<'a>,
@@ -59,8 +59,8 @@ fn with_rows<'a>(
     Ok(command)
 }
 
-/// Returns the command of `listed`, with its arguments.
-fn made<'a>(alloc: Global, listed: &Listed<'a>) -> Result<Command<'a>, AllocError>
+/// Returns the clap command of `listed`, with its arguments.
+fn made<'a>(alloc: Global, listed: &ListedCommand<'a>) -> Result<Command<'a>, AllocError>
     ensures app { IfOk result (λ c. app_of c ≡ app_of_listed listed.now) }
     ensures local { IfOk result (λ c. (out-Command c).has_globals ≡ false) }
 {
@@ -70,28 +70,28 @@ fn made<'a>(alloc: Global, listed: &Listed<'a>) -> Result<Command<'a>, AllocErro
     with_rows(alloc, command, listed.rows)
 }
 
-/// Adds the subcommand of `listed` to `command`.
+/// Returns `command` with one more subcommand, that of `listed`.
 fn with_command<'a>(
     alloc: Global,
     command: Command<'a>,
-    listed: &Listed<'a>,
+    listed: &ListedCommand<'a>,
 ) -> Result<Command<'a>, AllocError>
     requires plain { (out-Command command).has_globals ≡ false }
-    ensures app { IfOk result (λ c. app_of c ≡ with_listed (app_of command.entry) listed.now) }
+    ensures app { IfOk result (λ c. app_of c ≡ with_listed_command (app_of command.entry) listed.now) }
     ensures local { IfOk result (λ c. (out-Command c).has_globals ≡ false) }
 {
     let listed = made(alloc, listed)?;
     command.subcommand(listed)
 }
 
-/// Adds the subcommand of each of `listed` to `command`.
+/// Returns `command` with one more subcommand for each of `listed`.
 fn with_commands<'a>(
     alloc: Global,
     command: Command<'a>,
-    listed: &[Listed<'a>],
+    listed: &[ListedCommand<'a>],
 ) -> Result<Command<'a>, AllocError>
     requires plain { (out-Command command).has_globals ≡ false }
-    ensures app { IfOk result (λ c. app_of c ≡ fold with_listed (app_of command.entry) listed.now) }
+    ensures app { IfOk result (λ c. app_of c ≡ fold with_listed_command (app_of command.entry) listed.now) }
     ensures local { IfOk result (λ c. (out-Command c).has_globals ≡ false) }
 {
     let mut command = command;
@@ -101,7 +101,7 @@ fn with_commands<'a>(
     Ok(command)
 }
 
-/// Returns the command before its subcommands: it must get one, and has a version.
+/// Returns the command `dfu` without subcommands, with the flag `--explain`. It requires a subcommand, and has a version.
 fn top_command<'a>(alloc: Global) -> Result<Command<'a>, AllocError>
     ensures app { IfOk result (λ c. app_of c ≡ top_app) }
     ensures local { IfOk result (λ c. (out-Command c).has_globals ≡ false) }
@@ -113,17 +113,18 @@ fn top_command<'a>(alloc: Global) -> Result<Command<'a>, AllocError>
         .bin_name("dfu")
 }
 
-/// Returns the subcommands. They make the whole command, and words whose first one names one of them are answered by it alone.
-fn commands() -> &'static [Listed<'static>]
-    ensures whole { (words : List (List ℕ)) → SaysAll words (fold with_listed top_app result.now) }
-    ensures alone { All IsAlone result.now }
+/// Returns the subcommands. With all of them, the command parses as the whole command does; with one alone, it does so if the name of this
+/// subcommand follows the program's.
+fn commands() -> &'static [ListedCommand<'static>]
+    ensures whole { (words : List (List ℕ)) → ParsesAsWhole words (fold with_listed_command top_app result.now) }
+    ensures alone { All AloneParsesAsWhole result.now }
 {
     &COMMANDS
 }
 
 /// Returns the subcommand with name `name`; None if there is none.
-fn listed_of(name: &str) -> Option<&'static Listed<'static>>
-    ensures alone { IfSome result (λ l. IsAlone l.now) }
+fn listed_of(name: &str) -> Option<&'static ListedCommand<'static>>
+    ensures alone { IfSome result (λ l. AloneParsesAsWhole l.now) }
     ensures named { IfSome result (λ l. l.now.name.now ≡ name.now) }
 {
     for listed in commands() {
@@ -134,9 +135,9 @@ fn listed_of(name: &str) -> Option<&'static Listed<'static>>
     None
 }
 
-/// Returns the command with the one subcommand that the first of `words` names, or else with each.
+/// Returns the command with only the subcommand that the second of `words` names; or with all of them, if that word names none.
 fn dfu_command<'a>(alloc: Global, words: &[String]) -> Result<Command<'a>, AllocError>
-    ensures app { IfOk result (λ c. SaysAll (map string_bytes words.now) (app_of c)) }
+    ensures app { IfOk result (λ c. ParsesAsWhole (map string_bytes words.now) (app_of c)) }
     ensures local { IfOk result (λ c. (out-Command c).has_globals ≡ false) }
 {
     let command = top_command(alloc)?;
@@ -148,7 +149,7 @@ fn dfu_command<'a>(alloc: Global, words: &[String]) -> Result<Command<'a>, Alloc
     with_commands(alloc, command, commands())
 }
 
-/// Returns clap's matches of `words`.
+/// Returns clap's matches of `words`; or Words with the parser's error, or NoMemory if an allocation was refused.
 pub(crate) fn matches_of<'a>(
     alloc: Global,
     words: &'a [String],
@@ -157,7 +158,7 @@ pub(crate) fn matches_of<'a>(
     ensures rows { IfOk result (λ m. subcommand_rows_of m ≡ subcommand_of dfu_app (map string_bytes words.now)) }
     ensures named { IfOk result (λ m. has_subcommand m ≡ true) }
     ensures complete { IfOk result (λ m. IfSome (subcommand_rows_of m) (λ p. IsComplete p.0 p.1)) }
-    ensures faults { ResultOfKinds (word_faults (map string_bytes words.now)) result }
+    ensures faults { IsResultOfKinds (parse_fault_kinds (map string_bytes words.now)) result }
 {
     let command = match dfu_command(alloc, words) {
         Ok(command) => command,
@@ -169,7 +170,7 @@ pub(crate) fn matches_of<'a>(
     }
 }
 
-/// Returns the fault of `error`, that of the parser: out of memory, or the words.
+/// Returns the fault for `error`, an error of the parser: NoMemory if its kind is OutOfMemory, else Words.
 fn fault_of(error: clap::Error) -> ArgsFault
     ensures { (kinds : Kinds) → HasKind kinds error → IsFaultOfKinds kinds result }
 {

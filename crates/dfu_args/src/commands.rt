@@ -1,43 +1,44 @@
-//! The commands: their arguments, one a row.
+//! Tables of the commands, with a row for each argument.
 
 use crate::help;
 
-/// An argument of a command: its id, which is the name of an option too; its kind; and its text in `--help`.
+/// An argument of a command: its id, which is also the name of an option; its kind; and its text in `--help`.
 #[derive(Clone, Copy)]
 pub(crate) struct Row<'a>(pub(crate) &'a str, pub(crate) Kind<'a>, pub(crate) &'a str);
 
-/// Way in which an argument is given.
+/// Kind of an argument.
 #[derive(Clone, Copy)]
 pub(crate) enum Kind<'a> {
-    /// A positional argument that has to be there, by its name in `--help`.
+    /// A required positional argument, with its name in `--help`.
     Needed(&'a str),
-    /// A positional argument that has to be there, once or more often, by its name in `--help`.
+    /// A required positional argument that may be repeated, with its name in `--help`.
     Repeated(&'a str),
-    /// A positional argument that may be there more often than once: its name in `--help`, and its default.
+    /// An optional positional argument that may be repeated, with its name in `--help`, and its default.
     Optional(&'a str, &'a str),
-    /// An option with a value, and its default.
+    /// An option with a value, with its default.
     Option(&'a str),
-    /// An option with a value, which has none if it isn't given.
+    /// An option with a value, without a default.
     Unset,
-    /// An option with a value, which must be there.
+    /// A required option with a value.
     Wanted,
-    /// A flag, which is off if the words don't have it.
+    /// A flag, which is off if it isn't given.
     Flag,
 }
 
-/// A command: its name, what `--help` prints before and behind its arguments, and these.
+/// A command: its name, the texts that `--help` prints before and after its arguments, and the arguments.
 #[derive(Clone, Copy)]
-pub(crate) struct Listed<'a> {
+pub(crate) struct ListedCommand<'a> {
     pub(crate) name: &'a str,
     pub(crate) about: &'a str,
     pub(crate) example: &'a str,
     pub(crate) rows: &'a [Row<'a>],
 }
 
+/// Row of the flag `--explain`, which each command takes.
 const EXPLAIN: Row<'static> = Row("explain", Kind::Flag, help::EXPLAIN);
 
-/// The command before its subcommand.
-pub(crate) static DFU: Listed<'static> = Listed {
+/// The command `dfu` without its subcommands.
+pub(crate) static DFU: ListedCommand<'static> = ListedCommand {
     name: "dfu",
     about: help::DFU,
     example: help::DFU_EXAMPLE,
@@ -45,8 +46,8 @@ pub(crate) static DFU: Listed<'static> = Listed {
 };
 
 /// The subcommands.
-pub(crate) static COMMANDS: [Listed<'static>; 8] = [
-    Listed {
+pub(crate) static COMMANDS: [ListedCommand<'static>; 8] = [
+    ListedCommand {
         name: "check",
         about: help::CHECK,
         example: help::CHECK_EXAMPLE,
@@ -56,7 +57,7 @@ pub(crate) static COMMANDS: [Listed<'static>; 8] = [
             EXPLAIN,
         ],
     },
-    Listed {
+    ListedCommand {
         name: "add",
         about: help::ADD,
         example: help::ADD_EXAMPLE,
@@ -71,7 +72,7 @@ pub(crate) static COMMANDS: [Listed<'static>; 8] = [
             EXPLAIN,
         ],
     },
-    Listed {
+    ListedCommand {
         name: "extract",
         about: help::EXTRACT,
         example: help::EXTRACT_EXAMPLE,
@@ -81,7 +82,7 @@ pub(crate) static COMMANDS: [Listed<'static>; 8] = [
             EXPLAIN,
         ],
     },
-    Listed {
+    ListedCommand {
         name: "set",
         about: help::SET,
         example: help::SET_EXAMPLE,
@@ -93,7 +94,7 @@ pub(crate) static COMMANDS: [Listed<'static>; 8] = [
             EXPLAIN,
         ],
     },
-    Listed {
+    ListedCommand {
         name: "show",
         about: help::SHOW,
         example: help::SHOW_EXAMPLE,
@@ -104,7 +105,7 @@ pub(crate) static COMMANDS: [Listed<'static>; 8] = [
             EXPLAIN,
         ],
     },
-    Listed {
+    ListedCommand {
         name: "run",
         about: help::RUN,
         example: help::RUN_EXAMPLE,
@@ -115,7 +116,7 @@ pub(crate) static COMMANDS: [Listed<'static>; 8] = [
             EXPLAIN,
         ],
     },
-    Listed {
+    ListedCommand {
         name: "judge",
         about: help::JUDGE,
         example: help::JUDGE_EXAMPLE,
@@ -128,7 +129,7 @@ pub(crate) static COMMANDS: [Listed<'static>; 8] = [
             EXPLAIN,
         ],
     },
-    Listed {
+    ListedCommand {
         name: "plan",
         about: help::PLAN,
         example: help::PLAN_EXAMPLE,

@@ -1,6 +1,6 @@
-//! The words of the command line of `dfu`: what they ask for, or why they are refused.
+//! Parser of the command line of `dfu`: returns the subcommand of the words, or their fault.
 //!
-//! `parse_subcommand` reads them. The crate opens no file and prints nothing.
+//! `parse_subcommand` parses the words. The crate opens no file and prints nothing.
 #![tactic(auto)]
 
 mod command_line;

@@ -1,20 +1,20 @@
-//! Request that the words of a command line make.
+//! Parsed command lines.
 
-/// Subcommand, with the texts of the words or their defaults.
+/// Subcommand, with the texts of its arguments, given or by default.
 #[derive(Drop)]
 pub enum Subcommand {
-    /// Check each file, or standard input if it is `-`.
+    /// Check each file, or standard input for the name `-`.
     Check {
-        /// Each FILE, one at least.
+        /// Each FILE, at least one.
         files: Vec<String>,
-        /// True if each line is to be an object: `--json` was given.
+        /// True if each line is to be a JSON object: `--json` was given.
         json: bool,
     },
-    /// Write a file and a suffix for it.
+    /// Write a file with a suffix.
     Add {
-        /// FILE.
+        /// Name of FILE.
         file: String,
-        /// OUT.
+        /// Name of OUT.
         to: String,
         /// idVendor, four hexadecimal digits.
         vid: String,
@@ -29,14 +29,14 @@ pub enum Subcommand {
     },
     /// Write the payload of a file.
     Extract {
-        /// FILE.
+        /// Name of FILE.
         file: String,
-        /// OUT.
+        /// Name of OUT.
         to: String,
     },
     /// Change the identifiers of a file; those without an option stay.
     Change {
-        /// FILE.
+        /// Name of FILE.
         file: String,
         /// idVendor, four hexadecimal digits.
         vid: Option<String>,
@@ -49,44 +49,44 @@ pub enum Subcommand {
     Show {
         /// KIND: `functional`, `status`, `state`, `setup` or `configuration`.
         kind: String,
-        /// Each HEX, one at least: the bytes, two hexadecimal digits each.
+        /// Each HEX, at least one: the bytes, two hexadecimal digits each.
         hex: Vec<String>,
-        /// True if each line is to be an object: `--json` was given.
+        /// True if each line is to be a JSON object: `--json` was given.
         json: bool,
     },
-    /// Run a script, or that of standard input if `script` is `-`.
+    /// Run the script in a file, or on standard input if `script` is `-`.
     Run {
-        /// SCRIPT.
+        /// Name of SCRIPT.
         script: String,
         /// True if each action is to be printed: `--trace` was given.
         trace: bool,
-        /// The file that FILE means, or standard input if it is `-`; none without `--file`.
+        /// The file that FILE stands for, or standard input if it is `-`; none without `--file`.
         file: Option<String>,
     },
-    /// Judge each log or capture, or that of standard input if it is `-`.
+    /// Judge the log or capture in each file, or on standard input for the name `-`.
     Judge {
-        /// Each FILE, one at least.
+        /// Each FILE, at least one.
         files: Vec<String>,
         /// The number of the DFU interface, in decimal digits.
         interface: String,
-        /// BUS.DEVICE, or `only`.
+        /// Device of a capture: BUS.DEVICE, or `only`.
         device: String,
         /// True if the device is to be judged as one that speaks DfuSe: `--dfuse` was given.
         dfuse: bool,
-        /// True if each line is to be an object: `--json` was given.
+        /// True if each line is to be a JSON object: `--json` was given.
         json: bool,
     },
     /// Place gates, headers and data on the flash of a part.
     Plan {
         /// Name of the part.
         part: String,
-        /// Size of the bootloader, as 32k.
+        /// Size of the bootloader, such as 32k.
         boot: String,
         /// Number of areas of data, 2 or 3.
         areas: String,
         /// File of parts, or standard input if it is `-`; none without `--parts`.
         parts: Option<String>,
-        /// Tells whether each line is to be an object: `--json` was given.
+        /// True if each line is to be a JSON object: `--json` was given.
         json: bool,
     },
 }
@@ -94,16 +94,16 @@ pub enum Subcommand {
 /// A subcommand, and the options that every subcommand has.
 #[derive(Drop)]
 pub struct ParsedArgs {
-    /// Subcommand that is to be done.
+    /// Subcommand to perform.
     pub subcommand: Subcommand,
     /// True if the reason of a refusal is wanted: `--explain` was given.
     pub explain: bool,
 }
 
-/// A fault for which the words ask for no subcommand.
+/// Fault for which the words give no subcommand.
 #[derive(Drop)]
 pub enum ArgsFault {
-    /// The parser refused the words, or they ask for help: its text and its exit status.
+    /// The parser refused the words, or they ask for help or the version: the error has the parser's text and its exit status.
     Words(clap::Error),
     /// An allocation was refused.
     NoMemory,

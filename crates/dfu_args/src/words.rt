@@ -1,20 +1,20 @@
-//! From the words of a command line to a subcommand.
+//! Conversion of the words of a command line to a subcommand.
 
 ghost use Rattle.std.specs.Prelude.{◌≡◌, ◌||◌, IfOk, IfSome, Some, codes, is_some, map, true};
 ghost use Rattle.std.specs.Option.{option_map};
 ghost use Rattle.std.specs.String.{string_bytes};
 ghost use Rattle.clap.specs.Words.{all_of, first_of, found_of, has_subcommand, rows_of, subcommand_of, subcommand_rows_of};
-ghost use Rattle.dfu_args.specs.CommandLine.{wants_reason, dfu_app, is_on, rows_of_subcommand, States};
-ghost use Rattle.dfu_args.specs.Complete.{HasTexts, IsComplete, arguments_of};
-ghost use Rattle.dfu_args.specs.Refusals.{ResultOfKinds, word_faults};
+ghost use Rattle.dfu_args.specs.CommandLine.{wants_reason, dfu_app, is_on, rows_of_subcommand, IsStatedSubcommand};
+ghost use Rattle.dfu_args.specs.Complete.{HasTexts, IsComplete, sure_arguments_of};
+ghost use Rattle.dfu_args.specs.Refusals.{IsResultOfKinds, parse_fault_kinds};
 
 use crate::command_line::matches_of;
 use crate::subcommand::{ArgsFault, ParsedArgs, Subcommand};
 use clap::ArgMatches;
 use std::alloc::{AllocError, Global};
 
-/// The text of an argument.
-// Many calls have it: once in the program is enough.
+/// Returns the first text of argument `id` in `found`, which must have one.
+// Not inlined, so that the program has it once: many calls use it.
 #[inline(never)]
 fn text_of(alloc: Global, found: &ArgMatches<'_>, id: &str) -> Result<String, AllocError>
     requires there { is_some (first_of id.now (rows_of (found_of found.now))) ≡ true }
@@ -26,7 +26,7 @@ fn text_of(alloc: Global, found: &ArgMatches<'_>, id: &str) -> Result<String, Al
     String::from_str(alloc, text)
 }
 
-/// Returns the texts of argument `id` in `found`, which must have one at least.
+/// Returns the texts of argument `id` in `found`, which must have at least one.
 #[inline(never)]
 fn texts_of(alloc: Global, found: &ArgMatches<'_>, id: &str) -> Result<Vec<String>, AllocError>
     requires there { is_some (first_of id.now (rows_of (found_of found.now))) ≡ true }
@@ -47,7 +47,7 @@ fn texts_of(alloc: Global, found: &ArgMatches<'_>, id: &str) -> Result<Vec<Strin
     Ok(texts)
 }
 
-/// Returns the text of option `id` in `found`; None if it was not given.
+/// Returns the first text of option `id` in `found`; None if it has none, because it was not given.
 fn text_if(alloc: Global, found: &ArgMatches<'_>, id: &str) -> Result<Option<String>, AllocError>
     ensures { IfOk result (λ t. first_of id.now (rows_of (found_of found.now)) ≡ option_map string_bytes t) }
 {
@@ -60,7 +60,7 @@ fn text_if(alloc: Global, found: &ArgMatches<'_>, id: &str) -> Result<Option<Str
     }
 }
 
-/// Returns true if flag `id` was given, by `found`.
+/// Returns true if flag `id` is on in `found`.
 fn is_on(found: &ArgMatches<'_>, id: &str) -> bool
     ensures { result ≡ is_on (first_of id.now (rows_of (found_of found.now))) }
 {
@@ -71,8 +71,8 @@ fn is_on(found: &ArgMatches<'_>, id: &str) -> bool
 }
 
 fn parse_check(alloc: Global, found: &ArgMatches<'_>) -> Result<Subcommand, AllocError>
-    requires texts { HasTexts (arguments_of (codes "check")) (rows_of (found_of found.now)) }
-    ensures { IfOk result (λ j. States (Some (codes "check", rows_of (found_of found.now))) j) }
+    requires texts { HasTexts (sure_arguments_of (codes "check")) (rows_of (found_of found.now)) }
+    ensures { IfOk result (λ j. IsStatedSubcommand (Some (codes "check", rows_of (found_of found.now))) j) }
 {
     Ok(Subcommand::Check {
         files: texts_of(alloc, found, "file")?,
@@ -81,8 +81,8 @@ fn parse_check(alloc: Global, found: &ArgMatches<'_>) -> Result<Subcommand, Allo
 }
 
 fn parse_add(alloc: Global, found: &ArgMatches<'_>) -> Result<Subcommand, AllocError>
-    requires texts { HasTexts (arguments_of (codes "add")) (rows_of (found_of found.now)) }
-    ensures { IfOk result (λ j. States (Some (codes "add", rows_of (found_of found.now))) j) }
+    requires texts { HasTexts (sure_arguments_of (codes "add")) (rows_of (found_of found.now)) }
+    ensures { IfOk result (λ j. IsStatedSubcommand (Some (codes "add", rows_of (found_of found.now))) j) }
 {
     Ok(Subcommand::Add {
         file: text_of(alloc, found, "file")?,
@@ -96,8 +96,8 @@ fn parse_add(alloc: Global, found: &ArgMatches<'_>) -> Result<Subcommand, AllocE
 }
 
 fn parse_extract(alloc: Global, found: &ArgMatches<'_>) -> Result<Subcommand, AllocError>
-    requires texts { HasTexts (arguments_of (codes "extract")) (rows_of (found_of found.now)) }
-    ensures { IfOk result (λ j. States (Some (codes "extract", rows_of (found_of found.now))) j) }
+    requires texts { HasTexts (sure_arguments_of (codes "extract")) (rows_of (found_of found.now)) }
+    ensures { IfOk result (λ j. IsStatedSubcommand (Some (codes "extract", rows_of (found_of found.now))) j) }
 {
     let file = text_of(alloc, found, "file")?;
     let out = text_of(alloc, found, "to")?;
@@ -105,8 +105,8 @@ fn parse_extract(alloc: Global, found: &ArgMatches<'_>) -> Result<Subcommand, Al
 }
 
 fn parse_set(alloc: Global, found: &ArgMatches<'_>) -> Result<Subcommand, AllocError>
-    requires texts { HasTexts (arguments_of (codes "set")) (rows_of (found_of found.now)) }
-    ensures { IfOk result (λ j. States (Some (codes "set", rows_of (found_of found.now))) j) }
+    requires texts { HasTexts (sure_arguments_of (codes "set")) (rows_of (found_of found.now)) }
+    ensures { IfOk result (λ j. IsStatedSubcommand (Some (codes "set", rows_of (found_of found.now))) j) }
 {
     Ok(Subcommand::Change {
         file: text_of(alloc, found, "file")?,
@@ -117,8 +117,8 @@ fn parse_set(alloc: Global, found: &ArgMatches<'_>) -> Result<Subcommand, AllocE
 }
 
 fn parse_show(alloc: Global, found: &ArgMatches<'_>) -> Result<Subcommand, AllocError>
-    requires texts { HasTexts (arguments_of (codes "show")) (rows_of (found_of found.now)) }
-    ensures { IfOk result (λ j. States (Some (codes "show", rows_of (found_of found.now))) j) }
+    requires texts { HasTexts (sure_arguments_of (codes "show")) (rows_of (found_of found.now)) }
+    ensures { IfOk result (λ j. IsStatedSubcommand (Some (codes "show", rows_of (found_of found.now))) j) }
 {
     Ok(Subcommand::Show {
         kind: text_of(alloc, found, "kind")?,
@@ -128,8 +128,8 @@ fn parse_show(alloc: Global, found: &ArgMatches<'_>) -> Result<Subcommand, Alloc
 }
 
 fn parse_run(alloc: Global, found: &ArgMatches<'_>) -> Result<Subcommand, AllocError>
-    requires texts { HasTexts (arguments_of (codes "run")) (rows_of (found_of found.now)) }
-    ensures { IfOk result (λ j. States (Some (codes "run", rows_of (found_of found.now))) j) }
+    requires texts { HasTexts (sure_arguments_of (codes "run")) (rows_of (found_of found.now)) }
+    ensures { IfOk result (λ j. IsStatedSubcommand (Some (codes "run", rows_of (found_of found.now))) j) }
 {
     Ok(Subcommand::Run {
         script: text_of(alloc, found, "script")?,
@@ -139,8 +139,8 @@ fn parse_run(alloc: Global, found: &ArgMatches<'_>) -> Result<Subcommand, AllocE
 }
 
 fn parse_judge(alloc: Global, found: &ArgMatches<'_>) -> Result<Subcommand, AllocError>
-    requires texts { HasTexts (arguments_of (codes "judge")) (rows_of (found_of found.now)) }
-    ensures { IfOk result (λ j. States (Some (codes "judge", rows_of (found_of found.now))) j) }
+    requires texts { HasTexts (sure_arguments_of (codes "judge")) (rows_of (found_of found.now)) }
+    ensures { IfOk result (λ j. IsStatedSubcommand (Some (codes "judge", rows_of (found_of found.now))) j) }
 {
     Ok(Subcommand::Judge {
         files: texts_of(alloc, found, "file")?,
@@ -152,8 +152,8 @@ fn parse_judge(alloc: Global, found: &ArgMatches<'_>) -> Result<Subcommand, Allo
 }
 
 fn parse_plan(alloc: Global, found: &ArgMatches<'_>) -> Result<Subcommand, AllocError>
-    requires texts { HasTexts (arguments_of (codes "plan")) (rows_of (found_of found.now)) }
-    ensures { IfOk result (λ j. States (Some (codes "plan", rows_of (found_of found.now))) j) }
+    requires texts { HasTexts (sure_arguments_of (codes "plan")) (rows_of (found_of found.now)) }
+    ensures { IfOk result (λ j. IsStatedSubcommand (Some (codes "plan", rows_of (found_of found.now))) j) }
 {
     Ok(Subcommand::Plan {
         part: text_of(alloc, found, "part")?,
@@ -164,10 +164,11 @@ fn parse_plan(alloc: Global, found: &ArgMatches<'_>) -> Result<Subcommand, Alloc
     })
 }
 
-fn chosen(alloc: Global, matches: &ArgMatches<'_>) -> Result<Subcommand, AllocError>
+/// Returns the subcommand of `matches`, with the texts of its arguments.
+fn chosen_subcommand(alloc: Global, matches: &ArgMatches<'_>) -> Result<Subcommand, AllocError>
     requires named { has_subcommand matches.now ≡ true }
     requires complete { IfSome (subcommand_rows_of matches.now) (λ p. IsComplete p.0 p.1) }
-    ensures { IfOk result (λ j. States (subcommand_rows_of matches.now) j) }
+    ensures { IfOk result (λ j. IsStatedSubcommand (subcommand_rows_of matches.now) j) }
 {
     let Some((name, found)) = matches.subcommand() else {
         unreachable!()
@@ -185,8 +186,8 @@ fn chosen(alloc: Global, matches: &ArgMatches<'_>) -> Result<Subcommand, AllocEr
     }
 }
 
-/// Returns true if flag `id` was given after the subcommand, by `matches`.
-fn is_on_below(matches: &ArgMatches<'_>, id: &str) -> bool
+/// Returns true if flag `id` is on after the subcommand of `matches`; false if there is no subcommand.
+fn is_on_in_subcommand(matches: &ArgMatches<'_>, id: &str) -> bool
     ensures { result ≡ is_on (first_of id.now (rows_of_subcommand (subcommand_rows_of matches.now))) }
 {
     match matches.subcommand() {
@@ -195,21 +196,21 @@ fn is_on_below(matches: &ArgMatches<'_>, id: &str) -> bool
     }
 }
 
-/// Returns the request of `matches`.
-fn asked(alloc: Global, matches: &ArgMatches<'_>) -> Result<ParsedArgs, AllocError>
+/// Returns the subcommand of `matches`, with `explain` true if the flag `--explain` is on before the subcommand or after it.
+fn args_of_matches(alloc: Global, matches: &ArgMatches<'_>) -> Result<ParsedArgs, AllocError>
     requires named { has_subcommand matches.now ≡ true }
     requires complete { IfSome (subcommand_rows_of matches.now) (λ p. IsComplete p.0 p.1) }
-    ensures subcommand { IfOk result (λ a. States (subcommand_rows_of matches.now) a.subcommand) }
+    ensures subcommand { IfOk result (λ a. IsStatedSubcommand (subcommand_rows_of matches.now) a.subcommand) }
     ensures explain { IfOk result (λ a. a.explain ≡ (is_on (first_of (codes "explain") (rows_of (found_of matches.now)))
         || is_on (first_of (codes "explain") (rows_of_subcommand (subcommand_rows_of matches.now))))) }
 {
     Ok(ParsedArgs {
-        subcommand: chosen(alloc, matches)?,
-        explain: is_on(matches, "explain") || is_on_below(matches, "explain"),
+        subcommand: chosen_subcommand(alloc, matches)?,
+        explain: is_on(matches, "explain") || is_on_in_subcommand(matches, "explain"),
     })
 }
 
-/// Returns the request of `words`; the first word is the program's name.
+/// Returns the subcommand and the options of `words`; the first word is the program's name.
 ///
 /// # Errors
 ///
@@ -217,20 +218,20 @@ fn asked(alloc: Global, matches: &ArgMatches<'_>) -> Result<ParsedArgs, AllocErr
 /// if an allocation was refused.
 pub fn parse_args(alloc: Global, words: &[String]) -> Result<ParsedArgs, ArgsFault>
     // The subcommand and its texts are those that clap states for these words and this command.
-    ensures subcommand { IfOk result (λ a. States (subcommand_of dfu_app (map string_bytes words.now)) a.subcommand) }
+    ensures subcommand { IfOk result (λ a. IsStatedSubcommand (subcommand_of dfu_app (map string_bytes words.now)) a.subcommand) }
     // The reason is wanted exactly if clap states the flag for these words.
     ensures explain { IfOk result (λ a. a.explain ≡ wants_reason (map string_bytes words.now)) }
     // A subcommand is returned only if clap states no fault for the words, and Words only with a kind that it states.
-    ensures faults { ResultOfKinds (word_faults (map string_bytes words.now)) result }
+    ensures faults { IsResultOfKinds (parse_fault_kinds (map string_bytes words.now)) result }
 {
     let matches = matches_of(alloc, words)?;
-    match asked(alloc, &matches) {
+    match args_of_matches(alloc, &matches) {
         Ok(parsed) => Ok(parsed),
         Err(_) => Err(ArgsFault::NoMemory),
     }
 }
 
-/// Returns the subcommand that `words` ask for; the first word is the program's name.
+/// Returns the subcommand of `words`; the first word is the program's name.
 ///
 /// # Errors
 ///
@@ -238,9 +239,9 @@ pub fn parse_args(alloc: Global, words: &[String]) -> Result<ParsedArgs, ArgsFau
 /// if an allocation was refused.
 pub fn parse_subcommand(alloc: Global, words: &[String]) -> Result<Subcommand, ArgsFault>
     // The subcommand and its texts are those that clap states for these words and this command.
-    ensures subcommand { IfOk result (λ j. States (subcommand_of dfu_app (map string_bytes words.now)) j) }
+    ensures subcommand { IfOk result (λ j. IsStatedSubcommand (subcommand_of dfu_app (map string_bytes words.now)) j) }
     // A subcommand is returned only if clap states no fault for the words, and Words only with a kind that it states.
-    ensures faults { ResultOfKinds (word_faults (map string_bytes words.now)) result }
+    ensures faults { IsResultOfKinds (parse_fault_kinds (map string_bytes words.now)) result }
 {
     let parsed = parse_args(alloc, words)?;
     Ok(parsed.subcommand)

@@ -1,10 +1,10 @@
--- Parts of writes, of any size, that a piece may be.
+-- Parts of writes, of any size. Every piece of a step is such a part.
 use Rattle.std.proofs.Common.{◌≡◌, ◌⊎◌, inl, inr, ℕ, ◌+◌, ◌-◌, ◌≤◌, ◌<◌, List, [], ◌∷◌, length, slice_range}
 use Rattle.dfu_slots.specs.Medium.{Write}
 use Rattle.dfu_asks.specs.Steps.{Step, step_writes}
 use Rattle.dfu_asks.specs.Carried.{IsStepPiece}
 
--- A part of a write: one or more of its bytes, after its first n.
+-- A part of a write: one or more of its bytes, from byte number n on.
 pub record IsPartOfWrite (w : Write) (n : ℕ) (p : Write) : Type 0 where
   pub some : 0 < length p.bytes
   pub within : n + length p.bytes ≤ length w.bytes

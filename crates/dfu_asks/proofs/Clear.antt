@@ -2,21 +2,21 @@
 use Rattle.std.proofs.Common.{◌≡◌, ◌≢◌, ◌⊎◌, ◌↔◌, inl, inr, ℕ, ◌+◌, ◌-◌, ◌%◌, ◌≤◌, ◌<◌, min, List, length, slice_index, sym, ◌∙◌, ap, arith}
 use Rattle.std.proofs.Math.Nat.{mod-add-mod, mod-eq_of_lt, mod_self}
 use Rattle.std.proofs.lemmas.Bool.{cases_lt}
-use Rattle.dfu_asks.specs.Ahead.{IsStretchToSector, IsErasedAhead}
+use Rattle.dfu_asks.specs.Ahead.{ReachesSectorAt, IsErasedAhead}
 
--- At the edge of a sector no byte comes before the next sector.
-pub no_stretch_at_edge : (sector at n : ℕ) → at % sector ≡ 0 → IsStretchToSector sector at n at
-no_stretch_at_edge sector at n edge = record {
+-- A range that begins at a sector reaches its first sector at once.
+pub range_at_edge_is_at_sector : (sector at n : ℕ) → at % sector ≡ 0 → ReachesSectorAt sector at n at
+range_at_edge_is_at_sector sector at n edge = record {
   low = omega arith;
   high = omega arith;
   inner = λ q low high. absurd (omega (arith, low, high));
   edge = λ lt. edge;
 }
 
--- Behind an edge the rest of the sector comes before the next one.
-pub stretch_to_sector_end : (sector at n : ℕ) → 0 < at % sector → at % sector < sector
-    → IsStretchToSector sector at n (at + min n (sector - at % sector))
-stretch_to_sector_end sector at n some less = record {
+-- A range that begins within a sector reaches the next sector after the rest of that sector.
+pub range_reaches_sector : (sector at n : ℕ) → 0 < at % sector → at % sector < sector
+    → ReachesSectorAt sector at n (at + min n (sector - at % sector))
+range_reaches_sector sector at n some less = record {
   low = omega arith;
   high = omega arith;
   inner = λ q low high edge.
@@ -32,10 +32,10 @@ stretch_to_sector_end sector at n some less = record {
       ap (λ (x : ℕ). x % sector) (sym e) ∙ sym (mod-add-mod at sector k) ∙ ap (λ (x : ℕ). x % sector) whole ∙ mod_self sector;
 }
 
--- The bytes are erased ahead exactly if those before the next sector that lie within the flash are FFh.
-pub clear_stretch_is_erased : (sector : ℕ) (bytes : List ℕ) (at n to : ℕ) → 0 < sector → IsStretchToSector sector at n to → {T : Type 0}
+-- A range is erased ahead exactly if its bytes before the next sector, as far as they lie within the flash, are FFh.
+pub erased_ahead_iff_front_clear : (sector : ℕ) (bytes : List ℕ) (at n to : ℕ) → 0 < sector → ReachesSectorAt sector at n to → {T : Type 0}
     → T ↔ ((p : ℕ) → at ≤ p → p < min to (length bytes) → slice_index bytes p ≡ 255) → T ↔ IsErasedAhead sector bytes at n
-clear_stretch_is_erased sector bytes at n to some stretch {T} test = (yes, no)
+erased_ahead_iff_front_clear sector bytes at n to some stretch {T} test = (yes, no)
   where
     before : (p : ℕ) → p < at + n → ((q : ℕ) → at ≤ q → q ≤ p → q % sector ≢ 0) → (p < to) ⊎ (to ≤ p) → p < to
     before p high none (inl lt) = lt

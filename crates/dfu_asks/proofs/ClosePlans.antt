@@ -2,31 +2,33 @@
 use Rattle.std.proofs.Common.{◌≡◌, ◌==◌, nat_lt, nat_le, not, Bool, true, false, ℕ, ◌+◌, List, [], ◌∷◌, length, take, drop, Some, if◌then◌else◌, refl}
 use Rattle.dfu_wire.specs.declared.codes.Code.TheVariants.{NotDone as ErrNotDone}
 use Rattle.dfu_device.specs.Candidate.{candidate_in}
-use Rattle.dfu_device.specs.Cases.{either_way}
+use Rattle.dfu_device.specs.Cases.{holds_in_both_branches}
 use Rattle.dfu_device.specs.Stage.{Request, Dnload, Upload, GetStatus, GetState, Ack, Profile, Stage, InDfuIdle, InDownloadSync, InDownloadIdle, InManifestSync, InUploadIdle}
-use Rattle.dfu_device.specs.Table.{Plan, Sure, Writes, Commits, has_no_bytes, ack_plan, error_plan, block_plan, further_plan, upload_plan, plan, may_close}
+use Rattle.dfu_device.specs.Table.{Plan, Sure, Writes, Commits, has_no_bytes, ack_plan, error_plan, block_plan, next_dnload_plan, upload_plan, plan, may_close}
 
--- A request closes a download: the stage has a download of these bytes that may be closed, and the request is a DNLOAD of no bytes.
-pub record RequestCloses (c : Profile) (st : Stage) (r : Request) (taken : List ℕ) : Type 0 where
+-- The request closes a download: it is a DNLOAD of no bytes, and the stage has a download of the bytes `taken` that may be closed.
+pub record IsClosingRequest (c : Profile) (st : Stage) (r : Request) (taken : List ℕ) : Type 0 where
   pub may : may_close c.least st ≡ true
   pub had : candidate_in st ≡ Some taken
   pub number : ℕ
   pub asks : r ≡ Dnload number []
 
--- A plan needs a closing request if it acknowledges and leaves an image waiting: only a request that closes the download does.
+-- If the plan acknowledges the request and leaves an image pending, the request closes the download.
 abbrev pub NeedsClosingRequest : Profile → Stage → Request → Plan → Type 0
-NeedsClosingRequest c st r (Sure reply next) = (taken : List ℕ) → reply ≡ Ack → next ≡ InManifestSync taken → RequestCloses c st r taken
+NeedsClosingRequest c st r (Sure reply next) = (taken : List ℕ) → reply ≡ Ack → next ≡ InManifestSync taken → IsClosingRequest c st r taken
 NeedsClosingRequest c st r (Writes before block reply next bad) = (taken : List ℕ) → next ≡ InManifestSync taken → ⊥
 NeedsClosingRequest c st r (Commits taken reply next bad) = (t : List ℕ) → next ≡ InManifestSync t → ⊥
 
+-- The plan of a block leaves no image pending, so no closing request is needed.
 block_needs_closing : (c : Profile) (st : Stage) (before : List ℕ) (expected number : ℕ) (body : List ℕ)
     → NeedsClosingRequest c st (Dnload number body) (block_plan c before expected number body)
 block_needs_closing c st before expected number body =
     let P : Plan → Type 0 = NeedsClosingRequest c st (Dnload number body) in
-    either_way P (nat_lt c.transfer (length body)) _ _ (λ t a m. absurd (cc))
-    (either_way P (not (number == expected)) _ _ (λ t a m. absurd (cc))
-    (either_way P (nat_lt c.capacity (length before + length body)) _ _ (λ t a m. absurd (cc)) (λ t a m. absurd (cc))))
+    holds_in_both_branches P (nat_lt c.transfer (length body)) _ _ (λ t a m. absurd (cc))
+    (holds_in_both_branches P (not (number == expected)) _ _ (λ t a m. absurd (cc))
+    (holds_in_both_branches P (nat_lt c.capacity (length before + length body)) _ _ (λ t a m. absurd (cc)) (λ t a m. absurd (cc))))
 
+-- The plan of a DNLOAD of no bytes leaves an image pending only if it closes the download.
 close_needs_closing : (c : Profile) (taken : List ℕ) (expected number : ℕ) (may : Bool) → nat_le c.least (length taken) ≡ may
     → NeedsClosingRequest c (InDownloadIdle taken expected) (Dnload number []) (if may then ack_plan (InManifestSync taken) else error_plan
     ErrNotDone)
@@ -38,36 +40,41 @@ close_needs_closing c taken expected number true is = λ t a m. record {
 }
 close_needs_closing c taken expected number false is = λ t a m. absurd (cc)
 
+-- The plan of a DNLOAD in dfuDNLOAD-IDLE leaves an image pending only if it closes the download.
 further_block_needs_closing : (c : Profile) (taken : List ℕ) (expected number : ℕ) (body : List ℕ)
-    → NeedsClosingRequest c (InDownloadIdle taken expected) (Dnload number body) (further_plan c taken expected number body)
+    → NeedsClosingRequest c (InDownloadIdle taken expected) (Dnload number body) (next_dnload_plan c taken expected number body)
 further_block_needs_closing c taken expected number [] = close_needs_closing c taken expected number (nat_le c.least (length taken)) refl
 further_block_needs_closing c taken expected number (b ∷ bs) = block_needs_closing c (InDownloadIdle taken expected) taken expected number
     (b ∷ bs)
 
+-- The plan of an UPLOAD leaves no image pending, so no closing request is needed.
 upload_needs_closing : (c : Profile) (image : List ℕ) (st : Stage) (place expected number size : ℕ)
     → NeedsClosingRequest c st (Upload number size) (upload_plan c image place expected number size)
 upload_needs_closing c image st place expected number size =
     let P : Plan → Type 0 = NeedsClosingRequest c st (Upload number size) in
-    either_way P (size == 0) _ _ (λ t a m. absurd (cc))
-    (either_way P (nat_lt c.transfer size) _ _ (λ t a m. absurd (cc))
-    (either_way P (not (number == expected)) _ _ (λ t a m. absurd (cc))
-    (either_way P (nat_lt (length (take size (drop place image))) size) _ _ (λ t a m. absurd (cc)) (λ t a m. absurd (cc)))))
+    holds_in_both_branches P (size == 0) _ _ (λ t a m. absurd (cc))
+    (holds_in_both_branches P (nat_lt c.transfer size) _ _ (λ t a m. absurd (cc))
+    (holds_in_both_branches P (not (number == expected)) _ _ (λ t a m. absurd (cc))
+    (holds_in_both_branches P (nat_lt (length (take size (drop place image))) size) _ _ (λ t a m. absurd (cc)) (λ t a m. absurd (cc)))))
 
--- The plan of each row needs a closing request for that.
+-- The plan of each row leaves an image pending only for a request that closes the download.
 pub row_needs_closing : (c : Profile) (image : List ℕ) (st : Stage) (r : Request) → NeedsClosingRequest c st r (plan c image st r)
 row_needs_closing c image InDfuIdle (Dnload number body) =
     let P : Plan → Type 0 = NeedsClosingRequest c InDfuIdle (Dnload number body) in
-    either_way P (not c.can_download) _ _ (λ t a m. absurd (cc))
-    (either_way P (has_no_bytes body) _ _ (λ t a m. absurd (cc)) (block_needs_closing c InDfuIdle [] 0 number body))
-row_needs_closing c image InDfuIdle (Upload number size) = either_way (NeedsClosingRequest c InDfuIdle (Upload number size)) c.can_upload _
+    holds_in_both_branches P (not c.can_download) _ _ (λ t a m. absurd (cc))
+    (holds_in_both_branches P (has_no_bytes body) _ _ (λ t a m. absurd (cc)) (block_needs_closing c InDfuIdle [] 0 number body))
+row_needs_closing c image InDfuIdle (Upload number size) =
+    holds_in_both_branches (NeedsClosingRequest c InDfuIdle (Upload number size)) c.can_upload _
     _
     (upload_needs_closing c image InDfuIdle 0 0 number size) (λ t a m. absurd (cc))
 row_needs_closing c image (InDownloadSync before block number) GetStatus =
-    either_way (NeedsClosingRequest c (InDownloadSync before block number) GetStatus) (c.busy == 0) _ _ (λ t m. absurd (cc)) (λ t a m.
+    holds_in_both_branches (NeedsClosingRequest c (InDownloadSync before block number) GetStatus) (c.busy == 0) _ _ (λ t m. absurd (cc))
+    (λ t a m.
     absurd (cc))
 row_needs_closing c image (InDownloadIdle taken number) (Dnload k body) = further_block_needs_closing c taken number k body
 row_needs_closing c image (InManifestSync taken) GetStatus =
-    either_way (NeedsClosingRequest c (InManifestSync taken) GetStatus) (c.manifest == 0) _ _ (λ t m. absurd (cc)) (λ t a m. absurd (cc))
+    holds_in_both_branches (NeedsClosingRequest c (InManifestSync taken) GetStatus) (c.manifest == 0) _ _ (λ t m. absurd (cc))
+    (λ t a m. absurd (cc))
 row_needs_closing c image (InUploadIdle place number) (Upload k size) = upload_needs_closing c image (InUploadIdle place number) place
     number k size
 row_needs_closing c image st GetState = λ t a m. absurd (cc)

@@ -1,16 +1,16 @@
--- Pieces that are cut out of bytes in place.
+-- Pieces that a search cuts out of the bytes in memory.
 use Rattle.std.proofs.Common.{◌≡◌, ◌==◌, Bool, true, false, if◌then◌else◌, ℕ, ◌+◌, ◌-◌, ◌^◌, ◌≤◌, ◌<◌, min, List, [], ◌∷◌, ◌++◌, length, take, drop, replicate, slice_range, refl, sym, ◌∙◌, ap, subst, arith, length-append}
 use Rattle.std.proofs.lemmas.Bool.{eq-eqb}
 use Rattle.std.proofs.lemmas.List.{length-take-le, length-drop, length-replicate}
 use Rattle.dfu_slots.specs.Units.{Grain, gate_size}
 use Rattle.dfu_slots.specs.Layout.{gate_unit}
 use Rattle.dfu_slots.specs.Writes.{sector_erases}
-use Rattle.dfu_slots.proofs.Ranges.{length_of_range_within}
+use Rattle.dfu_slots.proofs.Ranges.{range_within_has_its_length}
 use Rattle.dfu_asks.specs.declared.pending_writes.WriteInputs.{WriteInputs}
 use Rattle.dfu_asks.specs.declared.pending_writes.SlotWrite.{SlotWrite}
 use Rattle.dfu_asks.specs.declared.cut.Cut.{Cut}
 use Rattle.dfu_asks.specs.Steps.{Step, step_writes, steps_of_writes, program_step, write_anew_steps, close_step}
-use Rattle.dfu_asks.specs.Jobs.{step_of_piece, PieceBounds, steps_for}
+use Rattle.dfu_asks.specs.Jobs.{step_of_piece, PieceBounds, steps_of_job}
 use Rattle.dfu_asks.specs.declared.formatting.Formatting.{Formatting}
 use Rattle.dfu_asks.specs.declared.pending_writes.PendingWrites.{PendingWrites}
 use Rattle.dfu_asks.specs.Lent.{LentDevice}
@@ -18,16 +18,16 @@ use Rattle.dfu_asks.specs.Asks.{steps_in}
 use Rattle.dfu_asks.specs.Phases.{steps_of_part}
 use Rattle.dfu_asks.specs.Cuts.{source_bytes, zero_padded_source, step_of_cut, IsFoundPiece}
 use Rattle.dfu_asks.specs.Carried.{total, IsPieceOfStep, IsStepPiece}
-use Rattle.dfu_asks.proofs.Pieces.{range_of_prefix, range_of_rest}
-use Rattle.dfu_asks.proofs.JobPieces.{close_step_without_sectors}
+use Rattle.dfu_asks.proofs.Pieces.{prefix_range_is_list_range, rest_range_is_shifted_range}
+use Rattle.dfu_asks.proofs.JobPieces.{close_programs_if_no_sectors}
 
--- The bytes of a step are as many as its piece says.
-length_of_step_bytes : (b : Bool) (n : ℕ) (ys : List ℕ) → (b ≡ false → n ≤ length ys) →
+-- The step of a piece of n bytes has n bytes.
+step_has_piece_length : (b : Bool) (n : ℕ) (ys : List ℕ) → (b ≡ false → n ≤ length ys) →
     length (if b then replicate n 255 else take n ys) ≡ n
-length_of_step_bytes true n ys within = length-replicate n 255
-length_of_step_bytes false n ys within = length-take-le n ys (within refl)
+step_has_piece_length true n ys within = length-replicate n 255
+step_has_piece_length false n ys within = length-take-le n ys (within refl)
 
--- A cut that programs has all its bytes in its source and the zeros.
+-- A cut that programs has all its bytes in its padded source.
 cut_lies_in_source : (sector : ℕ) (c : Cut) → IsFoundPiece sector c → c.piece.erases ≡ false
     → c.piece.len ≤ length (drop c.from (zero_padded_source c.source c.stock c.front))
 cut_lies_in_source sector c is e = omega (
@@ -39,46 +39,47 @@ cut_lies_in_source sector c is e = omega (
 )
 
 -- The step of a cut has as many bytes as its piece.
-pub cut_step_size : (sector : ℕ) (c : Cut) → IsFoundPiece sector c → length (step_of_cut c).write.bytes ≡ c.piece.len
-cut_step_size sector c is =
-    length_of_step_bytes c.piece.erases c.piece.len (drop c.from (zero_padded_source c.source c.stock c.front)) (cut_lies_in_source sector
+pub cut_step_has_piece_size : (sector : ℕ) (c : Cut) → IsFoundPiece sector c → length (step_of_cut c).write.bytes ≡ c.piece.len
+cut_step_has_piece_size sector c is =
+    step_has_piece_length c.piece.erases c.piece.len (drop c.from (zero_padded_source c.source c.stock c.front)) (cut_lies_in_source sector
     c is)
 
--- A step has the bytes of a buffer, if those of a program are at the front of it.
-step_bytes_from_buffer : (b : Bool) (n : ℕ) (out ys all : List ℕ) → all ≡ (if b then replicate n 255 else take n ys) → (b ≡ false →
+-- A step has the same bytes when they are read from a buffer, if the bytes of a program are at the front of that buffer.
+buffer_gives_step_bytes : (b : Bool) (n : ℕ) (out ys all : List ℕ) → all ≡ (if b then replicate n 255 else take n ys) → (b ≡ false →
     take n out ≡ all)
     → (if b then replicate n 255 else take n out) ≡ (if b then replicate n 255 else take n ys)
-step_bytes_from_buffer true n out ys all is h = refl
-step_bytes_from_buffer false n out ys all is h = h refl ∙ is
+buffer_gives_step_bytes true n out ys all is h = refl
+buffer_gives_step_bytes false n out ys all is h = h refl ∙ is
 
+-- A cut and a buffer give the step of the cut, if the front of the buffer has the bytes of a program.
 pub filled_buffer_is_step : (c : Cut) (out all : List ℕ) → all ≡ (step_of_cut c).write.bytes → (c.piece.erases ≡ false →
     take c.piece.len out ≡ all)
     → step_of_piece c.piece out ≡ step_of_cut c
 filled_buffer_is_step c out all is h =
-    let bytes = step_bytes_from_buffer c.piece.erases c.piece.len out (drop c.from (zero_padded_source c.source c.stock c.front)) all is h
+    let bytes = buffer_gives_step_bytes c.piece.erases c.piece.len out (drop c.from (zero_padded_source c.source c.stock c.front)) all is h
     in
     λ i. record { erases = c.piece.erases; write = record { at = c.piece.at; bytes = bytes i } }
 
 -- A cut whose bytes are in a buffer is within the bounds of a piece.
-pub cut_within_bounds : (sector : ℕ) (c : Cut) (out : List ℕ) → IsFoundPiece sector c → step_of_piece c.piece out ≡ step_of_cut c
+pub found_cut_has_piece_bounds : (sector : ℕ) (c : Cut) (out : List ℕ) → IsFoundPiece sector c → step_of_piece c.piece out ≡ step_of_cut c
     → PieceBounds sector c.piece out
-cut_within_bounds sector c out is same = record {
+found_cut_has_piece_bounds sector c out is same = record {
   some = is.some;
   programs = is.programs;
   erases = is.erases;
   small = is.small;
-  count = ap (λ (s : Step). length s.write.bytes) same ∙ cut_step_size sector c is;
+  count = ap (λ (s : Step). length s.write.bytes) same ∙ cut_step_has_piece_size sector c is;
 }
 
 -- The next piece of a write is cut out of the bytes that the write is a range of.
-pub next_piece_of_write : (all : List ℕ) (at skip len from n : ℕ) → from < len → n ≡ min (len - from) 256 → skip + len ≤ length all
+pub next_piece_is_cut_of_source : (all : List ℕ) (at skip len from n : ℕ) → from < len → n ≡ min (len - from) 256 → skip + len ≤ length all
     → IsPieceOfStep (program_step at (slice_range all skip (skip + len))) from (program_step (at + from) (take n (drop (skip + from) all)))
-next_piece_of_write all at skip len from n lt size within =
+next_piece_is_cut_of_source all at skip len from n lt size within =
     let bytes = slice_range all skip (skip + len) in
     let mine = take n (drop (skip + from) all) in
     let k : skip + len - skip ≡ len = omega arith in
     let is : bytes ≡ take len (drop skip all) = ap (λ (j : ℕ). take j (drop skip all)) k in
-    let count = length_of_range_within all skip len within in
+    let count = range_within_has_its_length all skip len within in
     let own : length mine ≡ n =
     length-take-le n (drop (skip + from) all) (omega (arith, within, lt, size, length-drop (skip + from) all)) in
     let same : n ≡ skip + from + length mine - (skip + from) = omega (arith, own) in
@@ -89,37 +90,40 @@ next_piece_of_write all at skip len from n lt size within =
       within = omega (arith, own, size, count, lt);
       place = refl;
       bytes_are = ap (λ (j : ℕ). take j (drop (skip + from) all)) same
-          ∙ sym (range_of_rest all skip from (length mine))
-          ∙ sym (range_of_prefix (drop skip all) len from (from + length mine) (omega (arith, own, size, lt)))
+          ∙ sym (rest_range_is_shifted_range all skip from (length mine))
+          ∙ sym (prefix_range_is_list_range (drop skip all) len from (from + length mine) (omega (arith, own, size, lt)))
           ∙ ap (λ (l : List ℕ). slice_range l from (from + length mine)) (sym is);
     }
 
--- Without sectors the steps that close a gate write a gate unit.
-pub gate_steps_without_sectors : (w : Grain) (at : ℕ) → w.sector ≡ 0
+-- Without sectors the step that closes a gate is a write of a gate unit.
+pub gate_is_written_without_sectors : (w : Grain) (at : ℕ) → w.sector ≡ 0
     → write_anew_steps w.sector at (gate_unit (gate_size w.unit) 0) ≡ close_step w at ∷ []
-gate_steps_without_sectors w at none =
+gate_is_written_without_sectors w at none =
     let e : (w.sector == 0) ≡ true = eq-eqb w.sector 0 none in
     let unit = gate_unit (gate_size w.unit) 0 in
     (λ i. steps_of_writes true (if e i then [] else sector_erases w.sector at (length unit)) ++ program_step at unit ∷ [])
-    ∙ ap (λ (s : Step). s ∷ []) (sym (close_step_without_sectors w at none))
+    ∙ ap (λ (s : Step). s ∷ []) (sym (close_programs_if_no_sectors w at none))
 
 -- Facts of a search in these steps.
-module _ (job : SlotWrite) (s : WriteInputs) (ss : List Step) (steps : steps_for job s ≡ ss) (done : ℕ) (first : Cut)
+module _ (job : SlotWrite) (s : WriteInputs) (ss : List Step) (steps : steps_of_job job s ≡ ss) (done : ℕ) (first : Cut)
     (stock : first.stock ≡ s) (rest : first.rest ≡ done) where
-  search_steps_are_job_steps : steps_for job first.stock ≡ ss
-  search_steps_are_job_steps = ap (λ (x : WriteInputs). steps_for job x) stock ∙ steps
+  -- The steps with the inputs of the search are the steps of the job.
+  search_steps_are_job_steps : steps_of_job job first.stock ≡ ss
+  search_steps_are_job_steps = ap (λ (x : WriteInputs). steps_of_job job x) stock ∙ steps
 
-  found_piece_is_in_steps : (p : Step) → IsStepPiece (steps_for job first.stock) first.rest p → IsStepPiece ss done p
+  -- A piece that the search found is a piece of these steps.
+  found_piece_is_in_steps : (p : Step) → IsStepPiece (steps_of_job job first.stock) first.rest p → IsStepPiece ss done p
   found_piece_is_in_steps p piece =
       subst (λ (n : ℕ). IsStepPiece ss n p) rest (subst (λ (xs : List Step). IsStepPiece xs first.rest p) search_steps_are_job_steps piece)
 
-  pub none_left_in_steps : total (step_writes (steps_for job first.stock)) ≤ first.rest → total (step_writes ss) ≤ done
+  -- No bytes of these steps are left if the search found none left.
+  pub none_left_in_steps : total (step_writes (steps_of_job job first.stock)) ≤ first.rest → total (step_writes ss) ≤ done
   none_left_in_steps le = omega (arith, le, rest, ap (λ (xs : List Step). total (step_writes xs)) search_steps_are_job_steps)
 
--- A piece that a search for this work found is a piece of the work.
-pub found_piece_is_in_work : (a : LentDevice) (v : PendingWrites) (s : WriteInputs) → ((w : PendingWrites) → steps_for w.job s
+-- A piece that a search for a work found is a piece of the work.
+pub found_piece_is_in_work : (a : LentDevice) (v : PendingWrites) (s : WriteInputs) → ((w : PendingWrites) → steps_of_job w.job s
     ≡ steps_in a w)
-    → (first : Cut) → first.stock ≡ s → first.rest ≡ v.done → (p : Step) → IsStepPiece (steps_for v.job first.stock) first.rest p
+    → (first : Cut) → first.stock ≡ s → first.rest ≡ v.done → (p : Step) → IsStepPiece (steps_of_job v.job first.stock) first.rest p
     → IsStepPiece (steps_in a v) v.done p
 found_piece_is_in_work a v s steps first stock rest p found = found_piece_is_in_steps v.job s (steps_in a v) (steps v) v.done first stock
     rest p found
@@ -130,6 +134,7 @@ module _ (f : Formatting) (now size : ℕ) (same : now ≡ size) (image : List �
   searched_image_is_image : first.stock.block.now ≡ image
   searched_image_is_image = ap (λ (x : WriteInputs). x.block.now) stock ∙ block
 
+  -- A piece that the search found in the current part is a piece of that part, on flash of `size` bytes.
   pub found_piece_is_in_part : (p : Step) → IsStepPiece (steps_of_part f now first.stock.block.now) first.rest p
       → IsStepPiece (steps_of_part f size image) f.done p
   found_piece_is_in_part p piece =
@@ -137,6 +142,7 @@ module _ (f : Formatting) (now size : ℕ) (same : now ≡ size) (image : List �
       (subst (λ (n : ℕ). IsStepPiece (steps_of_part f now image) n p) rest
       (subst (λ (l : List ℕ). IsStepPiece (steps_of_part f now l) first.rest p) searched_image_is_image piece))
 
+  -- No bytes of the part are left if the search found none left.
   pub none_left_in_part : length image ≤ 2 ^ 24
       → (length first.stock.block.now ≤ 2 ^ 24 → total (step_writes (steps_of_part f now first.stock.block.now)) ≤ first.rest)
       → total (step_writes (steps_of_part f size image)) ≤ f.done

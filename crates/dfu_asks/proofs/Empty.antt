@@ -1,41 +1,42 @@
--- Jobs whose writes have no bytes: they have no writes.
+-- Jobs whose writes have no bytes. Such a job has no writes.
 use Rattle.std.proofs.Common.{◌≡◌, ◌==◌, inl, inr, Bool, true, false, if◌then◌else◌, ℕ, ◌+◌, ◌≤◌, ◌<◌, List, [], ◌∷◌, ◌++◌, length, take, drop, replicate, refl, arith}
 use Rattle.std.proofs.lemmas.Bool.{cases_eq, eqb-false}
 use Rattle.std.proofs.lemmas.List.{length-replicate}
 use Rattle.dfu_slots.specs.Units.{Grain, gate_size, gate_room, whole_part}
 use Rattle.dfu_slots.specs.Layout.{OPEN, gate_unit, header_unit}
 use Rattle.dfu_slots.specs.Medium.{Write}
-use Rattle.dfu_slots.specs.Writes.{sector_erases, closed_gate, write_anew, write_some, head_write_size, put_writes, held_writes, open_writes}
-use Rattle.dfu_slots.proofs.Parts.{gate_unit_length, header_unit_length}
+use Rattle.dfu_slots.specs.Writes.{sector_erases, closed_gate, erasing_write, write_some, head_write_size, put_writes, held_writes, open_writes}
+use Rattle.dfu_slots.proofs.Parts.{gate_unit_has_size, header_unit_has_size}
 use Rattle.dfu_slots.proofs.Sectors.{gate_unit_at_least_16}
 use Rattle.dfu_asks.specs.declared.pending_writes.SlotWrite.{SlotWrite}
 use Rattle.dfu_asks.specs.declared.pending_writes.SlotWrite.TheVariants.{Block, Commit}
 use Rattle.dfu_asks.specs.Carried.{total}
 use Rattle.dfu_asks.specs.Jobs.{held_bytes_place, job_writes}
-use Rattle.dfu_asks.proofs.Pieces.{total_of_two_lists}
+use Rattle.dfu_asks.proofs.Pieces.{list_totals_add_up}
 
--- A write with its erases has the bytes that are written, and maybe those of erases.
-write_anew_has_its_bytes : (sector at : ℕ) (bytes : List ℕ) → length bytes ≤ total (write_anew sector at bytes)
+-- A write with its erases has at least as many bytes as the write alone.
+write_anew_has_its_bytes : (sector at : ℕ) (bytes : List ℕ) → length bytes ≤ total (erasing_write sector at bytes)
 write_anew_has_its_bytes sector at bytes = omega (
   arith,
-  total_of_two_lists (if sector == 0 then [] else sector_erases sector at (length bytes)) (record { at = at; bytes = bytes } ∷ []),
+  list_totals_add_up (if sector == 0 then [] else sector_erases sector at (length bytes)) (record { at = at; bytes = bytes } ∷ []),
 )
 
-write_some_no_bytes : (sector at : ℕ) (bytes : List ℕ) → total (write_some sector at bytes) ≤ 0 → write_some sector at bytes ≡ []
-write_some_no_bytes sector at bytes = by_test (length bytes == 0) refl
+-- A `write_some` whose writes have no bytes makes no write.
+empty_write_some_has_no_write : (sector at : ℕ) (bytes : List ℕ) → total (write_some sector at bytes) ≤ 0 → write_some sector at bytes ≡ []
+empty_write_some_has_no_write sector at bytes = by_test (length bytes == 0) refl
   where
-    by_test : (b : Bool) → (length bytes == 0) ≡ b → total (if b then [] else write_anew sector at bytes) ≤ 0
-        → ◌≡◌ {A = List Write} (if b then [] else write_anew sector at bytes) []
+    by_test : (b : Bool) → (length bytes == 0) ≡ b → total (if b then [] else erasing_write sector at bytes) ≤ 0
+        → ◌≡◌ {A = List Write} (if b then [] else erasing_write sector at bytes) []
     by_test true e le = refl
     by_test false e le = absurd (eqb-false (length bytes) 0 e (omega (arith, le, write_anew_has_its_bytes sector at bytes)))
 
--- If two lists of writes have no bytes together, neither has a write.
-append_of_no_writes : (xs ys : List Write) → (total xs ≤ 0 → xs ≡ []) → (total ys ≤ 0 → ys ≡ []) → total (xs ++ ys) ≤ 0 → xs ++ ys ≡ []
-append_of_no_writes xs ys first second le =
-    let count = total_of_two_lists xs ys in
+-- Two joined lists without bytes have no writes, if each of the two lists has no writes whenever it has no bytes.
+empty_lists_join_empty : (xs ys : List Write) → (total xs ≤ 0 → xs ≡ []) → (total ys ≤ 0 → ys ≡ []) → total (xs ++ ys) ≤ 0 → xs ++ ys ≡ []
+empty_lists_join_empty xs ys first second le =
+    let count = list_totals_add_up xs ys in
     λ i. first (omega (arith, le, count)) i ++ second (omega (arith, le, count)) i
 
--- The bytes that close a gate are one at least.
+-- The write that closes a gate has at least one byte.
 closed_gate_has_bytes : (w : Grain) → 0 < length (closed_gate w)
 closed_gate_has_bytes w = by_test (w.sector == 0) refl
   where
@@ -46,9 +47,10 @@ closed_gate_has_bytes w = by_test (w.sector == 0) refl
     ]
 
     by_test : (b : Bool) → (w.sector == 0) ≡ b → 0 < length (if b then gate_unit (gate_size w.unit) 0 else replicate w.sector 255)
-    by_test true e = omega (arith, gate_unit_length (gate_size w.unit) 0 (gate_unit_at_least_16 w.unit), gate_unit_at_least_16 w.unit)
+    by_test true e = omega (arith, gate_unit_has_size (gate_size w.unit) 0 (gate_unit_at_least_16 w.unit), gate_unit_at_least_16 w.unit)
     by_test false e = some w.sector (eqb-false w.sector 0 e) (length-replicate {A = ℕ} w.sector 255)
 
+-- If the write that may close a gate has no bytes, there is none.
 empty_close_has_no_write : (w : Grain) (at : ℕ) (close : Bool) →
     let shut : List Write = if close then record { at = at; bytes = closed_gate w } ∷ [] else [] in total shut ≤ 0 → shut ≡ []
 empty_close_has_no_write w at true le = absurd (omega (arith, le, closed_gate_has_bytes w))
@@ -60,28 +62,29 @@ open_writes_have_bytes w at gen len crc =
     let header = header_unit (gate_size w.unit) gen len crc in
     omega (
       arith,
-      total_of_two_lists (write_anew w.sector (at + gate_room w) header) (write_anew w.sector at (gate_unit (gate_size w.unit) OPEN)),
+      list_totals_add_up (erasing_write w.sector (at + gate_room w) header) (erasing_write w.sector at (gate_unit (gate_size w.unit) OPEN)),
       write_anew_has_its_bytes w.sector (at + gate_room w) header,
-      header_unit_length (gate_size w.unit) gen len crc (gate_unit_at_least_16 w.unit),
+      header_unit_has_size (gate_size w.unit) gen len crc (gate_unit_at_least_16 w.unit),
       gate_unit_at_least_16 w.unit,
     )
 
+-- A job whose writes have no bytes has no write.
 pub empty_job_has_no_writes : (j : SlotWrite) (w : Grain) (end : ℕ) (held block : List ℕ) → total (job_writes j w end held block) ≤ 0
     → job_writes j w end held block ≡ []
 empty_job_has_no_writes (Block spare close) w end held block le =
     let at = held_bytes_place w spare end held in
     let all = held ++ block in
     let head = head_write_size w.unit held block in
-    append_of_no_writes (if close then record { at = spare; bytes = closed_gate w } ∷ [] else []) (put_writes w at held block)
+    empty_lists_join_empty (if close then record { at = spare; bytes = closed_gate w } ∷ [] else []) (put_writes w at held block)
     (empty_close_has_no_write w spare close)
-    (append_of_no_writes (write_some w.sector at (take head all))
+    (empty_lists_join_empty (write_some w.sector at (take head all))
     (write_some w.sector (at + head) (drop head (take (whole_part w.unit (length all)) all)))
-    (write_some_no_bytes w.sector at (take head all))
-    (write_some_no_bytes w.sector (at + head) (drop head (take (whole_part w.unit (length all)) all)))) le
+    (empty_write_some_has_no_write w.sector at (take head all))
+    (empty_write_some_has_no_write w.sector (at + head) (drop head (take (whole_part w.unit (length all)) all)))) le
 empty_job_has_no_writes (Commit spare gen crc) w end held block le =
     absurd (omega (
       arith,
       le,
-      total_of_two_lists (held_writes w (held_bytes_place w spare end held) held) (open_writes w spare gen end crc),
+      list_totals_add_up (held_writes w (held_bytes_place w spare end held) held) (open_writes w spare gen end crc),
       open_writes_have_bytes w spare gen end crc,
     ))

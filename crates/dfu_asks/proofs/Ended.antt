@@ -1,4 +1,4 @@
--- Rows that have come to their end, in the parts of the device that is kept.
+-- Rows that are complete, in terms of the kept parts of the device.
 use Rattle.std.proofs.Common.{◌≡◌, inl, inr, refl, ℕ, ◌≤◌, IsTrue, List, length, Option, None, sym, ap, subst, arith}
 use Rattle.dfu_slots.specs.declared.fault.WriteFault.{WriteFault}
 use Rattle.dfu_slots.specs.Medium.{MediumState, Write, AllWrites, BrokenWrites}
@@ -14,16 +14,16 @@ use Rattle.dfu_asks.specs.Lent.{LentDevice}
 use Rattle.dfu_asks.specs.Mapped.{mapped_medium, UnseenState, mapped_medium_with}
 use Rattle.dfu_asks.specs.Carried.{total, bytes_after_writes}
 use Rattle.dfu_asks.specs.Due.{DueRowWorks, DueRowFails}
-use Rattle.dfu_asks.specs.Asks.{grain_in, flash_store, device_in, store_with_unseen, device_with, device_of, IsWorkingForRow, writes_in, IsKeptAfterWrites, IsKeptAfterFault, NotesAfter, IsRowEndAnswer, AnswerInBuffer, done_mode, failed_mode}
+use Rattle.dfu_asks.specs.Asks.{grain_in, flash_store, device_in, store_with_unseen, device_with, device_of, IsWorkingForRow, writes_in, IsKeptAfterWrites, IsKeptAfterFault, NoteAfterRow, IsRowEndAnswer, AnswerInBuffer, done_mode, failed_mode}
 use Rattle.dfu_asks.specs.Calls.{CallCompleted}
 use Rattle.dfu_asks.proofs.Carrying.{carried_series_is_all_writes}
 use Rattle.dfu_asks.proofs.Empty.{empty_job_has_no_writes}
-use Rattle.dfu_asks.proofs.Unseen.{store_stays_with_unseen, device_parts_with_unseen, due_job_with_unseen}
+use Rattle.dfu_asks.proofs.Unseen.{store_stays_with_unseen, parts_stay_with_unseen, due_job_with_unseen}
 use Rattle.dfu_asks.specs.Noted.{IsNoteOfMedium}
 use Rattle.dfu_asks.proofs.Working.{RowEnds, Stays, held_after_row, put_end_after_row, due_row_works, due_row_fails}
 use Rattle.dfu_asks.proofs.Renoted.{notes_after_row}
 
--- A row that left this store and this mode has come to its end in the parts that are kept.
+-- A call is complete if its row left a store and a mode that are those of the kept parts.
 row_ends_in_kept_parts : (a now : LentDevice) (asked : Option ℕ) (flash : List ℕ) (x : Answer) (count : ℕ) (out out' : List ℕ) (S :
     SlotsState)
     (M : DeviceState)
@@ -52,15 +52,16 @@ row_ends_in_kept_parts a now asked flash x count out out' S M Stay Row store mod
       };
     }
 
--- The result of a row on one of two equal devices is its result on the other.
-ends_of_equal_devices : (c : Setting) (s : SlotsState) (m : DeviceState) (b : List ℕ) (Stays : Type 0) (Row : DeviceView →
+-- A row ends on one of two equal devices as it ends on the other.
+row_ends_same_on_equal_devices : (c : Setting) (s : SlotsState) (m : DeviceState) (b : List ℕ) (Stays : Type 0) (Row : DeviceView →
     Type 0) (d d' : DeviceView)
     → d ≡ d' → RowEnds c s m b Stays (Row d) → RowEnds c s m b Stays (Row d')
-ends_of_equal_devices c s m b Stays Row d d' same e =
+row_ends_same_on_equal_devices c s m b Stays Row d d' same e =
     record { comes = subst Row same e.comes; store = e.store; sound = e.sound; stays = e.stays }
 
 module _ (a now : LentDevice) (w : PendingWrites) (len : ℕ) (s : SlotsState) (was flash : List ℕ) (working : IsWorkingForRow a w len s was)
-    (notes : NotesAfter a.mode flash a now) (x : Answer) (count : ℕ) (out out' : List ℕ) where
+    (notes : NoteAfterRow a.mode flash a now) (x : Answer) (count : ℕ) (out out' : List ℕ) where
+  -- The store writes its medium in the device's grain.
   store_has_device_grain : s.medium.grain ≡ grain_in a
   store_has_device_grain = ap (λ (m : MediumState). m.grain) working.medium
 
@@ -69,26 +70,28 @@ module _ (a now : LentDevice) (w : PendingWrites) (len : ℕ) (s : SlotsState) (
   store_left_with_unseen u = store_of (mapped_medium_with u (grain_in a) flash) (held_after_row (grain_in a) a.mode a.held a.block)
       (put_end_after_row a.mode a.put_end a.block)
 
+  -- Store after all writes, on a mapped medium with these bytes.
   abbrev left : SlotsState
   left = store_of (mapped_medium (grain_in a) flash) (held_after_row (grain_in a) a.mode a.held a.block) (put_end_after_row a.mode
       a.put_end a.block)
 
-  -- Once all is written, the parts that are kept are the device after the row.
-  kept_device_with_unseen : IsKeptAfterWrites a now → (u : UnseenState)
+  -- The parts kept after all writes are the device after the row, with any unseen state.
+  kept_parts_are_row_device : IsKeptAfterWrites a now → (u : UnseenState)
       → view_of_parts a.config (store_left_with_unseen u) (done_mode a.config a.mode (length a.block)) a.block
       ≡ device_with u now flash
-  kept_device_with_unseen fin u = λ i. view_of_parts (sym fin.config i)
+  kept_parts_are_row_device fin u = λ i. view_of_parts (sym fin.config i)
       (store_of (mapped_medium_with u (record { unit = sym fin.unit i; sector = (sym fin.sector i).size }) flash) (sym fin.held i) (sym
       fin.end i))
       (sym fin.mode i) (sym fin.block i)
 
-  kept_device_on_flash : IsKeptAfterWrites a now → view_of_parts a.config left (done_mode a.config a.mode (length a.block)) a.block
+  -- The parts kept after all writes are the device on the flash after the row.
+  kept_parts_are_flash_device : IsKeptAfterWrites a now → view_of_parts a.config left (done_mode a.config a.mode (length a.block)) a.block
       ≡ device_in now flash
-  kept_device_on_flash fin = λ i. view_of_parts (sym fin.config i)
+  kept_parts_are_flash_device fin = λ i. view_of_parts (sym fin.config i)
       (store_of (mapped_medium (record { unit = sym fin.unit i; sector = (sym fin.sector i).size }) flash) (sym fin.held i) (sym fin.end i))
       (sym fin.mode i) (sym fin.block i)
 
-  -- If all writes worked, the row ends with what follows from that.
+  -- A call whose writes all worked is complete with `Row`, if the end of the row satisfies `Row`.
   row_ends_after_writes : (Row : Answer → List ℕ → Type 0) → AllWrites (mapped_medium (grain_in a) was) (writes_in a w)
       (mapped_medium (grain_in a) flash)
       → IsKeptAfterWrites a now → AnswerInBuffer (λ y sent. IsRowEndAnswer a.config now.mode w.asked y sent) x count out out'
@@ -103,7 +106,7 @@ module _ (a now : LentDevice) (w : PendingWrites) (len : ℕ) (s : SlotsState) (
       (λ store stays. notes_after_row a now w len s was flash working notes fin.unit fin.sector (inl all) left refl store.has_image stays)
       comes
 
-  -- If all writes worked, the row that is due worked.
+  -- The due row worked if all its writes worked.
   due_row_worked : AllWrites (mapped_medium (grain_in a) was) (writes_in a w) (mapped_medium (grain_in a) flash) → (sent : List ℕ)
       → IsRowEndAnswer a.config (done_mode a.config a.mode (length a.block)) w.asked x sent
       → RowEnds a.config left (done_mode a.config a.mode (length a.block)) a.block (Stays a.mode s left)
@@ -114,17 +117,17 @@ module _ (a now : LentDevice) (w : PendingWrites) (len : ℕ) (s : SlotsState) (
       a.mode w.asked working.sound working.due
       (subst (λ (m : MediumState). AllWrites m (writes_in a w) (mapped_medium (grain_in a) flash)) (sym working.medium) all) x sent says
 
-  -- If all writes worked, the call has come to its end with the row that is due.
+  -- The call is complete with the due row if all its writes worked.
   pub worked_writes_end_row : AllWrites (mapped_medium (grain_in a) was) (writes_in a w) (mapped_medium (grain_in a) flash) →
       IsKeptAfterWrites a now
       → AnswerInBuffer (λ y sent. IsRowEndAnswer a.config now.mode w.asked y sent) x count out out'
       → CallCompleted flash x count out out' now (λ y sent. DueRowWorks len (device_of a s) y sent (device_in now flash))
   worked_writes_end_row all fin gives =
       row_ends_after_writes (λ y sent. DueRowWorks len (device_of a s) y sent (device_in now flash)) all fin gives
-      (λ sent says. ends_of_equal_devices a.config left (done_mode a.config a.mode (length a.block)) a.block (Stays a.mode s left)
-      (λ d. DueRowWorks len (device_of a s) x sent d) _ _ (kept_device_on_flash fin) (due_row_worked all sent says))
+      (λ sent says. row_ends_same_on_equal_devices a.config left (done_mode a.config a.mode (length a.block)) a.block (Stays a.mode s left)
+      (λ d. DueRowWorks len (device_of a s) x sent d) _ _ (kept_parts_are_flash_device fin) (due_row_worked all sent says))
 
-  -- If a write had a fault, the call has come to its end with the row that fails.
+  -- The call is complete with the failed due row if a write had a fault.
   pub broken_writes_end_row : (fault : WriteFault) → BrokenWrites fault (mapped_medium (grain_in a) was) (writes_in a w)
       (mapped_medium (grain_in a) flash)
       → IsKeptAfterFault fault a now → AnswerInBuffer (λ y sent. IsRowEndAnswer a.config now.mode w.asked y sent) x count out out'
@@ -138,7 +141,7 @@ module _ (a now : LentDevice) (w : PendingWrites) (len : ℕ) (s : SlotsState) (
       (λ store stays. notes_after_row a now w len s was flash working notes off.unit off.sector (inr (fault, broken)) rest refl
       store.has_image
       stays)
-      (λ sent says. ends_of_equal_devices a.config rest (failed_mode fault a.mode) a.block (Stays a.mode s rest)
+      (λ sent says. row_ends_same_on_equal_devices a.config rest (failed_mode fault a.mode) a.block (Stays a.mode s rest)
       (λ d. DueRowFails fault len (device_of a s) x sent d) _ _
       (λ i. view_of_parts (sym off.config i)
       (store_of (mapped_medium (record { unit = sym off.unit i; sector = (sym off.sector i).size }) flash) (sym off.held i) (sym off.end i))
@@ -149,7 +152,7 @@ module _ (a now : LentDevice) (w : PendingWrites) (len : ℕ) (s : SlotsState) (
       (subst (λ (m : MediumState). BrokenWrites fault m (writes_in a w) (mapped_medium (grain_in a) flash)) (sym working.medium) broken)
       x sent says))
 
-  -- If all bytes are carried out, the call has come to its end with the row that is due.
+  -- The call is complete with the due row if all bytes of its writes are carried out.
   pub carried_writes_end_row : flash ≡ bytes_after_writes was (writes_in a w) w.done → total (writes_in a w) ≤ w.done →
       IsKeptAfterWrites a now
       → AnswerInBuffer (λ y sent. IsRowEndAnswer a.config now.mode w.asked y sent) x count out out'
@@ -158,13 +161,15 @@ module _ (a now : LentDevice) (w : PendingWrites) (len : ℕ) (s : SlotsState) (
       (subst (λ (l : List ℕ). AllWrites (mapped_medium (grain_in a) was) (writes_in a w) (mapped_medium (grain_in a) l)) (sym is)
       (carried_series_is_all_writes (grain_in a) (writes_in a w) was w.done le)) fin gives
 
--- A row without a write comes to its end at once, because it works on every medium with these bytes.
+-- A due row without writes is complete at once, on every medium with these bytes.
 module _ (a now : LentDevice) (w : PendingWrites) (len : ℕ) (s : SlotsState) (flash : List ℕ) (working : IsWorkingForRow a w len s flash)
-    (notes : NotesAfter a.mode flash a now) (x : Answer) (count : ℕ) (out out' : List ℕ) (nothing : total (writes_in a w) ≤ 0) where
+    (notes : NoteAfterRow a.mode flash a now) (x : Answer) (count : ℕ) (out out' : List ℕ) (nothing : total (writes_in a w) ≤ 0) where
+  -- A work without bytes makes no write.
   empty_work_writes_nothing : (m : MediumState) → AllWrites m (writes_in a w) m
   empty_work_writes_nothing m = subst (λ (ws : List Write). AllWrites m ws m) (sym (empty_job_has_no_writes w.job (grain_in a) a.put_end
       a.held a.block nothing)) refl
 
+  -- A due row without writes worked, with any unseen state of the medium.
   due_row_worked_with_unseen : (u : UnseenState) (sent : List ℕ) →
       IsRowEndAnswer a.config (done_mode a.config a.mode (length a.block)) w.asked x sent
       → DueRowWorks len (device_of a (store_with_unseen u s)) x sent
@@ -176,11 +181,12 @@ module _ (a now : LentDevice) (w : PendingWrites) (len : ℕ) (s : SlotsState) (
       (due_row_works a.config (grain_in a) a.block a.held a.put_end w.job len (store_with_unseen u s) (mapped_medium_with u (grain_in a)
       flash)
       (ap (λ (m : MediumState). m.grain) working.medium) (store_stays_with_unseen u s working.store)
-      a.mode w.asked (device_parts_with_unseen u s a.mode (length a.block) working.sound)
+      a.mode w.asked (parts_stay_with_unseen u s a.mode (length a.block) working.sound)
       (due_job_with_unseen u s a.mode w.asked len w.job a.put_end a.held working.due)
       (subst (λ (m : MediumState). AllWrites m (writes_in a w) (mapped_medium_with u (grain_in a) flash)) (sym there)
       (empty_work_writes_nothing (mapped_medium_with u (grain_in a) flash))) x sent says).comes
 
+  -- A call whose due row has no writes is complete with that row, with any unseen state of the medium.
   pub empty_work_ends_row : IsKeptAfterWrites a now → AnswerInBuffer (λ y sent. IsRowEndAnswer a.config now.mode w.asked y sent) x count
       out out'
       → CallCompleted flash x count out out' now
@@ -194,7 +200,7 @@ module _ (a now : LentDevice) (w : PendingWrites) (len : ℕ) (s : SlotsState) (
       a) flash)) sent says in
       record {
         comes = λ u. subst (λ (d : DeviceView). DueRowWorks len (device_of a (store_with_unseen u s)) x sent d)
-            (kept_device_with_unseen a now w len s flash flash working notes x count out out' fin u) (due_row_worked_with_unseen u sent
+            (kept_parts_are_row_device a now w len s flash flash working notes x count out out' fin u) (due_row_worked_with_unseen u sent
             says);
         store = e.store;
         sound = e.sound;

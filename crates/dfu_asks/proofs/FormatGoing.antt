@@ -1,4 +1,4 @@
--- Formats that go on, piece by piece.
+-- Progress of a format, piece by piece.
 use Rattle.std.proofs.Common.{◌≡◌, ◌≢◌, inl, inr, ◌==◌, Bool, true, false, if◌then◌else◌, ℕ, zero, suc, ◌+◌, ◌*◌, ◌/◌, ◌^◌, ◌≤◌, ◌<◌, List, [], ◌∷◌, ◌++◌, length, take, drop, replicate, slice_range, refl, sym, ◌∙◌, ap, subst, arith}
 use Rattle.std.proofs.lemmas.List.{append-nil, append_assoc, length-replicate}
 use Rattle.std.proofs.lemmas.Bool.{cases_eq, ne_eqb, eq-eqb}
@@ -23,9 +23,9 @@ use Rattle.dfu_asks.specs.Carried.{total, bytes_after_writes, WritesWithin, IsSt
 use Rattle.dfu_asks.specs.Phases.{piece_steps, image_steps, format_steps_from, part_steps, format_steps, format_grain, remaining_steps, steps_of_part}
 use Rattle.dfu_asks.specs.Formats.{medium_of_format, FormatUnderWay, FormatCompleted}
 use Rattle.dfu_asks.proofs.Bits.{IsPartOfWrites, piece_is_part_of_writes}
-use Rattle.dfu_asks.proofs.Pieces.{piece_of_first_steps, piece_of_later_steps, no_piece_reached, next_piece_ends_at_piece}
-use Rattle.dfu_asks.proofs.JobPieces.{total_of_two_step_lists}
-use Rattle.dfu_asks.proofs.Carrying.{carried_series_is_all_writes, series_carried_to_next_piece, torn_piece_breaks_series}
+use Rattle.dfu_asks.proofs.Pieces.{first_piece_is_in_joined, later_piece_is_in_joined, zero_bytes_end_at_piece, next_piece_ends_at_piece}
+use Rattle.dfu_asks.proofs.JobPieces.{step_list_totals_add_up}
+use Rattle.dfu_asks.proofs.Carrying.{carried_series_is_all_writes, written_piece_carries_series, torn_piece_breaks_series}
 use Rattle.dfu_asks.proofs.Partly.{series_keeps_length, piece_lies_in_range}
 use Rattle.dfu_asks.proofs.Inside.{writes_inside_are_within}
 use Rattle.dfu_asks.proofs.Sound.{StepsEraseSectors, steps_erase_sectors_append, write_anew_erases_sectors, close_step_erases_sector, next_piece_erases_sector}
@@ -35,7 +35,7 @@ use Rattle.dfu_asks.proofs.Cutting.{found_piece_is_in_part}
 use Rattle.dfu_asks.specs.declared.cut.Cut.{Cut}
 use Rattle.dfu_asks.specs.declared.pending_writes.WriteInputs.{WriteInputs}
 
--- The steps from a part on begin with those of the part.
+-- The steps of a format from a part on begin with the steps of the part.
 part_steps_come_first : (w : Grain) (size : ℕ) (image : List ℕ) (crc : ℕ) (this : FormatStep) → (next : List Step)
     × (format_steps_from w size image crc this ≡ part_steps w size image crc this ++ next)
 part_steps_come_first w size image crc format_step.CloseSecond = (format_steps_from w size image crc format_step.CloseFirst, refl)
@@ -46,12 +46,12 @@ part_steps_come_first w size image crc format_step.Header = (format_steps_from w
 part_steps_come_first w size image crc format_step.Gate = ([], sym (append-nil (part_steps w size image crc format_step.Gate)))
 part_steps_come_first w size image crc format_step.Ended = ([], refl)
 
--- A piece of a part is a piece of the steps that are left.
-pub piece_in_part_left : (f : Formatting) (size : ℕ) (image : List ℕ) (n : ℕ) (p : Step) → IsStepPiece (steps_of_part f size image) n p
+-- A piece of the current part is a piece of the remaining steps.
+pub part_piece_remains : (f : Formatting) (size : ℕ) (image : List ℕ) (n : ℕ) (p : Step) → IsStepPiece (steps_of_part f size image) n p
     → IsStepPiece (remaining_steps f size image) n p
-piece_in_part_left f size image n p piece =
+part_piece_remains f size image n p piece =
     let parts = part_steps_come_first (format_grain f) (size / 2) image f.register f.phase in
-    subst (λ (ss : List Step). IsStepPiece ss n p) (sym parts.1) (piece_of_first_steps (steps_of_part f size image) parts.0 n p piece)
+    subst (λ (ss : List Step). IsStepPiece ss n p) (sym parts.1) (first_piece_is_in_joined (steps_of_part f size image) parts.0 n p piece)
 
 -- The step that closes a gate has bytes.
 pub close_step_has_bytes : (w : Grain) (at : ℕ) → 0 < length (close_step w at).write.bytes
@@ -69,8 +69,7 @@ close_step_has_bytes w at = elim (cases_eq w.sector 0) [
     sector_erase_has_bytes true e some = cc
     sector_erase_has_bytes false e some = omega (arith, some, length-replicate {A = ℕ} w.sector 255)
 
--- The steps of a format erase whole sectors, or program.
-
+-- Each step of an image erases a whole sector, or programs.
 image_steps_erase_sectors : (sector n at : ℕ) (bytes : List ℕ) → StepsEraseSectors sector (piece_steps sector n at bytes)
 image_steps_erase_sectors sector zero at bytes = tt
 image_steps_erase_sectors sector (suc n) at [] = tt
@@ -79,6 +78,7 @@ image_steps_erase_sectors sector (suc n) at (x ∷ xs) =
     xs)))
     (write_anew_erases_sectors sector at (take 4096 (x ∷ xs))) (image_steps_erase_sectors sector n (at + 4096) (drop 4096 (x ∷ xs)))
 
+-- Each step of a format erases a whole sector, or programs.
 format_steps_erase_sectors : (m : MediumState) (image : List ℕ) → IsSizedMedium m → StepsEraseSectors m.grain.sector (format_steps m image)
 format_steps_erase_sectors m image sized =
     let w = m.grain in
@@ -95,15 +95,17 @@ format_steps_erase_sectors m image sized =
       ),
     )
 
+-- Each step of the second of two lists erases a whole sector, or programs, if each step of both lists does.
 later_steps_erase_sectors : (sector : ℕ) (xs ys : List Step) → StepsEraseSectors sector (xs ++ ys) → StepsEraseSectors sector ys
 later_steps_erase_sectors sector [] ys all = all
 later_steps_erase_sectors sector (x ∷ xs) ys all = later_steps_erase_sectors sector xs ys all.1
 
--- A medium of two slots has less than 2^32 bytes.
-pub two_slots_are_small : (m : MediumState) → IsSizedMedium m → length m.bytes < 2 ^ 32
-two_slots_are_small m sized = omega (arith, sized.even, sized.bound, sized.whole.bound, gate_unit_at_most_256 m.grain.unit)
+-- A medium of two slots has fewer than 2^32 bytes.
+pub two_slot_medium_is_small : (m : MediumState) → IsSizedMedium m → length m.bytes < 2 ^ 32
+two_slot_medium_is_small m sized = omega (arith, sized.even, sized.bound, sized.whole.bound, gate_unit_at_most_256 m.grain.unit)
 
 module _ (f : Formatting) (image was flash : List ℕ) (way : FormatUnderWay f image was flash) where
+  -- Medium of the format before its first write.
   abbrev m : MediumState
   m = medium_of_format f was
 
@@ -116,12 +118,15 @@ module _ (f : Formatting) (image was flash : List ℕ) (way : FormatUnderWay f i
   abbrev left : List Step
   left = remaining_steps f (length was) image
 
+  -- Steps of the current part.
   abbrev part : List Step
   part = steps_of_part f (length was) image
 
+  -- Number of carried-out bytes of all steps.
   abbrev before : ℕ
   before = total (step_writes way.front) + f.done
 
+  -- The writes of a format lie within its flash.
   format_writes_within_flash : WritesWithin writes (length was)
   format_writes_within_flash = subst (λ (ws : List Write). WritesWithin ws (length was)) (sym (format_steps_are_writes m image))
       (writes_inside_are_within (format_series m image) 0 (length was) (length was) (format_writes_inside_medium m image way.can) (omega
@@ -131,10 +136,10 @@ module _ (f : Formatting) (image was flash : List ℕ) (way : FormatUnderWay f i
   pub format_keeps_flash_size : length flash ≡ length was
   format_keeps_flash_size = ap length way.flash_is ∙ series_keeps_length writes was before format_writes_within_flash
 
-  -- The flash has less than 2^32 bytes, and the image at most 2^24.
+  -- The flash has fewer than 2^32 bytes, and the image at most 2^24.
   pub flash_and_image_are_small : (length flash < 2 ^ 32) × (length image ≤ 2 ^ 24)
   flash_and_image_are_small = (
-    omega (arith, format_keeps_flash_size, two_slots_are_small m way.can.sized),
+    omega (arith, format_keeps_flash_size, two_slot_medium_is_small m way.can.sized),
     omega (
       arith,
       way.can.fits,
@@ -142,31 +147,33 @@ module _ (f : Formatting) (image was flash : List ℕ) (way : FormatUnderWay f i
     ),
   )
 
-  -- The piece that a search in the current part found is a piece of the steps that are left.
-  pub found_piece_is_left : (s : WriteInputs) → s.block.now ≡ image → (first : Cut) → first.stock ≡ s → first.rest ≡ f.done → (p : Step)
+  -- The piece that a search in the current part found is a piece of the remaining steps.
+  pub found_piece_remains : (s : WriteInputs) → s.block.now ≡ image → (first : Cut) → first.stock ≡ s → first.rest ≡ f.done → (p : Step)
       → IsStepPiece (steps_of_part f (length flash) first.stock.block.now) first.rest p → IsStepPiece left f.done p
-  found_piece_is_left s block first stock rest p found =
-      piece_in_part_left f (length was) image f.done p
+  found_piece_remains s block first stock rest p found =
+      part_piece_remains f (length was) image f.done p
       (found_piece_is_in_part f (length flash) (length was) format_keeps_flash_size image s block first stock rest p found)
 
   module _ (p : Step) (piece : IsStepPiece left f.done p) where
+    -- The next piece of the remaining steps is the next piece of all steps of the format.
     left_piece_is_in_format : IsStepPiece steps before p
     left_piece_is_in_format = subst (λ (ss : List Step). IsStepPiece ss before p) (sym way.series)
-        (piece_of_later_steps way.front left before f.done p refl piece)
+        (later_piece_is_in_joined way.front left before f.done p refl piece)
 
-    bit : IsPartOfWrites writes before p.write
-    bit = piece_is_part_of_writes steps before p left_piece_is_in_format
+    -- The piece is a part of one of the writes of the format.
+    piece_is_format_part : IsPartOfWrites writes before p.write
+    piece_is_format_part = piece_is_part_of_writes steps before p left_piece_is_in_format
 
-    -- The piece lies within the flash.
-    pub format_piece_within_flash : p.write.at + length p.write.bytes ≤ length flash
-    format_piece_within_flash = omega (
+    -- The piece of a format lies within the flash.
+    pub format_piece_lies_within_flash : p.write.at + length p.write.bytes ≤ length flash
+    format_piece_lies_within_flash = omega (
       arith,
       format_keeps_flash_size,
       (piece_lies_in_range (format_series m image) before p.write 0 (length was) (format_writes_inside_medium m image way.can)
-          (subst (λ (ws : List Write). IsPartOfWrites ws before p.write) (format_steps_are_writes m image) bit)).1,
+          (subst (λ (ws : List Write). IsPartOfWrites ws before p.write) (format_steps_are_writes m image) piece_is_format_part)).1,
     )
 
-    -- The piece erases a whole sector, or programs.
+    -- The piece of a format erases a whole sector, or programs.
     pub format_piece_erases_sector : ErasesSectorOrPrograms f.sector.size p
     format_piece_erases_sector = next_piece_erases_sector f.sector.size left f.done p
         (later_steps_erase_sectors f.sector.size way.front left
@@ -176,14 +183,14 @@ module _ (f : Formatting) (image was flash : List ℕ) (way : FormatUnderWay f i
       piece_tears_format_flash : Torn (bytes_after_writes was writes before) p.write.at p.write.bytes now
       piece_tears_format_flash = subst (λ (l : List ℕ). Torn l p.write.at p.write.bytes now) way.flash_is torn
 
-      -- If the piece fails, or other bytes are there, the format is broken off by that fault.
+      -- The fault of a piece breaks the format off, whichever bytes the piece left in its range.
       pub broken_piece_breaks_format : (fault : WriteFault) → BrokenWrites fault m (format_series m image) (medium_of_format f now)
       broken_piece_breaks_format fault = subst (λ (ws : List Write). BrokenWrites fault m ws (medium_of_format f now))
           (format_steps_are_writes m image)
-          (torn_piece_breaks_series (format_grain f) fault writes was now before p.write format_writes_within_flash bit
+          (torn_piece_breaks_series (format_grain f) fault writes was now before p.write format_writes_within_flash piece_is_format_part
           piece_tears_format_flash)
 
-      -- If the piece is there, the format is one piece further.
+      -- If the bytes of the piece are on the flash, the format is under way, one piece further.
       pub format_one_piece_further : p.write.at + length p.write.bytes ≤ length now
           → slice_range now p.write.at (p.write.at + length p.write.bytes) ≡ p.write.bytes → (n : ℕ) → n ≡ f.done + length p.write.bytes
           → FormatUnderWay (record f { done = n }) image was now
@@ -201,32 +208,32 @@ module _ (f : Formatting) (image was flash : List ℕ) (way : FormatUnderWay f i
             reached = subst (λ (k : ℕ). EndsAtPiece left k) (sym count) (next_piece_ends_at_piece left f.done p way.reached piece);
             flash_is = (write_worked {old = mapped_medium (format_grain f) old} {at = p.write.at} {new = p.write.bytes}
                 {now = mapped_medium (format_grain f) now} (omega (arith, fits, piece_tears_format_flash.size)) (inr lied) stands).bytes
-                ∙ sym (series_carried_to_next_piece writes was before p.write format_writes_within_flash bit)
+                ∙ sym (written_piece_carries_series writes was before p.write format_writes_within_flash piece_is_format_part)
                 ∙ ap (λ (k : ℕ). bytes_after_writes was writes k) is;
           }
 
   module _ (ended : f.done ≡ total (step_writes part)) where
-    -- If a part is carried out, and another one follows, the format goes on with that part.
-    pub format_next_part : (next : FormatStep) → left ≡ part ++ format_steps_from (format_grain f) (length was / 2) image f.register next
+    -- After a complete part the format is under way with the part that follows.
+    pub next_part_under_way : (next : FormatStep) → left ≡ part ++ format_steps_from (format_grain f) (length was / 2) image f.register next
         → FormatUnderWay (record f { phase = next; done = 0 }) image was flash
-    format_next_part next follows =
+    next_part_under_way next follows =
         let rest = format_steps_from (format_grain f) (length was / 2) image f.register next in
-        let count : before ≡ total (step_writes (way.front ++ part)) + 0 = omega (arith, ended, total_of_two_step_lists way.front part) in
+        let count : before ≡ total (step_writes (way.front ++ part)) + 0 = omega (arith, ended, step_list_totals_add_up way.front part) in
         record {
           can = record { sized = way.can.sized; fits = way.can.fits };
           sum = way.sum;
           front = way.front ++ part;
           series = way.series ∙ ap (λ (ss : List Step). way.front ++ ss) follows ∙ sym (append_assoc way.front part rest);
-          reached = no_piece_reached rest;
+          reached = zero_bytes_end_at_piece rest;
           flash_is = way.flash_is ∙ ap (λ (k : ℕ). bytes_after_writes was writes k) count;
         }
 
-    -- If the last part is carried out, the image is the active one.
-    pub format_last_part_done : left ≡ part ++ [] → FormatCompleted m image (medium_of_format f flash)
-    format_last_part_done follows =
+    -- After the last part the format is complete, and its image is the active one.
+    pub format_ends_with_last_part : left ≡ part ++ [] → FormatCompleted m image (medium_of_format f flash)
+    format_ends_with_last_part follows =
         let all : steps ≡ way.front ++ part = way.series ∙ ap (λ (ss : List Step). way.front ++ ss) (follows ∙ append-nil part) in
         let count : total writes ≤ before = omega
-        (arith, ap (λ (ss : List Step). total (step_writes ss)) all, total_of_two_step_lists way.front part, ended) in
+        (arith, ap (λ (ss : List Step). total (step_writes ss)) all, step_list_totals_add_up way.front part, ended) in
         let came : AllWrites m writes (medium_of_format f flash) =
         subst (λ (l : List ℕ). AllWrites m writes (mapped_medium (format_grain f) l)) (sym way.flash_is)
         (carried_series_is_all_writes (format_grain f) writes was before count) in

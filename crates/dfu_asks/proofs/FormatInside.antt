@@ -1,15 +1,15 @@
--- Writes of a format: they lie within its medium, and make its image the active one.
+-- Writes of a format lie within its medium, and make its image the active one.
 use Rattle.std.proofs.Common.{ℕ, ◌+◌, List, ◌++◌, length, arith}
 use Rattle.dfu_suffix.specs.Register.{register}
 use Rattle.dfu_slots.specs.Units.{gate_size}
 use Rattle.dfu_slots.specs.Medium.{MediumState, AllWrites}
 use Rattle.dfu_slots.specs.Layout.{slot_size, OPEN, gate_unit, header_unit}
 use Rattle.dfu_slots.specs.Image.{gate_of, Active}
-use Rattle.dfu_slots.specs.Writes.{write_anew, close_writes, image_writes, open_writes}
+use Rattle.dfu_slots.specs.Writes.{erasing_write, close_writes, image_writes, open_writes}
 use Rattle.dfu_slots.specs.StoreView.{format_series}
 use Rattle.dfu_slots.specs.Changes.{CanFormat}
 use Rattle.dfu_slots.proofs.Stands.{sized_medium_has_two_slots}
-use Rattle.dfu_slots.proofs.Parts.{gate_unit_length, header_unit_length}
+use Rattle.dfu_slots.proofs.Parts.{gate_unit_has_size, header_unit_has_size}
 use Rattle.dfu_slots.proofs.Series.{AllWritesInside, writes_inside_keep_rest, writes_keep_grain, appended_writes_inside}
 use Rattle.dfu_slots.proofs.Sectors.{gate_unit_at_least_16}
 use Rattle.dfu_slots.proofs.Seeing.{active_on_same_size}
@@ -22,6 +22,7 @@ module _ (s : MediumState) (image : List ℕ) (can : CanFormat s image) where
   abbrev size : ℕ
   size = length s.bytes
 
+  -- The writes that open the first slot lie within the medium.
   open_writes_inside_medium : AllWritesInside 0 size (open_writes s.grain 0 0 (length image) (register image))
   open_writes_inside_medium =
       let edge = sized_medium_ends_at_edge s can.sized in
@@ -29,11 +30,11 @@ module _ (s : MediumState) (image : List ℕ) (can : CanFormat s image) where
       let head = header_unit k 0 (length image) (register image) in
       let gate = gate_unit k OPEN in
       let wide = gate_unit_at_least_16 s.grain.unit in
-      appended_writes_inside 0 size (write_anew s.grain.sector (0 + gate_of s) head) (write_anew s.grain.sector 0 gate)
+      appended_writes_inside 0 size (erasing_write s.grain.sector (0 + gate_of s) head) (erasing_write s.grain.sector 0 gate)
       (write_with_erases_inside s.grain.sector 0 size (0 + gate_of s) head edge (omega arith)
-      (omega (arith, header_unit_length k 0 (length image) (register image) wide, can.sized.room, can.sized.even)))
+      (omega (arith, header_unit_has_size k 0 (length image) (register image) wide, can.sized.room, can.sized.even)))
       (write_with_erases_inside s.grain.sector 0 size 0 gate edge (omega arith)
-      (omega (arith, gate_unit_length k OPEN wide, can.sized.room, can.sized.even)))
+      (omega (arith, gate_unit_has_size k OPEN wide, can.sized.room, can.sized.even)))
 
   -- The writes of a format lie within its medium.
   pub format_writes_inside_medium : AllWritesInside 0 size (format_series s image)

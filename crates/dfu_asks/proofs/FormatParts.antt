@@ -1,4 +1,4 @@
--- The parts of a format, one after the other.
+-- The order of the parts of a format, and their steps.
 use Rattle.std.proofs.Common.{◌≡◌, ℕ, zero, suc, ◌+◌, ◌*◌, ◌≤◌, ◌<◌, List, [], ◌∷◌, ◌++◌, length, take, drop, refl, sym, ◌∙◌, ap, arith}
 use Rattle.std.proofs.lemmas.List.{take_all, drop_all, drop-drop, length-drop, append-nil, append_assoc}
 use Rattle.dfu_suffix.specs.Register.{register}
@@ -10,76 +10,75 @@ use Rattle.dfu_asks.specs.declared.formatting.FormatStep.{FormatStep}
 use Rattle.dfu_asks.specs.declared.formatting.FormatStep.TheVariants as format_step
 use Rattle.dfu_asks.specs.Steps.{Step, step_writes, write_anew_steps, write_some_steps, open_steps, close_step}
 use Rattle.dfu_asks.specs.Phases.{piece_steps, image_steps, format_steps_from, part_steps, format_steps}
-use Rattle.dfu_asks.proofs.Steps.{step_writes_append, write_anew_step_writes, open_steps_are_writes}
-use Rattle.dfu_asks.proofs.Locating.{some_steps_are_anew}
+use Rattle.dfu_asks.proofs.Steps.{step_writes_append, anew_steps_are_writes, open_steps_are_writes}
+use Rattle.dfu_asks.proofs.Locating.{write_some_steps_are_anew}
 
--- No bytes have no steps.
-no_bytes_no_piece_steps : (sector n at : ℕ) → piece_steps sector n at [] ≡ []
-no_bytes_no_piece_steps sector zero at = refl
-no_bytes_no_piece_steps sector (suc n) at = refl
+-- An empty list of bytes has no steps.
+empty_list_has_no_piece_steps : (sector n at : ℕ) → piece_steps sector n at [] ≡ []
+empty_list_has_no_piece_steps sector zero at = refl
+empty_list_has_no_piece_steps sector (suc n) at = refl
 
--- The steps of some bytes do not depend on the count, if that is at least their length.
-piece_steps_by_any_count : (sector n m at : ℕ) (bytes : List ℕ) → length bytes ≤ n → length bytes ≤ m
+-- Two counts that are at least the length of the bytes give the same steps.
+piece_steps_ignore_count : (sector n m at : ℕ) (bytes : List ℕ) → length bytes ≤ n → length bytes ≤ m
     → piece_steps sector n at bytes ≡ piece_steps sector m at bytes
-piece_steps_by_any_count sector n m at [] a b = no_bytes_no_piece_steps sector n at ∙ sym (no_bytes_no_piece_steps sector m at)
-piece_steps_by_any_count sector zero m at (x ∷ xs) a b = absurd (omega (arith, a))
-piece_steps_by_any_count sector (suc n) zero at (x ∷ xs) a b = absurd (omega (arith, b))
-piece_steps_by_any_count sector (suc n) (suc m) at (x ∷ xs) a b =
+piece_steps_ignore_count sector n m at [] a b = empty_list_has_no_piece_steps sector n at ∙ sym (empty_list_has_no_piece_steps sector m at)
+piece_steps_ignore_count sector zero m at (x ∷ xs) a b = absurd (omega (arith, a))
+piece_steps_ignore_count sector (suc n) zero at (x ∷ xs) a b = absurd (omega (arith, b))
+piece_steps_ignore_count sector (suc n) (suc m) at (x ∷ xs) a b =
     let back = length-drop 4096 (x ∷ xs) in
     ap (λ (ss : List Step). write_anew_steps sector at (take 4096 (x ∷ xs)) ++ ss)
-    (piece_steps_by_any_count sector n m (at + 4096) (drop 4096 (x ∷ xs)) (omega (arith, back, a)) (omega (arith, back, b)))
+    (piece_steps_ignore_count sector n m (at + 4096) (drop 4096 (x ∷ xs)) (omega (arith, back, a)) (omega (arith, back, b)))
 
--- The first 4096 bytes of a list that has a byte are one at least.
+-- The first 4096 bytes of a list that is not empty are not empty.
 piece_front_has_bytes : (x : ℕ) (xs : List ℕ) → 0 < length (take 4096 (x ∷ xs))
 piece_front_has_bytes x xs = omega arith
 
--- The steps of some bytes are those of the first 4096, and then those of the rest.
-first_piece_steps_and_rest : (sector n at : ℕ) (bytes : List ℕ) → length bytes ≤ n
+-- The steps of a list of bytes are those of its first 4096 bytes, followed by those of the rest.
+piece_steps_split_at_first : (sector n at : ℕ) (bytes : List ℕ) → length bytes ≤ n
     → piece_steps sector n at bytes ≡ write_some_steps sector at (take 4096 bytes) ++ piece_steps sector n (at + 4096) (drop 4096 bytes)
-first_piece_steps_and_rest sector n at [] le =
-    no_bytes_no_piece_steps sector n at
+piece_steps_split_at_first sector n at [] le =
+    empty_list_has_no_piece_steps sector n at
     ∙ sym ((λ i. write_some_steps sector at (take_all 4096 [] (omega arith) i)
     ++ piece_steps sector n (at + 4096) (drop_all 4096 [] (omega arith) i))
-    ∙ no_bytes_no_piece_steps sector n (at + 4096))
-first_piece_steps_and_rest sector zero at (x ∷ xs) le = absurd (omega (arith, le))
-first_piece_steps_and_rest sector (suc n) at (x ∷ xs) le =
+    ∙ empty_list_has_no_piece_steps sector n (at + 4096))
+piece_steps_split_at_first sector zero at (x ∷ xs) le = absurd (omega (arith, le))
+piece_steps_split_at_first sector (suc n) at (x ∷ xs) le =
     let back = length-drop 4096 (x ∷ xs) in
-    (λ i. sym (some_steps_are_anew sector at (take 4096 (x ∷ xs)) (piece_front_has_bytes x xs)) i
-    ++ piece_steps_by_any_count sector n (suc n) (at + 4096) (drop 4096 (x ∷ xs)) (omega (arith, back, le)) (omega (arith, back, le)) i)
+    (λ i. sym (write_some_steps_are_anew sector at (take 4096 (x ∷ xs)) (piece_front_has_bytes x xs)) i
+    ++ piece_steps_ignore_count sector n (suc n) (at + 4096) (drop 4096 (x ∷ xs)) (omega (arith, back, le)) (omega (arith, back, le)) i)
 
--- The steps of an image are those of its next 4096 bytes, and then those of the rest.
-pub image_piece_steps_and_rest : (w : Grain) (image : List ℕ) (from : ℕ) → image_steps w image from
+-- The steps of an image are those of its next 4096 bytes, followed by those of the rest.
+pub image_steps_split_at_piece : (w : Grain) (image : List ℕ) (from : ℕ) → image_steps w image from
     ≡ write_some_steps w.sector (2 * gate_room w + from) (take 4096 (drop from (filled_units w.unit image))) ++ image_steps w image
     (from + 4096)
-image_piece_steps_and_rest w image from =
+image_steps_split_at_piece w image from =
     let units = filled_units w.unit image in
     let rest = drop from units in
     let at = 2 * gate_room w + from in
     let on : drop 4096 rest ≡ drop (from + 4096) units = drop-drop 4096 from units in
     let place : at + 4096 ≡ 2 * gate_room w + (from + 4096) = omega arith in
-    first_piece_steps_and_rest w.sector (length rest) at rest (omega arith)
+    piece_steps_split_at_first w.sector (length rest) at rest (omega arith)
     ∙ ap (λ (ss : List Step). write_some_steps w.sector at (take 4096 rest) ++ ss)
-    (piece_steps_by_any_count w.sector (length rest) (length (drop 4096 rest)) (at + 4096) (drop 4096 rest)
+    (piece_steps_ignore_count w.sector (length rest) (length (drop 4096 rest)) (at + 4096) (drop 4096 rest)
     (omega (arith, length-drop 4096 rest)) (omega arith)
     ∙ (λ i. piece_steps w.sector (length (on i)) (place i) (on i)))
 
--- Behind its last byte an image has no steps.
-pub no_image_steps_behind_end : (w : Grain) (image : List ℕ) (from : ℕ) → length (filled_units w.unit image) ≤ from →
+-- An image has no steps behind its last byte.
+pub image_steps_end_with_image : (w : Grain) (image : List ℕ) (from : ℕ) → length (filled_units w.unit image) ≤ from →
     image_steps w image from ≡ []
-no_image_steps_behind_end w image from le =
+image_steps_end_with_image w image from le =
     let units = filled_units w.unit image in
     let none : drop from units ≡ [] = drop_all from units le in
     (λ i. piece_steps w.sector (length (none i)) (2 * gate_room w + from) (none i))
-    ∙ no_bytes_no_piece_steps w.sector 0 (2 * gate_room w + from)
+    ∙ empty_list_has_no_piece_steps w.sector 0 (2 * gate_room w + from)
 
--- The steps of a format have the writes of the format.
-
+-- The steps of a list of bytes have the writes of those bytes.
 piece_steps_are_writes : (sector n at : ℕ) (bytes : List ℕ) → step_writes (piece_steps sector n at bytes) ≡ piece_writes sector n at bytes
 piece_steps_are_writes sector zero at bytes = refl
 piece_steps_are_writes sector (suc n) at [] = refl
 piece_steps_are_writes sector (suc n) at (x ∷ xs) =
     step_writes_append (write_anew_steps sector at (take 4096 (x ∷ xs))) (piece_steps sector n (at + 4096) (drop 4096 (x ∷ xs)))
-    ∙ (λ i. write_anew_step_writes sector at (take 4096 (x ∷ xs)) i ++ piece_steps_are_writes sector n (at + 4096) (drop 4096 (x ∷ xs)) i)
+    ∙ (λ i. anew_steps_are_writes sector at (take 4096 (x ∷ xs)) i ++ piece_steps_are_writes sector n (at + 4096) (drop 4096 (x ∷ xs)) i)
 
 image_steps_are_writes : (w : Grain) (image : List ℕ) → step_writes (image_steps w image 0) ≡ image_writes w image
 image_steps_are_writes w image =
@@ -88,6 +87,7 @@ image_steps_are_writes w image =
     piece_steps_are_writes w.sector (length units) (2 * gate_room w + 0) units
     ∙ ap (λ (at : ℕ). piece_writes w.sector (length units) at units) place
 
+-- The steps of a format have the writes of the format.
 pub format_steps_are_writes : (m : MediumState) (image : List ℕ) → step_writes (format_steps m image) ≡ format_series m image
 format_steps_are_writes m image =
     let w = m.grain in
@@ -96,7 +96,7 @@ format_steps_are_writes m image =
     (step_writes_append (image_steps w image 0) (open_steps w 0 0 (length image) (register image))
     ∙ (λ i. image_steps_are_writes w image i ++ open_steps_are_writes w 0 0 (length image) (register image) i))
 
--- The steps from one part on are its own, and then those from the part that follows it.
+-- The steps of a format from one part on are the steps of the part, followed by the steps from the next part on.
 abbrev pub IsPartFollowedBy : Grain → ℕ → List ℕ → ℕ → FormatStep → FormatStep → Type 0
 IsPartFollowedBy w size image crc this next =
     format_steps_from w size image crc this ≡ part_steps w size image crc this ++ format_steps_from w size image crc next
@@ -105,24 +105,24 @@ module _ (w : Grain) (size : ℕ) (image : List ℕ) (crc : ℕ) where
   abbrev steps_after_image : List Step
   steps_after_image = open_steps w 0 0 (length image) crc
 
-  -- After the last piece of an image comes the header.
-  pub header_follows_last_piece : (from : ℕ) → length (filled_units w.unit image) ≤ from + 4096
+  -- The header follows the last piece of an image.
+  pub header_follows_last_image_piece : (from : ℕ) → length (filled_units w.unit image) ≤ from + 4096
       → IsPartFollowedBy w size image crc (format_step.Image from) format_step.Header
-  header_follows_last_piece from le =
+  header_follows_last_image_piece from le =
       let first = write_some_steps w.sector (2 * gate_room w + from) (take 4096 (drop from (filled_units w.unit image))) in
       ap (λ (ss : List Step). ss ++ steps_after_image)
-      (image_piece_steps_and_rest w image from ∙ ap (λ (ss : List Step). first ++ ss) (no_image_steps_behind_end w image (from + 4096) le)
+      (image_steps_split_at_piece w image from ∙ ap (λ (ss : List Step). first ++ ss) (image_steps_end_with_image w image (from + 4096) le)
       ∙ append-nil first)
 
-  -- After another piece of an image comes the next piece.
+  -- The next piece of an image follows a piece that is not the last.
   pub image_next : (from : ℕ) → IsPartFollowedBy w size image crc (format_step.Image from) (format_step.Image (from + 4096))
   image_next from =
       let first = write_some_steps w.sector (2 * gate_room w + from) (take 4096 (drop from (filled_units w.unit image))) in
-      ap (λ (ss : List Step). ss ++ steps_after_image) (image_piece_steps_and_rest w image from)
+      ap (λ (ss : List Step). ss ++ steps_after_image) (image_steps_split_at_piece w image from)
       ∙ append_assoc first (image_steps w image (from + 4096)) steps_after_image
 
-  -- After the gates comes the header, if the image is empty.
+  -- The header follows the closed gates if the image is empty.
   pub header_follows_empty_image : length (filled_units w.unit image) ≡ 0 →
       IsPartFollowedBy w size image crc format_step.CloseFirst format_step.Header
   header_follows_empty_image none = ap (λ (ss : List Step). close_step w 0 ∷ ss
-      ++ steps_after_image) (no_image_steps_behind_end w image 0 (omega (arith, none)))
+      ++ steps_after_image) (image_steps_end_with_image w image 0 (omega (arith, none)))

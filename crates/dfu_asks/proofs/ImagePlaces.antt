@@ -8,16 +8,16 @@ use Rattle.dfu_slots.specs.Units.{Grain}
 use Rattle.dfu_slots.specs.Layout.{Slot, slot_size, header_length, HasHeader}
 use Rattle.dfu_slots.specs.Image.{Active, HasImage, active_at, gate_of, slot_of, capacity_of}
 use Rattle.dfu_slots.proofs.Stands.{HasTwoSlots, sized_medium_has_two_slots, active_image_at_its_place}
-use Rattle.dfu_slots.proofs.Newest.{places_of_active_image, active_place_ends_within}
+use Rattle.dfu_slots.proofs.Newest.{test_finds_active_image, active_place_ends_within}
 use Rattle.dfu_slots.proofs.Parts.{data_length}
 use Rattle.dfu_slots.proofs.ReadBack.{range_by_its_length}
 use Rattle.dfu_asks.specs.Mapped.{mapped_medium}
 use Rattle.dfu_asks.specs.declared.image.ImagePlace.{ImagePlace}
 use Rattle.dfu_asks.specs.ActiveImage.{ImageIsAt}
 
--- A well-formed header says the length of its image.
-formed_header_length : (s : Slot) (len : ℕ) → HasHeader s len → len < 2 ^ 32 → header_length s ≡ len
-formed_header_length s len has fits = ⊎_elim
+-- The length in a well-formed header is the length of its image.
+header_length_is_image_length : (s : Slot) (len : ℕ) → HasHeader s len → len < 2 ^ 32 → header_length s ≡ len
+header_length_is_image_length s len has fits = ⊎_elim
     (λ e. ap (λ (h : List ℕ). from_le_bytes w32 (take 4 (drop 4 h))) e ∙ from_le_bytes-to_le_bytes_4 len fits)
     (λ e. ap (λ (h : List ℕ). from_le_bytes w32 (take 4 (drop 4 h))) e ∙ from_le_bytes-to_le_bytes_4 len fits)
     has.well_formed
@@ -36,15 +36,19 @@ module _ (grain : Grain) (flash : List ℕ) (p : ℕ) (has : HasImage (mapped_me
   abbrev a : Active m image
   a = has.active
 
+  -- The flash has two slots.
   sized : HasTwoSlots g flash
   sized = sized_medium_has_two_slots m a.sized
 
+  -- The active slot begins at p.
   place : a.at ≡ p
-  place = (places_of_active_image g flash a.at a.spare image (active_image_at_its_place a)).0 ∙ sym here
+  place = (test_finds_active_image g flash a.at a.spare image (active_image_at_its_place a)).0 ∙ sym here
 
+  -- The header of the active slot is well formed, with the length of the image.
   head : HasHeader (slot_of m p) (length image)
   head = subst (λ (q : ℕ). HasHeader (slot_of m q) (length image)) place a.header_is
 
+  -- The data of the active slot is as long as the room for an image.
   room : length (slot_of m p).data_bytes ≡ capacity_of m
   room = data_length g flash p (omega (arith, here, active_place_ends_within g flash sized)) (omega (arith, sized.room))
 
@@ -61,7 +65,7 @@ module _ (grain : Grain) (flash : List ℕ) (p : ℕ) (has : HasImage (mapped_me
       ImageIsAt grain flash place
   image_lies_at_place at at_is length_is =
       let from = p + 2 * g in
-      let len : at.len ≡ length image = length_is ∙ formed_header_length (slot_of m p) (length image) head (omega (
+      let len : at.len ≡ length image = length_is ∙ header_length_is_image_length (slot_of m p) (length image) head (omega (
         arith,
         fits,
         sized.bound,

@@ -4,7 +4,7 @@ mod Noting
 pub mod Unseen
 pub mod Room
 mod Carrying
-mod Came
+mod StoreCallResults
 mod Rows
 pub mod Pieces
 mod Empty

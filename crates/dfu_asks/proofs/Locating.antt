@@ -1,21 +1,21 @@
--- Erases of a range, counted up sector by sector.
+-- Search among the erases of a range, sector by sector.
 use Rattle.std.proofs.Common.{◌≡◌, ◌≢◌, inl, inr, ◌==◌, Bool, true, false, if◌then◌else◌, ℕ, ◌+◌, ◌-◌, ◌%◌, ◌≤◌, ◌<◌, List, [], ◌∷◌, ◌++◌, length, take, drop, replicate, refl, sym, ◌∙◌, ap, subst, arith}
 use Rattle.std.proofs.lemmas.Bool.{cases_eq, cond-true, cond-false, ne_eqb, eq-eqb}
 use Rattle.std.proofs.lemmas.List.{append_assoc, append-nil, length-replicate, take-replicate, drop-replicate}
 use Rattle.std.proofs.Math.Nat.{mod-lt, mod-add-mod, mod_self}
 use Rattle.dfu_slots.specs.Medium.{Write}
 use Rattle.dfu_slots.specs.Writes.{erase_write, sector_erases}
-use Rattle.dfu_slots.proofs.ErasedTo.{no_erase_to_sector_end, first_sector_erase}
+use Rattle.dfu_slots.proofs.ErasedTo.{no_erase_to_sector_end, first_sector_is_erased_first}
 use Rattle.dfu_slots.proofs.Sectors.{edge_sum_is_edge}
 use Rattle.dfu_asks.specs.declared.sector.Position.{Position}
 use Rattle.dfu_asks.specs.declared.sector.Position.TheVariants as position
 use Rattle.dfu_asks.specs.Steps.{Step, step_writes, steps_of_writes, erase_step, program_step, write_anew_steps, write_some_steps}
 use Rattle.dfu_asks.specs.Carried.{total, IsPieceOfStep, IsStepPiece}
-use Rattle.dfu_asks.specs.Position.{LeadsToErase, LeadsToPosition, LeadsIntoPlainWrite}
-use Rattle.dfu_asks.proofs.Steps.{erases_before_write, step_writes_append, step_writes_of_marked, marked_steps_append}
-use Rattle.dfu_asks.proofs.Pieces.{total_of_two_lists, piece_of_first_steps, piece_of_later_steps}
+use Rattle.dfu_asks.specs.Position.{IsPositionInErases, IsPositionInWrite, IsPositionInPlainWrite}
+use Rattle.dfu_asks.proofs.Steps.{erases_before_write, step_writes_append, marking_keeps_writes, marking_joins_over_lists}
+use Rattle.dfu_asks.proofs.Pieces.{list_totals_add_up, first_piece_is_in_joined, later_piece_is_in_joined}
 
--- The sectors that begin before `place` are passed, a sector begins at `place`, and `rest` bytes of those carried out are left.
+-- A search has passed all sectors of the range that begin before `place`, and `rest` of the carried-out bytes lie behind them.
 pub record SectorsPassed (sector at n done place rest : ℕ) : Type 0 where
   pub front : List Write
   pub pieces : sector_erases sector at n ≡ front ++ sector_erases sector place (at + n - place)
@@ -25,9 +25,9 @@ pub record SectorsPassed (sector at n done place rest : ℕ) : Type 0 where
   pub high : place ≤ at + n + sector
 
 module _ (sector at n done : ℕ) (large : 1 < sector) where
-  -- No sector is passed yet, and the first one begins at the place itself.
-  passed_to_edge_here : at % sector ≡ 0 → SectorsPassed sector at n done at done
-  passed_to_edge_here begins =
+  -- A search begins at the place itself, with no sector passed, if a sector begins there.
+  search_begins_at_edge : at % sector ≡ 0 → SectorsPassed sector at n done at done
+  search_begins_at_edge begins =
       let all : n ≡ at + n - at = omega arith in
       record {
         front = [];
@@ -38,9 +38,9 @@ module _ (sector at n done : ℕ) (large : 1 < sector) where
         high = omega arith;
       }
 
-  -- No sector is passed yet, and the first one begins where the sector that the place lies in ends.
-  passed_to_next_edge : at % sector ≢ 0 → SectorsPassed sector at n done (at + (sector - at % sector)) done
-  passed_to_next_edge inner =
+  -- A search begins at the next sector, with no sector passed, if the place lies within a sector.
+  search_begins_at_next_sector : at % sector ≢ 0 → SectorsPassed sector at n done (at + (sector - at % sector)) done
+  search_begins_at_next_sector inner =
       let d = sector - at % sector in
       let less : at % sector < sector = mod-lt at (omega (arith, large)) in
       let is : at % sector + d ≡ sector = omega (arith, less) in
@@ -57,33 +57,33 @@ module _ (sector at n done : ℕ) (large : 1 < sector) where
         high = omega (arith, is);
       }
 
-  -- No sector is passed yet, by the two cases that the code tells apart.
-  pub passed_to_first_sector : (size behind : ℕ) → size ≡ sector → behind ≡ at % sector → (place : ℕ)
+  -- A search begins with no sector passed, in both cases that the code distinguishes.
+  pub search_begins_at_first_sector : (size behind : ℕ) → size ≡ sector → behind ≡ at % sector → (place : ℕ)
       → (behind ≡ 0 → place ≡ at → SectorsPassed sector at n done place done)
       × (behind ≢ 0 → place ≡ at + (size - behind) → SectorsPassed sector at n done place done)
-  passed_to_first_sector size behind is far place = (
-    λ begins there. subst (λ (p : ℕ). SectorsPassed sector at n done p done) (sym there) (passed_to_edge_here (sym far ∙ begins)),
+  search_begins_at_first_sector size behind is far place = (
+    λ begins there. subst (λ (p : ℕ). SectorsPassed sector at n done p done) (sym there) (search_begins_at_edge (sym far ∙ begins)),
     λ inner there. subst (λ (p : ℕ). SectorsPassed sector at n done p done) (sym (there ∙ (λ i. at + (is i - far i))))
-        (passed_to_next_edge (λ e. inner (far ∙ e))),
+        (search_begins_at_next_sector (λ e. inner (far ∙ e))),
   )
 
   module _ (place rest : ℕ) (to : SectorsPassed sector at n done place rest) where
     module _ (more : place < at + n) where
       next_passed_sector : sector_erases sector place (at + n - place) ≡ erase_write sector place ∷ sector_erases sector (place + sector)
           (at + n - place - sector)
-      next_passed_sector = first_sector_erase sector place (at + n - place) large to.edge (omega (arith, more))
+      next_passed_sector = first_sector_is_erased_first sector place (at + n - place) large to.edge (omega (arith, more))
 
       erases_split_at_place : sector_erases sector at n ≡ to.front ++ erase_write sector place ∷ sector_erases sector (place + sector)
           (at + n - place - sector)
       erases_split_at_place = to.pieces ∙ ap (λ (ws : List Write). to.front ++ ws) next_passed_sector
 
-      -- If a sector more is carried out, one more is passed.
+      -- A search passes one more sector if all bytes of that sector are carried out.
       pub passed_one_sector_more : sector ≤ rest → SectorsPassed sector at n done (place + sector) (rest - sector)
       passed_one_sector_more le =
           let first : List Write = erase_write sector place ∷ [] in
           let left : at + n - place - sector ≡ at + n - (place + sector) = omega arith in
           let size : total (to.front ++ first) ≡ total to.front + sector =
-          omega (arith, total_of_two_lists to.front first, length-replicate {A = ℕ} sector 255) in
+          omega (arith, list_totals_add_up to.front first, length-replicate {A = ℕ} sector 255) in
           record {
             front = to.front ++ first;
             pieces = erases_split_at_place
@@ -95,7 +95,7 @@ module _ (sector at n done : ℕ) (large : 1 < sector) where
             high = omega (arith, more);
           }
 
-      -- Within a sector the rest of it comes next.
+      -- The next piece within a sector erases the rest of the sector.
       part : rest < sector
           → IsPieceOfStep (record { erases = true; write = erase_write sector place }) rest (erase_step (place + rest) (sector - rest))
       part lt =
@@ -120,22 +120,21 @@ module _ (sector at n done : ℕ) (large : 1 < sector) where
           let is : steps_of_writes true (sector_erases sector at n) ≡ steps_of_writes true to.front ++ steps_of_writes true
           (erase_write sector place ∷ tail) =
           ap (λ (ws : List Write). steps_of_writes true ws) erases_split_at_place
-          ∙ marked_steps_append true to.front (erase_write sector place ∷ tail) in
+          ∙ marking_joins_over_lists true to.front (erase_write sector place ∷ tail) in
           subst (λ (ss : List Step). IsStepPiece ss done (erase_step (place + rest) (sector - rest))) (sym is)
-          (piece_of_later_steps (steps_of_writes true to.front) (steps_of_writes true (erase_write sector place ∷ tail)) done rest
-          (erase_step (place + rest) (sector - rest)) (omega (arith, ap total (step_writes_of_marked true to.front), to.count)) (inl (part
+          (later_piece_is_in_joined (steps_of_writes true to.front) (steps_of_writes true (erase_write sector place ∷ tail)) done rest
+          (erase_step (place + rest) (sector - rest)) (omega (arith, ap total (marking_keeps_writes true to.front), to.count)) (inl (part
           lt)))
 
-    -- Behind the range all erases are passed.
-    pub passed_all_sectors : at + n ≤ place → (total (sector_erases sector at n) + rest ≡ done) × (done ≤ rest + n + sector)
-    passed_all_sectors past =
+    -- A search whose place is behind the range has passed all erases.
+    pub search_passed_all_erases : at + n ≤ place → (total (sector_erases sector at n) + rest ≡ done) × (done ≤ rest + n + sector)
+    search_passed_all_erases past =
         let none : at + n - place ≡ 0 = omega (arith, past) in
         let all : sector_erases sector at n ≡ to.front =
         to.pieces ∙ ap (λ (k : ℕ). to.front ++ sector_erases sector place k) none ∙ append-nil to.front in
         (omega (arith, ap total all, to.count), omega (arith, to.count, to.span, to.high))
 
--- The write itself, after its erases.
-
+-- The steps of `write_some` for bytes that are not empty are those of `erasing_write`.
 some_bytes_written_anew : (sector at : ℕ) (bytes : List ℕ) → length bytes ≢ 0 → write_some_steps sector at bytes
     ≡ write_anew_steps sector at bytes
 some_bytes_written_anew sector at bytes some = cond-false (length bytes == 0) [] (write_anew_steps sector at bytes) (ne_eqb (length bytes)
@@ -144,10 +143,10 @@ some_bytes_written_anew sector at bytes some = cond-false (length bytes == 0) []
 no_bytes_no_steps : (sector at : ℕ) (bytes : List ℕ) → length bytes ≡ 0 → write_some_steps sector at bytes ≡ []
 no_bytes_no_steps sector at bytes none = cond-true (length bytes == 0) [] (write_anew_steps sector at bytes) (eq-eqb (length bytes) 0 none)
 
--- A write of one byte or more has the erases before it.
-pub some_steps_are_anew : (sector at : ℕ) (bytes : List ℕ) → 0 < length bytes → write_some_steps sector at bytes
+-- The steps of `write_some` for at least one byte are those of `erasing_write`.
+pub write_some_steps_are_anew : (sector at : ℕ) (bytes : List ℕ) → 0 < length bytes → write_some_steps sector at bytes
     ≡ write_anew_steps sector at bytes
-some_steps_are_anew sector at bytes some = some_bytes_written_anew sector at bytes (λ e. omega (arith, some, e))
+write_some_steps_are_anew sector at bytes some = some_bytes_written_anew sector at bytes (λ e. omega (arith, some, e))
 
 empty_range_erases_nothing : (sector at : ℕ) → total (if sector == 0 then [] else sector_erases sector at 0) ≡ 0
 empty_range_erases_nothing sector at = by_test (sector == 0)
@@ -162,25 +161,25 @@ module _ (sector at n done rest : ℕ) (count : total (if sector == 0 then [] el
       total (step_writes (steps_of_writes true (erases_before_write sector at bytes))) + rest ≡ done
   erases_and_rest_are_done bytes size = omega (
     arith,
-    ap total (step_writes_of_marked true (erases_before_write sector at bytes)),
+    ap total (marking_keeps_writes true (erases_before_write sector at bytes)),
     ap (λ (k : ℕ). total (if sector == 0 then [] else sector_erases sector at k)) size,
     count,
   )
 
-  -- The bytes that are left after the erases lead into the write, or past it.
-  pub rest_leads_into_write : (r : Position) → LeadsIntoPlainWrite n rest r → LeadsToPosition sector at n done r
-  rest_leads_into_write (position.Erase place len) none = absurd none
-  rest_leads_into_write (position.Program from) (same, lt) = (
+  -- A position in the plain write, after the erases, is the position in the whole write.
+  pub plain_position_is_in_write : (r : Position) → IsPositionInPlainWrite n rest r → IsPositionInWrite sector at n done r
+  plain_position_is_in_write (position.Erase place len) none = absurd none
+  plain_position_is_in_write (position.Program from) (same, lt) = (
     λ bytes p size part.
         let some : length bytes ≢ 0 = λ e. omega (arith, size, lt, e) in
         subst (λ (ss : List Step). IsStepPiece ss done p) (sym (some_bytes_written_anew sector at bytes some))
-        (piece_of_later_steps (steps_of_writes true (erases_before_write sector at bytes)) (program_step at bytes ∷ []) done rest p
+        (later_piece_is_in_joined (steps_of_writes true (erases_before_write sector at bytes)) (program_step at bytes ∷ []) done rest p
         (erases_and_rest_are_done bytes size)
         (inl (subst (λ (k : ℕ). IsPieceOfStep (program_step at bytes) k p) same part))),
     lt,
     omega (arith, low, same),
   )
-  rest_leads_into_write (position.Behind left) sum = (
+  plain_position_is_in_write (position.Behind left) sum = (
     λ bytes size. elim (cases_eq (length bytes) 0) [
       | inl none ↦
           let erased_none : total (if sector == 0 then [] else sector_erases sector at n) ≡ 0 =
@@ -200,7 +199,7 @@ module _ (sector at n done rest : ℕ) (count : total (if sector == 0 then [] el
             arith,
             ap (λ (ss : List Step). total (step_writes ss)) (some_bytes_written_anew sector at bytes some),
             ap total (step_writes_append (steps_of_writes true (erases_before_write sector at bytes)) (program_step at bytes ∷ [])),
-            total_of_two_lists (step_writes (steps_of_writes true (erases_before_write sector at bytes))) (record {
+            list_totals_add_up (step_writes (steps_of_writes true (erases_before_write sector at bytes))) (record {
               at = at;
               bytes = bytes;
             } ∷ []),
@@ -212,10 +211,10 @@ module _ (sector at n done rest : ℕ) (count : total (if sector == 0 then [] el
     omega (arith, low, sum),
   )
 
--- An erase that was found among the erases of a range is an erase of the write.
-pub found_erase_leads : (sector at n done place len : ℕ) → 0 < sector → LeadsToErase sector at n done (position.Erase place len)
-    → LeadsToPosition sector at n done (position.Erase place len)
-found_erase_leads sector at n done place len some (piece, least, end, small, most) = (
+-- A position in an erase of a range is the position in the write with its erases.
+pub erase_is_in_write : (sector at n done place len : ℕ) → 0 < sector
+    → IsPositionInErases sector at n done (position.Erase place len) → IsPositionInWrite sector at n done (position.Erase place len)
+erase_is_in_write sector at n done place len some (piece, least, end, small, most) = (
   λ bytes size. elim (cases_eq n 0) [
     | inl none ↦ absurd (subst (λ (k : ℕ). IsStepPiece (steps_of_writes true (sector_erases sector at k)) done (erase_step place len)) none
         piece)
@@ -225,7 +224,7 @@ found_erase_leads sector at n done place len some (piece, least, end, small, mos
         ∙ ap (λ (k : ℕ). sector_erases sector at k) size in
         subst (λ (ss : List Step). IsStepPiece ss done (erase_step place len)) (sym (some_bytes_written_anew sector at bytes (λ e. more
         (sym size ∙ e))))
-        (piece_of_first_steps (steps_of_writes true (erases_before_write sector at bytes)) (program_step at bytes ∷ []) done (erase_step
+        (first_piece_is_in_joined (steps_of_writes true (erases_before_write sector at bytes)) (program_step at bytes ∷ []) done (erase_step
         place len)
         (subst (λ (ws : List Write). IsStepPiece (steps_of_writes true ws) done (erase_step place len)) (sym is) piece))
   ],
@@ -235,16 +234,16 @@ found_erase_leads sector at n done place len some (piece, least, end, small, mos
   most,
 )
 
--- A position that was found among the erases is one of the write, unless they are all passed.
-pub found_position_leads : (sector at n done : ℕ) (r : Position) → 0 < sector → LeadsToErase sector at n done r
-    → ((rest : ℕ) → r ≡ position.Behind rest → ⊥) → LeadsToPosition sector at n done r
-found_position_leads sector at n done (position.Erase place len) some leads other = found_erase_leads sector at n done place len some leads
-found_position_leads sector at n done (position.Program from) some leads other = absurd leads
-found_position_leads sector at n done (position.Behind rest) some leads other = absurd (other rest refl)
+-- A position among the erases of a range is the position in the write with its erases, unless all erases are passed.
+pub position_is_in_write : (sector at n done : ℕ) (r : Position) → 0 < sector → IsPositionInErases sector at n done r
+    → ((rest : ℕ) → r ≡ position.Behind rest → ⊥) → IsPositionInWrite sector at n done r
+position_is_in_write sector at n done (position.Erase place len) some leads other = erase_is_in_write sector at n done place len some leads
+position_is_in_write sector at n done (position.Program from) some leads other = absurd leads
+position_is_in_write sector at n done (position.Behind rest) some leads other = absurd (other rest refl)
 
--- Behind all erases of a range the write is left.
-pub rest_behind_all_erases : (sector at n done rest : ℕ) → 0 < sector → total (sector_erases sector at n) + rest ≡ done
+-- The bytes left behind all erases of a range are the bytes left behind the erases of a write.
+pub rest_behind_erases_is_same : (sector at n done rest : ℕ) → 0 < sector → total (sector_erases sector at n) + rest ≡ done
     → total (if sector == 0 then [] else sector_erases sector at n) + rest ≡ done
-rest_behind_all_erases sector at n done rest some count =
+rest_behind_erases_is_same sector at n done rest some count =
     subst (λ (ws : List Write). total ws + rest ≡ done)
     (sym (cond-false (sector == 0) [] (sector_erases sector at n) (ne_eqb sector 0 (λ e. omega (arith, some, e))))) count

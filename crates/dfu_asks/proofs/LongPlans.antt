@@ -1,4 +1,4 @@
--- Bodies that are longer than a block may be: they lead where an unknown request does.
+-- Plans for bodies longer than the transfer size: each leads to the stage to which an unknown request leads.
 use Rattle.std.proofs.Common.{◌≡◌, nat_lt, Bool, true, false, not, ℕ, List, [], ◌∷◌, length, refl, arith, if◌then◌else◌}
 use Rattle.std.proofs.lemmas.Bool.{leb-true}
 use Rattle.dfu_wire.specs.declared.codes.Code.TheVariants.{StalledPkt}
@@ -9,58 +9,58 @@ use Rattle.dfu_device.specs.Table.{Sure, plan, error_plan, block_plan}
 use Rattle.dfu_device.specs.Parts.{stage_of}
 use Rattle.dfu_asks.specs.AfterLong.{after_long}
 
--- Plan of an unknown request.
-pub plan_of_other_request : (c : Profile) (image : List ℕ) (m : DeviceState) (spare block : List ℕ)
+-- The plan of an unknown request is a stall that enters the mode `after_long`.
+pub other_request_plan_is_stall : (c : Profile) (image : List ℕ) (m : DeviceState) (spare block : List ℕ)
     → plan c image (stage_of m spare block) OtherRequest ≡ Sure Stall (stage_of (after_long m) spare block)
-plan_of_other_request c image device_state.AppIdle spare block = refl
-plan_of_other_request c image (device_state.AppDetach timer passed) spare block = refl
-plan_of_other_request c image device_state.DfuIdle spare block = refl
-plan_of_other_request c image (device_state.DownloadSync written number) spare block = refl
-plan_of_other_request c image (device_state.DownloadSyncWritten written number) spare block = refl
-plan_of_other_request c image (device_state.DownloadBusy written number passed) spare block = refl
-plan_of_other_request c image (device_state.DownloadIdle written number) spare block = refl
-plan_of_other_request c image (device_state.ManifestSync written) spare block = refl
-plan_of_other_request c image device_state.ManifestSyncComplete spare block = refl
-plan_of_other_request c image (device_state.Manifest written passed) spare block = refl
-plan_of_other_request c image device_state.ManifestWaitReset spare block = refl
-plan_of_other_request c image (device_state.UploadIdle place number) spare block = refl
-plan_of_other_request c image (device_state.Error code) spare block = refl
+other_request_plan_is_stall c image device_state.AppIdle spare block = refl
+other_request_plan_is_stall c image (device_state.AppDetach timer passed) spare block = refl
+other_request_plan_is_stall c image device_state.DfuIdle spare block = refl
+other_request_plan_is_stall c image (device_state.DownloadSync written number) spare block = refl
+other_request_plan_is_stall c image (device_state.DownloadSyncWritten written number) spare block = refl
+other_request_plan_is_stall c image (device_state.DownloadBusy written number passed) spare block = refl
+other_request_plan_is_stall c image (device_state.DownloadIdle written number) spare block = refl
+other_request_plan_is_stall c image (device_state.ManifestSync written) spare block = refl
+other_request_plan_is_stall c image device_state.ManifestSyncComplete spare block = refl
+other_request_plan_is_stall c image (device_state.Manifest written passed) spare block = refl
+other_request_plan_is_stall c image device_state.ManifestWaitReset spare block = refl
+other_request_plan_is_stall c image (device_state.UploadIdle place number) spare block = refl
+other_request_plan_is_stall c image (device_state.Error code) spare block = refl
 
--- A block of a body that is too long is refused with errSTALLEDPKT.
+-- The plan of a block that is too long is a stall that enters dfuERROR with errSTALLEDPKT.
 long_block_is_stalled : (c : Profile) (before : List ℕ) (expected number : ℕ) (body : List ℕ) → nat_lt c.transfer (length body) ≡ true
     → block_plan c before expected number body ≡ error_plan StalledPkt
 long_block_is_stalled c before expected number body long = rw long refl
 
--- No bytes are not too long.
+-- Zero bytes are not too long.
 no_bytes_are_not_long : (n : ℕ) → nat_lt n 0 ≡ true → ⊥
 no_bytes_are_not_long n long = omega (arith, leb-true _ 0 long)
 
--- Plan of a DNLOAD of a body that is too long.
-pub plan_of_long_dnload : (c : Profile) (image : List ℕ) (m : DeviceState) (spare block : List ℕ) (number : ℕ) (body : List ℕ)
+-- The plan of a DNLOAD with a body that is too long is a stall that enters the mode `after_long`.
+pub long_dnload_stalls : (c : Profile) (image : List ℕ) (m : DeviceState) (spare block : List ℕ) (number : ℕ) (body : List ℕ)
     → nat_lt c.transfer (length body) ≡ true
     → plan c image (stage_of m spare block) (Dnload number body) ≡ Sure Stall (stage_of (after_long m) spare block)
-plan_of_long_dnload c image device_state.AppIdle spare block number body long = refl
-plan_of_long_dnload c image (device_state.AppDetach timer passed) spare block number body long = refl
-plan_of_long_dnload c image device_state.DfuIdle spare block number [] long = rest c.can_download
+long_dnload_stalls c image device_state.AppIdle spare block number body long = refl
+long_dnload_stalls c image (device_state.AppDetach timer passed) spare block number body long = refl
+long_dnload_stalls c image device_state.DfuIdle spare block number [] long = rest c.can_download
   where
     rest : (b : Bool) → (if not b then error_plan StalledPkt else error_plan StalledPkt) ≡ error_plan StalledPkt
     rest true = refl
     rest false = refl
-plan_of_long_dnload c image device_state.DfuIdle spare block number (x ∷ xs) long = rest c.can_download
+long_dnload_stalls c image device_state.DfuIdle spare block number (x ∷ xs) long = rest c.can_download
   where
     rest : (b : Bool) → (if not b then error_plan StalledPkt else block_plan c [] 0 number (x ∷ xs)) ≡ error_plan StalledPkt
     rest true = long_block_is_stalled c [] 0 number (x ∷ xs) long
     rest false = refl
-plan_of_long_dnload c image (device_state.DownloadSync written due) spare block number body long = refl
-plan_of_long_dnload c image (device_state.DownloadSyncWritten written due) spare block number body long = refl
-plan_of_long_dnload c image (device_state.DownloadBusy written due passed) spare block number body long = refl
-plan_of_long_dnload c image (device_state.DownloadIdle written due) spare block number [] long = absurd (no_bytes_are_not_long c.transfer
+long_dnload_stalls c image (device_state.DownloadSync written due) spare block number body long = refl
+long_dnload_stalls c image (device_state.DownloadSyncWritten written due) spare block number body long = refl
+long_dnload_stalls c image (device_state.DownloadBusy written due passed) spare block number body long = refl
+long_dnload_stalls c image (device_state.DownloadIdle written due) spare block number [] long = absurd (no_bytes_are_not_long c.transfer
     long)
-plan_of_long_dnload c image (device_state.DownloadIdle written due) spare block number (x ∷ xs) long = long_block_is_stalled c _ due number
+long_dnload_stalls c image (device_state.DownloadIdle written due) spare block number (x ∷ xs) long = long_block_is_stalled c _ due number
     (x ∷ xs) long
-plan_of_long_dnload c image (device_state.ManifestSync written) spare block number body long = refl
-plan_of_long_dnload c image device_state.ManifestSyncComplete spare block number body long = refl
-plan_of_long_dnload c image (device_state.Manifest written passed) spare block number body long = refl
-plan_of_long_dnload c image device_state.ManifestWaitReset spare block number body long = refl
-plan_of_long_dnload c image (device_state.UploadIdle place due) spare block number body long = refl
-plan_of_long_dnload c image (device_state.Error code) spare block number body long = refl
+long_dnload_stalls c image (device_state.ManifestSync written) spare block number body long = refl
+long_dnload_stalls c image device_state.ManifestSyncComplete spare block number body long = refl
+long_dnload_stalls c image (device_state.Manifest written passed) spare block number body long = refl
+long_dnload_stalls c image device_state.ManifestWaitReset spare block number body long = refl
+long_dnload_stalls c image (device_state.UploadIdle place due) spare block number body long = refl
+long_dnload_stalls c image (device_state.Error code) spare block number body long = refl

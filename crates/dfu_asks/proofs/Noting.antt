@@ -1,4 +1,4 @@
--- Notes of the active image, and what follows from them.
+-- Notes of the active image, and the places that follow from them.
 use Rattle.std.proofs.Common.{◌≡◌, inl, inr, ⊎_elim, ◌==◌, not, Bool, true, false, if◌then◌else◌, ℕ, List, refl, sym, ◌∙◌, ap, arith}
 use Rattle.std.proofs.lemmas.Bool.{cases_eq, ne_eqb}
 use Rattle.dfu_slots.specs.Medium.{MediumState}
@@ -9,7 +9,7 @@ use Rattle.dfu_slots.proofs.Newest.{tested_places_are_slots}
 use Rattle.dfu_asks.specs.declared.noted.Noted.{Noted}
 use Rattle.dfu_asks.specs.Noted.{other_slot_place, IsNoteOfMedium}
 
--- The noted slot begins at 0 if the active one does, and else in the middle of the flash.
+-- The noted slot is the active one: it begins at 0 if the active slot does, else in the middle of the flash.
 pub noted_slot_is_active : (g : ℕ) (bytes : List ℕ) (at : ℕ) → at ≡ active_at g bytes
     → (if not (at == 0) then slot_size bytes else 0) ≡ active_at g bytes
 noted_slot_is_active g bytes at is = elim (cases_eq at 0) [
@@ -21,7 +21,7 @@ noted_slot_is_active g bytes at is = elim (cases_eq at 0) [
 ]
 
 module _ (n : Noted) (m : MediumState) (noted : IsNoteOfMedium n m) where
-  -- The slot beside the noted one is the spare.
+  -- The slot that is not noted is the spare slot.
   pub slot_beside_noted_is_spare : other_slot_place n m.bytes ≡ spare_at (gate_of m) m.bytes
   slot_beside_noted_is_spare = by_slot n.second noted.place (tested_places_are_slots (gate_of m) m.bytes)
     where
@@ -33,15 +33,15 @@ module _ (n : Noted) (m : MediumState) (noted : IsNoteOfMedium n m) where
       by_slot false is (inl p) = sym p.1
       by_slot false is (inr p) = omega (arith, is, p.0, p.1)
 
--- A store was begun if the spare's gate is not open.
-pub begun_by_closed_gate : (s : SlotsState) → not ((spare_slot s).gate == OPEN) ≡ is_begun s
+-- A store was begun exactly if the gate of the spare slot is not open.
+pub begun_exactly_if_gate_closed : (s : SlotsState) → not ((spare_slot s).gate == OPEN) ≡ is_begun s
 unfolding is_begun
-begun_by_closed_gate s = refl
+begun_exactly_if_gate_closed s = refl
 
--- The spare's gate is open if the store was not begun.
-pub open_gate_by_not_begun : (s : SlotsState) → ((spare_slot s).gate == OPEN) ≡ not (is_begun s)
+-- The gate of the spare slot is open exactly if the store was not begun.
+pub gate_open_exactly_if_not_begun : (s : SlotsState) → ((spare_slot s).gate == OPEN) ≡ not (is_begun s)
 unfolding is_begun
-open_gate_by_not_begun s = not_not ((spare_slot s).gate == OPEN)
+gate_open_exactly_if_not_begun s = not_not ((spare_slot s).gate == OPEN)
   where
     not_not : (b : Bool) → b ≡ not (not b)
     not_not true = refl

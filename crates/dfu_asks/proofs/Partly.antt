@@ -1,4 +1,4 @@
--- Series whose first bytes are carried out.
+-- Series of writes of which the first bytes are carried out.
 use Rattle.std.proofs.Common.{◌≡◌, inl, inr, ℕ, ◌+◌, ◌-◌, ◌≤◌, ◌<◌, List, [], ◌∷◌, ◌++◌, length, take, slice_index, refl, sym, ◌∙◌, ap, subst, arith}
 use Rattle.std.proofs.lemmas.List.{length-take}
 use Rattle.dfu_slots.specs.Medium.{Write, written}
@@ -9,7 +9,7 @@ use Rattle.dfu_asks.specs.Carried.{total, bytes_after_writes, WritesWithin, Ends
 use Rattle.dfu_asks.proofs.Carrying.{no_bytes_carried}
 use Rattle.dfu_asks.proofs.Bits.{IsPartOfWrites}
 
--- A byte before all writes of a series stays.
+-- A series of writes keeps each byte before its range.
 pub byte_before_series_stays : (ws : List Write) (m : List ℕ) (n i to : ℕ) → to ≤ length m → AllWritesInside (i + 1) to ws
     → slice_index (bytes_after_writes m ws n) i ≡ slice_index m i
 byte_before_series_stays [] m n i to room inside = refl
@@ -29,36 +29,36 @@ series_keeps_length (w ∷ ws) m n (high, inside) =
     let size = (whole_write_is_torn m w.at front (omega (arith, length-take n w.bytes, high))).size in
     series_keeps_length ws (written m w.at front) (n - length w.bytes) (subst (λ (k : ℕ). WritesWithin ws k) (sym size) inside) ∙ size
 
--- A last write leaves nothing while at most the bytes of the writes before it are carried out.
-pub last_write_not_begun : (ws : List Write) (v : Write) (m : List ℕ) (n : ℕ) → n ≤ total ws
+-- The last write of a series has no effect while at most the bytes of the writes before it are carried out.
+pub last_write_has_no_effect_yet : (ws : List Write) (v : Write) (m : List ℕ) (n : ℕ) → n ≤ total ws
     → bytes_after_writes m (ws ++ v ∷ []) n ≡ bytes_after_writes m ws n
-last_write_not_begun [] v m n le =
+last_write_has_no_effect_yet [] v m n le =
     let none : n ≡ 0 = omega (arith, le) in
     ap (λ (k : ℕ). bytes_after_writes m (v ∷ []) k) none ∙ no_bytes_carried (v ∷ []) m
-last_write_not_begun (w ∷ ws) v m n le =
-    last_write_not_begun ws v (written m w.at (take n w.bytes)) (n - length w.bytes) (omega (arith, le))
+last_write_has_no_effect_yet (w ∷ ws) v m n le =
+    last_write_has_no_effect_yet ws v (written m w.at (take n w.bytes)) (n - length w.bytes) (omega (arith, le))
 
--- Of two lists of writes the first is carried out, and then the second.
-pub carried_list_after_list : (xs ys : List Write) (m : List ℕ) (n : ℕ)
+-- Carrying out two lists of writes carries out the first, and then the second.
+pub lists_carried_one_after_other : (xs ys : List Write) (m : List ℕ) (n : ℕ)
     → bytes_after_writes m (xs ++ ys) n ≡ bytes_after_writes (bytes_after_writes m xs n) ys (n - total xs)
-carried_list_after_list [] ys m n = let e : n ≡ n - 0 = omega arith in ap (λ (k : ℕ). bytes_after_writes m ys k) e
-carried_list_after_list (x ∷ xs) ys m n =
+lists_carried_one_after_other [] ys m n = let e : n ≡ n - 0 = omega arith in ap (λ (k : ℕ). bytes_after_writes m ys k) e
+lists_carried_one_after_other (x ∷ xs) ys m n =
     let e : n - length x.bytes - total xs ≡ n - (length x.bytes + total xs) = omega arith in
     let mid = written m x.at (take n x.bytes) in
-    carried_list_after_list xs ys mid (n - length x.bytes)
+    lists_carried_one_after_other xs ys mid (n - length x.bytes)
     ∙ ap (λ (k : ℕ). bytes_after_writes (bytes_after_writes mid xs (n - length x.bytes)) ys k) e
 
 -- A last step of at most 256 bytes is carried out in one piece.
-pub last_step_in_one_piece : (ss : List Step) (v : Step) (n : ℕ) → length v.write.bytes ≤ 256 → EndsAtPiece (ss ++ v ∷ []) n
+pub last_step_is_one_piece : (ss : List Step) (v : Step) (n : ℕ) → length v.write.bytes ≤ 256 → EndsAtPiece (ss ++ v ∷ []) n
     → n < total (step_writes (ss ++ v ∷ [])) → n ≤ total (step_writes ss)
-last_step_in_one_piece [] v n few (inl part) left = omega (arith, part.0, part.1, few)
-last_step_in_one_piece [] v n few (inr (past, more)) left = absurd (omega (arith, past, left))
-last_step_in_one_piece (s ∷ ss) v n few (inl part) left = omega (arith, part.0)
-last_step_in_one_piece (s ∷ ss) v n few (inr (past, more)) left =
-    let rest = last_step_in_one_piece ss v (n - length s.write.bytes) few more (omega (arith, left, past)) in
+last_step_is_one_piece [] v n few (inl part) left = omega (arith, part.0, part.1, few)
+last_step_is_one_piece [] v n few (inr (past, more)) left = absurd (omega (arith, past, left))
+last_step_is_one_piece (s ∷ ss) v n few (inl part) left = omega (arith, part.0)
+last_step_is_one_piece (s ∷ ss) v n few (inr (past, more)) left =
+    let rest = last_step_is_one_piece ss v (n - length s.write.bytes) few more (omega (arith, left, past)) in
     omega (arith, rest, past)
 
--- A piece of writes in a range lies in the range.
+-- A piece of writes within a range lies within the range.
 pub piece_lies_in_range : (ws : List Write) (n : ℕ) (p : Write) (from to : ℕ) → AllWritesInside from to ws → IsPartOfWrites ws n p
     → (from ≤ p.at) × (p.at + length p.bytes ≤ to)
 piece_lies_in_range [] n p from to inside none = absurd none

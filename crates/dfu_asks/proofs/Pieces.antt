@@ -7,32 +7,32 @@ use Rattle.dfu_slots.specs.Medium.{Write}
 use Rattle.dfu_asks.specs.Steps.{Step, step_writes}
 use Rattle.dfu_asks.specs.Carried.{total, IsPieceOfStep, IsStepPiece, EndsAtPiece}
 
--- Two lists of writes have as many bytes as each of them, added up.
-pub total_of_two_lists : (xs ys : List Write) → total (xs ++ ys) ≡ total xs + total ys
-total_of_two_lists [] ys = omega arith
-total_of_two_lists (x ∷ xs) ys = omega (arith, total_of_two_lists xs ys)
+-- Two lists of writes have as many bytes together as the sum of both.
+pub list_totals_add_up : (xs ys : List Write) → total (xs ++ ys) ≡ total xs + total ys
+list_totals_add_up [] ys = omega arith
+list_totals_add_up (x ∷ xs) ys = omega (arith, list_totals_add_up xs ys)
 
--- A piece of the first of two lists of steps is a piece of both.
-pub piece_of_first_steps : (xs ys : List Step) (n : ℕ) (p : Step) → IsStepPiece xs n p → IsStepPiece (xs ++ ys) n p
-piece_of_first_steps [] ys n p none = absurd none
-piece_of_first_steps (x ∷ xs) ys n p (inl part) = inl part
-piece_of_first_steps (x ∷ xs) ys n p (inr (past, piece)) = inr (past, piece_of_first_steps xs ys (n - length x.write.bytes) p piece)
+-- A piece of the first of two lists of steps is a piece of the joined lists.
+pub first_piece_is_in_joined : (xs ys : List Step) (n : ℕ) (p : Step) → IsStepPiece xs n p → IsStepPiece (xs ++ ys) n p
+first_piece_is_in_joined [] ys n p none = absurd none
+first_piece_is_in_joined (x ∷ xs) ys n p (inl part) = inl part
+first_piece_is_in_joined (x ∷ xs) ys n p (inr (past, piece)) = inr (past, first_piece_is_in_joined xs ys (n - length x.write.bytes) p piece)
 
--- A piece of the second of two lists of steps is a piece of both, after all bytes of the first.
-pub piece_of_later_steps : (xs ys : List Step) (n k : ℕ) (p : Step) → total (step_writes xs) + k ≡ n → IsStepPiece ys k p
+-- A piece of the second of two lists of steps is a piece of the joined lists, after all bytes of the first.
+pub later_piece_is_in_joined : (xs ys : List Step) (n k : ℕ) (p : Step) → total (step_writes xs) + k ≡ n → IsStepPiece ys k p
     → IsStepPiece (xs ++ ys) n p
-piece_of_later_steps [] ys n k p count piece = let e : k ≡ n = omega (arith, count) in subst (λ (i : ℕ). IsStepPiece ys i p) e piece
-piece_of_later_steps (x ∷ xs) ys n k p count piece =
-    inr (omega (arith, count), piece_of_later_steps xs ys (n - length x.write.bytes) k p (omega (arith, count)) piece)
+later_piece_is_in_joined [] ys n k p count piece = let e : k ≡ n = omega (arith, count) in subst (λ (i : ℕ). IsStepPiece ys i p) e piece
+later_piece_is_in_joined (x ∷ xs) ys n k p count piece =
+    inr (omega (arith, count), later_piece_is_in_joined xs ys (n - length x.write.bytes) k p (omega (arith, count)) piece)
 
--- A range within a prefix is the same range of the whole list.
-pub range_of_prefix : (l : List ℕ) (h i j : ℕ) → j ≤ h → slice_range (take h l) i j ≡ slice_range l i j
-range_of_prefix l h i j le =
+-- A range within a prefix of a list equals that range of the whole list.
+pub prefix_range_is_list_range : (l : List ℕ) (h i j : ℕ) → j ≤ h → slice_range (take h l) i j ≡ slice_range l i j
+prefix_range_is_list_range l h i j le =
     between_is (take h l) i j ∙ ap (λ (x : List ℕ). drop i x) (take-take j h l le) ∙ sym (between_is l i j)
 
--- A range of the rest of a list is a range further on of the whole list.
-pub range_of_rest : (l : List ℕ) (h i k : ℕ) → slice_range (drop h l) i (i + k) ≡ slice_range l (h + i) (h + i + k)
-range_of_rest l h i k =
+-- A range of a list without its first h elements equals the range h elements further on in the whole list.
+pub rest_range_is_shifted_range : (l : List ℕ) (h i k : ℕ) → slice_range (drop h l) i (i + k) ≡ slice_range l (h + i) (h + i + k)
+rest_range_is_shifted_range l h i k =
     let a : i + k - i ≡ h + i + k - (h + i) = omega arith in
     let e : i + h ≡ h + i = omega arith in
     (λ n. take (a n) (drop i (drop h l)))
@@ -69,36 +69,36 @@ piece_ends_within_series (s ∷ ss) n p (inr (past, piece)) = omega (
       piece,
 )
 
--- The next piece has one byte at least.
-pub piece_has_bytes : (ss : List Step) (n : ℕ) (p : Step) → IsStepPiece ss n p → 0 < length p.write.bytes
-piece_has_bytes [] n p absent = absurd absent
-piece_has_bytes (s ∷ ss) n p (inl part) = part.some
-piece_has_bytes (s ∷ ss) n p (inr (past, piece)) = piece_has_bytes ss (n - length s.write.bytes) p piece
+-- The next piece has at least one byte.
+pub next_piece_has_bytes : (ss : List Step) (n : ℕ) (p : Step) → IsStepPiece ss n p → 0 < length p.write.bytes
+next_piece_has_bytes [] n p absent = absurd absent
+next_piece_has_bytes (s ∷ ss) n p (inl part) = part.some
+next_piece_has_bytes (s ∷ ss) n p (inr (past, piece)) = next_piece_has_bytes ss (n - length s.write.bytes) p piece
 
--- If nothing is carried out, a series is at the end of a piece.
-pub no_piece_reached : (ss : List Step) → EndsAtPiece ss 0
-no_piece_reached [] = refl
-no_piece_reached (s ∷ ss) = elim (cases_eq (length s.write.bytes) 0) [
+-- The first 0 bytes of a series end where a piece ends.
+pub zero_bytes_end_at_piece : (ss : List Step) → EndsAtPiece ss 0
+zero_bytes_end_at_piece [] = refl
+zero_bytes_end_at_piece (s ∷ ss) = elim (cases_eq (length s.write.bytes) 0) [
   | inl empty ↦
       let e : 0 ≡ 0 - length s.write.bytes = omega arith in
-      inr (omega (arith, empty), subst (λ (k : ℕ). EndsAtPiece ss k) e (no_piece_reached ss))
+      inr (omega (arith, empty), subst (λ (k : ℕ). EndsAtPiece ss k) e (zero_bytes_end_at_piece ss))
   | inr some ↦ inl (omega (arith, some), refl, λ e. refl)
 ]
 
--- A piece that does not end its step is of a program, and has 256 bytes.
+-- A piece that does not end its step belongs to a program, and has 256 bytes.
 unfinished_piece_is_full : (b : Bool) (k l n : ℕ) → k ≡ (if b then l - n else min 256 (l - n)) → n + k ≤ l → n + k ≢ l → (k ≡ 256) × (b
     ≡ true → ⊥)
 unfinished_piece_is_full true k l n size le more = absurd (more (omega (arith, size, le)))
 unfinished_piece_is_full false k l n size le more = (omega (arith, size, le, more), λ e. cc)
 
--- If the bytes so far end with a piece, they do after the next piece too.
+-- The bytes up to the end of the next piece end where a piece ends, if the bytes before it do.
 pub next_piece_ends_at_piece : (ss : List Step) (n : ℕ) (p : Step) → EndsAtPiece ss n → IsStepPiece ss n p
     → EndsAtPiece ss (n + length p.write.bytes)
 next_piece_ends_at_piece [] n p reached absent = absurd absent
 next_piece_ends_at_piece (s ∷ ss) n p (inl front) (inl part) = elim (cases_eq (n + length p.write.bytes) (length s.write.bytes)) [
   | inl whole ↦
       let e : 0 ≡ n + length p.write.bytes - length s.write.bytes = omega (arith, whole) in
-      inr (omega (arith, whole), subst (λ (k : ℕ). EndsAtPiece ss k) e (no_piece_reached ss))
+      inr (omega (arith, whole), subst (λ (k : ℕ). EndsAtPiece ss k) e (zero_bytes_end_at_piece ss))
   | inr more ↦
       let is = unfinished_piece_is_full s.erases (length p.write.bytes) (length s.write.bytes) n part.size part.within more in
       inl (omega (arith, part.within, more), omega (arith, front.1, is.0), λ e. absurd (is.1 e))

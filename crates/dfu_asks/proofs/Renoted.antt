@@ -1,8 +1,8 @@
--- Notes after a row: they are of the active image of the flash that the row left.
+-- Notes after a row are of the active image of the flash that the row left.
 use Rattle.std.proofs.Common.{◌≡◌, ◌⊎◌, inl, inr, ⊎_elim, if◌then◌else◌, ℕ, ◌+◌, ◌/◌, ◌≤◌, List, sym, ◌∙◌, ap, subst, arith}
 use Rattle.std.proofs.lemmas.Bool.{cases_Bool}
 use Rattle.dfu_slots.specs.Units.{gate_room}
-use Rattle.dfu_slots.specs.Medium.{MediumState, FrameOutside}
+use Rattle.dfu_slots.specs.Medium.{MediumState, ChangedWithin}
 use Rattle.dfu_slots.specs.Layout.{slot, slot_size}
 use Rattle.dfu_slots.specs.Image.{gate_of, slot_of, active_at, spare_at, HasImage}
 use Rattle.dfu_slots.specs.StoreView.{SlotsState}
@@ -17,15 +17,15 @@ use Rattle.dfu_asks.specs.declared.pending_writes.PendingWrites.{PendingWrites}
 use Rattle.dfu_asks.specs.Mapped.{mapped_medium}
 use Rattle.dfu_asks.specs.Noted.{IsNoteOfMedium}
 use Rattle.dfu_asks.specs.Lent.{LentDevice}
-use Rattle.dfu_asks.specs.Asks.{grain_in, is_block, IsWorkingForRow, NotesAfter, writes_in}
+use Rattle.dfu_asks.specs.Asks.{grain_in, is_block, IsWorkingForRow, NoteAfterRow, writes_in}
 use Rattle.dfu_asks.proofs.Working.{Stays}
 use Rattle.dfu_asks.proofs.Inside.{due_writes_inside_spare}
 
 module _ (s : SlotsState) (store : IsStore s) (now : MediumState) (grain : now.grain ≡ s.medium.grain)
-    (keeps : FrameOutside (spare_at (gate_of s.medium) s.medium.bytes)
+    (keeps : ChangedWithin (spare_at (gate_of s.medium) s.medium.bytes)
     (spare_at (gate_of s.medium) s.medium.bytes + slot_size s.medium.bytes) s.medium.bytes now.bytes)
     (place : active_at (gate_of now) now.bytes ≡ active_at (gate_of s.medium) s.medium.bytes) where
-  -- Writes within the spare slot leave the header of the active one.
+  -- Writes within the spare slot keep the header of the active slot.
   active_header_stays : (slot_of s.medium (active_at (gate_of s.medium) s.medium.bytes)).header
       ≡ (slot_of now (active_at (gate_of now) now.bytes)).header
   active_header_stays =
@@ -40,7 +40,7 @@ module _ (s : SlotsState) (store : IsStore s) (now : MediumState) (grain : now.g
       (tested_places_are_slots g m) in
       sym ((λ i. (slot (gate_room (grain i)) now.bytes (place i)).header) ∙ header_kept_outside_change g from to m now.bytes at keeps apart)
 
-  -- After writes within the spare slot the notes stay right.
+  -- A note of the medium is still a note of the medium after writes within the spare slot.
   notes_stay_right : (n : Noted) → IsNoteOfMedium n s.medium → IsNoteOfMedium n now
   notes_stay_right n noted = record {
     place = ap (λ (k : ℕ). if n.second then k / 2 else 0) keeps.size ∙ noted.place ∙ sym place;
@@ -48,16 +48,19 @@ module _ (s : SlotsState) (store : IsStore s) (now : MediumState) (grain : now.g
   }
 
 module _ (a now : LentDevice) (w : PendingWrites) (len : ℕ) (s : SlotsState) (was flash : List ℕ) (working : IsWorkingForRow a w len s was)
-    (notes : NotesAfter a.mode flash a now) (unit : now.unit ≡ a.unit) (sector : now.sector ≡ a.sector)
+    (notes : NoteAfterRow a.mode flash a now) (unit : now.unit ≡ a.unit) (sector : now.sector ≡ a.sector)
     (ends : WritesEnded (mapped_medium (grain_in a) was) (writes_in a w) (mapped_medium (grain_in a) flash)) (left : SlotsState)
     (is_left : left.medium ≡ mapped_medium (grain_in a) flash) (has : HasImage left.medium) (stays : Stays a.mode s left) where
+  -- The medium that the row left is the flash, mapped in the grain of the device after the row.
   medium_left_is_mapped : left.medium ≡ mapped_medium (grain_in now) flash
   medium_left_is_mapped = is_left ∙ (λ i. mapped_medium (record { unit = sym unit i; sector = (sym sector i).size }) flash)
 
+  -- The medium that the row left has the grain of the medium before it.
   grain : left.medium.grain ≡ s.medium.grain
   grain = ap (λ (x : MediumState). x.grain) is_left ∙ sym (ap (λ (x : MediumState). x.grain) working.medium)
 
-  keeps : FrameOutside (spare_at (gate_of s.medium) s.medium.bytes)
+  -- The row changed the medium only within the spare slot.
+  keeps : ChangedWithin (spare_at (gate_of s.medium) s.medium.bytes)
       (spare_at (gate_of s.medium) s.medium.bytes + slot_size s.medium.bytes) s.medium.bytes left.medium.bytes
   keeps = ended_writes_keep_rest (spare_at (gate_of s.medium) s.medium.bytes) (spare_at (gate_of s.medium) s.medium.bytes + slot_size
       s.medium.bytes)
@@ -69,7 +72,7 @@ module _ (a now : LentDevice) (w : PendingWrites) (len : ℕ) (s : SlotsState) (
       (subst (λ (x : MediumState). WritesEnded s.medium (writes_in a w) x) (sym is_left)
       (subst (λ (x : MediumState). WritesEnded x (writes_in a w) (mapped_medium (grain_in a) flash)) (sym working.medium) ends))
 
-  -- After a row the notes are of the active image.
+  -- The note after a row is of the medium that the row left.
   pub notes_after_row : IsNoteOfMedium now.noted (mapped_medium (grain_in now) flash)
   notes_after_row = elim (cases_Bool (is_block a.mode)) [
     | inl on ↦

@@ -18,7 +18,7 @@ part_below_unit : (u : WriteUnit) (n : ℕ) → n % unit_size u < unit_size u
 part_below_unit Byte n = omega arith
 part_below_unit _ n = omega arith
 
--- In memory with room for a unit, as many bytes are held back as the device says.
-pub held_length_in_memory : (u : WriteUnit) (k end : ℕ) (held : List ℕ) → HasRoom u held → length (take k held) ≡ end % unit_size u
+-- Memory with room for a unit holds all k bytes that are held back, if their number fits the end of the puts.
+pub held_memory_has_held_length : (u : WriteUnit) (k end : ℕ) (held : List ℕ) → HasRoom u held → length (take k held) ≡ end % unit_size u
     → length (take k held) ≡ k
-held_length_in_memory u k end held room part = omega (arith, length-take k held, part, part_below_unit u end, room)
+held_memory_has_held_length u k end held room part = omega (arith, length-take k held, part, part_below_unit u end, room)

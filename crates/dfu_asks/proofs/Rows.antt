@@ -1,4 +1,4 @@
--- Series of a row: its writes are those of its calls.
+-- Series of writes of a row: making them makes the calls of the row.
 use Rattle.std.proofs.Common.{◌≡◌, ◌⊎◌, inl, inr, ⊎_elim, ◌==◌, Bool, true, false, if◌then◌else◌, ℕ, zero, suc, ◌+◌, ◌*◌, ◌≤◌, ◌<◌, List, [], ◌∷◌, ◌++◌, length, take, OnErr, refl, sym, ◌∙◌, ap, subst, arith}
 use Rattle.std.proofs.lemmas.Bool.{cases_eq, ne_eqb, eqb-true, and_parts}
 use Rattle.std.proofs.lemmas.List.{length-take-le}
@@ -9,20 +9,20 @@ use Rattle.dfu_slots.specs.Medium.{MediumState, Write, AllWrites, BrokenWrites}
 use Rattle.dfu_slots.specs.Writes.{put_writes, put_rest}
 use Rattle.dfu_slots.specs.StoreView.{SlotsState, store_of, store_on, data_place, image_of, spare_of, is_begun, room_of, is_shaped, Begin, Put, Commit, writes_of, AllWorked, BrokenBy, CallWorked, CallFailed, CallEnding, Ending, CallsEnd}
 use Rattle.dfu_slots.specs.Store.{IsStore}
-use Rattle.dfu_slots.proofs.Series.{list_has_two_parts, broken_in_either_part, writes_keep_grain}
+use Rattle.dfu_slots.proofs.Series.{list_has_two_parts, either_part_was_broken, writes_keep_grain}
 use Rattle.dfu_slots.proofs.Stays.{SamePlaces}
 use Rattle.dfu_device.specs.Parts.{is_put}
-use Rattle.dfu_device.proofs.Calls.{one_call_is_series, first_block_calls_end, failed_begin_ends_calls, further_block_calls_end, room_fits_spare_slot, bytes_put_in_spare}
+use Rattle.dfu_device.proofs.Calls.{one_call_is_series, first_block_ends_as_put, failed_begin_ends_calls, later_block_ends_as_put, room_fits_spare_slot, put_bytes_count_as_put}
 use Rattle.dfu_asks.specs.Series.{block_series, block_store, BlockWritten, BlockBroken, CommitCompleted, CommitBroken}
-use Rattle.dfu_asks.proofs.Came.{worked_call, broken_call, ending_of_broken_call, begun, begin_keeps_slot_places, broken_begin_keeps_places, broken_begin_result, worked_put_result, broken_put_result, worked_commit_result, broken_commit_result}
+use Rattle.dfu_asks.proofs.StoreCallResults.{worked_call, broken_call, ending_of_broken_call, begun, begin_keeps_slot_places, broken_begin_keeps_places, broken_begin_result, worked_put_result, broken_put_result, worked_commit_result, broken_commit_result}
 
--- The first block.
+-- Calls of the first block.
 
 module _ (s : SlotsState) (store : IsStore s) (block : List ℕ) (fits : length block ≤ room_of s) (m : MediumState) where
   abbrev first_block_writes : List Write
   first_block_writes = put_writes s.medium.grain (data_place s 0) [] block
 
-  -- Facts after the `begin`.
+  -- Facts after the writes of `begin` worked.
   module _ (mid : MediumState) (first : AllWrites s.medium (writes_of s Begin) mid) where
     abbrev b : SlotsState
     b = store_on mid
@@ -58,13 +58,13 @@ module _ (s : SlotsState) (store : IsStore s) (block : List ℕ) (fits : length 
         let came = worked_put_result b now lb.common.store 0 block refl lb.shut first_block_fits_room w in
         let lp = came.1 in
         record {
-          calls = first_block_calls_end s b now 0 block AllWorked refl (lb.common.call refl (omega arith)) (lp.common.call lb.shut
+          calls = first_block_ends_as_put s b now 0 block AllWorked refl (lb.common.call refl (omega arith)) (lp.common.call lb.shut
               first_block_fits_room);
           store = lp.common.store;
           image = lp.image ∙ lb.image;
           place = came.0.active ∙ begin_keeps_row_places.active;
           room = lp.common.room ∙ lb.common.room;
-          put = bytes_put_in_spare worked_call b now (0 + length block) lb.shut lp.shut lp.end;
+          put = put_bytes_count_as_put worked_call b now (0 + length block) lb.shut lp.shut lp.end;
           spare = lp.front;
         }
 
@@ -79,7 +79,7 @@ module _ (s : SlotsState) (store : IsStore s) (block : List ℕ) (fits : length 
         let came = broken_put_result b (store_on m) lb.common.store 0 block refl lb.shut first_block_fits_room fault w in
         let lp = came.1 in
         record {
-          calls = first_block_calls_end s b (store_on m) 0 block (BrokenBy fault) refl (lb.common.call refl (omega arith))
+          calls = first_block_ends_as_put s b (store_on m) 0 block (BrokenBy fault) refl (lb.common.call refl (omega arith))
               (subst (λ (e : Ending). CallEnding b (Put 0 block) e (store_on m)) (ending_of_broken_call fault) (lp.common.call lb.shut
               first_block_fits_room));
           store = lp.common.store;
@@ -109,12 +109,12 @@ module _ (s : SlotsState) (store : IsStore s) (block : List ℕ) (fits : length 
 
   first_block_broken : (fault : WriteFault) → BrokenWrites fault s.medium (writes_of s Begin ++ first_block_writes) m
       → BlockBroken fault s 0 block (store_on m)
-  first_block_broken fault all = elim (broken_in_either_part fault (writes_of s Begin) first_block_writes s.medium m all) [
+  first_block_broken fault all = elim (either_part_was_broken fault (writes_of s Begin) first_block_writes s.medium m all) [
     | inl early ↦ first_begin_broken fault early
     | inr late ↦ first_put_broken late.0 late.1.first fault late.1.second
   ]
 
--- Further blocks.
+-- Calls of a block after the first.
 
 module _ (s : SlotsState) (store : IsStore s) (shape : is_shaped s ≡ true) (n : ℕ) (block : List ℕ) (some : 0 < n) (put : is_put n s ≡ true)
     (fits : n + length block ≤ room_of s) (m : MediumState) where
@@ -124,8 +124,8 @@ module _ (s : SlotsState) (store : IsStore s) (shape : is_shaped s ≡ true) (n 
   block_at_put_end : n ≡ s.put_end
   block_at_put_end = sym (eqb-true _ _ (and_parts (is_begun s) (s.put_end == n) put).1)
 
-  put_within_spare : n ≤ length (spare_of s)
-  put_within_spare = room_fits_spare_slot s n shape (omega (arith, fits))
+  put_lies_within_spare : n ≤ length (spare_of s)
+  put_lies_within_spare = room_fits_spare_slot s n shape (omega (arith, fits))
 
   further_block_written : AllWrites s.medium (writes_of s (Put n block)) m
       → BlockWritten s n block (store_of m (put_rest s.medium.grain.unit s.held block) (n + length block))
@@ -139,12 +139,12 @@ module _ (s : SlotsState) (store : IsStore s) (shape : is_shaped s ≡ true) (n 
       }) in
       let lp = came.1 in
       record {
-        calls = further_block_calls_end s now n block AllWorked some put_within_spare (lp.common.call row_is_begun fits);
+        calls = later_block_ends_as_put s now n block AllWorked some put_lies_within_spare (lp.common.call row_is_begun fits);
         store = lp.common.store;
         image = lp.image;
         place = came.0.active;
         room = lp.common.room;
-        put = bytes_put_in_spare worked_call s now (n + length block) row_is_begun lp.shut lp.end;
+        put = put_bytes_count_as_put worked_call s now (n + length block) row_is_begun lp.shut lp.end;
         spare = lp.front;
       }
 
@@ -159,7 +159,7 @@ module _ (s : SlotsState) (store : IsStore s) (shape : is_shaped s ≡ true) (n 
       }) in
       let lp = came.1 in
       record {
-        calls = further_block_calls_end s (store_on m) n block (BrokenBy fault) some put_within_spare
+        calls = later_block_ends_as_put s (store_on m) n block (BrokenBy fault) some put_lies_within_spare
             (subst (λ (e : Ending). CallEnding s (Put n block) e (store_on m)) (ending_of_broken_call fault) (lp.common.call row_is_begun
             fits));
         store = lp.common.store;
@@ -168,7 +168,7 @@ module _ (s : SlotsState) (store : IsStore s) (shape : is_shaped s ≡ true) (n 
         room = lp.common.room;
       }
 
--- Any block.
+-- Calls of a block, the first one or a later one.
 
 module _ (s : SlotsState) (store : IsStore s) (shape : is_shaped s ≡ true) (n : ℕ) (block : List ℕ)
     (before : (n ≡ 0) ⊎ (is_put n s ≡ true)) (fits : n + length block ≤ room_of s) (m : MediumState) where
@@ -183,8 +183,8 @@ module _ (s : SlotsState) (store : IsStore s) (shape : is_shaped s ≡ true) (n 
       some_or_none (suc k) = inl (omega arith)
 
   -- If all writes of a block are made, the block is written.
-  pub block_series_written : AllWrites s.medium (block_series s n block) m → BlockWritten s n block (block_store s n block m)
-  block_series_written all = elim (cases_eq n 0) [
+  pub made_series_writes_block : AllWrites s.medium (block_series s n block) m → BlockWritten s n block (block_store s n block m)
+  made_series_writes_block all = elim (cases_eq n 0) [
     | inl none ↦
         let e : (n == 0) ≡ true = ap (λ (k : ℕ). k == 0) none in
         subst (λ (k : Bool). BlockWritten s n block
@@ -202,10 +202,10 @@ module _ (s : SlotsState) (store : IsStore s) (shape : is_shaped s ≡ true) (n 
         else writes_of s (Put n block)) m) e all))
   ]
 
-  -- If a write of a block had a fault, the block was broken off by it.
-  pub block_series_broken : (fault : WriteFault) → BrokenWrites fault s.medium (block_series s n block) m
+  -- A write of a block that had a fault broke the block off.
+  pub fault_breaks_off_block : (fault : WriteFault) → BrokenWrites fault s.medium (block_series s n block) m
       → BlockBroken fault s n block (store_on m)
-  block_series_broken fault all = elim (cases_eq n 0) [
+  fault_breaks_off_block fault all = elim (cases_eq n 0) [
     | inl none ↦
         let e : (n == 0) ≡ true = ap (λ (k : ℕ). k == 0) none in
         subst (λ (k : ℕ). BlockBroken fault s k block (store_on m)) (sym none)
@@ -221,15 +221,15 @@ module _ (s : SlotsState) (store : IsStore s) (shape : is_shaped s ≡ true) (n 
         else writes_of s (Put n block)) m) e all)
   ]
 
--- Commits.
+-- Calls of a commit.
 
 module _ (s : SlotsState) (store : IsStore s) (shape : is_shaped s ≡ true) (n : ℕ) (put : is_put n s ≡ true) (fits : n ≤ room_of s)
     (m : MediumState) where
   commit_is_begun : is_begun s ≡ true
   commit_is_begun = (and_parts (is_begun s) (s.put_end == n) put).0
 
-  commit_within_puts : n ≤ s.put_end
-  commit_within_puts = omega (arith, eqb-true _ _ (and_parts (is_begun s) (s.put_end == n) put).1)
+  commit_has_at_most_puts : n ≤ s.put_end
+  commit_has_at_most_puts = omega (arith, eqb-true _ _ (and_parts (is_begun s) (s.put_end == n) put).1)
 
   committed_front_length : length (take n (spare_of s)) ≡ n
   committed_front_length = length-take-le n (spare_of s) (room_fits_spare_slot s n shape fits)
@@ -242,7 +242,7 @@ module _ (s : SlotsState) (store : IsStore s) (shape : is_shaped s ≡ true) (n 
   -- If all writes of a commit are made, the commit is complete.
   pub commit_series_completes : AllWrites s.medium (writes_of s (Commit n)) m → CommitCompleted s n (store_on m)
   commit_series_completes all =
-      let l = worked_commit_result s (store_on m) store n commit_within_puts commit_is_begun (record {
+      let l = worked_commit_result s (store_on m) store n commit_has_at_most_puts commit_is_begun (record {
         writes = all;
         held_is = refl;
         end_is
@@ -255,11 +255,11 @@ module _ (s : SlotsState) (store : IsStore s) (shape : is_shaped s ≡ true) (n 
         room = l.common.room;
       }
 
-  -- If a write of a commit had a fault, the commit was broken off by it.
-  pub commit_series_broken : (fault : WriteFault) → BrokenWrites fault s.medium (writes_of s (Commit n)) m →
+  -- A write of a commit that had a fault broke the commit off.
+  pub fault_breaks_off_commit : (fault : WriteFault) → BrokenWrites fault s.medium (writes_of s (Commit n)) m →
       CommitBroken fault s n (store_on m)
-  commit_series_broken fault all =
-      let l = broken_commit_result s (store_on m) store n commit_within_puts commit_is_begun fault (record {
+  fault_breaks_off_commit fault all =
+      let l = broken_commit_result s (store_on m) store n commit_has_at_most_puts commit_is_begun fault (record {
         writes = all;
         held_is = refl;
         end_is = refl;

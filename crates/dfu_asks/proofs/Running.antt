@@ -1,42 +1,42 @@
--- Bytes that lie in runs.
+-- Bytes that lie in memory in several runs.
 use Rattle.std.proofs.Common.{◌≡◌, ◌↔◌, Bool, true, ℕ, zero, suc, ◌+◌, ◌-◌, ◌≤◌, List, [], ◌∷◌, ◌++◌, length, take, drop, replicate, refl, sym, ◌∙◌, ap, arith, length-append}
 use Rattle.std.proofs.lemmas.List.{length-take, length-drop, take-replicate, drop-replicate, take-append-drop, append_cancel_left, append_assoc, length-take-le, take_at}
 use Rattle.std.proofs.lemmas.Slice.{take-put_mid}
 use borrow.Rule.Slice.PartMut.{put_mid, mid_of, post_of}
 use Rattle.std.proofs.Math.Seq.{drop-drop}
 
--- The first n elements of two lists, one after the other, are the first n of the first, and then the rest of n of the second.
-pub take_of_two_lists : {X : Type 0} (n : ℕ) (xs ys : List X) → take n (xs ++ ys) ≡ take n xs ++ take (n - length (take n xs)) ys
-take_of_two_lists zero xs ys = refl
-take_of_two_lists (suc n) [] ys = let e : suc n - 0 ≡ suc n = omega arith in ap (λ k. take k ys) (sym e)
-take_of_two_lists (suc n) (x ∷ xs) ys =
+-- The first n elements of two joined lists are the first n of the first list, followed by as many of the second as are missing from n.
+pub take_splits_over_lists : {X : Type 0} (n : ℕ) (xs ys : List X) → take n (xs ++ ys) ≡ take n xs ++ take (n - length (take n xs)) ys
+take_splits_over_lists zero xs ys = refl
+take_splits_over_lists (suc n) [] ys = let e : suc n - 0 ≡ suc n = omega arith in ap (λ k. take k ys) (sym e)
+take_splits_over_lists (suc n) (x ∷ xs) ys =
     let e : suc n - suc (length (take n xs)) ≡ n - length (take n xs) = omega arith in
-    ap (λ l. x ∷ l) (take_of_two_lists n xs ys) ∙ ap (λ k. x ∷ take n xs ++ take k ys) (sym e)
+    ap (λ l. x ∷ l) (take_splits_over_lists n xs ys) ∙ ap (λ k. x ∷ take n xs ++ take k ys) (sym e)
 
--- Two lists, one after the other, without the first n elements are the rest of the first, and then the rest of the second.
-pub drop_of_two_lists : {X : Type 0} (n : ℕ) (xs ys : List X) → drop n (xs ++ ys) ≡ drop n xs ++ drop (n - length xs) ys
-drop_of_two_lists zero xs ys = let e : 0 - length xs ≡ 0 = omega arith in ap (λ k. xs ++ drop k ys) (sym e)
-drop_of_two_lists (suc n) [] ys = let e : suc n - 0 ≡ suc n = omega arith in ap (λ k. drop k ys) (sym e)
-drop_of_two_lists (suc n) (x ∷ xs) ys =
+-- Two joined lists without their first n elements are the rest of the first list, followed by the rest of the second.
+pub drop_splits_over_lists : {X : Type 0} (n : ℕ) (xs ys : List X) → drop n (xs ++ ys) ≡ drop n xs ++ drop (n - length xs) ys
+drop_splits_over_lists zero xs ys = let e : 0 - length xs ≡ 0 = omega arith in ap (λ k. xs ++ drop k ys) (sym e)
+drop_splits_over_lists (suc n) [] ys = let e : suc n - 0 ≡ suc n = omega arith in ap (λ k. drop k ys) (sym e)
+drop_splits_over_lists (suc n) (x ∷ xs) ys =
     let e : suc n - suc (length xs) ≡ n - length xs = omega arith in
-    drop_of_two_lists n xs ys ∙ ap (λ k. drop n xs ++ drop k ys) (sym e)
+    drop_splits_over_lists n xs ys ∙ ap (λ k. drop n xs ++ drop k ys) (sym e)
 
 -- A range of two lists with zeros after them lies in three runs: one of each list, and one of zeros.
-pub bytes_in_three_runs : (front back : List ℕ) (skip len : ℕ) → skip + len ≤ length front + length back + 256
+pub range_is_three_runs : (front back : List ℕ) (skip len : ℕ) → skip + len ≤ length front + length back + 256
     → let first = take len (drop skip front) in
     let second = take (len - length first) (drop (skip - length front) back) in
     (first ++ second) ++ replicate (len - length first - length second) 0
     ≡ take len (drop skip ((front ++ back) ++ replicate 256 0))
-bytes_in_three_runs front back skip len within =
+range_is_three_runs front back skip len within =
     let first = take len (drop skip front) in
     let rest = drop (skip - length front) back in
     let second = take (len - length first) rest in
     let zeros : List ℕ = replicate 256 0 in
     let k = len - length first - length second in
     let m = skip - length (front ++ back) in
-    let a : take len (drop skip front ++ rest) ≡ first ++ second = take_of_two_lists len (drop skip front) rest in
+    let a : take len (drop skip front ++ rest) ≡ first ++ second = take_splits_over_lists len (drop skip front) rest in
     let b : drop skip ((front ++ back) ++ zeros) ≡ (drop skip front ++ rest) ++ drop m zeros =
-    drop_of_two_lists skip (front ++ back) zeros ∙ ap (λ (l : List ℕ). l ++ drop m zeros) (drop_of_two_lists skip front back) in
+    drop_splits_over_lists skip (front ++ back) zeros ∙ ap (λ (l : List ℕ). l ++ drop m zeros) (drop_splits_over_lists skip front back) in
     let c : k ≤ 256 - m = omega (
       arith,
       within,
@@ -50,11 +50,11 @@ bytes_in_three_runs front back skip len within =
     let e : len - length (take len (drop skip front ++ rest)) ≡ k =
     ap (λ (l : List ℕ). len - length l) a ∙ omega (arith, length-append first second) in
     sym (ap (take len) b
-    ∙ take_of_two_lists len (drop skip front ++ rest) (drop m zeros)
+    ∙ take_splits_over_lists len (drop skip front ++ rest) (drop m zeros)
     ∙ (λ i. a i ++ take (e i) (drop m zeros))
     ∙ ap (λ l. (first ++ second) ++ l) d)
 
--- Some bytes are those of the runs exactly if their front, their middle and their rest are.
+-- A list of bytes equals three runs exactly if its front, its middle and its rest equal them.
 pub bytes_are_three_runs : (b : Bool) (bytes front back : List ℕ) (rest pad : ℕ) → length bytes ≡ length front + length back + rest
     → take (length front) bytes ≡ front → take (length back) (drop (length front) bytes) ≡ back
     → (b ≡ true) ↔ (drop (length front + length back) bytes ≡ replicate rest pad)
@@ -75,7 +75,7 @@ bytes_are_three_runs b bytes front back rest pad size one other iff = (yes, no)
     no : bytes ≡ (front ++ back) ++ replicate rest pad → b ≡ true
     no is = iff.1 (append_cancel_left (front ++ back) _ _ (sym whole ∙ is))
 
--- The runs were put one after the other at the front of a buffer.
+-- Copying three runs into a buffer, one after the other, fills its front with them.
 pub runs_fill_buffer_front : (out front back rest : List ℕ) (middle end len : ℕ) → middle ≡ length front → end ≡ middle + length back
     → len ≡ end + length rest
     → take len (put_mid end (len - end) (put_mid middle (end - middle) (front ++ post_of 0 middle out) back) rest) ≡ (front ++ back) ++ rest
@@ -94,11 +94,11 @@ runs_fill_buffer_front out front back rest middle end len m e l =
     ∙ ap (λ z. z ++ rest) (take-put_mid middle (end - middle) one back end e large
     ∙ ap (λ z. z ++ back) (take_at front (post_of 0 middle out) middle (sym m)))
 
--- Behind the first two runs the buffer has the rest of its length.
-pub length_behind_two_runs : (out front back : List ℕ) (middle end len : ℕ) → middle ≡ length front → end ≡ middle + length back
+-- The part of a buffer behind two copied runs, up to `len`, has the length that is left.
+pub rest_has_left_length : (out front back : List ℕ) (middle end len : ℕ) → middle ≡ length front → end ≡ middle + length back
     → end ≤ len → len ≤ length out
     → length (mid_of end (len - end) (put_mid middle (end - middle) (front ++ post_of 0 middle out) back)) ≡ len - end
-length_behind_two_runs out front back middle end len m e low high =
+rest_has_left_length out front back middle end len m e low high =
     let one = front ++ post_of 0 middle out in
     let two = put_mid middle (end - middle) one back in
     let size : length one ≡ length out =

@@ -13,10 +13,10 @@ use Rattle.dfu_wire.specs.declared.requests.Request.{Request as Asked}
 use Rattle.dfu_wire.specs.declared.codes.Code.TheVariants.{StalledPkt as ErrStalledPkt, Address as ErrAddress}
 use Rattle.dfu_device.specs.declared.decision.Decision.{Decision}
 use Rattle.dfu_device.specs.declared.decision.Decision.TheVariants as decision
-use Rattle.dfu_device.specs.Cases.{either_way}
-use Rattle.dfu_device.specs.Decision.{plan_of, IsSilentDecision}
+use Rattle.dfu_device.specs.Cases.{holds_in_both_branches}
+use Rattle.dfu_device.specs.Decision.{plan_of, IsAcknowledgingDecision}
 use Rattle.dfu_device.specs.Stage.{Profile, Request, Dnload, Upload, GetStatus, GetState, Stage, Data, InDfuIdle, InDownloadSync, InDownloadIdle, InManifestSync, InUploadIdle}
-use Rattle.dfu_device.specs.Table.{Plan, Sure, has_no_bytes, next_number, error_plan, block_plan, upload_plan, plan}
+use Rattle.dfu_device.specs.Table.{Plan, Sure, has_no_bytes, number_after, error_plan, block_plan, upload_plan, plan}
 use Rattle.dfu_device.specs.DeviceView.{DeviceView, profile}
 use Rattle.dfu_device.specs.Parts.{view_of_parts, is_filled}
 use Rattle.dfu_device.specs.Rows.{Done, request_for_table, is_served, setup_plan}
@@ -34,10 +34,10 @@ image_is_active_data_front s at len here is =
     (λ i. take (header_length (slot_of s.medium (sym here i))) (slot_of s.medium (sym here i)).data_bytes)
     ∙ ap (λ (n : ℕ). take n (slot_of s.medium at).data_bytes) (sym is)
 
--- The first bytes after a place within the front of a list are those of the list.
-pub range_of_list_front : (bytes : List ℕ) (place len count : ℕ) → count ≤ len - place
+-- The next `count` bytes of a prefix of a list equal those of the list, if they lie within the prefix.
+pub prefix_bytes_are_list_bytes : (bytes : List ℕ) (place len count : ℕ) → count ≤ len - place
     → take count (drop place (take len bytes)) ≡ take count (drop place bytes)
-range_of_list_front bytes place len count fits = elim (cases_eq count 0) [
+prefix_bytes_are_list_bytes bytes place len count fits = elim (cases_eq count 0) [
   | inl none ↦
       ap (λ (k : ℕ). take k (drop place (take len bytes))) none ∙ ap (λ (k : ℕ). take k (drop place bytes)) (sym none)
   | inr some ↦
@@ -47,23 +47,24 @@ range_of_list_front bytes place len count fits = elim (cases_eq count 0) [
       ∙ take-take count (len - place) (drop place bytes) fits
 ]
 
--- An upload sends `count` bytes of an image from a place on: `size`, or those that are left.
-pub image_bytes_counted : (image : List ℕ) (place size count : ℕ) → count ≡ min size (length image - place)
+-- The next `count` bytes of an image are its next `size` bytes, if `count` is `size` or the number of bytes left, whichever is less.
+pub counted_bytes_are_image_bytes : (image : List ℕ) (place size count : ℕ) → count ≡ min size (length image - place)
     → take count (drop place image) ≡ take size (drop place image)
-image_bytes_counted image place size count is =
+counted_bytes_are_image_bytes image place size count is =
     ap (λ (k : ℕ). take k (drop place image)) (is ∙ ap (λ (k : ℕ). min size k) (sym (length-drop place image)))
     ∙ take_min size (drop place image)
 
-pub count_of_image_bytes : (image : List ℕ) (place size count : ℕ) → count ≡ min size (length image - place)
+-- The number of the bytes of an image from a place on, at most `size`, is the length of these bytes.
+pub count_is_sent_length : (image : List ℕ) (place size count : ℕ) → count ≡ min size (length image - place)
     → count ≡ length (take size (drop place image))
-count_of_image_bytes image place size count is = omega (arith, is, length-drop place image, length-take size (drop place image))
+count_is_sent_length image place size count is = omega (arith, is, length-drop place image, length-take size (drop place image))
 
 -- Mode of a device after an upload: dfuIDLE after a short block, and dfuUPLOAD-IDLE after a full one.
 pub record IsModeAfterUpload (count size place number : ℕ) (m : DeviceState) : Type 0 where
   pub last : count < size → m ≡ device_state.DfuIdle
   pub more : size ≤ count → m ≡ device_state.UploadIdle (place + size) number
 
--- The bytes that are sent, and the mode after them, are the row of an upload.
+-- Sending a part of the image and entering the mode after it is the row of an upload.
 pub sent_bytes_are_upload_row : (w : DeviceView) (len : ℕ) (part block : List ℕ) (size place number : ℕ) (m : DeviceState) (count : ℕ) →
     count ≡ length part
     → IsModeAfterUpload count size place number m
@@ -85,22 +86,23 @@ sent_bytes_are_upload_row w len part block size place number m count is after = 
           (after.more (omega (arith, is, ltb-false _ _ more))),
     )
 
--- A plan sends at most as many bytes as a block may have.
+-- The plan sends at most as many bytes as the transfer size.
 abbrev pub SendsAtMostBlock : ℕ → Plan → Type 0
 SendsAtMostBlock n (Sure (Data bytes) stage) = length bytes ≤ n
 SendsAtMostBlock n p = Unit {0}
 
+-- The plan of an UPLOAD sends at most as many bytes as the transfer size.
 upload_plan_sends_at_most : (c : Profile) (image : List ℕ) (place expected number size : ℕ)
     → SendsAtMostBlock c.transfer (upload_plan c image place expected number size)
 upload_plan_sends_at_most c image place expected number size =
-    either_way (SendsAtMostBlock c.transfer) (size == 0) _ _ tt (upload_plan_by_size (nat_lt c.transfer size) refl)
+    holds_in_both_branches (SendsAtMostBlock c.transfer) (size == 0) _ _ tt (upload_plan_by_size (nat_lt c.transfer size) refl)
   where
     part : List ℕ
     part = take size (drop place image)
 
     sends : Plan
     sends = if nat_lt (length part) size then Sure (Data part) InDfuIdle
-        else Sure (Data part) (InUploadIdle (place + size) (next_number expected))
+        else Sure (Data part) (InUploadIdle (place + size) (number_after expected))
 
     upload_plan_by_size : (b : Bool) → nat_lt c.transfer size ≡ b
         → SendsAtMostBlock c.transfer (if b then error_plan ErrStalledPkt else if not (number == expected) then error_plan ErrAddress else
@@ -108,33 +110,39 @@ upload_plan_sends_at_most c image place expected number size =
     upload_plan_by_size true more = tt
     upload_plan_by_size false less =
         let fits : length part ≤ c.transfer = omega (arith, ltb-false _ _ less, length-take size (drop place image)) in
-        either_way (SendsAtMostBlock c.transfer) (not (number == expected)) _ _ tt
-        (either_way (SendsAtMostBlock c.transfer) (nat_lt (length part) size) _ _ fits fits)
+        holds_in_both_branches (SendsAtMostBlock c.transfer) (not (number == expected)) _ _ tt
+        (holds_in_both_branches (SendsAtMostBlock c.transfer) (nat_lt (length part) size) _ _ fits fits)
 
+-- The plan of a block sends at most as many bytes as the transfer size, because it sends none.
 block_plan_sends_at_most : (c : Profile) (before : List ℕ) (expected number : ℕ) (body : List ℕ)
     → SendsAtMostBlock c.transfer (block_plan c before expected number body)
 block_plan_sends_at_most c before expected number body =
-    either_way (SendsAtMostBlock c.transfer) (nat_lt c.transfer (length body)) _ _ tt
-    (either_way (SendsAtMostBlock c.transfer) (not (number == expected)) _ _ tt
-    (either_way (SendsAtMostBlock c.transfer) (nat_lt c.capacity (length before + length body)) _ _ tt tt))
+    holds_in_both_branches (SendsAtMostBlock c.transfer) (nat_lt c.transfer (length body)) _ _ tt
+    (holds_in_both_branches (SendsAtMostBlock c.transfer) (not (number == expected)) _ _ tt
+    (holds_in_both_branches (SendsAtMostBlock c.transfer) (nat_lt c.capacity (length before + length body)) _ _ tt tt))
 
+-- The plan of each request sends at most as many bytes as the transfer size.
 plan_sends_at_most_block : (c : Profile) (image : List ℕ) (st : Stage) (r : Request) → SendsAtMostBlock c.transfer (plan c image st r)
 plan_sends_at_most_block c image InDfuIdle (Dnload number body) =
-    either_way (SendsAtMostBlock c.transfer) (not c.can_download) _ _ tt
-    (either_way (SendsAtMostBlock c.transfer) (has_no_bytes body) _ _ tt (block_plan_sends_at_most c [] 0 number body))
+    holds_in_both_branches (SendsAtMostBlock c.transfer) (not c.can_download) _ _ tt
+    (holds_in_both_branches (SendsAtMostBlock c.transfer) (has_no_bytes body) _ _ tt (block_plan_sends_at_most c [] 0 number body))
 plan_sends_at_most_block c image InDfuIdle (Upload number size) =
-    either_way (SendsAtMostBlock c.transfer) c.can_upload _ _ (upload_plan_sends_at_most c image 0 0 number size) tt
-plan_sends_at_most_block c image (InDownloadSync before block number) GetStatus = either_way (SendsAtMostBlock c.transfer) (c.busy == 0) _
+    holds_in_both_branches (SendsAtMostBlock c.transfer) c.can_upload _ _ (upload_plan_sends_at_most c image 0 0 number size) tt
+plan_sends_at_most_block c image (InDownloadSync before block number) GetStatus =
+    holds_in_both_branches (SendsAtMostBlock c.transfer) (c.busy == 0) _
     _ tt tt
 plan_sends_at_most_block c image (InDownloadIdle taken number) (Dnload k body) =
-    either_way (SendsAtMostBlock c.transfer) (has_no_bytes body) _ _ (either_way (SendsAtMostBlock c.transfer) (nat_le c.least (length
+    holds_in_both_branches (SendsAtMostBlock c.transfer) (has_no_bytes body) _ _
+    (holds_in_both_branches (SendsAtMostBlock c.transfer) (nat_le c.least (length
     taken)) _ _ tt tt)
     (block_plan_sends_at_most c taken number k body)
-plan_sends_at_most_block c image (InManifestSync taken) GetStatus = either_way (SendsAtMostBlock c.transfer) (c.manifest == 0) _ _ tt tt
+plan_sends_at_most_block c image (InManifestSync taken) GetStatus =
+    holds_in_both_branches (SendsAtMostBlock c.transfer) (c.manifest == 0) _ _ tt tt
 plan_sends_at_most_block c image (InUploadIdle place number) (Upload k size) = upload_plan_sends_at_most c image place number k size
 plan_sends_at_most_block c image st GetState = tt
 plan_sends_at_most_block c image st r = tt
 
+-- A decision sends at most as many bytes as fit in the room, if its plan sends at most a block and a block fits.
 decision_sends_within : (c : Profile) (image spare block body : List ℕ) (d : Decision) (room : ℕ) → c.transfer ≤ room
     → SendsAtMostBlock c.transfer (plan_of c image spare block body d) → SendsWithin d image room
 decision_sends_within c image spare block body (decision.Sends place size number) room fits small =
@@ -146,26 +154,26 @@ decision_sends_within c image spare block body (decision.Sends place size number
     by_test false le = omega (arith, le, fits)
 decision_sends_within c image spare block body d room fits small = tt
 
--- The decision on a request sends no more bytes than a block may have.
+-- The decision on a setup sends at most as many bytes as the buffer has room for, if that has room for the transfer size.
 pub setup_decision_sends_within : (w : DeviceView) (spare block body : List ℕ) (d : Decision) (p : Setup) (q : Asked) (room : ℕ)
     → plan_of (profile w) (image_of w.slots) spare block body d ≡ setup_plan w p q body → (profile w).transfer ≤ room
     → SendsWithin d (image_of w.slots) room
 setup_decision_sends_within w spare block body d p q room is fits =
     let n = (profile w).transfer in
     decision_sends_within (profile w) (image_of w.slots) spare block body d room fits (subst (SendsAtMostBlock n) (sym is)
-    (either_way (SendsAtMostBlock n) (is_served p q body) _ _ (plan_sends_at_most_block (profile w) (image_of w.slots) w.stage
+    (holds_in_both_branches (SendsAtMostBlock n) (is_served p q body) _ _ (plan_sends_at_most_block (profile w) (image_of w.slots) w.stage
     (request_for_table q body)) tt))
 
--- The decision on a time sends nothing.
-pub time_decision_sends_nothing : (d : Decision) (image : List ℕ) (room : ℕ) → IsSilentDecision d → SendsWithin d image room
+-- The decision on elapsed time sends no bytes.
+pub time_decision_sends_nothing : (d : Decision) (image : List ℕ) (room : ℕ) → IsAcknowledgingDecision d → SendsWithin d image room
 time_decision_sends_nothing (decision.Sends place size number) image room silent = absurd silent
 time_decision_sends_nothing d image room silent = tt
 
--- The mode after an upload has nothing that is put.
-pub mode_after_asks_nothing : (count size place number : ℕ) (m : DeviceState) (block : ℕ) (s : SlotsState)
+-- The mode after an upload needs no bytes of the store.
+pub mode_after_upload_needs_no_bytes : (count size place number : ℕ) (m : DeviceState) (block : ℕ) (s : SlotsState)
     → IsModeAfterUpload count size place number m
     → IsTrue (is_filled m block s)
-mode_after_asks_nothing count size place number m block s after = elim (cases_lt count size) [
+mode_after_upload_needs_no_bytes count size place number m block s after = elim (cases_lt count size) [
   | inl less ↦ subst (λ (k : DeviceState). IsTrue (is_filled k block s)) (sym (after.last less)) refl
   | inr le ↦ subst (λ (k : DeviceState). IsTrue (is_filled k block s)) (sym (after.more le)) refl
 ]

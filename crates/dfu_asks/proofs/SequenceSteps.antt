@@ -1,4 +1,4 @@
--- Operations of each sequence, and the steps that they make.
+-- Operations of each sequence, and their steps.
 use Rattle.std.proofs.Common.{◌≡◌, ◌≢◌, ◌⊎◌, inl, inr, ◌==◌, Bool, true, false, if◌then◌else◌, ℕ, ◌+◌, ◌-◌, ◌*◌, ◌/◌, ◌≤◌, min, List, [], ◌∷◌, ◌++◌, length, take, drop, replicate, sym, ◌∙◌, ap, arith, length-append}
 use Rattle.std.proofs.lemmas.Bool.{cases_eq, cond-true, cond-false, ne_eqb, eq-eqb}
 use Rattle.std.proofs.lemmas.List.{append-nil}
@@ -13,8 +13,8 @@ use Rattle.dfu_slots.specs.Layout.{OPEN, header, gate_unit, header_unit}
 use Rattle.dfu_slots.specs.Writes.{head_write_size}
 use Rattle.dfu_slots.specs.Operations.{operations}
 use Rattle.dfu_slots.proofs.Sectors.{gate_unit_at_least_16, gate_unit_at_most_256}
-use Rattle.dfu_slots.proofs.Parts.{gate_unit_length, header_unit_length}
-use Rattle.dfu_slots.proofs.Multiples.{filled_units_length}
+use Rattle.dfu_slots.proofs.Parts.{gate_unit_has_size, header_unit_has_size}
+use Rattle.dfu_slots.proofs.Multiples.{filled_length_sums}
 use Rattle.dfu_slots.proofs.Put.{head_at_most_whole_units}
 use Rattle.dfu_slots.proofs.Sequences.{range_is_closed_gate_unit, range_is_gate_unit, range_is_header_unit, range_is_filled_held_bytes, range_is_head_write, range_is_further_units, range_is_image_piece}
 use Rattle.dfu_asks.specs.declared.pending_writes.WriteInputs.{WriteInputs}
@@ -26,8 +26,8 @@ use Rattle.dfu_asks.specs.Mapped.{grain_of}
 use Rattle.dfu_asks.specs.Phases.{part_steps, steps_of_part}
 use Rattle.dfu_asks.specs.Cuts.{range_of_source}
 use Rattle.dfu_asks.specs.OpSteps.{ops_steps, op_steps_at, OpsHaveFewBytes}
-use Rattle.dfu_asks.proofs.Locating.{some_steps_are_anew}
-use Rattle.dfu_asks.proofs.Cutting.{gate_steps_without_sectors}
+use Rattle.dfu_asks.proofs.Locating.{write_some_steps_are_anew}
+use Rattle.dfu_asks.proofs.Cutting.{gate_is_written_without_sectors}
 
 module _ (s : WriteInputs) (front : List ℕ) where
   abbrev w : Grain
@@ -36,7 +36,7 @@ module _ (s : WriteInputs) (front : List ℕ) where
   abbrev g : ℕ
   g = gate_size w.unit
 
-  -- The operations that close a gate make the step that closes it.
+  -- The operations that close a gate have the one step that closes it.
   pub close_ops_are_step : (slot : ℕ) → ops_steps s front (operations w (Close slot)) ≡ close_step w slot ∷ []
   close_ops_are_step slot = by_sector (cases_eq w.sector 0)
     where
@@ -48,12 +48,12 @@ module _ (s : WriteInputs) (front : List ℕ) where
           ∙ append-nil (write_some_steps w.sector slot (range_of_source Closed s front 0 g))
           ∙ ap (λ (l : List ℕ). write_some_steps w.sector slot l) (range_is_closed_gate_unit g (gate_unit_at_least_16 w.unit)
           (gate_unit_at_most_256 w.unit))
-          ∙ some_steps_are_anew w.sector slot unit (omega (
+          ∙ write_some_steps_are_anew w.sector slot unit (omega (
             arith,
-            gate_unit_length g 0 (gate_unit_at_least_16 w.unit),
+            gate_unit_has_size g 0 (gate_unit_at_least_16 w.unit),
             gate_unit_at_least_16 w.unit,
           ))
-          ∙ gate_steps_without_sectors w slot none
+          ∙ gate_is_written_without_sectors w slot none
       by_sector (inr some) =
           let e : (w.sector == 0) ≡ false = ne_eqb w.sector 0 some in
           ap (λ (o : Op). ops_steps s front (o ∷ [])) (cond-false (w.sector == 0) (Program slot Closed 0 g) (Erase slot) e)
@@ -62,7 +62,7 @@ module _ (s : WriteInputs) (front : List ℕ) where
             write = record { at = slot; bytes = if e i then gate_unit g 0 else replicate w.sector 255 };
           }))
 
-  -- The operations of a put make the steps of a `put`.
+  -- The operations of a put have the steps of a `put`.
   pub put_ops_are_steps : (slot end : ℕ) → let h = s.held.now in let b = s.block.now in
       ops_steps s front (operations w (Put slot end (length h) (length b))) ≡ put_steps w (held_bytes_place w slot end h) h b
   put_ops_are_steps slot end =
@@ -79,52 +79,53 @@ module _ (s : WriteInputs) (front : List ℕ) where
       ++ (write_some_steps w.sector (at + first i) (range_is_further_units w h b mine left first back i) ++ []))
       ∙ ap (λ (ss : List Step). write_some_steps w.sector at (take (head_write_size w.unit h b) (h ++ b)) ++ ss) (append-nil _)
 
-  -- The operation that writes a header makes the steps of the header.
-  header_op_steps : (slot gen len crc : ℕ) → front ≡ header 2 gen len crc
+  -- The operation that writes a header has the steps of the header.
+  header_op_has_header_steps : (slot gen len crc : ℕ) → front ≡ header 2 gen len crc
       → write_some_steps w.sector (slot + gate_room w) (range_of_source Header s front 0 g)
       ≡ write_anew_steps w.sector (slot + gate_room w) (header_unit g gen len crc)
-  header_op_steps slot gen len crc is =
+  header_op_has_header_steps slot gen len crc is =
       ap (λ (l : List ℕ). write_some_steps w.sector (slot + gate_room w) l)
       (range_is_header_unit g gen len crc front (gate_unit_at_least_16 w.unit) (gate_unit_at_most_256 w.unit) is)
-      ∙ some_steps_are_anew w.sector (slot + gate_room w) (header_unit g gen len crc)
-      (omega (arith, header_unit_length g gen len crc (gate_unit_at_least_16 w.unit), gate_unit_at_least_16 w.unit))
+      ∙ write_some_steps_are_anew w.sector (slot + gate_room w) (header_unit g gen len crc)
+      (omega (arith, header_unit_has_size g gen len crc (gate_unit_at_least_16 w.unit), gate_unit_at_least_16 w.unit))
 
-  -- The operation that opens a gate makes the steps of the gate.
-  gate_op_steps : (slot : ℕ) → write_some_steps w.sector slot (range_of_source Opened s front 0 g)
+  -- The operation that opens a gate has the steps of the gate.
+  gate_op_has_gate_steps : (slot : ℕ) → write_some_steps w.sector slot (range_of_source Opened s front 0 g)
       ≡ write_anew_steps w.sector slot (gate_unit g OPEN)
-  gate_op_steps slot =
+  gate_op_has_gate_steps slot =
       ap (λ (l : List ℕ). write_some_steps w.sector slot l) (range_is_gate_unit g OPEN (gate_unit_at_least_16 w.unit)
       (gate_unit_at_most_256 w.unit))
-      ∙ some_steps_are_anew w.sector slot (gate_unit g OPEN) (omega (
+      ∙ write_some_steps_are_anew w.sector slot (gate_unit g OPEN) (omega (
         arith,
-        gate_unit_length g OPEN (gate_unit_at_least_16 w.unit),
+        gate_unit_has_size g OPEN (gate_unit_at_least_16 w.unit),
         gate_unit_at_least_16 w.unit,
       ))
 
-  -- The operations of a commit write the held bytes, and open the slot.
+  -- The operations of a commit have the steps that write the held bytes, followed by those that open the slot.
   pub commit_ops_are_steps : (slot end gen crc : ℕ) → length s.held.now ≤ 256 → front ≡ header 2 gen end crc →
       ops_steps s front (operations w (Commit slot end (length s.held.now)))
       ≡ write_some_steps w.sector (held_bytes_place w slot end s.held.now) (filled_units w.unit s.held.now) ++ open_steps w slot gen end crc
   commit_ops_are_steps slot end gen crc few is =
       λ i. write_some_steps w.sector (held_bytes_place w slot end s.held.now) (range_is_filled_held_bytes w.unit s.held.now few i)
-      ++ (header_op_steps slot gen end crc is i ++ append-nil (gate_op_steps slot i) i)
+      ++ (header_op_has_header_steps slot gen end crc is i ++ append-nil (gate_op_has_gate_steps slot i) i)
 
-  -- Operations that write the header of a format, and its gate.
-  pub format_header_steps : (len crc : ℕ) → front ≡ header 2 0 len crc → op_steps_at s front (operations w (Commit 0 0 0)) 1
+  -- Operation number 1 of a commit of no bytes has the steps of the header of a format.
+  pub format_op_1_has_header_steps : (len crc : ℕ) → front ≡ header 2 0 len crc → op_steps_at s front (operations w (Commit 0 0 0)) 1
       ≡ write_anew_steps w.sector (0 + gate_room w) (header_unit g 0 len crc)
-  format_header_steps len crc is = header_op_steps 0 0 len crc is
+  format_op_1_has_header_steps len crc is = header_op_has_header_steps 0 0 len crc is
 
-  pub format_gate_steps : op_steps_at s front (operations w (Commit 0 0 0)) 2 ≡ write_anew_steps w.sector 0 (gate_unit g OPEN)
-  format_gate_steps = gate_op_steps 0
+  -- Operation number 2 of a commit of no bytes has the steps of the gate of a format.
+  pub format_op_2_has_gate_steps : op_steps_at s front (operations w (Commit 0 0 0)) 2 ≡ write_anew_steps w.sector 0 (gate_unit g OPEN)
+  format_op_2_has_gate_steps = gate_op_has_gate_steps 0
 
-  -- The operation of a piece of an image makes the steps of the piece.
+  -- The operation that writes a part of an image has the steps of that part.
   pub image_op_is_steps : (from : ℕ) → s.held.now ≡ [] → let image = s.block.now in
       ops_steps s front (operations w (Image from (length image)))
       ≡ write_some_steps w.sector (2 * gate_room w + from) (take 4096 (drop from (filled_units w.unit image)))
   image_op_is_steps from none =
       let image = s.block.now in
       let size = length image + fill_size w.unit (length image) in
-      let long : size ≡ length (filled_units w.unit image) = sym (filled_units_length w.unit image) in
+      let long : size ≡ length (filled_units w.unit image) = sym (filled_length_sums w.unit image) in
       let skip = min from size in
       let n = min (size - skip) 4096 in
       append-nil (write_some_steps w.sector (2 * gate_room w + from) (range_of_source Joined s front skip n))
@@ -133,12 +134,12 @@ module _ (s : WriteInputs) (front : List ℕ) where
       ∙ ap (λ (l : List ℕ). write_some_steps w.sector (2 * gate_room w + from) l)
       (range_is_image_piece w.unit image from skip n (ap (λ (k : ℕ). min from k) long) (ap (λ (k : ℕ). min (k - skip) 4096) long))
 
-  -- All operations have few bytes.
-
+  -- At most 255 zeros fill a unit.
   fill_at_most_255 : (u : WriteUnit) (n : ℕ) → fill_size u n ≤ 255
   fill_at_most_255 Byte n = omega arith
   fill_at_most_255 _ n = omega arith
 
+  -- The operations of a put have few bytes, if at most 256 bytes are held back and the block has at most 4096.
   pub put_ops_have_few_bytes : (slot end : ℕ) → length s.held.now ≤ 256 → length s.block.now ≤ 4096
       → OpsHaveFewBytes s front (operations w (Put slot end (length s.held.now) (length s.block.now)))
   put_ops_have_few_bytes slot end few most =
@@ -156,12 +157,13 @@ module _ (s : WriteInputs) (front : List ℕ) where
       by_test true = omega arith
       by_test false = omega arith
 
+  -- The operations that write a part of an image have few bytes.
   pub image_ops_have_few_bytes : (from : ℕ) → OpsHaveFewBytes s front (operations w (Image from (length s.block.now)))
   image_ops_have_few_bytes from =
       let most = fill_at_most_255 w.unit (length s.block.now) in
       ((omega arith, omega (arith, most, length-append s.held.now s.block.now)), tt)
 
--- The steps of the current part of a format are the steps of that part, by the memory of its writes.
+-- The steps of the current part of a format are those of its phase, computed from the inputs of its writes.
 pub part_in : (f : Formatting) (size : ℕ) (s : WriteInputs) → s.unit ≡ f.unit → s.sector ≡ f.sector → (x : FormatStep) → f.phase ≡ x
     → part_steps (input_grain s) (size / 2) s.block.now f.register x ≡ steps_of_part f size s.block.now
 part_in f size s unit sector x is = λ i. part_steps (grain_of (unit i) (sector i)) (size / 2) s.block.now f.register (sym is i)

@@ -1,4 +1,4 @@
--- Gate of the spare while writes are left: it is closed, or no write is carried out yet.
+-- Gate of the spare slot while writes are left: it is closed, or no write is carried out yet.
 use Rattle.std.proofs.Common.{◌≡◌, ◌≢◌, ◌⊎◌, inl, inr, ⊎_elim, ◌==◌, ◌&&◌, not, Bool, true, false, IsTrue, if◌then◌else◌, ℕ, zero, suc, ◌+◌, ◌-◌, ◌/◌, ◌≤◌, ◌<◌, List, [], ◌∷◌, ◌++◌, length, take, replicate, slice_index, Option, refl, sym, ◌∙◌, ap, subst, arith}
 use Rattle.std.proofs.lemmas.Bool.{cases_eq, and_parts, eqb-true, ne_eqb, cond-true, cond-false}
 use Rattle.std.proofs.lemmas.List.{length-take, length-replicate, append_assoc}
@@ -6,16 +6,16 @@ use Rattle.dfu_slots.specs.Units.{Grain, IsWhole, gate_size, gate_room, filled_u
 use Rattle.dfu_slots.specs.Medium.{MediumState, Write, written}
 use Rattle.dfu_slots.specs.Layout.{OPEN, slot_size, gate_unit, header_unit}
 use Rattle.dfu_slots.specs.Image.{gate_of, capacity_of, spare_at, HasImage}
-use Rattle.dfu_slots.specs.Writes.{erase_write, sector_erases, closed_gate, write_anew, put_writes, held_writes}
+use Rattle.dfu_slots.specs.Writes.{erase_write, sector_erases, closed_gate, erasing_write, put_writes, held_writes}
 use Rattle.dfu_slots.specs.StoreView.{SlotsState, is_begun}
 use Rattle.dfu_slots.specs.Store.{IsStore}
 use Rattle.dfu_slots.proofs.Newest.{tested_places_are_slots}
-use Rattle.dfu_slots.proofs.Torn.{whole_write_is_torn, written_bytes_in_range, first_of_range}
+use Rattle.dfu_slots.proofs.Torn.{whole_write_is_torn, written_bytes_in_range, range_begins_there}
 use Rattle.dfu_slots.proofs.Series.{AllWritesInside, appended_writes_inside}
 use Rattle.dfu_slots.proofs.Sectors.{gate_unit_at_least_16, gate_unit_at_most_256}
-use Rattle.dfu_slots.proofs.ErasedTo.{first_sector_erase}
-use Rattle.dfu_slots.proofs.Within.{write_of_no_bytes}
-use Rattle.dfu_slots.proofs.Parts.{gate_unit_length}
+use Rattle.dfu_slots.proofs.ErasedTo.{first_sector_is_erased_first}
+use Rattle.dfu_slots.proofs.Within.{empty_write_keeps_all}
+use Rattle.dfu_slots.proofs.Parts.{gate_unit_has_size}
 use Rattle.dfu_slots.proofs.Seeing.{begun_gate_is_closed}
 use Rattle.dfu_device.specs.declared.device_state.DeviceState.{DeviceState}
 use Rattle.dfu_device.specs.declared.device_state.DeviceState.TheVariants as device_state
@@ -31,36 +31,36 @@ use Rattle.dfu_asks.specs.Jobs.{held_bytes_place, job_writes, job_steps}
 use Rattle.dfu_asks.specs.Asks.{IsBlockJob, IsCommitJob, IsDueJobOfMode, grain_in, writes_in, steps_in}
 use Rattle.dfu_asks.specs.Calls.{WritesPending}
 use Rattle.dfu_asks.proofs.Carrying.{no_bytes_carried}
-use Rattle.dfu_asks.proofs.Working.{NextBlockFits, IsAll, block_in_device, commit_in_device}
-use Rattle.dfu_asks.proofs.Steps.{erases_before_write, step_writes_append, step_writes_of_marked, write_anew_step_writes, write_some_step_writes, job_steps_are_writes}
-use Rattle.dfu_asks.proofs.Partly.{byte_before_series_stays, series_keeps_length, last_write_not_begun, carried_list_after_list, last_step_in_one_piece, piece_lies_in_range}
+use Rattle.dfu_asks.proofs.Working.{NextBlockFits, IsAll, unwritten_block_may_be_written, due_commit_commits_all_puts}
+use Rattle.dfu_asks.proofs.Steps.{erases_before_write, step_writes_append, marking_keeps_writes, anew_steps_are_writes, some_steps_are_writes, job_steps_are_writes}
+use Rattle.dfu_asks.proofs.Partly.{byte_before_series_stays, series_keeps_length, last_write_has_no_effect_yet, lists_carried_one_after_other, last_step_is_one_piece, piece_lies_in_range}
 use Rattle.dfu_asks.proofs.Bits.{IsPartOfWrites, piece_is_part_of_writes}
-use Rattle.dfu_asks.proofs.Inside.{closed_gate_within_room, writes_inside_are_within, spare_place_is_edge, put_writes_after_gate, held_writes_after_gate, header_writes_after_gate, held_no_more_than_put, due_writes_inside_spare, spare_end_within_flash}
+use Rattle.dfu_asks.proofs.Inside.{closed_gate_fits_in_room, writes_inside_are_within, spare_place_is_edge, put_writes_after_gate, held_writes_after_gate, header_writes_after_gate, held_no_more_than_put, due_writes_inside_spare, spare_slot_in_medium}
 
--- The front of a list that has an element begins with it.
+-- A prefix of at least one element begins with the first element of the list.
 front_begins_with_first : (n x : ℕ) (xs : List ℕ) → 0 < n → take n (x ∷ xs) ≡ x ∷ take (n - 1) xs
 front_begins_with_first zero x xs lt = absurd (omega (arith, lt))
 front_begins_with_first (suc n) x xs lt = let e : n ≡ suc n - 1 = omega arith in ap (λ (k : ℕ). x ∷ take k xs) e
 
--- If one byte of a write or more is made, the first one is there.
-first_written_byte : (m : List ℕ) (at n x : ℕ) (bytes xs : List ℕ) → bytes ≡ x ∷ xs → 0 < n → at + length bytes ≤ length m
+-- The medium has the first byte of a write once at least one byte of it is written.
+first_byte_is_written : (m : List ℕ) (at n x : ℕ) (bytes xs : List ℕ) → bytes ≡ x ∷ xs → 0 < n → at + length bytes ≤ length m
     → slice_index (written m at (take n bytes)) at ≡ x
-first_written_byte m at n x bytes xs is some room =
+first_byte_is_written m at n x bytes xs is some room =
     let front = take n bytes in
     let count = length-take n bytes in
     let fits : at + length front ≤ length m = omega (arith, count, room) in
-    first_of_range (written m at front) at (at + length front) x (take (n - 1) xs)
+    range_begins_there (written m at front) at (at + length front) x (take (n - 1) xs)
     (omega (arith, count, ap length is, some))
     (written_bytes_in_range m at front fits ∙ ap (λ (l : List ℕ). take n l) is ∙ front_begins_with_first n x xs some)
 
--- Bytes that close a gate: they begin with a byte that does not open it.
+-- The bytes close a gate: they begin with a byte that is not that of an open gate.
 record ClosesGate (bytes : List ℕ) : Type 0 where
   first : ℕ
   rest : List ℕ
   is : bytes ≡ first ∷ rest
   shut : first ≢ OPEN
 
--- Bytes FFh close a gate.
+-- At least one byte FFh closes a gate.
 ff_bytes_close_gate : (n : ℕ) → 0 < n → ClosesGate (replicate n 255)
 ff_bytes_close_gate zero some = absurd (omega (arith, some))
 ff_bytes_close_gate (suc n) some = record { first = 255; rest = replicate n 255; is = refl; shut = λ e. omega (arith, e) }
@@ -77,17 +77,17 @@ closed_gate_closes w = elim (cases_eq w.sector 0) [
       (ff_bytes_close_gate w.sector (omega (arith, some)))
 ]
 
--- A gate that is not open stays so while bytes that close it are written from it on.
+-- A gate that is not open stays so while bytes that close a gate are written over it, in whole or in part.
 torn_close_stays_closed : (m : List ℕ) (at n : ℕ) (bytes : List ℕ) → ClosesGate bytes → at + length bytes ≤ length m →
     slice_index m at ≢ OPEN
     → slice_index (written m at (take n bytes)) at ≢ OPEN
 torn_close_stays_closed m at n bytes c room off = elim (cases_eq n 0) [
   | inl none ↦ λ e. off (sym (ap (λ (k : ℕ). slice_index (written m at (take k bytes)) at) none
-      ∙ ap (λ (l : List ℕ). slice_index l at) (write_of_no_bytes m at)) ∙ e)
-  | inr some ↦ λ e. c.shut (sym (first_written_byte m at n c.first bytes c.rest c.is (omega (arith, some)) room) ∙ e)
+      ∙ ap (λ (l : List ℕ). slice_index l at) (empty_write_keeps_all m at)) ∙ e)
+  | inr some ↦ λ e. c.shut (sym (first_byte_is_written m at n c.first bytes c.rest c.is (omega (arith, some)) room) ∙ e)
 ]
 
--- Gate of the spare.
+-- Gate of the spare slot during the writes of a row.
 
 module _ (s : SlotsState) (store : IsStore s) (w : Grain) (grain : s.medium.grain ≡ w) where
   abbrev place : ℕ
@@ -99,18 +99,18 @@ module _ (s : SlotsState) (store : IsStore s) (w : Grain) (grain : s.medium.grai
   abbrev m : List ℕ
   m = s.medium.bytes
 
-  -- Nothing is carried out, or the gate is closed.
+  -- No write has changed the medium yet, or the gate of the spare slot is closed.
   abbrev pub IsUntouchedOrClosed : List ℕ → Type 0
   IsUntouchedOrClosed now = (now ≡ m) ⊎ (slice_index now place ≢ OPEN)
 
-  -- Writes after the gate leave it closed.
+  -- Writes behind the gate leave the gate closed.
   later_writes_keep_gate_closed : (ws : List Write) (n : ℕ) → is_begun s ≡ true → AllWritesInside (place + 1) to ws
       → slice_index (bytes_after_writes m ws n) place ≢ OPEN
   later_writes_keep_gate_closed ws n begun inside e =
-      begun_gate_is_closed s begun (sym (byte_before_series_stays ws m n place to (spare_end_within_flash s store w grain) inside) ∙ e)
+      begun_gate_is_closed s begun (sym (byte_before_series_stays ws m n place to (spare_slot_in_medium s store w grain) inside) ∙ e)
 
   spare_gate_within_medium : place + gate_room w ≤ length m
-  spare_gate_within_medium = omega (arith, spare_end_within_flash s store w grain, store.has_image.active.sized.room, ap gate_room grain)
+  spare_gate_within_medium = omega (arith, spare_slot_in_medium s store w grain, store.has_image.active.sized.room, ap gate_room grain)
 
   block_writes_keep_gate_closed : (close : Bool) (n k : ℕ) (held b : List ℕ) → (close ≡ false → is_begun s ≡ true)
       → AllWritesInside (place + 1) to (put_writes w (held_bytes_place w place n held) held b)
@@ -124,20 +124,20 @@ module _ (s : SlotsState) (store : IsStore s) (w : Grain) (grain : s.medium.grai
       elim (cases_eq k 0) [
         | inl none ↦ inl (ap (λ (i : ℕ). bytes_after_writes m (closed ∷ ws) i) none ∙ no_bytes_carried (closed ∷ ws) m)
         | inr some ↦
-            let room : place + length (closed_gate w) ≤ length m = omega (arith, spare_gate_within_medium, closed_gate_within_room w) in
+            let room : place + length (closed_gate w) ≤ length m = omega (arith, spare_gate_within_medium, closed_gate_fits_in_room w) in
             let fits = whole_write_is_torn m place (take k (closed_gate w)) (omega (arith, length-take k (closed_gate w), room)) in
             let byte : slice_index (bytes_after_writes m (closed ∷ ws) k) place ≡ c.first =
             byte_before_series_stays ws mid (k - length (closed_gate w)) place to (omega (
               arith,
               fits.size,
-              spare_end_within_flash s store
+              spare_slot_in_medium s store
                   w grain,
             )) inside
-            ∙ first_written_byte m place k c.first (closed_gate w) c.rest c.is (omega (arith, some)) room in
+            ∙ first_byte_is_written m place k c.first (closed_gate w) c.rest c.is (omega (arith, some)) room in
             inr (λ e. c.shut (sym byte ∙ e))
       ]
 
-  -- The erase before a gate is written leaves it closed.
+  -- The erase before the write of a gate leaves the gate closed.
   gate_erase_keeps_closed : (now : List ℕ) (n : ℕ) → length now ≡ length m → slice_index now place ≢ OPEN
       → slice_index (bytes_after_writes now (erases_before_write w.sector place (gate_unit (gate_size w.unit) OPEN)) n) place ≢ OPEN
   gate_erase_keeps_closed now n size off = elim (cases_eq w.sector 0) [
@@ -148,14 +148,14 @@ module _ (s : SlotsState) (store : IsStore s) (w : Grain) (grain : s.medium.grai
         subst (λ (ws : List Write). slice_index (bytes_after_writes now ws n) place ≢ OPEN) (sym e) off
     | inr some ↦
         let count : length (gate_unit (gate_size w.unit) OPEN) ≡ gate_size w.unit =
-        gate_unit_length (gate_size w.unit) OPEN (gate_unit_at_least_16 w.unit) in
+        gate_unit_has_size (gate_size w.unit) OPEN (gate_unit_at_least_16 w.unit) in
         let whole = subst (λ (x : Grain). IsWhole x (capacity_of s.medium)) grain store.has_image.active.sized.whole in
         let large : 256 ≤ w.sector = omega (arith, some, whole.pages) in
         let few : gate_size w.unit ≤ w.sector = omega (arith, large, gate_unit_at_most_256 w.unit) in
         let none : length (gate_unit (gate_size w.unit) OPEN) - w.sector ≡ 0 = omega (arith, count, few) in
         let e : erases_before_write w.sector place (gate_unit (gate_size w.unit) OPEN) ≡ erase_write w.sector place ∷ [] =
         cond-false (w.sector == 0) [] (sector_erases w.sector place (length (gate_unit (gate_size w.unit) OPEN))) (ne_eqb w.sector 0 some)
-        ∙ first_sector_erase w.sector place (length (gate_unit (gate_size w.unit) OPEN)) (omega (arith, large))
+        ∙ first_sector_is_erased_first w.sector place (length (gate_unit (gate_size w.unit) OPEN)) (omega (arith, large))
         (spare_place_is_edge s store w grain (omega (arith, large))) (omega (arith, count, gate_unit_at_least_16 w.unit))
         ∙ ap (λ (k : ℕ). erase_write w.sector place ∷ sector_erases w.sector (place + w.sector) k) none in
         subst (λ (ws : List Write). slice_index (bytes_after_writes now ws n) place ≢ OPEN) (sym e)
@@ -179,30 +179,30 @@ module _ (s : SlotsState) (store : IsStore s) (w : Grain) (grain : s.medium.grai
       append_assoc (part ++ head) erase (gate ∷ []) ∙ append_assoc part head (erase ++ gate ∷ []) in
       let writes : step_writes (front ++ gate ∷ []) ≡ job_writes (slot_write.Commit place gen crc) w n held b =
       ap step_writes same ∙ job_steps_are_writes (slot_write.Commit place gen crc) w n held b in
-      let le : k ≤ total (step_writes front) = last_step_in_one_piece front gate k
-      (omega (arith, gate_unit_length (gate_size w.unit) OPEN (gate_unit_at_least_16 w.unit), gate_unit_at_most_256 w.unit))
+      let le : k ≤ total (step_writes front) = last_step_is_one_piece front gate k
+      (omega (arith, gate_unit_has_size (gate_size w.unit) OPEN (gate_unit_at_least_16 w.unit), gate_unit_at_most_256 w.unit))
       (subst (λ (ss : List Step). EndsAtPiece ss k) (sym same) reached)
       (subst (λ (ws : List Write). k < total ws) (sym writes) left) in
       let ps = held_writes w (held_bytes_place w place n held) held in
-      let hs = write_anew w.sector (place + gate_room w) (header_unit (gate_size w.unit) gen n crc) in
+      let hs = erasing_write w.sector (place + gate_room w) (header_unit (gate_size w.unit) gen n crc) in
       let es = erases_before_write w.sector place bytes in
       let front_is : step_writes front ≡ (ps ++ hs) ++ es =
       step_writes_append (part ++ head) erase
       ∙ ap (λ (ws : List Write). ws ++ step_writes erase) (step_writes_append part head)
-      ∙ (λ i. write_some_step_writes w.sector (held_bytes_place w place n held) (filled_units w.unit held) i
-      ++ write_anew_step_writes w.sector (place + gate_room w) (header_unit (gate_size w.unit) gen n crc) i
-      ++ step_writes_of_marked true es i) in
+      ∙ (λ i. some_steps_are_writes w.sector (held_bytes_place w place n held) (filled_units w.unit held) i
+      ++ anew_steps_are_writes w.sector (place + gate_room w) (header_unit (gate_size w.unit) gen n crc) i
+      ++ marking_keeps_writes true es i) in
       let within = appended_writes_inside (place + 1) to ps hs inside (header_writes_after_gate s store w grain n gen crc) in
       let is : bytes_after_writes m (job_writes (slot_write.Commit place gen crc) w n held b) k ≡ bytes_after_writes
       (bytes_after_writes m (ps ++ hs) k) es (k - total (ps ++ hs)) =
       ap (λ (ws : List Write). bytes_after_writes m ws k) (sym writes ∙ step_writes_append front (gate ∷ []))
-      ∙ last_write_not_begun (step_writes front) gate.write m k le
+      ∙ last_write_has_no_effect_yet (step_writes front) gate.write m k le
       ∙ ap (λ (ws : List Write). bytes_after_writes m ws k) front_is
-      ∙ carried_list_after_list (ps ++ hs) es m k in
+      ∙ lists_carried_one_after_other (ps ++ hs) es m k in
       subst IsUntouchedOrClosed (sym is)
       (inr (gate_erase_keeps_closed (bytes_after_writes m (ps ++ hs) k) (k - total (ps ++ hs))
       (series_keeps_length (ps ++ hs) m k (writes_inside_are_within (ps
-      ++ hs) (place + 1) to (length m) within (spare_end_within_flash s store w grain)))
+      ++ hs) (place + 1) to (length m) within (spare_slot_in_medium s store w grain)))
       (later_writes_keep_gate_closed (ps ++ hs) k begun within)))
 
   begun_unless_gate_closed : (first begun : Bool) → (first && not begun) ≡ false → first ≡ true → begun ≡ true
@@ -233,22 +233,22 @@ module _ (s : SlotsState) (store : IsStore s) (w : Grain) (grain : s.medium.grai
       (commit_keeps_gate_until_last n _ _ k s.held b put.0 (held_writes_after_gate s store w grain n (eqb-true _ _ put.1))
       (subst (λ (ss : List Step). EndsAtPiece ss k) steps reached) (subst (λ (ws : List Write). k < total ws) same left))
 
-  -- While writes of the row that is due are left, the spare's gate is closed, or no write is carried out yet.
+  -- The gate of the spare slot is closed, or no write is carried out yet, while writes of the due row are left.
   pub due_writes_keep_gate_closed : (b held : List ℕ) (end : ℕ) (j : SlotWrite) (k : ℕ)
       → (m : DeviceState) (asked : Option ℕ) (len : ℕ) → IsTrue (are_device_parts m (length b) s) → IsDueJobOfMode m asked len s j end held
       → EndsAtPiece (job_steps j w end held b) k → k < total (job_writes j w end held b)
       → IsUntouchedOrClosed (bytes_after_writes s.medium.bytes (job_writes j w end held b) k)
   due_writes_keep_gate_closed b held end j k (device_state.DownloadSync n number) asked len sound due reached left =
-      block_job_keeps_closed b held end j k n (block_in_device n (length b) s sound) due.1
+      block_job_keeps_closed b held end j k n (unwritten_block_may_be_written n (length b) s sound) due.1
   due_writes_keep_gate_closed b held end j k (device_state.DownloadBusy n number passed) asked len sound due reached left =
-      block_job_keeps_closed b held end j k n (block_in_device n (length b) s sound) due.1
+      block_job_keeps_closed b held end j k n (unwritten_block_may_be_written n (length b) s sound) due.1
   due_writes_keep_gate_closed b held end j k (device_state.ManifestSync n) asked len sound due reached left =
-      commit_job_keeps_closed b held end j k n (commit_in_device n s sound) due.1 reached left
+      commit_job_keeps_closed b held end j k n (due_commit_commits_all_puts n s sound) due.1 reached left
   due_writes_keep_gate_closed b held end j k (device_state.Manifest n passed) asked len sound due reached left =
-      commit_job_keeps_closed b held end j k n (commit_in_device n s sound) due.1 reached left
+      commit_job_keeps_closed b held end j k n (due_commit_commits_all_puts n s sound) due.1 reached left
   due_writes_keep_gate_closed b held end j k m asked len sound due reached left = absurd due
 
--- The next piece lies within a slot that is the spare, or whose gate is closed.
+-- The piece lies within a slot that is the spare slot, or whose gate is closed.
 pub record PieceInClosedSlot (a : LentDevice) (flash : List ℕ) (p : Step) : Type 0 where
   pub slot : ℕ
   pub either : (slot ≡ 0) ⊎ (slot ≡ slot_size flash)
@@ -257,7 +257,7 @@ pub record PieceInClosedSlot (a : LentDevice) (flash : List ℕ) (p : Step) : Ty
   pub shut : (slice_index flash slot ≢ OPEN)
       ⊎ (HasImage (mapped_medium (grain_in a) flash) × (spare_at (gate_of (mapped_medium (grain_in a) flash)) flash ≡ slot))
 
--- The piece that a device asks for lies within such a slot.
+-- The piece that a device asks for lies within a slot that is the spare slot, or whose gate is closed.
 pub asked_piece_in_closed_slot : (a : LentDevice) (len : ℕ) (s : SlotsState) (was flash : List ℕ) (k : WritesPending a len s was flash) (p
     : Step)
     → IsStepPiece (steps_in a k.work) k.work.done p → PieceInClosedSlot a flash p
@@ -276,7 +276,7 @@ asked_piece_in_closed_slot a len s was flash k p piece =
     let size : length flash ≡ length s.medium.bytes = ap length is
     ∙ series_keeps_length ws s.medium.bytes done (writes_inside_are_within ws place (place + slot_size s.medium.bytes) (length
     s.medium.bytes) inside
-    (spare_end_within_flash s store (grain_in a) grain)) in
+    (spare_slot_in_medium s store (grain_in a) grain)) in
     let half : slot_size flash ≡ slot_size s.medium.bytes = ap (λ (n : ℕ). n / 2) size in
     let range = piece_lies_in_range ws done p.write place (place + slot_size s.medium.bytes) inside
     (subst (λ (vs : List Write). IsPartOfWrites vs done p.write) (job_steps_are_writes k.work.job (grain_in a) a.put_end a.held a.block)

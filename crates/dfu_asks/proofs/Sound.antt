@@ -1,4 +1,4 @@
--- Erases of a row: each is of a whole sector.
+-- Erases of a row: each erases a whole sector.
 use Rattle.std.proofs.Common.{◌≡◌, ◌≢◌, inl, inr, ◌==◌, ◌&&◌, not, Bool, true, false, if◌then◌else◌, ℕ, zero, suc, ◌+◌, ◌-◌, ◌%◌, min, List, [], ◌∷◌, ◌++◌, length, take, drop, replicate, Option, refl, sym, ◌∙◌, ap, subst, arith}
 use Rattle.std.proofs.lemmas.Bool.{eqb-true, eqb-false, false≢true}
 use Rattle.std.proofs.lemmas.List.{length-replicate}
@@ -27,6 +27,7 @@ abbrev pub StepsEraseSectors : ℕ → List Step → Type 0
 StepsEraseSectors sector [] = Unit {0}
 StepsEraseSectors sector (s ∷ ss) = ErasesSectorOrPrograms sector s × StepsEraseSectors sector ss
 
+-- Each step of two joined lists erases a whole sector, or programs, if each step of both lists does.
 pub steps_erase_sectors_append : (sector : ℕ) (xs ys : List Step) → StepsEraseSectors sector xs → StepsEraseSectors sector ys →
     StepsEraseSectors sector (xs ++ ys)
 steps_erase_sectors_append sector [] ys a b = b
@@ -42,6 +43,7 @@ sector_erases_erase_sectors sector at (suc n) = by_test (at % sector == 0) refl 
     by_test true is more = (λ e. (length-replicate {A = ℕ} sector 255, eqb-true _ _ is), more)
     by_test false is more = more
 
+-- Each step of a write with its erases erases a whole sector, or programs.
 pub write_anew_erases_sectors : (sector at : ℕ) (bytes : List ℕ) → StepsEraseSectors sector (write_anew_steps sector at bytes)
 write_anew_erases_sectors sector at bytes = by_test (sector == 0)
   where
@@ -53,6 +55,7 @@ write_anew_erases_sectors sector at bytes = by_test (sector == 0)
         (sector_erases_erase_sectors sector at (length bytes))
         (λ e. absurd (false≢true e), tt)
 
+-- Each step of `write_some` erases a whole sector, or programs.
 pub write_some_erases_sectors : (sector at : ℕ) (bytes : List ℕ) → StepsEraseSectors sector (write_some_steps sector at bytes)
 write_some_erases_sectors sector at bytes = by_test (length bytes == 0)
   where
@@ -60,6 +63,7 @@ write_some_erases_sectors sector at bytes = by_test (length bytes == 0)
     by_test true = tt
     by_test false = write_anew_erases_sectors sector at bytes
 
+-- The step that closes a gate erases a whole sector, or programs, if the slot begins with a sector.
 pub close_step_erases_sector : (w : Grain) (at : ℕ) → IsSectorEdge w.sector at → ErasesSectorOrPrograms w.sector (close_step w at)
 close_step_erases_sector w at edge = by_test (w.sector == 0) refl
   where
@@ -99,7 +103,7 @@ commit_steps_erase_sectors w spare gen crc end held b =
     (steps_erase_sectors_append w.sector (write_anew_steps w.sector (spare + gate_room w) header) (write_anew_steps w.sector spare gate)
     (write_anew_erases_sectors w.sector (spare + gate_room w) header) (write_anew_erases_sectors w.sector spare gate))
 
--- If the bytes so far end with a piece, the next piece erases a whole sector, or programs.
+-- The next piece erases a whole sector, or programs, if the bytes so far end where a piece ends.
 pub next_piece_erases_sector : (sector : ℕ) (ss : List Step) (n : ℕ) (p : Step) → StepsEraseSectors sector ss → EndsAtPiece ss n →
     IsStepPiece ss n p →
     ErasesSectorOrPrograms sector p
@@ -127,7 +131,7 @@ module _ (s : SlotsState) (store : IsStore s) (w : Grain) (grain : s.medium.grai
   commit_job_erases_sectors n is = subst (λ (x : SlotWrite). StepsEraseSectors w.sector (job_steps x w end held b)) (sym is.job_is)
       (commit_steps_erase_sectors w _ _ _ end held b)
 
-  -- The steps of the row that is due erase whole sectors, or program.
+  -- Each step of the due row erases a whole sector, or programs.
   due_steps_erase_sectors : (m : DeviceState) (asked : Option ℕ) (len : ℕ) → IsDueJobOfMode m asked len s j end held
       → StepsEraseSectors w.sector (job_steps j w end held b)
   due_steps_erase_sectors (device_state.DownloadSync n number) asked len due = block_job_erases_sectors n due.1

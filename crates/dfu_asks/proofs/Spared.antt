@@ -1,20 +1,20 @@
--- A range within the spare slot.
+-- Ranges within the spare slot.
 use Rattle.std.proofs.Common.{◌≡◌, ◌≢◌, ◌⊎◌, inl, inr, ⊎_elim, nat_eq, not, IsTrue, ℕ, ◌+◌, ◌*◌, ◌≤◌, ◌<◌, List, slice_index, sym, ◌∙◌, ap, arith}
 use Rattle.std.proofs.lemmas.Grind.{common_steps}
 use Rattle.dfu_slots.specs.Medium.{MediumState}
 use Rattle.dfu_slots.specs.Layout.{slot_size, OPEN}
 use Rattle.dfu_slots.specs.Image.{gate_of, spare_at, Active}
 use Rattle.dfu_slots.proofs.Stands.{active_image_at_its_place}
-use Rattle.dfu_slots.proofs.Newest.{places_of_active_image}
+use Rattle.dfu_slots.proofs.Newest.{test_finds_active_image}
 use Rattle.dfu_asks.specs.Mapped.{IsSlotOf, RangeIsInSpare}
 
--- Two numbers that are tested equal are equal.
-pub equal_if_tested_equal : (a b : ℕ) → IsTrue (nat_eq a b) → a ≡ b
-equal_if_tested_equal a b t = grind (arith, common_steps)
+-- Two numbers are equal if the test `nat_eq` says so.
+pub tested_equal_is_equal : (a b : ℕ) → IsTrue (nat_eq a b) → a ≡ b
+tested_equal_is_equal a b t = grind (arith, common_steps)
 
--- Two numbers that are tested unequal are unequal.
-pub unequal_if_tested_unequal : (a b : ℕ) → IsTrue (not (nat_eq a b)) → a ≢ b
-unequal_if_tested_unequal a b t = grind (arith, common_steps)
+-- Two numbers are unequal if the test `nat_eq` is false.
+pub tested_unequal_is_unequal : (a b : ℕ) → IsTrue (not (nat_eq a b)) → a ≢ b
+tested_unequal_is_unequal a b t = grind (arith, common_steps)
 
 -- The slot of a place begins at the place, or before it.
 pub slot_begins_before_place : (at size slot : ℕ) → IsSlotOf at size slot → slot ≤ at
@@ -27,9 +27,9 @@ slot_of_place_is_one_of_two at size slot (inl first) = inl first.1
 slot_of_place_is_one_of_two at size slot (inr second) = inr second.1
 
 -- The slot of a place within the flash begins within the flash.
-pub slot_of_place_within_flash : (at size slot len : ℕ) → IsSlotOf at size slot → 0 < len → at + len ≤ slot + size → slot < 2 * size
-slot_of_place_within_flash at size slot len (inl first) some high = omega (arith, first.0, first.1)
-slot_of_place_within_flash at size slot len (inr second) some high = omega (arith, second.0, second.1, some, high)
+pub slot_of_place_begins_in_flash : (at size slot len : ℕ) → IsSlotOf at size slot → 0 < len → at + len ≤ slot + size → slot < 2 * size
+slot_of_place_begins_in_flash at size slot len (inl first) some high = omega (arith, first.0, first.1)
+slot_of_place_begins_in_flash at size slot len (inr second) some high = omega (arith, second.0, second.1, some, high)
 
 -- The slot of a place is unique.
 pub slot_of_place_is_unique : (at size slot : ℕ) → IsSlotOf at size slot → (k : ℕ) → (k ≡ 0) ⊎ (k ≡ size) → k ≤ at → at < k + size → k
@@ -39,11 +39,12 @@ slot_of_place_is_unique at size slot (inl here) k (inr second) low high = absurd
 slot_of_place_is_unique at size slot (inr here) k (inl first) low high = absurd (omega (arith, first, high, here.0))
 slot_of_place_is_unique at size slot (inr here) k (inr second) low high = omega (arith, second, here.1)
 
--- A slot with a closed gate is the spare, if there is an active image.
-pub closed_slot_is_spare : (m : MediumState) (image : List ℕ) (slot at len : ℕ) → Active m image → (slot ≡ 0) ⊎ (slot ≡ slot_size m.bytes)
+-- A range in a slot with a closed gate lies in the spare slot, if there is an active image.
+pub closed_slot_range_is_in_spare : (m : MediumState) (image : List ℕ) (slot at len : ℕ) → Active m image
+    → (slot ≡ 0) ⊎ (slot ≡ slot_size m.bytes)
     → slice_index m.bytes slot ≢ OPEN → slot ≤ at → at + len ≤ slot + slot_size m.bytes → RangeIsInSpare m at len
-closed_slot_is_spare m image slot at len a either shut low high =
-    let is : a.spare ≡ spare_at (gate_of m) m.bytes = (places_of_active_image (gate_of m) m.bytes a.at a.spare image
+closed_slot_range_is_in_spare m image slot at len a either shut low high =
+    let is : a.spare ≡ spare_at (gate_of m) m.bytes = (test_finds_active_image (gate_of m) m.bytes a.at a.spare image
     (active_image_at_its_place a)).1 in
     let other : slot ≡ a.at → ⊥ = λ e. shut (ap (λ (k : ℕ). slice_index m.bytes k) e ∙ a.newest.counts.is_open) in
     let spare : slot ≡ a.spare =
@@ -53,8 +54,8 @@ closed_slot_is_spare m image slot at len a either shut low high =
     a.places in
     record { from = omega (arith, low, spare, is); to = omega (arith, high, spare, is) }
 
--- A range of a slot that was found to be the spare is a range of the spare.
-pub found_slot_is_spare : (m : MediumState) (slot at len : ℕ) → spare_at (gate_of m) m.bytes ≡ slot → slot ≤ at
+-- A range in the slot that begins at the place of the spare slot lies in the spare slot.
+pub range_at_spare_is_in_spare : (m : MediumState) (slot at len : ℕ) → spare_at (gate_of m) m.bytes ≡ slot → slot ≤ at
     → at + len ≤ slot + slot_size m.bytes
     → RangeIsInSpare m at len
-found_slot_is_spare m slot at len is low high = record { from = omega (arith, low, is); to = omega (arith, high, is) }
+range_at_spare_is_in_spare m slot at len is low high = record { from = omega (arith, low, is); to = omega (arith, high, is) }

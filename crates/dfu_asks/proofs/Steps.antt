@@ -1,38 +1,39 @@
--- Writes of lists of steps.
+-- Writes of a list of steps.
 use Rattle.std.proofs.Common.{◌≡◌, ◌==◌, Bool, true, false, if◌then◌else◌, ℕ, ◌+◌, List, [], ◌∷◌, ◌++◌, length, take, drop, refl, ◌∙◌, ap}
 use Rattle.dfu_slots.specs.Units.{Grain, gate_size, gate_room, whole_part, filled_units}
 use Rattle.dfu_slots.specs.Medium.{Write}
 use Rattle.dfu_slots.specs.Layout.{OPEN, gate_unit, header_unit}
-use Rattle.dfu_slots.specs.Writes.{sector_erases, closed_gate, write_anew, write_some, head_write_size, put_writes, open_writes}
+use Rattle.dfu_slots.specs.Writes.{sector_erases, closed_gate, erasing_write, write_some, head_write_size, put_writes, open_writes}
 use Rattle.dfu_asks.specs.declared.pending_writes.SlotWrite.{SlotWrite}
 use Rattle.dfu_asks.specs.declared.pending_writes.SlotWrite.TheVariants as slot_write
 use Rattle.dfu_asks.specs.Steps.{Step, step_writes, steps_of_writes, program_step, write_anew_steps, write_some_steps, put_steps, open_steps}
 use Rattle.dfu_asks.specs.Jobs.{held_bytes_place, job_writes, job_steps}
 
--- The writes of two lists of steps are those of the first, and then those of the second.
+-- The writes of two joined lists of steps are those of the first, followed by those of the second.
 pub step_writes_append : (xs ys : List Step) → step_writes (xs ++ ys) ≡ step_writes xs ++ step_writes ys
 step_writes_append [] ys = refl
 step_writes_append (x ∷ xs) ys = ap (λ (ws : List Write). x.write ∷ ws) (step_writes_append xs ys)
 
--- Writes that were marked as steps are the writes of those steps.
-pub step_writes_of_marked : (b : Bool) (ws : List Write) → step_writes (steps_of_writes b ws) ≡ ws
-step_writes_of_marked b [] = refl
-step_writes_of_marked b (w ∷ ws) = ap (λ (vs : List Write). w ∷ vs) (step_writes_of_marked b ws)
+-- Steps that were made by marking writes have those writes.
+pub marking_keeps_writes : (b : Bool) (ws : List Write) → step_writes (steps_of_writes b ws) ≡ ws
+marking_keeps_writes b [] = refl
+marking_keeps_writes b (w ∷ ws) = ap (λ (vs : List Write). w ∷ vs) (marking_keeps_writes b ws)
 
--- Marking two lists of writes is marking the first, and then the second.
-pub marked_steps_append : (b : Bool) (xs ys : List Write) → steps_of_writes b (xs ++ ys) ≡ steps_of_writes b xs ++ steps_of_writes b ys
-marked_steps_append b [] ys = refl
-marked_steps_append b (x ∷ xs) ys = ap (λ (ss : List Step). record { erases = b; write = x } ∷ ss) (marked_steps_append b xs ys)
+-- Marking two joined lists of writes gives the marked first list, followed by the marked second.
+pub marking_joins_over_lists : (b : Bool) (xs ys : List Write) → steps_of_writes b (xs ++ ys) ≡ steps_of_writes b xs ++ steps_of_writes b ys
+marking_joins_over_lists b [] ys = refl
+marking_joins_over_lists b (x ∷ xs) ys = ap (λ (ss : List Step). record { erases = b; write = x } ∷ ss) (marking_joins_over_lists b xs ys)
 
 -- The erases before a write.
 abbrev pub erases_before_write : ℕ → ℕ → List ℕ → List Write
 erases_before_write sector at bytes = if sector == 0 then [] else sector_erases sector at (length bytes)
 
 -- The steps of a write with its erases have its writes.
-pub write_anew_step_writes : (sector at : ℕ) (bytes : List ℕ) → step_writes (write_anew_steps sector at bytes) ≡ write_anew sector at bytes
-write_anew_step_writes sector at bytes =
+pub anew_steps_are_writes : (sector at : ℕ) (bytes : List ℕ)
+    → step_writes (write_anew_steps sector at bytes) ≡ erasing_write sector at bytes
+anew_steps_are_writes sector at bytes =
     step_writes_append (steps_of_writes true (erases_before_write sector at bytes)) (program_step at bytes ∷ [])
-    ∙ ap (λ (ws : List Write). ws ++ record { at = at; bytes = bytes } ∷ []) (step_writes_of_marked true (erases_before_write sector at
+    ∙ ap (λ (ws : List Write). ws ++ record { at = at; bytes = bytes } ∷ []) (marking_keeps_writes true (erases_before_write sector at
     bytes))
 
 conditional_step_writes : (b : Bool) (ss : List Step) (ws : List Write) → step_writes ss ≡ ws
@@ -41,25 +42,27 @@ conditional_step_writes true ss ws same = refl
 conditional_step_writes false ss ws same = same
 
 -- The steps of `write_some` have its writes.
-pub write_some_step_writes : (sector at : ℕ) (bytes : List ℕ) → step_writes (write_some_steps sector at bytes) ≡ write_some sector at bytes
-write_some_step_writes sector at bytes =
-    conditional_step_writes (length bytes == 0) (write_anew_steps sector at bytes) (write_anew sector at bytes) (write_anew_step_writes
+pub some_steps_are_writes : (sector at : ℕ) (bytes : List ℕ) → step_writes (write_some_steps sector at bytes) ≡ write_some sector at bytes
+some_steps_are_writes sector at bytes =
+    conditional_step_writes (length bytes == 0) (write_anew_steps sector at bytes) (erasing_write sector at bytes) (anew_steps_are_writes
     sector at bytes)
 
+-- The steps of a `put` have its writes.
 put_steps_are_writes : (w : Grain) (at : ℕ) (held block : List ℕ) → step_writes (put_steps w at held block) ≡ put_writes w at held block
 put_steps_are_writes w at held block =
     let all = held ++ block in
     let head = head_write_size w.unit held block in
     let back = drop head (take (whole_part w.unit (length all)) all) in
     step_writes_append (write_some_steps w.sector at (take head all)) (write_some_steps w.sector (at + head) back)
-    ∙ (λ i. write_some_step_writes w.sector at (take head all) i ++ write_some_step_writes w.sector (at + head) back i)
+    ∙ (λ i. some_steps_are_writes w.sector at (take head all) i ++ some_steps_are_writes w.sector (at + head) back i)
 
+-- The steps that open a slot have the writes that open it.
 pub open_steps_are_writes : (w : Grain) (at gen len crc : ℕ) → step_writes (open_steps w at gen len crc) ≡ open_writes w at gen len crc
 open_steps_are_writes w at gen len crc =
     let header = header_unit (gate_size w.unit) gen len crc in
     let gate = gate_unit (gate_size w.unit) OPEN in
     step_writes_append (write_anew_steps w.sector (at + gate_room w) header) (write_anew_steps w.sector at gate)
-    ∙ (λ i. write_anew_step_writes w.sector (at + gate_room w) header i ++ write_anew_step_writes w.sector at gate i)
+    ∙ (λ i. anew_steps_are_writes w.sector (at + gate_room w) header i ++ anew_steps_are_writes w.sector at gate i)
 
 -- The steps of a job have its writes.
 pub job_steps_are_writes : (j : SlotWrite) (w : Grain) (end : ℕ) (held block : List ℕ)
@@ -71,5 +74,5 @@ job_steps_are_writes (slot_write.Block spare false) w end held block = put_steps
 job_steps_are_writes (slot_write.Commit spare gen crc) w end held block =
     step_writes_append (write_some_steps w.sector (held_bytes_place w spare end held) (filled_units w.unit held)) (open_steps w spare gen
     end crc)
-    ∙ (λ i. write_some_step_writes w.sector (held_bytes_place w spare end held) (filled_units w.unit held) i
+    ∙ (λ i. some_steps_are_writes w.sector (held_bytes_place w spare end held) (filled_units w.unit held) i
     ++ open_steps_are_writes w spare gen end crc i)

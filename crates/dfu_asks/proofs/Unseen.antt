@@ -1,4 +1,4 @@
--- Unseen state of a medium: a slot store does not show it.
+-- Unseen state of a medium, which changes no visible value of a slot store.
 use Rattle.std.proofs.Common.{◌≡◌, ◌==◌, ◌&&◌, ◌||◌, not, nat_le, nat_lt, ◌+◌, ◌^◌, ◌-◌, Bool, IsTrue, ℕ, List, [], length, take, Option, refl, sym, ◌∙◌, subst}
 use Rattle.dfu_suffix.specs.Register.{register}
 use Rattle.dfu_slots.specs.Layout.{generation, next_generation}
@@ -20,14 +20,14 @@ unseen_of_mapped = record { failures = 2 ^ 64 - 1; fuse = Unknown; tag = [] }
 
 module _ (u : UnseenState) (s : SlotsState) where
   -- The active image does not depend on the unseen state.
-  pub image_with_unseen : image_of (store_with_unseen u s) ≡ image_of s
+  pub image_ignores_unseen : image_of (store_with_unseen u s) ≡ image_of s
   unfolding image_of
-  image_with_unseen = refl
+  image_ignores_unseen = refl
 
   -- The data of the spare does not depend on the unseen state.
-  pub spare_with_unseen : spare_of (store_with_unseen u s) ≡ spare_of s
+  pub spare_ignores_unseen : spare_of (store_with_unseen u s) ≡ spare_of s
   unfolding spare_of
-  spare_with_unseen = refl
+  spare_ignores_unseen = refl
 
   -- The room of a store does not depend on the unseen state.
   pub room_with_unseen : room_of (store_with_unseen u s) ≡ room_of s
@@ -35,38 +35,41 @@ module _ (u : UnseenState) (s : SlotsState) where
   room_with_unseen = refl
 
   -- The gate of the spare does not depend on the unseen state.
-  same_begun_with_unseen : is_begun (store_with_unseen u s) ≡ is_begun s
+  begun_ignores_unseen : is_begun (store_with_unseen u s) ≡ is_begun s
   unfolding is_begun
-  same_begun_with_unseen = refl
+  begun_ignores_unseen = refl
 
-  -- The facts that make a device do not depend on the unseen state.
-  same_shape_with_unseen : is_shaped (store_with_unseen u s) ≡ is_shaped s
-  same_shape_with_unseen = λ i. (length (spare_with_unseen i) == room_with_unseen i)
-      && (nat_le (room_with_unseen i) (2 ^ 24) && nat_le (length (image_with_unseen i)) (room_with_unseen i))
+  -- The shape of a store does not depend on the unseen state.
+  shape_ignores_unseen : is_shaped (store_with_unseen u s) ≡ is_shaped s
+  shape_ignores_unseen = λ i. (length (spare_ignores_unseen i) == room_with_unseen i)
+      && (nat_le (room_with_unseen i) (2 ^ 24) && nat_le (length (image_ignores_unseen i)) (room_with_unseen i))
 
+  -- The bytes that a mode needs of a store do not depend on the unseen state.
   filled_with_unseen : (m : DeviceState) (n : ℕ) → is_filled m n (store_with_unseen u s) ≡ is_filled m n s
   filled_with_unseen (device_state.DownloadSync k number) n =
-      λ i. nat_lt 0 n && (nat_le (k + n) (room_with_unseen i) && ((k == 0) || (same_begun_with_unseen i && (s.put_end == k))))
+      λ i. nat_lt 0 n && (nat_le (k + n) (room_with_unseen i) && ((k == 0) || (begun_ignores_unseen i && (s.put_end == k))))
   filled_with_unseen (device_state.DownloadBusy k number passed) n =
-      λ i. nat_lt 0 n && (nat_le (k + n) (room_with_unseen i) && ((k == 0) || (same_begun_with_unseen i && (s.put_end == k))))
+      λ i. nat_lt 0 n && (nat_le (k + n) (room_with_unseen i) && ((k == 0) || (begun_ignores_unseen i && (s.put_end == k))))
   filled_with_unseen (device_state.DownloadSyncWritten k number) n =
-      λ i. nat_lt 0 k && (nat_le k (room_with_unseen i) && (same_begun_with_unseen i && (s.put_end == k)))
+      λ i. nat_lt 0 k && (nat_le k (room_with_unseen i) && (begun_ignores_unseen i && (s.put_end == k)))
   filled_with_unseen (device_state.DownloadIdle k number) n =
-      λ i. nat_lt 0 k && (nat_le k (room_with_unseen i) && (same_begun_with_unseen i && (s.put_end == k)))
-  filled_with_unseen (device_state.ManifestSync k) n = λ i. nat_lt 0 k && (nat_le k (room_with_unseen i) && (same_begun_with_unseen i &&
+      λ i. nat_lt 0 k && (nat_le k (room_with_unseen i) && (begun_ignores_unseen i && (s.put_end == k)))
+  filled_with_unseen (device_state.ManifestSync k) n = λ i. nat_lt 0 k && (nat_le k (room_with_unseen i) && (begun_ignores_unseen i &&
       (s.put_end == k)))
-  filled_with_unseen (device_state.Manifest k passed) n = λ i. nat_lt 0 k && (nat_le k (room_with_unseen i) && (same_begun_with_unseen i &&
+  filled_with_unseen (device_state.Manifest k passed) n = λ i. nat_lt 0 k && (nat_le k (room_with_unseen i) && (begun_ignores_unseen i &&
       (s.put_end == k)))
   filled_with_unseen m n = refl
 
-  same_parts_with_unseen : (m : DeviceState) (n : ℕ) → are_device_parts m n (store_with_unseen u s) ≡ are_device_parts m n s
-  same_parts_with_unseen m n = λ i. same_shape_with_unseen i && filled_with_unseen m n i
+  -- The test of the parts of a device does not depend on the unseen state.
+  parts_ignore_unseen : (m : DeviceState) (n : ℕ) → are_device_parts m n (store_with_unseen u s) ≡ are_device_parts m n s
+  parts_ignore_unseen m n = λ i. shape_ignores_unseen i && filled_with_unseen m n i
 
-  pub device_parts_with_unseen : (m : DeviceState) (n : ℕ) → IsTrue (are_device_parts m n s) →
+  -- Parts of a device with a store are parts of a device with that store and any unseen state.
+  pub parts_stay_with_unseen : (m : DeviceState) (n : ℕ) → IsTrue (are_device_parts m n s) →
       IsTrue (are_device_parts m n (store_with_unseen u s))
-  device_parts_with_unseen m n sound = subst (λ (b : Bool). IsTrue b) (sym (same_parts_with_unseen m n)) sound
+  parts_stay_with_unseen m n sound = subst (λ (b : Bool). IsTrue b) (sym (parts_ignore_unseen m n)) sound
 
-  -- A store is one with any unseen state.
+  -- A slot store stays a slot store with any unseen state.
   pub store_stays_with_unseen : IsStore s → IsStore (store_with_unseen u s)
   store_stays_with_unseen store =
       let active = store.has_image.active in
@@ -86,34 +89,36 @@ module _ (u : UnseenState) (s : SlotsState) where
         puts = record { fits = store.puts.fits; part = store.puts.part; ahead = store.puts.ahead };
       }
 
-  block_job_with_unseen : (n : ℕ) (j : SlotWrite) (end : ℕ) (held : List ℕ) → IsBlockJob n s j end held
+  -- The job of a block does not depend on the unseen state.
+  block_job_ignores_unseen : (n : ℕ) (j : SlotWrite) (end : ℕ) (held : List ℕ) → IsBlockJob n s j end held
       → IsBlockJob n (store_with_unseen u s) j end held
-  block_job_with_unseen n j end held is = record {
+  block_job_ignores_unseen n j end held is = record {
     job_is = is.job_is
-        ∙ (λ i. slot_write.Block (spare_at (gate_of s.medium) s.medium.bytes) ((n == 0) && not (sym same_begun_with_unseen i)));
+        ∙ (λ i. slot_write.Block (spare_at (gate_of s.medium) s.medium.bytes) ((n == 0) && not (sym begun_ignores_unseen i)));
     end_is = is.end_is;
     held_is = is.held_is;
   }
 
-  commit_job_with_unseen : (n : ℕ) (j : SlotWrite) (end : ℕ) (held : List ℕ) → IsCommitJob n s j end held
+  -- The job of a commit does not depend on the unseen state.
+  commit_job_ignores_unseen : (n : ℕ) (j : SlotWrite) (end : ℕ) (held : List ℕ) → IsCommitJob n s j end held
       → IsCommitJob n (store_with_unseen u s) j end held
-  commit_job_with_unseen n j end held is = record {
+  commit_job_ignores_unseen n j end held is = record {
     job_is = is.job_is
         ∙ (λ i. slot_write.Commit (spare_at (gate_of s.medium) s.medium.bytes) (next_generation (generation (active_slot s)))
-        (register (take n (sym spare_with_unseen i))));
+        (register (take n (sym spare_ignores_unseen i))));
     end_is = is.end_is;
     held_is = is.held_is;
   }
 
-  -- The same row is due with any unseen state.
+  -- The due job does not depend on the unseen state.
   pub due_job_with_unseen : (m : DeviceState) (asked : Option ℕ) (len : ℕ) (j : SlotWrite) (end : ℕ) (held : List ℕ)
       → IsDueJobOfMode m asked len s j end held → IsDueJobOfMode m asked len (store_with_unseen u s) j end held
-  due_job_with_unseen (device_state.DownloadSync n number) asked len j end held due = (due.0, block_job_with_unseen n j end held due.1)
+  due_job_with_unseen (device_state.DownloadSync n number) asked len j end held due = (due.0, block_job_ignores_unseen n j end held due.1)
   due_job_with_unseen (device_state.DownloadBusy n number passed) asked len j end held due = (
     due.0,
-    block_job_with_unseen n j end held
+    block_job_ignores_unseen n j end held
         due.1,
   )
-  due_job_with_unseen (device_state.ManifestSync n) asked len j end held due = (due.0, commit_job_with_unseen n j end held due.1)
-  due_job_with_unseen (device_state.Manifest n passed) asked len j end held due = (due.0, commit_job_with_unseen n j end held due.1)
+  due_job_with_unseen (device_state.ManifestSync n) asked len j end held due = (due.0, commit_job_ignores_unseen n j end held due.1)
+  due_job_with_unseen (device_state.Manifest n passed) asked len j end held due = (due.0, commit_job_ignores_unseen n j end held due.1)
   due_job_with_unseen m asked len j end held due = absurd due

@@ -1,11 +1,11 @@
--- Verdicts on a setup before its body is there: they hold, whatever comes of the setup.
+-- Verdicts on a setup before its body arrives: they hold for every body and every outcome of the setup.
 use Rattle.std.proofs.Common.{◌≡◌, ◌↔◌, ◌-◌, ◌*◌, ◌/◌, ◌==◌, Bool, true, false, IsTrue, Some, ℕ, List, length, refl, sym, ap, ◌∙◌, subst}
 use Rattle.std.proofs.lemmas.Bool.{eq-eqb, true≢false}
 use Rattle.dfu_wire.specs.declared.setups.Setup.{Setup}
 use Rattle.dfu_wire.specs.declared.requests.Request.{Request as Asked}
 use Rattle.dfu_wire.specs.declared.requests.Request.TheVariants as asked
 use Rattle.dfu_wire.specs.Setup.{IsSetup}
-use Rattle.dfu_wire.specs.Request.{SetupRequest}
+use Rattle.dfu_wire.specs.Request.{SetupAsksFor}
 use Rattle.dfu_slots.specs.Units.{Grain, gate_room}
 use Rattle.dfu_slots.specs.StoreView.{image_of, spare_of, room_of}
 use Rattle.dfu_device.specs.declared.answer.Answer.{Answer}
@@ -25,66 +25,67 @@ use Rattle.dfu_asks.specs.Asks.{grain_in, flash_store, device_in}
 use Rattle.dfu_asks.specs.InMode.{IsDeviceIn}
 use Rattle.dfu_asks.specs.Verdict.{stall_verdict, IsStallVerdict}
 use Rattle.dfu_asks.proofs.StallPlans.{stalling_plan_stalls, other_plan_does_not_stall}
-use Rattle.dfu_asks.proofs.LongPlans.{plan_of_other_request}
+use Rattle.dfu_asks.proofs.LongPlans.{other_request_plan_is_stall}
 
--- A setup with its body is stalled if the table stalls its request.
-pub served_setup_stall_verdict : (d : DeviceView) (m : DeviceState) (spare unwritten : List ℕ) (p : Setup) (q : Asked) (body : List ℕ)
+-- The verdict on the plan of a setup with a fitting body is the verdict on the plan of its request.
+pub setup_verdict_is_request_verdict : (d : DeviceView) (m : DeviceState) (spare unwritten : List ℕ) (p : Setup) (q : Asked) (body : List ℕ)
     → d.stage ≡ stage_of m spare unwritten
     → (length body == body_length p) ≡ true
     → stall_verdict (setup_plan d p q body) ≡ stall_verdict (plan (profile d) (image_of d.slots) d.stage (request_for_table q body))
-served_setup_stall_verdict d m spare unwritten p (asked.Detach timeout) body stage_is fits = rw fits refl
-served_setup_stall_verdict d m spare unwritten p (asked.Dnload block len) body stage_is fits = rw fits refl
-served_setup_stall_verdict d m spare unwritten p (asked.Upload block len) body stage_is fits = rw fits refl
-served_setup_stall_verdict d m spare unwritten p (asked.GetStatus len) body stage_is fits = rw fits refl
-served_setup_stall_verdict d m spare unwritten p asked.ClrStatus body stage_is fits = rw fits refl
-served_setup_stall_verdict d m spare unwritten p (asked.GetState len) body stage_is fits = rw fits refl
-served_setup_stall_verdict d m spare unwritten p asked.Abort body stage_is fits = rw fits refl
-served_setup_stall_verdict d m spare unwritten p asked.OtherClass body stage_is fits = rw fits refl
-served_setup_stall_verdict d m spare unwritten p asked.NotDfu body stage_is fits =
+setup_verdict_is_request_verdict d m spare unwritten p (asked.Detach timeout) body stage_is fits = rw fits refl
+setup_verdict_is_request_verdict d m spare unwritten p (asked.Dnload block len) body stage_is fits = rw fits refl
+setup_verdict_is_request_verdict d m spare unwritten p (asked.Upload block len) body stage_is fits = rw fits refl
+setup_verdict_is_request_verdict d m spare unwritten p (asked.GetStatus len) body stage_is fits = rw fits refl
+setup_verdict_is_request_verdict d m spare unwritten p asked.ClrStatus body stage_is fits = rw fits refl
+setup_verdict_is_request_verdict d m spare unwritten p (asked.GetState len) body stage_is fits = rw fits refl
+setup_verdict_is_request_verdict d m spare unwritten p asked.Abort body stage_is fits = rw fits refl
+setup_verdict_is_request_verdict d m spare unwritten p asked.OtherClass body stage_is fits = rw fits refl
+setup_verdict_is_request_verdict d m spare unwritten p asked.NotDfu body stage_is fits =
     sym (ap (λ s. stall_verdict (plan (profile d) (image_of d.slots) s OtherRequest)) stage_is
-    ∙ ap stall_verdict (plan_of_other_request (profile d) (image_of d.slots) m spare unwritten))
+    ∙ ap stall_verdict (other_request_plan_is_stall (profile d) (image_of d.slots) m spare unwritten))
 
--- A verdict on the request of a setup is one on the answer to that setup.
+-- Verdicts on the request of a setup are verdicts on the setup.
 module _ (setup : List ℕ) (p : Setup) (q : Asked) (b : Bool) (the_setup : (x : Setup) → IsSetup x setup → p ≡ x)
-    (the_request : (x : Asked) → SetupRequest p x → q ≡ x) where
-  -- A verdict on a plan holds of the answer once the plan is carried out.
-  said_stall_is_answered : (d : DeviceView) (w : Plan) (len : ℕ) (x : Answer) (sent : List ℕ) (d' : DeviceView) →
+    (the_request : (x : Asked) → SetupAsksFor p x → q ≡ x) where
+  -- A verdict on a plan is true exactly if the answer of the plan, once it is carried out, is a stall.
+  stall_verdict_holds_of_answer : (d : DeviceView) (w : Plan) (len : ℕ) (x : Answer) (sent : List ℕ) (d' : DeviceView) →
       Done w len d x sent d' → (e : Bool)
       → b ≡ e → Some b ≡ stall_verdict w → IsTrue b ↔ (x ≡ answer.Stall)
-  said_stall_is_answered d w len x sent d' done true e is = (
+  stall_verdict_holds_of_answer d w len x sent d' done true e is = (
     λ yes. stalling_plan_stalls len d x sent d' w done (sym is ∙ ap Some e),
     λ stall. e,
   )
-  said_stall_is_answered d w len x sent d' done false e is = (
+  stall_verdict_holds_of_answer d w len x sent d' done false e is = (
     λ yes. absurd (true≢false (sym yes ∙ e)),
     λ stall. absurd (other_plan_does_not_stall len d x sent d' w done (sym is ∙ ap Some e) stall),
   )
 
-  -- A verdict on the row of each body of a setup is one on the setup.
-  pub stall_verdict_of_setup : (d : DeviceView)
-      → ((body : List ℕ) → length body ≡ body_length p → SetupRequest p q → Some b ≡ stall_verdict (setup_plan d p q body))
+  -- A verdict on the plan of a setup with each fitting body is a verdict on the setup.
+  pub plan_verdict_is_setup_verdict : (d : DeviceView)
+      → ((body : List ℕ) → length body ≡ body_length p → SetupAsksFor p q → Some b ≡ stall_verdict (setup_plan d p q body))
       → IsStallVerdict b setup d
-  stall_verdict_of_setup d said body body_is x sent d' (handled_by_reading y z is asks done) =
+  plan_verdict_is_setup_verdict d said body body_is x sent d' (handled_by_reading y z is asks done) =
       let p_is : p ≡ y = the_setup y is in
-      let asks_p : SetupRequest p z = subst (λ k. SetupRequest k z) (sym p_is) asks in
+      let asks_p : SetupAsksFor p z = subst (λ k. SetupAsksFor k z) (sym p_is) asks in
       let q_is : q ≡ z = the_request z asks_p in
       let fits : length body ≡ body_length p = body_is y is ∙ sym (ap body_length p_is) in
-      said_stall_is_answered d (setup_plan d p q body) (asked_length q) x sent d'
+      stall_verdict_holds_of_answer d (setup_plan d p q body) (asked_length q) x sent d'
       (subst (λ k. Done (setup_plan d p k body) (asked_length k) d x sent d') (sym q_is)
       (subst (λ k. Done (setup_plan d k z body) (asked_length z) d x sent d') (sym p_is) done)) b refl
-      (said body fits (subst (λ k. SetupRequest p k) (sym q_is) asks_p))
+      (said body fits (subst (λ k. SetupAsksFor p k) (sym q_is) asks_p))
 
--- Room of a slot of this flash.
+-- The room of a store on this flash is half the flash without a gate and a header.
 room_in : (a : LentDevice) (flash : List ℕ) → room_of (flash_store a flash) ≡ length flash / 2 - 2 * gate_room (grain_in a)
 unfolding room_of
 room_in a flash = refl
 
--- A verdict by a profile holds of each device of that setting in that mode, on flash with that room.
+-- A verdict for a profile and a mode holds of every device with that setting, in that mode, on flash of that size.
 module _ (config : Setting) (grain : Grain) (size : ℕ) (c : Profile) (profile_is : c ≡ profile_of config (size / 2 - 2 * gate_room grain))
     (setup : List ℕ) (p : Setup) (q : Asked) (m : DeviceState) (b : Bool) (the_setup : (x : Setup) → IsSetup x setup → p ≡ x)
-    (the_request : (x : Asked) → SetupRequest p x → q ≡ x)
+    (the_request : (x : Asked) → SetupAsksFor p x → q ≡ x)
     (said : (image spare unwritten body : List ℕ) → HasWrittenBytes m spare → HasBodyLength q body
     → Some b ≡ stall_verdict (plan c image (stage_of m spare unwritten) (request_for_table q body))) where
+  -- A verdict for each plan of a request is a verdict on the setup, for each device with that setting, in that mode, on flash of that size.
   pub stall_verdict_in_mode : (a : LentDevice) (flash : List ℕ) → IsDeviceIn config m a flash → grain_in a ≡ grain → length flash ≡ size
       → IsStallVerdict b setup (device_in a flash)
   stall_verdict_in_mode a flash in_mode grain_is size_is =
@@ -96,9 +97,9 @@ module _ (config : Setting) (grain : Grain) (size : ℕ) (c : Profile) (profile_
       let same : c ≡ profile d = profile_is ∙ (λ i. profile_of (sym in_mode.config_is i) (sym room i)) in
       let holds : HasWrittenBytes m (spare_of store) = spare_holds_written m (length a.block) store
       (subst (λ x. IsTrue (are_device_parts x (length a.block) store)) in_mode.mode_is in_mode.device.sound) in
-      stall_verdict_of_setup setup p q b the_setup the_request d (λ body fits asks.
+      plan_verdict_is_setup_verdict setup p q b the_setup the_request d (λ body fits asks.
       subst (λ (x : Profile). Some b ≡ stall_verdict
       (plan x (image_of d.slots) (stage_of m (spare_of store) a.block) (request_for_table q body))) same
       (said (image_of d.slots) (spare_of store) a.block body holds (body_length_fits_request p q body asks fits))
       ∙ ap (λ x. stall_verdict (plan (profile d) (image_of d.slots) x (request_for_table q body))) (sym stage_is)
-      ∙ sym (served_setup_stall_verdict d m (spare_of store) a.block p q body stage_is (eq-eqb (length body) (body_length p) fits)))
+      ∙ sym (setup_verdict_is_request_verdict d m (spare_of store) a.block p q body stage_is (eq-eqb (length body) (body_length p) fits)))

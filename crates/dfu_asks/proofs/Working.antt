@@ -1,4 +1,4 @@
--- Results of a row once its writes are carried out.
+-- Results of a row after its writes.
 use Rattle.std.proofs.Common.{◌≡◌, ◌⊎◌, inl, inr, ◌==◌, ◌&&◌, ◌||◌, not, nat_lt, nat_le, Bool, true, false, IsTrue, if◌then◌else◌, ℕ, ◌+◌, ◌-◌, ◌^◌, ◌≤◌, ◌<◌, List, [], ◌++◌, length, take, Option, refl, sym, ◌∙◌, ap, subst, arith}
 use Rattle.std.proofs.lemmas.Grind.{common_steps}
 use Rattle.std.proofs.lemmas.Bool.{cases_eq, ne_eqb, and_parts, eqb-true, false≢true}
@@ -21,17 +21,17 @@ use Rattle.dfu_device.specs.Stage.{Stage, InDownloadIdle, InDownloadSyncWritten,
 use Rattle.dfu_device.specs.Parts.{view_of_parts, stage_of, is_put, are_device_parts}
 use Rattle.dfu_device.specs.Rows.{WroteBlock, FailedBlock, Committed, FailedCommit}
 use Rattle.dfu_device.specs.Table.{write_code, commit_code}
-use Rattle.dfu_device.proofs.Commits.{core_sound_after_put}
+use Rattle.dfu_device.proofs.Commits.{written_mode_is_device_part}
 use Rattle.dfu_asks.specs.declared.pending_writes.SlotWrite.{SlotWrite}
 use Rattle.dfu_asks.specs.declared.pending_writes.SlotWrite.TheVariants as slot_write
 use Rattle.dfu_asks.specs.Series.{block_series, block_store, BlockWritten, BlockBroken, CommitCompleted, CommitBroken}
 use Rattle.dfu_asks.specs.Jobs.{held_bytes_place, job_writes}
 use Rattle.dfu_asks.specs.Due.{DueRowWorks, DueRowFails}
 use Rattle.dfu_asks.specs.Asks.{IsBlockJob, IsCommitJob, IsDueJobOfMode, capped_sum, is_block, done_mode, failed_mode, IsRowEndAnswer}
-use Rattle.dfu_asks.proofs.Rows.{block_series_written, block_series_broken, commit_series_completes, commit_series_broken}
+use Rattle.dfu_asks.proofs.Rows.{made_series_writes_block, fault_breaks_off_block, commit_series_completes, fault_breaks_off_commit}
 use Rattle.dfu_device.specs.Decision.{HasTimeInputs}
 
--- A block that may come next: it has bytes, and there is room for them after what was put.
+-- A block of b bytes may be written after n bytes: it is not empty, and fits in the room after the bytes that were put.
 pub record NextBlockFits (s : SlotsState) (n b : ℕ) : Type 0 where
   pub shape : is_shaped s ≡ true
   pub some : 0 < b
@@ -42,29 +42,30 @@ first_or_put_before : (n : ℕ) (p : Bool) → ((n == 0) || p) ≡ true → (n �
 first_or_put_before n true e = inr refl
 first_or_put_before n false e = inl (eqb-true _ _ (grind (arith, common_steps, e)))
 
--- In a sound device the block that is due may come next.
-pub block_in_device : (n b : ℕ) (s : SlotsState) → IsTrue
+-- The unwritten block of a device may be written after the written bytes.
+pub unwritten_block_may_be_written : (n b : ℕ) (s : SlotsState) → IsTrue
     (is_shaped s && (nat_lt 0 b && (nat_le (n + b) (room_of s) && ((n == 0) || is_put n s))))
     → NextBlockFits s n b
-block_in_device n b s sound = record {
+unwritten_block_may_be_written n b s sound = record {
   shape = grind (arith, common_steps);
   some = grind (arith, common_steps);
   room = grind (arith, common_steps);
   before = first_or_put_before n (is_put n s) (grind (arith, common_steps));
 }
 
--- A commit of all that was put.
+-- A commit of n bytes commits all bytes that were put, and they fit in the room.
 pub record IsAll (s : SlotsState) (n : ℕ) : Type 0 where
   pub shape : is_shaped s ≡ true
   pub room : n ≤ room_of s
   pub put : is_put n s ≡ true
 
--- In a sound device the commit that is due is one of all that was put.
-pub commit_in_device : (n : ℕ) (s : SlotsState) → IsTrue (is_shaped s && (nat_lt 0 n && (nat_le n (room_of s) && is_put n s))) → IsAll s n
-commit_in_device n s sound =
+-- The due commit of a device commits all bytes that were put.
+pub due_commit_commits_all_puts : (n : ℕ) (s : SlotsState) → IsTrue (is_shaped s && (nat_lt 0 n && (nat_le n (room_of s) && is_put n s)))
+    → IsAll s n
+due_commit_commits_all_puts n s sound =
     record { shape = grind (arith, common_steps); room = grind (arith, common_steps); put = grind (arith, common_steps) }
 
--- The spare's gate is open exactly if the store was not begun.
+-- The gate of the spare slot is open exactly if the store was not begun.
 not_begun_is_open_gate : (s : SlotsState) → not (is_begun s) ≡ ((spare_slot s).gate == OPEN)
 unfolding is_begun
 not_begun_is_open_gate s = not_not ((spare_slot s).gate == OPEN)
@@ -115,15 +116,15 @@ commit_job_is_series s n j u end held block unit put is =
     ++ open_writes s.medium.grain (spare_at (gate_of s.medium) s.medium.bytes) (next_generation (generation (active_slot s))) n
     (register (take n (spare_of s))))
 
--- Bytes that are held back once a row is written.
+-- Bytes that are held back after a row in this mode: those of its block that fill no whole unit, or none after a commit.
 abbrev pub held_after_row : Grain → DeviceState → List ℕ → List ℕ → List ℕ
 held_after_row w m held b = if is_block m then put_rest w.unit held b else []
 
--- Place at which the puts end once a row is written.
+-- Place at which the puts end after a row in this mode: after its block, or at 0 after a commit.
 abbrev pub put_end_after_row : DeviceState → ℕ → List ℕ → ℕ
 put_end_after_row m end b = if is_block m then capped_sum end (length b) else 0
 
--- Result of a row: it holds, the store is one, the device is sound, and the active slot is where the row leaves it.
+-- End of a row: `Comes` and `Stays` hold, the store is a slot store, and the mode, the block and the store are parts of a device.
 pub record RowEnds (c : Setting) (s : SlotsState) (m : DeviceState) (b : List ℕ) (Stays Comes : Type 0) : Type 0 where
   pub comes : Comes
   pub store : IsStore s
@@ -134,7 +135,7 @@ pub record RowEnds (c : Setting) (s : SlotsState) (m : DeviceState) (b : List �
 abbrev pub Stays : DeviceState → SlotsState → SlotsState → Type 0
 Stays m s now = is_block m ≡ true → active_at (gate_of now.medium) now.medium.bytes ≡ active_at (gate_of s.medium) s.medium.bytes
 
--- A device in which nothing is put is sound on any store.
+-- A mode that needs no bytes and any slot store are parts of a device.
 pub idle_store_is_sound : (s : SlotsState) → IsStore s → IsTrue (is_shaped s && true)
 idle_store_is_sound s store = both (is_shaped s) (store_has_shape store)
   where
@@ -149,49 +150,49 @@ module _ (c : Setting) (w : Grain) (b held : List ℕ) (end : ℕ) (j : SlotWrit
   length_in_room_is_small : (n : ℕ) → n ≤ room_of s → n ≤ 2 ^ 24
   length_in_room_is_small n le = omega (arith, le, room_is_capacity s, store.has_image.active.sized.bound)
 
-  -- Store on the medium after the row, with nothing put.
+  -- Store on the medium after the row, with no bytes put.
   abbrev store_without_puts : SlotsState
   store_without_puts = store_on now
 
   abbrev left : SlotsState
   left = store_of now (put_rest w.unit held b) (capped_sum end (length b))
 
-  -- All writes of a block worked: the block is written.
-  block_written_by_job : (n : ℕ) → NextBlockFits s n (length b) → IsBlockJob n s j end held
+  -- The job of a block whose writes all worked has written the block.
+  worked_job_writes_block : (n : ℕ) → NextBlockFits s n (length b) → IsBlockJob n s j end held
       → AllWrites s.medium (job_writes j w end held b) now
       → (capped_sum end (length b) ≡ n + length b) × BlockWritten s n b left
-  block_written_by_job n next job all =
+  worked_job_writes_block n next job all =
       let cap : capped_sum end (length b) ≡ n + length b = omega (arith, job.end_is, length_in_room_is_small (n + length b) next.room) in
       let is : block_store s n b now ≡ left =
       (λ i. store_of now (put_rest (unit_is i).unit (sym job.held_is i) b) (sym cap i)) in (
         cap,
         subst (λ (x : SlotsState). BlockWritten s n b x) is
-            (block_series_written s store shape n b next.before next.room now
+            (made_series_writes_block s store shape n b next.before next.room now
             (subst (λ (ws : List Write). AllWrites s.medium ws now) (block_job_is_series s n j w end held b unit_is job) all)),
       )
 
-  -- A write of a block had a fault: the block is broken off.
-  block_broken_by_job : (fault : WriteFault) (n : ℕ) → NextBlockFits s n (length b) → IsBlockJob n s j end held
+  -- The job of a block with a fault in a write has broken the block off.
+  broken_job_breaks_block : (fault : WriteFault) (n : ℕ) → NextBlockFits s n (length b) → IsBlockJob n s j end held
       → BrokenWrites fault s.medium (job_writes j w end held b) now → BlockBroken fault s n b store_without_puts
-  block_broken_by_job fault n next job all =
-      block_series_broken s store shape n b next.before next.room now fault
+  broken_job_breaks_block fault n next job all =
+      fault_breaks_off_block s store shape n b next.before next.room now fault
       (subst (λ (ws : List Write). BrokenWrites fault s.medium ws now) (block_job_is_series s n j w end held b unit_is job) all)
 
-  -- All writes of a commit worked: the commit is complete.
-  commit_completed_by_job : (n : ℕ) → IsAll s n → IsCommitJob n s j end held
+  -- The job of a commit whose writes all worked has completed the commit.
+  worked_job_completes_commit : (n : ℕ) → IsAll s n → IsCommitJob n s j end held
       → AllWrites s.medium (job_writes j w end held b) now → CommitCompleted s n store_without_puts
-  commit_completed_by_job n whole job all =
+  worked_job_completes_commit n whole job all =
       commit_series_completes s store shape n whole.put whole.room now
       (subst (λ (ws : List Write). AllWrites s.medium ws now) (commit_job_is_series s n j w end held b unit_is whole.put job) all)
 
-  -- A write of a commit had a fault: the commit is broken off.
-  commit_broken_by_job : (fault : WriteFault) (n : ℕ) → IsAll s n → IsCommitJob n s j end held
+  -- The job of a commit with a fault in a write has broken the commit off.
+  broken_job_breaks_commit : (fault : WriteFault) (n : ℕ) → IsAll s n → IsCommitJob n s j end held
       → BrokenWrites fault s.medium (job_writes j w end held b) now → CommitBroken fault s n store_without_puts
-  commit_broken_by_job fault n whole job all =
-      commit_series_broken s store shape n whole.put whole.room now fault
+  broken_job_breaks_commit fault n whole job all =
+      fault_breaks_off_commit s store shape n whole.put whole.room now fault
       (subst (λ (ws : List Write). BrokenWrites fault s.medium ws now) (commit_job_is_series s n j w end held b unit_is whole.put job) all)
 
-  -- Once a block is written, the device is in a mode that follows it.
+  -- The row of a written block ends in dfuDNLOAD-SYNC or dfuDNLOAD-IDLE, with the block among the written bytes.
   block_ends_in_mode : (d to : DeviceState) (n number : ℕ) (stage : List ℕ → Stage) (Says : Type 0)
       → (to ≡ device_state.DownloadSyncWritten (capped_sum n (length b)) number)
       ⊎ (to ≡ device_state.DownloadIdle (capped_sum n (length b)) number)
@@ -200,7 +201,7 @@ module _ (c : Setting) (w : Grain) (b held : List ℕ) (end : ℕ) (j : SlotWrit
       → RowEnds c left to b (Stays d s left)
       (Says × WroteBlock (take n (spare_of s)) b c s (stage (take n (spare_of s) ++ b)) (view_of_parts c left to b))
   block_ends_in_mode d to n number stage Says either stage_is next job all says =
-      let got = block_written_by_job n next job all in
+      let got = worked_job_writes_block n next job all in
       let cap : capped_sum n (length b) ≡ n + length b = omega (arith, got.0, job.end_is) in
       record {
         comes = (
@@ -215,13 +216,13 @@ module _ (c : Setting) (w : Grain) (b held : List ℕ) (end : ℕ) (j : SlotWrit
         );
         store = got.1.store;
         sound =
-            core_sound_after_put to (length b) (capped_sum n (length b)) number left either (omega (arith, cap, next.some))
+            written_mode_is_device_part to (length b) (capped_sum n (length b)) number left either (omega (arith, cap, next.some))
             (omega (arith, cap, next.room, got.1.room)) (store_has_shape {s = left} got.1.store)
             (subst (λ (k : ℕ). is_put k left ≡ true) (sym cap) got.1.put);
         stays = λ e. got.1.place;
       }
 
-  -- Once a commit is written, the device is in this mode.
+  -- The row of a complete commit ends in the mode `to`.
   commit_ends_in_mode : (d to : DeviceState) (n : ℕ) (stage : Stage) (Says : Type 0) → is_block d ≡ false
       → stage_of to (spare_of store_without_puts) b ≡ stage
       → (IsStore store_without_puts → IsTrue (are_device_parts to (length b) store_without_puts))
@@ -235,7 +236,7 @@ module _ (c : Setting) (w : Grain) (b held : List ℕ) (end : ℕ) (j : SlotWrit
     stays = λ e. absurd (false≢true (sym commits ∙ e));
   }
 
-  -- If all writes worked, the row that is due did, and its result is the device after it.
+  -- The due row ends as a row that works if all its writes worked.
   pub due_row_works : (d : DeviceState) (asked : Option ℕ) → IsTrue (are_device_parts d (length b) s) →
       IsDueJobOfMode d asked len s j end held
       → AllWrites s.medium (job_writes j w end held b) now → (a : Answer) (out : List ℕ)
@@ -246,22 +247,23 @@ module _ (c : Setting) (w : Grain) (b held : List ℕ) (end : ℕ) (j : SlotWrit
       (view_of_parts c (store_of now (held_after_row w d held b) (put_end_after_row d end b)) (done_mode c d (length b)) b))
   due_row_works (device_state.DownloadSync n number) asked sound due all a out says =
       block_ends_in_mode (device_state.DownloadSync n number) (device_state.DownloadIdle (capped_sum n (length b)) number) n number
-      (λ taken. InDownloadIdle taken number) _ (inr refl) (λ spare. refl) (block_in_device n (length b) s sound) due.1 all
+      (λ taken. InDownloadIdle taken number) _ (inr refl) (λ spare. refl) (unwritten_block_may_be_written n (length b) s sound) due.1 all
       ((subst (λ (x : Option ℕ). IsRowEndAnswer c (device_state.DownloadIdle (capped_sum n (length b)) number) x a out) due.0 says).1 0 []
       [] tt)
   due_row_works (device_state.DownloadBusy n number passed) asked sound due all a out says =
       block_ends_in_mode (device_state.DownloadBusy n number passed) (device_state.DownloadSyncWritten (capped_sum n (length b)) number) n
       number
-      (λ taken. InDownloadSyncWritten taken number) _ (inl refl) (λ spare. refl) (block_in_device n (length b) s sound) due.1 all
+      (λ taken. InDownloadSyncWritten taken number) _ (inl refl) (λ spare. refl)
+      (unwritten_block_may_be_written n (length b) s sound) due.1 all
       ((subst (λ (x : Option ℕ). IsRowEndAnswer c (device_state.DownloadSyncWritten (capped_sum n (length b)) number) x a out) due.0
       says).1 0 [] [] tt)
   due_row_works (device_state.ManifestSync n) asked sound due all a out says =
       commit_ends_in_mode (device_state.ManifestSync n) device_state.DfuIdle n InDfuIdle _ refl refl (idle_store_is_sound
       store_without_puts)
-      (commit_completed_by_job n (commit_in_device n s sound) due.1 all)
+      (worked_job_completes_commit n (due_commit_commits_all_puts n s sound) due.1 all)
       ((subst (λ (x : Option ℕ). IsRowEndAnswer c device_state.DfuIdle x a out) due.0 says).1 0 [] [] tt)
   due_row_works (device_state.Manifest n passed) asked sound due all a out says =
-      tolerant c.functional.tolerant (commit_completed_by_job n (commit_in_device n s sound) due.1 all)
+      tolerant c.functional.tolerant (worked_job_completes_commit n (due_commit_commits_all_puts n s sound) due.1 all)
       (let said = subst (λ (x : Option ℕ). IsRowEndAnswer c (done_mode c (device_state.Manifest n passed) (length b)) x a out) due.0 says in
       said.1 0 [] [] (no_time c.functional.tolerant said.0))
     where
@@ -287,7 +289,7 @@ module _ (c : Setting) (w : Grain) (b held : List ℕ) (end : ℕ) (j : SlotWrit
           (idle_store_is_sound store_without_puts) got says
   due_row_works d asked sound due all a out says = absurd due
 
-  -- After a write of a block that had a fault the device is in dfuERROR.
+  -- The row of a broken-off block ends in dfuERROR with the fault's code.
   block_fault_ends_in_error : (fault : WriteFault) (d : DeviceState) (n : ℕ) (Says : Type 0) → CountRose s.medium.failures now.failures →
       Says
       → BlockBroken fault s n b store_without_puts
@@ -300,7 +302,7 @@ module _ (c : Setting) (w : Grain) (b held : List ℕ) (end : ℕ) (j : SlotWrit
     stays = λ e. got.place;
   }
 
-  -- After a write of a commit that had a fault the device is in dfuERROR.
+  -- The row of a broken-off commit ends in dfuERROR with the fault's code.
   commit_fault_ends_in_error : (fault : WriteFault) (d : DeviceState) (n : ℕ) (Says : Type 0) → CountRose s.medium.failures now.failures
       → is_block d ≡ false
       → Says
@@ -314,7 +316,7 @@ module _ (c : Setting) (w : Grain) (b held : List ℕ) (end : ℕ) (j : SlotWrit
     stays = λ e. absurd (false≢true (sym commits ∙ e));
   }
 
-  -- If a write had a fault, the row fails with it, and its result is the device after it.
+  -- The due row ends as a row that fails if one of its writes had a fault.
   pub due_row_fails : (fault : WriteFault) (d : DeviceState) (asked : Option ℕ) → CountRose s.medium.failures now.failures
       → IsTrue (are_device_parts d (length b) s) → IsDueJobOfMode d asked len s j end held
       → BrokenWrites fault s.medium (job_writes j w end held b) now → (a : Answer) (out : List ℕ)
@@ -324,17 +326,17 @@ module _ (c : Setting) (w : Grain) (b held : List ℕ) (end : ℕ) (j : SlotWrit
   due_row_fails fault (device_state.DownloadSync n number) asked rose sound due all a out says =
       block_fault_ends_in_error fault (device_state.DownloadSync n number) n _ rose
       ((subst (λ (x : Option ℕ). IsRowEndAnswer c (device_state.Error (write_code fault)) x a out) due.0 says).1 0 [] [] tt)
-      (block_broken_by_job fault n (block_in_device n (length b) s sound) due.1 all)
+      (broken_job_breaks_block fault n (unwritten_block_may_be_written n (length b) s sound) due.1 all)
   due_row_fails fault (device_state.DownloadBusy n number passed) asked rose sound due all a out says =
       block_fault_ends_in_error fault (device_state.DownloadBusy n number passed) n _ rose
       ((subst (λ (x : Option ℕ). IsRowEndAnswer c (device_state.Error (write_code fault)) x a out) due.0 says).1 0 [] [] tt)
-      (block_broken_by_job fault n (block_in_device n (length b) s sound) due.1 all)
+      (broken_job_breaks_block fault n (unwritten_block_may_be_written n (length b) s sound) due.1 all)
   due_row_fails fault (device_state.ManifestSync n) asked rose sound due all a out says =
       commit_fault_ends_in_error fault (device_state.ManifestSync n) n _ rose refl
       ((subst (λ (x : Option ℕ). IsRowEndAnswer c (device_state.Error (commit_code fault)) x a out) due.0 says).1 0 [] [] tt)
-      (commit_broken_by_job fault n (commit_in_device n s sound) due.1 all)
+      (broken_job_breaks_commit fault n (due_commit_commits_all_puts n s sound) due.1 all)
   due_row_fails fault (device_state.Manifest n passed) asked rose sound due all a out says =
       commit_fault_ends_in_error fault (device_state.Manifest n passed) n _ rose refl
       ((subst (λ (x : Option ℕ). IsRowEndAnswer c (device_state.Error (commit_code fault)) x a out) due.0 says).1 0 [] [] tt)
-      (commit_broken_by_job fault n (commit_in_device n s sound) due.1 all)
+      (broken_job_breaks_commit fault n (due_commit_commits_all_puts n s sound) due.1 all)
   due_row_fails fault d asked rose sound due all a out says = absurd due

@@ -8,11 +8,12 @@ use Rattle.dfu_slots.specs.Layout.{slot_size}
 abbrev pub is_erased_byte : ℕ → Bool
 is_erased_byte byte = byte == 255
 
--- Bytes that the gate and the header of the slot at a place take up: for each as many as a sector, a unit or 16, whichever is most.
-abbrev pub front_of : Grain → List ℕ → ℕ → List ℕ
-front_of grain flash at = slice_range flash at (at + 2 * gate_room grain)
+-- Bytes that the gate and the header of the slot at a place take up. Each has the size of a sector, a unit or 16 bytes, whichever is
+-- largest.
+abbrev pub gate_and_header_of : Grain → List ℕ → ℕ → List ℕ
+gate_and_header_of grain flash at = slice_range flash at (at + 2 * gate_room grain)
 
 -- Every byte that the gates and the headers of both slots take up is FFh. The data of the slots does not matter.
 pub record AreSlotFrontsErased (grain : Grain) (flash : List ℕ) : Type 0 where
-  pub first : IsTrue (list_all is_erased_byte (front_of grain flash 0))
-  pub second : IsTrue (list_all is_erased_byte (front_of grain flash (slot_size flash)))
+  pub first : IsTrue (list_all is_erased_byte (gate_and_header_of grain flash 0))
+  pub second : IsTrue (list_all is_erased_byte (gate_and_header_of grain flash (slot_size flash)))

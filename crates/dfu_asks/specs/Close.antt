@@ -1,4 +1,4 @@
--- Answer that says, before a setup is handled, if the setup closes a download.
+-- Verdict, before a setup is handled, on whether the setup closes a download.
 use Rattle.std.specs.Prelude.{◌≡◌, ◌↔◌, ℕ, Bool, IsTrue, List, Some}
 use Rattle.dfu_device.specs.declared.answer.Answer.{Answer}
 use Rattle.dfu_device.specs.declared.answer.Answer.TheVariants as answer
@@ -8,15 +8,15 @@ use Rattle.dfu_device.specs.Rows.{ClosesDownload, Handles}
 use Rattle.dfu_device.specs.Stage.{InManifestSync}
 use Rattle.dfu_asks.specs.Verdict.{IsBodyOf}
 
--- The download of this device was closed: the request is acknowledged, and all bytes taken wait to be put in place.
+-- The download of this device was closed: the request is acknowledged, and the image of all bytes taken is pending.
 pub record DownloadWasClosed (d : DeviceView) (x : Answer) (d' : DeviceView) : Type 0 where
   pub close_acknowledged : x ≡ answer.Ack
   pub taken : List ℕ
   pub had : candidate_in d.stage ≡ Some taken
   pub waits : d'.stage ≡ InManifestSync taken
 
--- The verdict says of a setup if it closes the download of this device. Once the setup is handled, an image waits to be put in place
--- exactly if the verdict is true, or none waits that did not wait before.
+-- The verdict is true exactly if the setup closes the download of this device. Handling the setup then closes the download, and
+-- acknowledges the request, exactly if the verdict is true.
 pub record IsCloseVerdict (said : Bool) (setup : List ℕ) (d : DeviceView) : Type 0 where
   pub closes : IsTrue said ↔ ClosesDownload setup d
   pub closed : (body : List ℕ) → IsBodyOf setup body → (x : Answer) (sent : List ℕ) (d' : DeviceView) → Handles setup body d x sent d'

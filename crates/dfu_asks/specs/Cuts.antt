@@ -1,4 +1,4 @@
--- The piece that a search finds, and its bytes in place.
+-- Meaning of a piece that a search found: its source, its step and its bytes.
 use Rattle.std.specs.Prelude.{◌≡◌, ◌↔◌, Bool, IsTrue, ℕ, ◌+◌, ◌^◌, ◌≤◌, ◌<◌, true, false, List, ◌++◌, length, drop, replicate, slice_range}
 use Rattle.dfu_asks.specs.declared.pending_writes.WriteInputs.{WriteInputs}
 use Rattle.dfu_asks.specs.declared.cut.Cut.{Cut}
@@ -9,7 +9,7 @@ use Rattle.dfu_asks.specs.Steps.{Step}
 use Rattle.dfu_asks.specs.Carried.{IsStepPiece}
 use Rattle.dfu_asks.specs.Jobs.{step_of_piece}
 
--- Bytes of a source, by the memory that the writes are made of, and the header.
+-- Bytes of a source, taken from the inputs of the writes or from the header.
 abbrev pub source_bytes : Source → WriteInputs → List ℕ → List ℕ
 source_bytes source s front = source_content source s.held.now s.block.now front
 
@@ -21,15 +21,15 @@ zero_padded_source source s front = source_bytes source s front ++ replicate 256
 abbrev pub range_of_source : Source → WriteInputs → List ℕ → ℕ → ℕ → List ℕ
 range_of_source source s front skip n = slice_range (zero_padded_source source s front) skip (skip + n)
 
--- Step that a piece which was found asks for.
+-- Step that a found piece asks for.
 abbrev pub step_of_cut : Cut → Step
 step_of_cut c = step_of_piece c.piece (drop c.from (zero_padded_source c.source c.stock c.front))
 
--- Bytes of the runs of a piece, one run after the other.
+-- Bytes of a piece: its three runs, one after the other.
 abbrev pub run_bytes : Runs → List ℕ
 run_bytes r = (r.front.now ++ r.back.now) ++ replicate r.rest r.pad
 
--- After `done` bytes of these steps a piece of n bytes comes, and `stands` says if its bytes are on this flash.
+-- The next piece after `done` bytes of these steps has n bytes, and `stands` is true exactly if they are on this flash.
 pub record IsNextPiece (steps : List Step) (done : ℕ) (flash : List ℕ) (n : ℕ) (stands : Bool) : Type 0 where
   pub piece : Step
   pub is : IsStepPiece steps done piece
@@ -38,7 +38,8 @@ pub record IsNextPiece (steps : List Step) (done : ℕ) (flash : List ℕ) (n : 
   pub there : IsTrue stands
       ↔ (slice_range flash piece.write.at (piece.write.at + length piece.write.bytes) ≡ piece.write.bytes)
 
--- Bounds of a piece that was found: a program has at most 256 bytes, of its source and the zeros, and an erase at most a sector.
+-- Bounds of a found piece: it has at least one byte; a program has at most 256, all within its padded source, and an erase has at most a
+-- sector.
 pub record IsFoundPiece (sector : ℕ) (c : Cut) : Type 0 where
   pub some : 0 < c.piece.len
   pub programs : c.piece.erases ≡ false → c.piece.len ≤ 256

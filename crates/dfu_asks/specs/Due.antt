@@ -1,4 +1,4 @@
--- Rows that write, and their results once the writes are carried out.
+-- Rows that write, and their results after the writes are carried out.
 use Rattle.std.specs.Prelude.{◌≡◌, ◌⊎◌, ℕ, ◌≤◌, ◌==◌, Bool, false, List, ◌++◌, length, take, drop, Option, Some, None, if◌then◌else◌}
 use Rattle.dfu_slots.specs.declared.fault.WriteFault.{WriteFault}
 use Rattle.dfu_device.specs.declared.answer.Answer.{Answer}
@@ -11,8 +11,8 @@ use Rattle.dfu_device.specs.declared.decision.Decision.{Decision}
 use Rattle.dfu_device.specs.declared.decision.Decision.TheVariants as decision
 use Rattle.dfu_device.specs.Rows.{ReplyAnswer, WroteBlock, FailedBlock, Committed, FailedCommit, Done}
 
--- Plan of the row of a stage that writes: GETSTATUS with a time of 0 in dfuDNLOAD-SYNC and dfuMANIFEST-SYNC, and the end of dfuDNBUSY and
--- of dfuMANIFEST.
+-- Plan of the due row of a stage, the row that writes: GETSTATUS in dfuDNLOAD-SYNC and dfuMANIFEST-SYNC if their time is 0, and the end of
+-- the time in dfuDNBUSY and dfuMANIFEST. Any other stage has no due row; its plan here writes nothing.
 abbrev pub due_plan : Profile → Stage → Plan
 due_plan c (InDownloadSync before block number) = write_and_report c before block (InDownloadIdle (before ++ block) number)
 due_plan c (InDownloadBusy before block number passed) =
@@ -22,7 +22,7 @@ due_plan c (InManifest taken passed) =
     Commits taken Ack (if c.tolerant then InManifestSyncComplete else InManifestWaitReset) (λ fault. Ack)
 due_plan c stage = Sure Stall stage
 
--- Row that is due in a device.
+-- Due row of a device: the row that writes.
 abbrev pub DueRow : ℕ → DeviceView → Answer → List ℕ → DeviceView → Type 0
 DueRow len w a out w' = Done (due_plan (profile w) w.stage) len w a out w'
 
@@ -41,20 +41,21 @@ PlanFails fault (Writes before block reply stage bad) len w a out w' =
 PlanFails fault (Commits taken reply stage bad) len w a out w' =
     ReplyAnswer len (bad fault) a out × FailedCommit fault taken w.config w.slots w'
 
--- Result of the row that is due in a device, if all its writes work.
+-- Result of the due row of a device, if all its writes work.
 abbrev pub DueRowWorks : ℕ → DeviceView → Answer → List ℕ → DeviceView → Type 0
 DueRowWorks len w a out w' = PlanWorks (due_plan (profile w) w.stage) len w a out w'
 
--- Result of the row that is due in a device, if one of its writes has this fault.
+-- Result of the due row of a device, if one of its writes has this fault.
 abbrev pub DueRowFails : WriteFault → ℕ → DeviceView → Answer → List ℕ → DeviceView → Type 0
 DueRowFails fault len w a out w' = PlanFails fault (due_plan (profile w) w.stage) len w a out w'
 
--- A row that the result of the due row satisfies, if all its writes work and if one of them has a fault.
-pub record IsDueRow (len : ℕ) (w : DeviceView) (Row : Answer → List ℕ → DeviceView → Type 0) : Type 0 where
+-- `Row` holds of each result of the due row: if all its writes work, and if one of them has a fault.
+pub record HoldsOfDueRow (len : ℕ) (w : DeviceView) (Row : Answer → List ℕ → DeviceView → Type 0) : Type 0 where
   pub works : (a : Answer) (out : List ℕ) (w' : DeviceView) → DueRowWorks len w a out w' → Row a out w'
   pub fails : (fault : WriteFault) (a : Answer) (out : List ℕ) (w' : DeviceView) → DueRowFails fault len w a out w' → Row a out w'
 
--- True if a request writes in this stage.
+-- True if a request writes in this stage: a GETSTATUS in dfuDNLOAD-SYNC before the block is written, or in dfuMANIFEST-SYNC before it is
+-- complete, if the time of the stage is 0.
 abbrev pub writes_on_request : Profile → Stage → Request → Bool
 writes_on_request c (InDownloadSync before block number) GetStatus = c.busy == 0
 writes_on_request c (InManifestSync taken) GetStatus = c.manifest == 0
@@ -66,7 +67,7 @@ IsStorelessPlan (Sure reply stage) = Unit {0}
 IsStorelessPlan (Writes before block reply stage bad) = ⊥
 IsStorelessPlan (Commits taken reply stage bad) = ⊥
 
--- A row that writes is due in this stage: a GETSTATUS of `len` bytes makes it come, or the end of a time, at which no request asks.
+-- A row that writes may be due in this stage, caused by a GETSTATUS of `len` bytes or, without a request, by the end of a time.
 abbrev pub IsDueStage : Stage → Option ℕ → ℕ → Type 0
 IsDueStage (InDownloadSync before block number) asked len = asked ≡ Some len
 IsDueStage (InDownloadBusy before block number passed) asked len = asked ≡ None
@@ -74,20 +75,20 @@ IsDueStage (InManifestSync taken) asked len = asked ≡ Some len
 IsDueStage (InManifest taken passed) asked len = asked ≡ None
 IsDueStage stage asked len = ⊥
 
--- A plan calls nothing of the slot store, or is that of the row that is due.
+-- The plan calls nothing of the slot store, or is the plan of the due row.
 abbrev pub IsStorelessOrDue : Plan → Profile → Stage → Option ℕ → ℕ → Type 0
 IsStorelessOrDue p c stage asked len = IsStorelessPlan p ⊎ ((p ≡ due_plan c stage) × IsDueStage stage asked len)
 
--- Bytes of a status that are asked for: those of the GETSTATUS, and 0 if there is no such request.
+-- Number of bytes of a status that are asked for: wLength of the GETSTATUS, or 0 without a GETSTATUS.
 abbrev pub wanted_status_length : Option ℕ → ℕ
 wanted_status_length None = 0
 wanted_status_length (Some len) = len
 
--- Plan that a decision stands for, of a device with an unwritten block, which got this body.
+-- Plan that a decision means for a device with this unwritten block and a request with this body.
 abbrev pub plan_of_decision : (block body : List ℕ) → Decision → DeviceView → Plan
 plan_of_decision block body decision d = plan_of (profile d) (image_of d.slots) (spare_of d.slots) block body decision
 
--- A decision sends at most n bytes of this image.
+-- The decision sends at most `room` bytes of this image.
 abbrev pub SendsWithin : Decision → List ℕ → ℕ → Type 0
 SendsWithin (decision.Sends place size number) image room = length (take size (drop place image)) ≤ room
 SendsWithin d image room = Unit {0}

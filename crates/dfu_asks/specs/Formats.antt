@@ -1,4 +1,4 @@
--- A format that asks for its writes.
+-- Meaning of a format that asks for its writes: the flash that it has reached, and the outcomes of a piece.
 use Rattle.std.specs.Prelude.{◌≡◌, ℕ, ◌+◌, ◌<◌, Bool, true, false, List, ◌++◌, length, slice_range}
 use Rattle.dfu_suffix.specs.Register.{register}
 use Rattle.dfu_slots.specs.declared.fault.WriteFault.TheVariants.{Failed, NotVerified}
@@ -15,22 +15,22 @@ use Rattle.dfu_asks.specs.Steps.{Step, step_writes}
 use Rattle.dfu_asks.specs.Carried.{total, bytes_after_writes, EndsAtPiece}
 use Rattle.dfu_asks.specs.Phases.{format_steps, format_grain, remaining_steps, steps_of_part}
 
--- Medium of these bytes that a format is for.
+-- Medium of a format, with these bytes.
 abbrev pub medium_of_format : Formatting → List ℕ → MediumState
 medium_of_format f bytes = mapped_medium (format_grain f) bytes
 
--- A format puts this image on a flash, and some of its pieces are carried out; `was` was the flash before the first.
+-- A format of this image is under way, and some of its pieces are carried out on `flash`; `was` is the flash before the first of them.
 pub record FormatUnderWay (f : Formatting) (image was flash : List ℕ) : Type 0 where
   pub can : CanFormat (medium_of_format f was) image
   pub sum : f.register ≡ register image
-  -- Steps of the parts before the one that is being carried out.
+  -- Steps of the parts before the current part.
   pub front : List Step
   pub series : format_steps (medium_of_format f was) image ≡ front ++ remaining_steps f (length was) image
   pub reached : EndsAtPiece (remaining_steps f (length was) image) f.done
   pub flash_is : flash ≡ bytes_after_writes was (step_writes (format_steps (medium_of_format f was) image)) (total (step_writes front) +
       f.done)
 
--- A format asks for its next piece, which belongs to the part that is being carried out.
+-- A format asks for its next piece, which belongs to the current part.
 pub record FormatPending (f : Formatting) (image was flash : List ℕ) : Type 0 where
   pub way : FormatUnderWay f image was flash
   pub left : f.done < total (step_writes (steps_of_part f (length was) image))
@@ -40,28 +40,28 @@ pub record FormatCompleted (m : MediumState) (image : List ℕ) (now : MediumSta
   pub writes : AllWrites m (format_series m image) now
   pub active : Active now image
 
--- Result of a format after a piece: it asks for the next one, or it has come to its end.
+-- Result of a format after a piece: it asks for the next piece, or it is complete.
 abbrev pub FormatOutcome : Grain → Formatting → (image was flash : List ℕ) → FormatProgress → Type 0
 FormatOutcome grain f image was flash Asks = FormatPending f image was flash
 FormatOutcome grain f image was flash Formatted = FormatCompleted (mapped_medium grain was) image (mapped_medium grain flash)
 FormatOutcome grain f image was flash (Broken fault) = ⊥
 
--- A program reports what became of the piece of a format that was to be written over these bytes.
+-- Outcome of a format whose program reported the piece `p`, by the report and the bytes that are now on the flash.
 pub data FormatPieceReported (f f' : Formatting) (image was flash : List ℕ) (p : Write) (failed : Bool) : FormatProgress → Type 0 where
-  -- The piece is there: the format asks for the next one, or it is complete.
-  format_piece_stood : (r : FormatProgress) → failed ≡ false → slice_range flash p.at (p.at + length p.bytes) ≡ p.bytes
+  -- The bytes of the piece are on the flash: the format asks for the next piece, or it is complete.
+  format_piece_on_flash : (r : FormatProgress) → failed ≡ false → slice_range flash p.at (p.at + length p.bytes) ≡ p.bytes
       → FormatOutcome (format_grain f) f' image was flash r
       → FormatPieceReported f f' image was flash p failed r
   -- The write of the piece failed: the format is broken off by Failed.
   format_piece_failed : failed ≡ true → BrokenWrites Failed (medium_of_format f was) (format_series (medium_of_format f was) image)
       (medium_of_format f flash)
       → FormatPieceReported f f' image was flash p failed (Broken Failed)
-  -- Other bytes are there: the format is broken off by NotVerified.
+  -- Other bytes are on the flash: the format is broken off by NotVerified.
   format_piece_not_on_flash : failed ≡ false → ¬ (slice_range flash p.at (p.at + length p.bytes) ≡ p.bytes)
       → BrokenWrites NotVerified (medium_of_format f was) (format_series (medium_of_format f was) image) (medium_of_format f flash)
       → FormatPieceReported f f' image was flash p failed (Broken NotVerified)
 
--- Two formats are the same one, further on: with the same unit, sectors and register.
+-- Two records are of the same format, at any progress: their unit, sectors and register are equal.
 pub record IsSameFormat (f f' : Formatting) : Type 0 where
   pub unit : f'.unit ≡ f.unit
   pub sector : f'.sector ≡ f.sector

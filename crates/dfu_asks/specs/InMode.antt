@@ -1,4 +1,4 @@
--- Devices of one setting that are in one mode.
+-- Devices with one setting in one mode.
 use Rattle.std.specs.Prelude.{◌≡◌, ℕ, List}
 use Rattle.dfu_device.specs.declared.device_state.DeviceState.{DeviceState}
 use Rattle.dfu_device.specs.Setting.{Setting}

@@ -10,11 +10,11 @@ use Rattle.dfu_asks.specs.declared.pending_writes.SlotWrite.TheVariants.{Block, 
 use Rattle.dfu_asks.specs.declared.reply.FlashOp.{FlashOp}
 use Rattle.dfu_asks.specs.declared.pending_writes.WriteInputs.{WriteInputs}
 
--- Place of the held bytes, in a slot that begins at a place.
+-- Place of the held bytes in the slot that begins at `spare`, if the puts end at `end`.
 abbrev pub held_bytes_place : Grain → ℕ → ℕ → List ℕ → ℕ
 held_bytes_place grain spare end held = spare + 2 * gate_room grain + (end - length held)
 
--- Writes of a job on a medium of this grain, if the puts end at a place, `held` is held back, and `block` comes.
+-- Writes of a job on a medium of this grain, if the puts end at `end`, `held` is held back, and `block` is the next block.
 abbrev pub job_writes : SlotWrite → Grain → ℕ → List ℕ → List ℕ → List Write
 job_writes (Block spare close) grain end held block =
     (if close then record { at = spare; bytes = closed_gate grain } ∷ [] else [])
@@ -30,14 +30,14 @@ job_steps (Commit spare gen crc) grain end held block =
     write_some_steps grain.sector (held_bytes_place grain spare end held) (filled_units grain.unit held)
     ++ open_steps grain spare gen end crc
 
--- Step that a piece asks for whose bytes are at the front of a buffer.
+-- Step that a piece asks for. The bytes of a program are at the front of a buffer.
 abbrev pub step_of_piece : FlashOp → List ℕ → Step
 step_of_piece p bytes = record {
   erases = p.erases;
   write = record { at = p.at; bytes = if p.erases then replicate p.len 255 else take p.len bytes };
 }
 
--- Bounds of a piece: a program has at most 256 bytes, which are at the front of `bytes`, and an erase at most a sector.
+-- Bounds of a piece: a program has at most 256 bytes, which are at the front of `bytes`, and an erase has at most a sector.
 pub record PieceBounds (sector : ℕ) (p : FlashOp) (bytes : List ℕ) : Type 0 where
   pub some : 0 < p.len
   pub programs : p.erases ≡ false → p.len ≤ 256
@@ -45,10 +45,10 @@ pub record PieceBounds (sector : ℕ) (p : FlashOp) (bytes : List ℕ) : Type 0 
   pub small : p.at < 2 ^ 43
   pub count : length (step_of_piece p bytes).write.bytes ≡ p.len
 
--- Grain of the flash that the memory of these writes is for.
+-- Grain of the flash for which these inputs are.
 abbrev pub input_grain : WriteInputs → Grain
 input_grain s = grain_of s.unit s.sector
 
--- Steps of a job whose bytes come from this memory.
-abbrev pub steps_for : SlotWrite → WriteInputs → List Step
-steps_for job s = job_steps job (input_grain s) s.put_end s.held.now s.block.now
+-- Steps of a job with these inputs.
+abbrev pub steps_of_job : SlotWrite → WriteInputs → List Step
+steps_of_job job s = job_steps job (input_grain s) s.put_end s.held.now s.block.now

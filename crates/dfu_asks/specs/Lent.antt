@@ -1,4 +1,4 @@
--- A device that asks, with the bytes in the memory that its caller lends.
+-- A device that asks for its writes, with the bytes in the memory that its caller lends.
 use Rattle.std.specs.Prelude.{◌≡◌, ℕ, ◌≤◌, List, length, take, Option}
 use Rattle.dfu_slots.specs.declared.layout.Unit.{Unit as WriteUnit}
 use Rattle.dfu_slots.specs.Units.{unit_size}
@@ -9,7 +9,7 @@ use Rattle.dfu_asks.specs.declared.noted.Noted.{Noted}
 use Rattle.dfu_asks.specs.declared.pending_writes.PendingWrites.{PendingWrites}
 use Rattle.dfu_asks.specs.declared.asking.Asking.{Asking}
 
--- Parts of a device that asks: its record, the block that is not written, and the bytes that are held back.
+-- Parts of a device that asks for its writes: its kept fields, the block that is not written, and the bytes that are held back.
 pub record LentDevice : Type 0 where
   pub config : Setting
   pub unit : WriteUnit
@@ -39,8 +39,8 @@ lent a block held = record {
 abbrev pub HasRoom : WriteUnit → List ℕ → Type 0
 HasRoom unit held = unit_size unit ≤ length held
 
--- A device keeps its configuration, its unit and its sector.
-pub record SameSetup (a a' : Asking) : Type 0 where
+-- The configuration, the unit and the sector of a device are unchanged.
+pub record SameConfig (a a' : Asking) : Type 0 where
   pub config : a'.config ≡ a.config
   pub unit : a'.unit ≡ a.unit
   pub sector : a'.sector ≡ a.sector

@@ -1,4 +1,4 @@
--- Flash that is mapped into memory: it is read there, and only its owner writes it.
+-- Flash that is mapped into memory, where it is read. Only its owner writes it.
 use Rattle.std.specs.Prelude.{◌≡◌, ◌≢◌, ◌⊎◌, ◌+◌, ◌-◌, ◌^◌, ◌≤◌, ◌<◌, ℕ, List, [], slice_index}
 use Rattle.dfu_slots.specs.declared.layout.Unit.{Unit as WriteUnit}
 use Rattle.dfu_slots.specs.Units.{Grain}
@@ -8,11 +8,11 @@ use Rattle.dfu_slots.specs.Layout.{slot_size, OPEN}
 use Rattle.dfu_slots.specs.Image.{gate_of, spare_at, HasImage}
 use Rattle.dfu_asks.specs.declared.sector.Sector.{Sector}
 
--- Grain of flash that is written in this unit, and erased in these sectors before.
+-- Grain of flash that is written in units of this size, and erased in sectors of this size.
 abbrev pub grain_of : WriteUnit → Sector → Grain
 grain_of unit sector = record { unit = unit; sector = sector.size }
 
--- Medium of these bytes that its owner writes in this grain. Nothing is known of its next writes.
+-- Medium with these bytes, which its owner writes in this grain. Its next writes may have any outcome.
 abbrev pub mapped_medium : Grain → List ℕ → MediumState
 mapped_medium grain bytes = record { bytes = bytes; failures = 2 ^ 64 - 1; fuse = Unknown; grain = grain; tag = [] }
 
@@ -22,7 +22,7 @@ pub record UnseenState : Type 0 where
   pub fuse : Fuse
   pub tag : List ℕ
 
--- Medium of these bytes with this unseen state. Each medium with these bytes is one of them.
+-- Medium with these bytes and this unseen state. Every medium with these bytes and this grain has this form.
 abbrev pub mapped_medium_with : UnseenState → Grain → List ℕ → MediumState
 mapped_medium_with u grain bytes = record { bytes = bytes; failures = u.failures; fuse = u.fuse; grain = grain; tag = u.tag }
 
@@ -31,11 +31,11 @@ pub record RangeIsInSpare (m : MediumState) (at len : ℕ) : Type 0 where
   pub from : spare_at (gate_of m) m.bytes ≤ at
   pub to : at + len ≤ spare_at (gate_of m) m.bytes + slot_size m.bytes
 
--- A place lies in the slot that begins at `slot`, of two slots of this size.
+-- The place `at` lies in the slot that begins at `slot`, of two slots of this size.
 abbrev pub IsSlotOf : ℕ → ℕ → ℕ → Type 0
 IsSlotOf at size slot = ((at < size) × (slot ≡ 0)) ⊎ ((size ≤ at) × (slot ≡ size))
 
--- A range that a device never asks for: the slot that it lies in has an open gate, and is not the spare of an active image.
+-- A range that a device never asks for: if it lies in a slot, the slot has an open gate, and is not the spare slot of an active image.
 abbrev pub IsProtectedRange : MediumState → ℕ → ℕ → Type 0
 IsProtectedRange m at len = (slot : ℕ) → (slot ≡ 0) ⊎ (slot ≡ slot_size m.bytes) → slot ≤ at → at + len ≤ slot + slot_size m.bytes
     → (slice_index m.bytes slot ≡ OPEN) × (HasImage m → spare_at (gate_of m) m.bytes ≢ slot)

@@ -10,20 +10,20 @@ use Rattle.dfu_asks.specs.declared.formatting.Formatting.{Formatting}
 use Rattle.dfu_asks.specs.Mapped.{grain_of}
 use Rattle.dfu_asks.specs.Steps.{Step, write_anew_steps, write_some_steps, open_steps, close_step}
 
--- Steps that write `bytes` from a place on, 4096 at a time and fewer at last. The count is at least their length.
+-- Steps that write `bytes` from a place on, 4096 at a time. The count of writes limits them: the length of `bytes` is always enough.
 abbrev pub piece_steps : ℕ → ℕ → ℕ → List ℕ → List Step
 piece_steps sector zero at bytes = []
 piece_steps sector (suc n) at [] = []
 piece_steps sector (suc n) at (b ∷ bs) =
     write_anew_steps sector at (take 4096 (b ∷ bs)) ++ piece_steps sector n (at + 4096) (drop 4096 (b ∷ bs))
 
--- Steps that write an image into the first slot, from one byte of the image on.
+-- Steps that write an image into the first slot, from byte number `from` of the image on.
 abbrev pub image_steps : Grain → List ℕ → ℕ → List Step
 image_steps grain image from =
     let rest = drop from (filled_units grain.unit image) in
     piece_steps grain.sector (length rest) (2 * gate_room grain + from) rest
 
--- Steps of a format from one of its parts on, by the size of a slot, the image and the register over it.
+-- Steps of a format from one of its parts on. `size` is the size of a slot, `crc` the register over the image.
 abbrev pub format_steps_from : Grain → ℕ → List ℕ → ℕ → FormatStep → List Step
 format_steps_from grain size image crc CloseSecond =
     close_step grain size ∷ close_step grain 0 ∷ image_steps grain image 0 ++ open_steps grain 0 0 (length image) crc
@@ -53,10 +53,10 @@ part_steps grain size image crc Ended = []
 abbrev pub format_grain : Formatting → Grain
 format_grain f = grain_of f.unit f.sector
 
--- Steps that are left of a format on flash of `size` bytes, from the part on that is being carried out.
+-- Steps of a format on flash of `size` bytes, from the current part on.
 abbrev pub remaining_steps : Formatting → ℕ → List ℕ → List Step
 remaining_steps f size image = format_steps_from (format_grain f) (size / 2) image f.register f.phase
 
--- Steps of the part that is being carried out.
+-- Steps of the current part of a format.
 abbrev pub steps_of_part : Formatting → ℕ → List ℕ → List Step
 steps_of_part f size image = part_steps (format_grain f) (size / 2) image f.register f.phase

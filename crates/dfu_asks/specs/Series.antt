@@ -1,4 +1,4 @@
--- Writes of a row as one list, and the store that they leave.
+-- Writes of a row as one list, and the slot store after them.
 use Rattle.std.specs.Prelude.{◌≡◌, ◌⊎◌, ℕ, ◌+◌, ◌==◌, true, if◌then◌else◌, List, [], ◌∷◌, ◌++◌, length, take}
 use Rattle.dfu_slots.specs.declared.fault.WriteFault.{WriteFault}
 use Rattle.dfu_slots.specs.Medium.{MediumState, Write}
@@ -9,21 +9,21 @@ use Rattle.dfu_slots.specs.Store.{IsStore}
 use Rattle.dfu_device.specs.Parts.{is_put}
 use Rattle.dfu_device.specs.Rows.{block_calls}
 
--- Bytes that are held back before a block which comes after n bytes: none before the first block.
+-- Bytes that are held back before a block that follows n bytes: none before the first block.
 abbrev pub held_before_block : SlotsState → ℕ → List ℕ
 held_before_block s n = if n == 0 then [] else s.held
 
--- Writes of a block which comes after n bytes; before those of the first block come those that close the spare.
+-- Writes of a block that follows n bytes. The writes of the first block begin with those that close the spare slot.
 abbrev pub block_series : SlotsState → ℕ → List ℕ → List Write
 block_series s n block =
     if n == 0 then writes_of s Begin ++ put_writes s.medium.grain (data_place s 0) [] block else writes_of s (Put n block)
 
--- Store after the writes of a block.
+-- Slot store after the writes of a block, on the medium that they leave.
 abbrev pub block_store : SlotsState → ℕ → List ℕ → MediumState → SlotsState
 block_store s n block m = store_of m (put_rest s.medium.grain.unit (held_before_block s n) block) (n + length block)
 
--- A block was written after n bytes: the calls of its row worked, the spare has the n bytes and then the block's, all of them count as put,
--- and the image, its place and the room stay.
+-- A block was written after n bytes: the calls of its row worked, the spare slot has the n bytes followed by the block, all of them count
+-- as put, and the image, its place and the room stay.
 pub record BlockWritten (s : SlotsState) (n : ℕ) (block : List ℕ) (now : SlotsState) : Type 0 where
   pub calls : CallsEnd s (block_calls (take n (spare_of s)) block) AllWorked now
   pub store : IsStore now
@@ -33,7 +33,7 @@ pub record BlockWritten (s : SlotsState) (n : ℕ) (block : List ℕ) (now : Slo
   pub put : is_put (n + length block) now ≡ true
   pub spare : take (n + length block) (spare_of now) ≡ take n (spare_of s) ++ block
 
--- A write of a block had this fault: it broke the calls of the row off, and the image, its place and the room stay.
+-- A write of a block had this fault, which broke off the calls of the row. The image, its place and the room stay.
 pub record BlockBroken (fault : WriteFault) (s : SlotsState) (n : ℕ) (block : List ℕ) (now : SlotsState) : Type 0 where
   pub calls : CallsEnd s (block_calls (take n (spare_of s)) block) (BrokenBy fault) now
   pub store : IsStore now
@@ -48,7 +48,7 @@ pub record CommitCompleted (s : SlotsState) (n : ℕ) (now : SlotsState) : Type 
   pub image : image_of now ≡ take n (spare_of s)
   pub room : room_of now ≡ room_of s
 
--- A write of the commit of the first n bytes had this fault: the old image is active, or the n bytes are, whole. The room stays.
+-- A write of the commit of the first n bytes had this fault: the old image is active, or all n bytes are the image. The room stays.
 pub record CommitBroken (fault : WriteFault) (s : SlotsState) (n : ℕ) (now : SlotsState) : Type 0 where
   pub calls : CallsEnd s (Commit (length (take n (spare_of s))) ∷ []) (BrokenBy fault) now
   pub store : IsStore now

@@ -1,4 +1,4 @@
--- Answer that says, before the body of a setup is there, if a device will stall the setup.
+-- Verdict, before the body of a setup arrives, on whether a device will stall the setup.
 use Rattle.std.specs.Prelude.{◌≡◌, ◌↔◌, ℕ, Bool, true, false, IsTrue, Option, Some, None, List, length}
 use Rattle.dfu_wire.specs.declared.setups.Setup.{Setup}
 use Rattle.dfu_wire.specs.Setup.{IsSetup}
@@ -15,23 +15,24 @@ abbrev pub is_stall : Reply → Bool
 is_stall Stall = true
 is_stall reply = false
 
--- Answer that three answers agree on; none if they differ.
-abbrev pub agreed_answer : Bool → Bool → Bool → Option Bool
-agreed_answer true true true = Some true
-agreed_answer false false false = Some false
-agreed_answer x y z = None
+-- The value of three Bools if they are equal; None if they differ.
+abbrev pub equal_bool_of_three : Bool → Bool → Bool → Option Bool
+equal_bool_of_three true true true = Some true
+equal_bool_of_three false false false = Some false
+equal_bool_of_three x y z = None
 
--- True if the plan gives a stall, false if it gives none, whatever its writes come to; none if that decides it.
+-- True if the plan answers with a stall for every outcome of its writes, false if it never does; None if the outcome decides.
 abbrev pub stall_verdict : Plan → Option Bool
 stall_verdict (Sure reply stage) = Some (is_stall reply)
-stall_verdict (Writes before block reply stage bad) = agreed_answer (is_stall reply) (is_stall (bad Failed)) (is_stall (bad NotVerified))
-stall_verdict (Commits taken reply stage bad) = agreed_answer (is_stall reply) (is_stall (bad Failed)) (is_stall (bad NotVerified))
+stall_verdict (Writes before block reply stage bad) =
+    equal_bool_of_three (is_stall reply) (is_stall (bad Failed)) (is_stall (bad NotVerified))
+stall_verdict (Commits taken reply stage bad) = equal_bool_of_three (is_stall reply) (is_stall (bad Failed)) (is_stall (bad NotVerified))
 
--- A body belongs to a setup: it has wLength bytes if the host sends, and none if the host reads.
+-- A body belongs to a setup: it has wLength bytes if bmRequestType is 21h, so that the host sends, else none.
 abbrev pub IsBodyOf : List ℕ → List ℕ → Type 0
 IsBodyOf setup body = (p : Setup) → IsSetup p setup → length body ≡ body_length p
 
--- The verdict says of a setup if this device answers it with a stall, whatever its body. A device that asks for writes does not stall.
+-- With every body that belongs to the setup, the verdict is true exactly if this device answers the setup with a stall.
 abbrev pub IsStallVerdict : Bool → List ℕ → DeviceView → Type 0
 IsStallVerdict said setup d = (body : List ℕ) → IsBodyOf setup body → (x : Answer) (sent : List ℕ) (d' : DeviceView)
     → Handles setup body d x sent d' → IsTrue said ↔ (x ≡ answer.Stall)

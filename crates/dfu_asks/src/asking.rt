@@ -26,7 +26,7 @@ pub struct Asking {
     pub put_end: u32,
     /// Notes of the active image.
     pub noted: Noted,
-    /// Writes that are left of a row, if any are.
+    /// Pending writes of a row, if any are pending.
     pub work: Option<PendingWrites>,
     ghost short: { block_len ≤ 4096 },
     ghost few: { held_len ≤ 256 },

@@ -1,4 +1,4 @@
-//! Look at a flash that may never have been written, by which a program can tell a new board from a damaged one.
+//! Check for flash that was never written, so that a program can tell a new board from a damaged one.
 ghost use Rattle.std.specs.Prelude.{◌≡◌, ◌↔◌, ◌+◌, ◌≤◌, IsTrue, length, slice_range, IfSome, IfNone, OnSome};
 ghost use Rattle.std.specs.List.{list_all};
 ghost use Rattle.dfu_slots.specs.Image.{IsSizedMedium, HasImage};
@@ -9,7 +9,7 @@ use crate::Mapped;
 use crate::gates::gate_room;
 use dfu_slots::{flash_byte_at, is_sized};
 
-// Returns whether so many bytes from there on are FFh.
+// Returns whether the `len` bytes from `at` on are FFh.
 fn is_erased(flash: &[u8], at: usize, len: usize) -> bool
     requires { at + len ≤ length flash.now }
     ensures { result ≡ list_all is_erased_byte (slice_range flash.now at (at + len)) }
@@ -26,9 +26,9 @@ fn is_erased(flash: &[u8], at: usize, len: usize) -> bool
 
 impl<'m> Mapped<'m> {
     /// Returns whether the flash reads as if it was never written: true if every byte that the gates and the headers of both slots take up
-    /// is FFh, and then there is no active image; false if one is not. The data of the slots does not matter.
+    /// is FFh, in which case there is no active image; false if another byte is found. The data of the slots does not matter.
     ///
-    /// None exactly if the flash has not as many bytes as two slots can have.
+    /// None exactly if the size of the flash cannot be divided into two slots.
     pub fn is_blank(&self) -> Option<bool>
         ensures blank { IfSome result (λ b. IsTrue b ↔ AreSlotFrontsErased (grain_of self.now.unit self.now.sector) self.now.bytes.now) }
         ensures no_image { IfSome result (λ b. IsTrue b →

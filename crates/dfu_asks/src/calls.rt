@@ -1,4 +1,4 @@
-//! The calls for a device that asks.
+//! The calls for a device that asks for its writes.
 ghost use Rattle.std.specs.Prelude.{◌≡◌, ◌≢◌, ◌≤◌, ℕ, List, [], length, replicate, IfOk, IfErr, OnOk, OnErr, IsErrOf, IfSome, IfNone, IsSome, Some, None};
 ghost use Rattle.dfu_device.specs.Rows.{Handles, Elapses};
 ghost use Rattle.dfu_device.specs.Table.{reset_stage};
@@ -8,11 +8,11 @@ ghost use Rattle.dfu_device.specs.Borrowed.{answer_room};
 ghost use Rattle.dfu_device.specs.declared.answer.Answer.TheVariants.{Ack};
 ghost use Rattle.dfu_asks.specs.declared.pending_writes.PendingWrites.{PendingWrites};
 ghost use Rattle.dfu_asks.specs.Mapped.{grain_of, mapped_medium};
-ghost use Rattle.dfu_asks.specs.Noted.{IsView};
-ghost use Rattle.dfu_asks.specs.Lent.{lent, HasRoom, SameSetup};
+ghost use Rattle.dfu_asks.specs.Noted.{IsNoteView};
+ghost use Rattle.dfu_asks.specs.Lent.{lent, HasRoom, SameConfig};
 ghost use Rattle.dfu_asks.specs.Asks.{device_in, IsDevice};
-ghost use Rattle.dfu_asks.specs.Calls.{DeviceCalled, AnswerHasAtMost};
-ghost use Rattle.dfu_asks.specs.Refused.{IsDeviceOn, HasNotedImage, RoomForBlocks, IsRefusedCall, IsServedCall};
+ghost use Rattle.dfu_asks.specs.Calls.{DeviceCalled, ReplyHasAtMostBytes};
+ghost use Rattle.dfu_asks.specs.Refused.{IsDeviceOn, NotedHeaderIsOnFlash, RoomForBlocks, IsRefusedCall, ServedCallFacts};
 ghost use Rattle.dfu_asks.specs.Addressed.{addressed_setup};
 
 use crate::noted::{View, look};
@@ -20,8 +20,8 @@ use crate::{Asking, Mapped, Refusal, Reply};
 use dfu_device::{asked_row, decide_time};
 use dfu_wire::{Code, State};
 
-/// Returns `setup` as a device takes it whose interface has number `interface` (bInterfaceNumber): with wIndex 0 if the setup has that
-/// number as its wIndex (USB DFU 1.1, section 3), and else with another wIndex, so that the device stalls the request and stays as it is.
+/// Returns `setup` for a device whose interface has number `interface` (bInterfaceNumber): with wIndex 0 if the setup has that number as
+/// its wIndex (USB DFU 1.1, section 3), and else with another wIndex, so that the device stalls the request and stays as it is.
 /// A program whose interface is not number 0 must pass each setup through this call before it hands the setup to `handle` or to the calls
 /// that ask or refuse beforehand.
 pub fn addressed(interface: u8, setup: &[u8; 8]) -> [u8; 8]
@@ -47,16 +47,16 @@ impl Asking {
         self.mode.code()
     }
 
-    // The view of the flash, if what is kept goes with it.
+    // Returns the flash as a medium with its view, if the kept fields fit the flash.
     fn see<'f>(&self, room: usize, flash: &'f [u8]) -> Result<(Mapped<'f>, View), Refusal>
         ensures medium { IfOk result (λ r. (r.0.unit ≡ self.now.unit) × (r.0.sector ≡ self.now.sector) × (r.0.bytes.now ≡ flash.now)) }
-        ensures view { IfOk result (λ r. IsView r.1 self.now.noted (mapped_medium (grain_of self.now.unit self.now.sector) flash.now)) }
-        ensures there { OnOk result (HasNotedImage self.now flash.now) }
+        ensures view { IfOk result (λ r. IsNoteView r.1 self.now.noted (mapped_medium (grain_of self.now.unit self.now.sector) flash.now)) }
+        ensures there { OnOk result (NotedHeaderIsOnFlash self.now flash.now) }
         ensures fits { OnOk result (RoomForBlocks self.now room) }
         ensures end { IfOk result (λ r. self.now.put_end ≤ r.1.room) }
         ensures held { IfOk result (λ r. self.now.held_len ≤ self.now.put_end) }
-        ensures no_medium { IfErr result (λ e. e ≡ Refusal.NoMedium → ¬ HasNotedImage self.now flash.now) }
-        ensures no_device { IfErr result (λ e. e ≢ Refusal.NoMedium → (e ≡ Refusal.NoDevice) × HasNotedImage self.now flash.now
+        ensures no_medium { IfErr result (λ e. e ≡ Refusal.NoMedium → ¬ NotedHeaderIsOnFlash self.now flash.now) }
+        ensures no_device { IfErr result (λ e. e ≢ Refusal.NoMedium → (e ≡ Refusal.NoDevice) × NotedHeaderIsOnFlash self.now flash.now
             × ((block held : List ℕ) → length block ≡ room → HasRoom self.now.unit held → ¬ IsDeviceOn self.now block held flash.now)) }
     {
         let Some(medium) = Mapped::with_sector(flash, self.unit, self.sector) else {
@@ -65,13 +65,13 @@ impl Asking {
         let Some(view) = look(&medium, &self.noted) else {
             return Err(Refusal::NoMedium);
         };
-        if !self.is_fit(room, &medium, &view) {
+        if !self.kept_fields_fit(room, &medium, &view) {
             return Err(Refusal::NoDevice);
         }
         Ok((medium, view))
     }
 
-    // Returns the answer to a setup with its body: the rules before the table, then the table.
+    // Answers a setup with its body: by its row if the table serves it, else with a stall. If the row writes, asks for the first write.
     fn respond(
         &mut self,
         block: &mut [u8],
@@ -85,7 +85,7 @@ impl Asking {
         requires room { answer_room self.old.config ≤ length out.old }
         requires unit { medium.now.unit ≡ self.old.unit }
         requires sector { medium.now.sector ≡ self.old.sector }
-        requires view { IsView view.now self.old.noted (mapped_medium (grain_of self.old.unit self.old.sector) medium.now.bytes.now) }
+        requires view { IsNoteView view.now self.old.noted (mapped_medium (grain_of self.old.unit self.old.sector) medium.now.bytes.now) }
         requires idle { self.old.work ≡ None }
         requires block { self.old.block_len ≤ length block.old }
         requires end { self.old.put_end ≤ view.now.room }
@@ -96,8 +96,8 @@ impl Asking {
             DeviceCalled a flash out.old (λ d x sent d'. Handles setup.now body.now d x sent d')
             (lent self.new block.new held.new) out.new result }
         ensures first { result ≡ Reply.Asks → (w : PendingWrites) × (self.new.work ≡ Some w) × (w.done ≡ 0) }
-        ensures few { AnswerHasAtMost 65535 result }
-        ensures same { SameSetup self.old self.new }
+        ensures few { ReplyHasAtMostBytes 65535 result }
+        ensures same { SameConfig self.old self.new }
         ensures fits { self.new.block_len ≤ length block.new }
     {
         let profile = self.config.profile(u64::from(view.room));
@@ -126,12 +126,12 @@ impl Asking {
             DeviceCalled a flash.now out.old (λ d x sent d'. Handles setup.now body.now d x sent d')
             (lent self.new block.new held.new) out.new r) }
         ensures first { IfOk result (λ r. r ≡ Reply.Asks → (w : PendingWrites) × (self.new.work ≡ Some w) × (w.done ≡ 0)) }
-        ensures served { OnOk result (IsServedCall self.old block.old flash.now (answer_room self.old.config) (length out.old)) }
+        ensures served { OnOk result (ServedCallFacts self.old block.old flash.now (answer_room self.old.config) (length out.old)) }
         ensures refused { IfErr result (λ e.
             IsRefusedCall e self.old block.old held.old flash.now (answer_room self.old.config) (length out.old)) }
         ensures asked { IsSome self.old.work → IsErrOf result Refusal.Asked }
-        ensures few { IfOk result (λ r. AnswerHasAtMost 65535 r) }
-        ensures same { SameSetup self.old self.new }
+        ensures few { IfOk result (λ r. ReplyHasAtMostBytes 65535 r) }
+        ensures same { SameConfig self.old self.new }
         ensures fits { OnOk result (RoomForBlocks self.new (length block.new)) }
         ensures unchanged { OnErr result ((self.new ≡ self.old) × (block.new ≡ block.old) × (held.new ≡ held.old) × (out.new ≡ out.old)) }
     {
@@ -163,10 +163,10 @@ impl Asking {
             (λ d x sent d'. (x ≡ Ack) × (sent ≡ []) × Elapses ms d d')
             (lent self.new block.new held.new) out r) }
         ensures first { IfOk result (λ r. r ≡ Reply.Asks → (w : PendingWrites) × (self.new.work ≡ Some w) × (w.done ≡ 0)) }
-        ensures served { OnOk result (IsServedCall self.old block.old flash.now 0 0) }
+        ensures served { OnOk result (ServedCallFacts self.old block.old flash.now 0 0) }
         ensures refused { IfErr result (λ e. IsRefusedCall e self.old block.old held.old flash.now 0 0) }
         ensures asked { IsSome self.old.work → IsErrOf result Refusal.Asked }
-        ensures same { SameSetup self.old self.new }
+        ensures same { SameConfig self.old self.new }
         ensures fits { OnOk result (RoomForBlocks self.new (length block.new)) }
         ensures unchanged { OnErr result ((self.new ≡ self.old) × (block.new ≡ block.old) × (held.new ≡ held.old)) }
     {
@@ -191,10 +191,10 @@ impl Asking {
             OnOk result (device_in (lent self.new block.now held.now) flash.now ≡ record before { stage = reset_stage before.stage }) }
         ensures is { OnOk result (IsDeviceOn self.old block.now held.now flash.now → IsDeviceOn self.new block.now held.now flash.now) }
         ensures work { OnOk result (self.new.work ≡ None) }
-        ensures served { OnOk result (IsServedCall self.old block.now flash.now 0 0) }
+        ensures served { OnOk result (ServedCallFacts self.old block.now flash.now 0 0) }
         ensures refused { IfErr result (λ e. IsRefusedCall e self.old block.now held.now flash.now 0 0) }
         ensures asked { IsSome self.old.work → IsErrOf result Refusal.Asked }
-        ensures same { SameSetup self.old self.new }
+        ensures same { SameConfig self.old self.new }
         ensures fits { OnOk result (RoomForBlocks self.new (length block.now)) }
         ensures unchanged { OnErr result (self.new ≡ self.old) }
     {

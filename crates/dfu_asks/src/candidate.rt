@@ -1,4 +1,4 @@
-//! Place of a received image that is not in place yet, in the flash of a device that asks.
+//! Place of a received image that is not active yet, in the flash of a device that asks for its writes.
 ghost use Rattle.std.specs.Prelude.{◌≡◌, ◌+◌, ◌≤◌, ℕ, List, length, IfOk, IfErr, IfSome, IfNone, None};
 ghost use Rattle.dfu_device.specs.Candidate.{candidate_in, IsCandidate};
 ghost use Rattle.dfu_asks.specs.Lent.{lent};

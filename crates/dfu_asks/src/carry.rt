@@ -7,11 +7,11 @@ ghost use Rattle.dfu_device.specs.Rows.{Done};
 ghost use Rattle.dfu_asks.specs.declared.pending_writes.PendingWrites.{PendingWrites};
 ghost use Rattle.dfu_asks.specs.declared.noted.Noted.{Noted};
 ghost use Rattle.dfu_asks.specs.Mapped.{grain_of, mapped_medium};
-ghost use Rattle.dfu_asks.specs.Noted.{IsView, noted_slot_place};
-ghost use Rattle.dfu_asks.specs.Lent.{lent, HasRoom, SameSetup};
+ghost use Rattle.dfu_asks.specs.Noted.{IsNoteView, noted_slot_place};
+ghost use Rattle.dfu_asks.specs.Lent.{lent, HasRoom, SameConfig};
 ghost use Rattle.dfu_asks.specs.Due.{plan_of_decision, SendsWithin, wanted_status_length};
 ghost use Rattle.dfu_asks.specs.Asks.{flash_store, IsReplyInMode, AnswerInBuffer};
-ghost use Rattle.dfu_asks.specs.Calls.{PlansAreStorelessOrDue, DeviceCalled, AnswerHasAtMost};
+ghost use Rattle.dfu_asks.specs.Calls.{PlansAreStorelessOrDue, DeviceCalled, ReplyHasAtMostBytes};
 ghost use Rattle.dfu_asks.specs.Refused.{IsDeviceOn};
 
 use crate::noted::View;
@@ -19,7 +19,7 @@ use crate::{Asking, Mapped, Reply};
 use dfu_device::{Answer, Decision, DeviceState, status_in};
 use dfu_slots::read_data;
 
-// Returns the bytes of a status that are asked for.
+// Returns the number of bytes of a status that are asked for: wLength of the GETSTATUS, or 0 without one.
 fn wanted(asked: Option<u16>) -> u16
     ensures { result ≡ wanted_status_length asked }
 {
@@ -29,7 +29,7 @@ fn wanted(asked: Option<u16>) -> u16
     }
 }
 
-// Puts the first of some bytes at the front of a buffer, at most `asked`, and returns their number.
+// Copies the first `asked` of `bytes`, or all if there are fewer, to the front of `out`, and returns their number.
 fn put_front(bytes: &[u8], asked: u16, out: &mut [u8]) -> usize
     requires few { length bytes.now ≤ 6 }
     requires room { 6 ≤ length out.old }
@@ -42,9 +42,9 @@ fn put_front(bytes: &[u8], asked: u16, out: &mut [u8]) -> usize
     count
 }
 
-// Puts the bytes of the active image at the front of a buffer, from `place` on, at most `size`, and returns their number.
+// Copies the bytes of the active image from `place` on, at most `size`, to the front of `out`, and returns their number.
 fn put_image(medium: &Mapped<'_>, view: &View, place: u32, size: u16, out: &mut [u8]) -> usize
-    requires view { (n : Noted) × IsView view.now n (mapped_medium (grain_of medium.now.unit medium.now.sector) medium.now.bytes.now) }
+    requires view { (n : Noted) × IsNoteView view.now n (mapped_medium (grain_of medium.now.unit medium.now.sector) medium.now.bytes.now) }
     ensures count { result ≡ min (view.now.len - place) (min size (length out.old)) }
     ensures bytes { let m = mapped_medium (grain_of medium.now.unit medium.now.sector) medium.now.bytes.now in
         out.new ≡ take result (drop place (slot_of m view.now.active).data_bytes) ++ drop result out.old }
@@ -58,7 +58,7 @@ fn put_image(medium: &Mapped<'_>, view: &View, place: u32, size: u16, out: &mut 
 }
 
 impl Asking {
-    /// Writes `reply` to the front of `out`, if `asked` bytes of a status or of a state are asked for.
+    /// Writes the bytes of `reply` to the front of `out`, at most `asked`, and returns the answer and their number.
     pub(crate) fn give(
         &self,
         reply: dfu_device::Reply,
@@ -83,8 +83,8 @@ impl Asking {
         }
     }
 
-    /// Performs `decision`, on a request with `body` that asks for `asked` bytes of a status or of a state, or on a time; or if that
-    /// writes, asks for its first write.
+    /// Performs `decision`, on a request with `body` that asks for `asked` bytes of a status or of a state, or on elapsed time; or if the
+    /// decision writes, asks for its first write.
     pub(crate) fn carry_out(
         &mut self,
         decision: Decision,
@@ -99,7 +99,7 @@ impl Asking {
         requires room { 6 ≤ length out.old }
         requires unit { medium.now.unit ≡ self.old.unit }
         requires sector { medium.now.sector ≡ self.old.sector }
-        requires view { IsView view.now self.old.noted (mapped_medium (grain_of self.old.unit self.old.sector) medium.now.bytes.now) }
+        requires view { IsNoteView view.now self.old.noted (mapped_medium (grain_of self.old.unit self.old.sector) medium.now.bytes.now) }
         requires idle { self.old.work ≡ None }
         requires block { self.old.block_len ≤ length block.old }
         requires end { self.old.put_end ≤ view.now.room }
@@ -116,8 +116,8 @@ impl Asking {
             DeviceCalled a flash out.old (λ d x sent d'. Done (plan_of_decision a.block body.now decision d) len d x sent d')
             (lent self.new block.new held.new) out.new result }
         ensures first { result ≡ Reply.Asks → (w : PendingWrites) × (self.new.work ≡ Some w) × (w.done ≡ 0) }
-        ensures few { AnswerHasAtMost 65535 result }
-        ensures same { SameSetup self.old self.new }
+        ensures few { ReplyHasAtMostBytes 65535 result }
+        ensures same { SameConfig self.old self.new }
         ensures fits { self.new.block_len ≤ length block.new }
     {
         match decision {
@@ -127,7 +127,7 @@ impl Asking {
                 Reply::Answered(answer, count)
             }
             Decision::Holds { mode } => {
-                // There is room for the body of a block.
+                // The body of a block always fits; the limits keep the slices within bounds.
                 let len = body.len().min(block.len()).min(4096);
                 block[..len].copy_from_slice(&body[..len]);
                 self.block_len = len;

@@ -1,6 +1,6 @@
-//! The piece that is found, and its bytes: in runs, as they lie in memory one after the other, in place, and read back.
+//! The piece that a search finds, and its bytes: as runs of memory, copied to a buffer, and compared with the flash.
 ghost use Rattle.std.specs.Prelude.{◌≡◌, ◌+◌, ◌^◌, ◌<◌, ◌≤◌, ◌++◌, ◌↔◌, ℕ, false, length, replicate, slice_index, slice_range, IsTrue, ◌∷◌, [], take, drop};
-ghost use Rattle.dfu_asks.specs.Jobs.{step_of_piece, PieceBounds, steps_for};
+ghost use Rattle.dfu_asks.specs.Jobs.{step_of_piece, PieceBounds, steps_of_job};
 ghost use Rattle.dfu_asks.specs.Cuts.{step_of_cut, IsFoundPiece, source_bytes, run_bytes, IsNextPiece};
 ghost use Rattle.dfu_slots.specs.Layout.{OPEN};
 ghost use Rattle.dfu_asks.specs.declared.pending_writes.PendingWrites.{PendingWrites};
@@ -18,11 +18,11 @@ use dfu_slots::{OPEN_GATE, Source, flash_byte_at};
 pub(crate) struct Cut<'a> {
     /// Inputs of the writes.
     pub(crate) stock: WriteInputs<'a>,
-    /// Bytes that are carried out of the writes that were not looked at yet.
+    /// Number of carried-out bytes that belong to the writes not searched yet.
     pub(crate) rest: usize,
     /// The header, if one is written.
     pub(crate) front: [u8; 16],
-    /// The piece that is found.
+    /// The piece, once it is found.
     pub(crate) piece: FlashOp,
     /// Source of its bytes, if it programs.
     pub(crate) source: Source,
@@ -30,7 +30,7 @@ pub(crate) struct Cut<'a> {
     pub(crate) from: usize,
 }
 
-/// Returns the search for what comes after `done` bytes of the writes that are made of `stock`.
+/// Returns a search for the next piece after `done` bytes of the writes with the inputs `stock`.
 pub(crate) fn cut_at<'a>(stock: WriteInputs<'a>, done: u32) -> Cut<'a>
     ensures stock { result.stock ≡ stock.entry }
     ensures rest { result.rest ≡ done }
@@ -56,13 +56,13 @@ struct Runs<'a> {
     front: &'a [u8],
     /// The bytes of the second slice.
     back: &'a [u8],
-    /// Number of bytes that come then.
+    /// Number of bytes of one value after the slices.
     rest: usize,
-    /// Value of each of these.
+    /// Value of each of these bytes.
     pad: u8,
 }
 
-// At most so many bytes of a slice, without its first ones.
+// Returns at most `most` bytes of a slice, after its first `skip`.
 fn run<'a>(bytes: &'a [u8], skip: usize, most: usize) -> &'a [u8]
     ensures { result.now ≡ take most (drop skip bytes.now) }
 {
@@ -71,7 +71,7 @@ fn run<'a>(bytes: &'a [u8], skip: usize, most: usize) -> &'a [u8]
     &bytes[skip..skip + len]
 }
 
-// So many bytes of two slices, one after the other, and of zeros after both, without the first ones.
+// Returns `len` bytes of two slices, one after the other, and of zeros after both, after the first `skip`.
 fn runs_in<'a>(front: &'a [u8], back: &'a [u8], skip: usize, len: usize) -> Runs<'a>
     requires { skip + len ≤ length front.now + length back.now + 256 }
     ensures bytes { run_bytes result ≡ take len (drop skip ((front.now ++ back.now) ++ replicate 256 0)) }
@@ -89,8 +89,8 @@ fn runs_in<'a>(front: &'a [u8], back: &'a [u8], skip: usize, len: usize) -> Runs
     }
 }
 
-// The two slices that the source of a piece is, one after the other, if this is an open gate.
-fn sides_of<'a>(cut: &'a Cut<'_>, gate: &'a [u8; 1]) -> (&'a [u8], &'a [u8])
+// Returns the two slices that make up the source of a piece, in order; `gate` is the byte of an open gate.
+fn source_slices<'a>(cut: &'a Cut<'_>, gate: &'a [u8; 1]) -> (&'a [u8], &'a [u8])
     requires { gate.now ≡ OPEN ∷ [] }
     ensures { result.0.now ++ result.1.now ≡ source_bytes cut.now.source cut.now.stock cut.now.front }
 {
@@ -120,11 +120,11 @@ fn runs_of<'a>(cut: &'a Cut<'_>, gate: &'a [u8; 1]) -> Runs<'a>
             pad: 0xff,
         };
     }
-    let (front, back) = sides_of(cut, gate);
+    let (front, back) = source_slices(cut, gate);
     runs_in(front, back, cut.from, len)
 }
 
-// Returns whether bytes of flash are those of a slice: that is less code than `==`.
+// Returns whether bytes of flash equal those of a slice. A loop takes less code than `==`.
 fn are_same(one: &[u8], other: &[u8]) -> bool
     requires { length one.now ≡ length other.now }
     ensures { IsTrue result ↔ (one.now ≡ other.now) }
@@ -137,7 +137,7 @@ fn are_same(one: &[u8], other: &[u8]) -> bool
     true
 }
 
-// Returns whether each of these bytes of flash is this one.
+// Returns whether each of these bytes of flash is `byte`.
 fn are_all(bytes: &[u8], byte: u8) -> bool
     ensures { IsTrue result ↔ (bytes.now ≡ replicate (length bytes.now) byte) }
 {
@@ -199,7 +199,7 @@ pub(crate) fn stands(flash: &[u8], cut: &Cut<'_>) -> bool
 }
 
 impl Asking {
-    /// Returns the bytes held back, of `held`, the memory that they are in.
+    /// Returns the bytes that are held back, from the front of their memory `held`.
     pub(crate) fn held_in<'a>(&self, held: &'a [u8]) -> &'a [u8]
         ensures bytes { result.now ≡ take self.now.held_len held.now }
         ensures few { length result.now ≤ 256 }
@@ -209,7 +209,7 @@ impl Asking {
 
     /// Returns the inputs of the writes of a job.
     pub(crate) fn stock<'a>(&self, block: &'a [u8], held: &'a [u8]) -> WriteInputs<'a>
-        ensures steps { (w : PendingWrites) → steps_for w.job result ≡ steps_in (lent self.now block.now held.now) w }
+        ensures steps { (w : PendingWrites) → steps_of_job w.job result ≡ steps_in (lent self.now block.now held.now) w }
         ensures sector { result.sector ≡ self.now.sector }
         ensures few { length result.held.now ≤ 256 }
         ensures most { length result.block.now ≤ 4096 }

@@ -10,7 +10,7 @@ ghost use Rattle.dfu_asks.specs.Times.{due_of, ChangesOnceDue};
 use crate::Asking;
 use dfu_device::{Config, DeviceState, poll_ms};
 
-// Returns the milliseconds that are left, at least 1.
+// Returns the milliseconds that are left until `limit`, at least 1.
 fn left(limit: u32, passed: u32) -> u32
     ensures { result ≡ max 1 (limit - passed) }
 {

@@ -1,15 +1,15 @@
-//! Next steps of a device with the writes that are left of a row, and its state at the end of the row.
+//! Next write of a row, and the state of a device at the end of the row.
 ghost use Rattle.std.specs.Prelude.{◌≡◌, ◌≤◌, ℕ, List, [], length, take, true, false, if◌then◌else◌, ◌<◌, ◌↔◌, Some};
 ghost use Rattle.dfu_slots.specs.Image.{HasImage};
 ghost use Rattle.dfu_slots.specs.Writes.{put_rest};
 ghost use Rattle.dfu_asks.specs.Mapped.{grain_of, mapped_medium, UnseenState};
 ghost use Rattle.dfu_asks.specs.Noted.{IsNoteOfMedium};
-ghost use Rattle.dfu_asks.specs.Lent.{lent, HasRoom, SameSetup};
-ghost use Rattle.dfu_asks.specs.Asks.{is_block, capped_sum, done_mode, failed_mode, IsKeptAfterWrites, IsKeptAfterFault, NotesAfter, IsRowEndAnswer, AnswerInBuffer, device_of, store_with_unseen, device_with, IsWorkingForRow, writes_in, steps_in};
+ghost use Rattle.dfu_asks.specs.Lent.{lent, HasRoom, SameConfig};
+ghost use Rattle.dfu_asks.specs.Asks.{is_block, capped_sum, done_mode, failed_mode, IsKeptAfterWrites, IsKeptAfterFault, NoteAfterRow, IsRowEndAnswer, AnswerInBuffer, device_of, store_with_unseen, device_with, IsWorkingForRow, writes_in, steps_in};
 ghost use Rattle.dfu_slots.specs.StoreView.{SlotsState};
 ghost use Rattle.dfu_asks.specs.declared.pending_writes.PendingWrites.{PendingWrites};
 ghost use Rattle.dfu_asks.specs.Carried.{total, bytes_after_writes, EndsAtPiece};
-ghost use Rattle.dfu_asks.specs.Calls.{CallCompleted, DueOutcome, AnswerHasAtMost};
+ghost use Rattle.dfu_asks.specs.Calls.{CallCompleted, DueOutcome, ReplyHasAtMostBytes};
 ghost use Rattle.dfu_asks.specs.Due.{DueRowWorks};
 ghost use Rattle.dfu_device.specs.declared.answer.Answer.{Answer};
 
@@ -18,7 +18,7 @@ use dfu_device::{Answer, Config, DeviceState};
 use dfu_slots::{Unit, WriteFault};
 use dfu_wire::Code;
 
-// Returns whether a block is written in a mode.
+// Returns whether the row that is due in a mode writes a block.
 fn is_block(mode: DeviceState) -> bool
     ensures { result ≡ is_block mode }
 {
@@ -28,7 +28,7 @@ fn is_block(mode: DeviceState) -> bool
     }
 }
 
-// The next mode of a device once all is written, with a block of so many bytes.
+// Returns the mode of a device after all writes of a row worked; `len` is the length of its block.
 fn done_mode(config: Config, mode: DeviceState, len: u32) -> DeviceState
     ensures { result ≡ done_mode config mode len }
 {
@@ -57,7 +57,7 @@ fn done_mode(config: Config, mode: DeviceState, len: u32) -> DeviceState
     }
 }
 
-// The next mode of a device after a write had this fault.
+// Returns the mode of a device after a write of a row had this fault: dfuERROR with the fault's code.
 fn failed_mode(mode: DeviceState, fault: WriteFault) -> DeviceState
     ensures { result ≡ failed_mode fault mode }
 {
@@ -69,7 +69,7 @@ fn failed_mode(mode: DeviceState, fault: WriteFault) -> DeviceState
     DeviceState::Error { code }
 }
 
-// Keeps those of the bytes held and a block after them that make no whole unit, and returns their number.
+// Keeps the last bytes of `held` followed by `block` that fill no whole unit, and returns their number.
 fn keep_rest(unit: Unit, held: &mut [u8], held_len: usize, block: &[u8]) -> usize
     requires few { held_len ≤ 256 }
     requires held { held_len ≤ length held.old }
@@ -93,7 +93,7 @@ fn keep_rest(unit: Unit, held: &mut [u8], held_len: usize, block: &[u8]) -> usiz
     rest
 }
 
-// Notes the active image after a row in this mode: after a commit the images are read, and after a block it stays the one that was noted.
+// Updates the note of the active image after a row in this mode: a commit reads the images, and a block keeps the note.
 fn note(noted: &mut Noted, mode: DeviceState, flash: &[u8], unit: Unit, sector: Sector)
     ensures of_block { is_block mode ≡ true → noted.new ≡ noted.old }
     ensures of_commit { let m = mapped_medium (grain_of unit sector) flash.now in is_block mode ≡ false → HasImage m
@@ -108,7 +108,7 @@ fn note(noted: &mut Noted, mode: DeviceState, flash: &[u8], unit: Unit, sector: 
 }
 
 impl Asking {
-    // Returns how many bytes are held back after a row whose writes worked, and where the puts end. These bytes are kept in their memory.
+    // Keeps the bytes that are held back after a row whose writes worked. Returns their number, and the place at which the puts end.
     fn rest_after(&self, block: &[u8], held: &mut [u8]) -> (usize, u32)
         requires { HasRoom self.now.unit held.old }
         ensures held { let a = lent self.now block.now held.old in
@@ -126,12 +126,12 @@ impl Asking {
         (rest, self.put_end.saturating_add(len as u32))
     }
 
-    /// Ends the writes, all of which were made.
+    /// Ends a row whose writes all worked.
     pub(crate) fn finish(&mut self, block: &[u8], held: &mut [u8], flash: &[u8])
         requires { HasRoom self.old.unit held.old }
         ensures finished { IsKeptAfterWrites (lent self.old block.now held.old) (lent self.new block.now held.new) }
-        ensures notes { NotesAfter self.old.mode flash.now (lent self.old block.now held.old) (lent self.new block.now held.new) }
-        ensures same { SameSetup self.old self.new }
+        ensures notes { NoteAfterRow self.old.mode flash.now (lent self.old block.now held.old) (lent self.new block.now held.new) }
+        ensures same { SameConfig self.old self.new }
         ensures block { self.new.block_len ≡ self.old.block_len }
     {
         note(&mut self.noted, self.mode, flash, self.unit, self.sector);
@@ -143,11 +143,11 @@ impl Asking {
         self.work = None;
     }
 
-    /// Ends the writes, of which one had `fault`.
+    /// Ends a row of which a write had `fault`.
     pub(crate) fn break_off(&mut self, fault: WriteFault, flash: &[u8])
         ensures broken { (block held : List ℕ) → IsKeptAfterFault fault (lent self.old block held) (lent self.new block held) }
-        ensures notes { (block held : List ℕ) → NotesAfter self.old.mode flash.now (lent self.old block held) (lent self.new block held) }
-        ensures same { SameSetup self.old self.new }
+        ensures notes { (block held : List ℕ) → NoteAfterRow self.old.mode flash.now (lent self.old block held) (lent self.new block held) }
+        ensures same { SameConfig self.old self.new }
         ensures block { self.new.block_len ≡ self.old.block_len }
     {
         note(&mut self.noted, self.mode, flash, self.unit, self.sector);
@@ -157,7 +157,8 @@ impl Asking {
         self.work = None;
     }
 
-    /// Writes the answer to the GETSTATUS that asked for `asked` bytes, if one did, to the front of `out`.
+    /// Returns the answer at the end of a row, and the number of its bytes, which are at the front of `out`: the status if a GETSTATUS
+    /// asked for `asked` bytes of it, else an acknowledgement.
     pub(crate) fn answer(&self, asked: Option<u16>, out: &mut [u8]) -> (Answer, usize)
         requires { 6 ≤ length out.old }
         ensures { AnswerInBuffer (λ x sent. IsRowEndAnswer self.now.config self.now.mode asked x sent) result.0 result.1 out.old out.new }
@@ -168,7 +169,7 @@ impl Asking {
         }
     }
 
-    /// Asks for the next write of what is left to be written, or comes to the end of the row.
+    /// Asks for the next write of the row, or ends the row if no write is left.
     pub(crate) fn advance(
         &mut self,
         block: &[u8],
@@ -191,14 +192,14 @@ impl Asking {
         ensures more { (work : PendingWrites) → self.old.work ≡ Some work →
             (result ≡ Reply.Asks) ↔ (work.done < total (writes_in (lent self.old block.now held.old) work)) }
         ensures kept { result ≡ Reply.Asks → self.new.work ≡ self.old.work }
-        ensures few { AnswerHasAtMost 6 result }
-        ensures same { SameSetup self.old self.new }
+        ensures few { ReplyHasAtMostBytes 6 result }
+        ensures same { SameConfig self.old self.new }
         ensures block { self.new.block_len ≡ self.old.block_len }
     {
         let Some(work) = self.work else {
             return Reply::Answered(Answer::Ack, 0);
         };
-        // (Without a flash it says whether a piece is left.)
+        // (An empty flash is enough to learn whether a piece is left.)
         let (len, _) = self.look_at(&work, block, held, &[]);
         if len > 0 {
             return Reply::Asks;
@@ -208,7 +209,7 @@ impl Asking {
         Reply::Answered(answer, count)
     }
 
-    /// Ends the row with `fault`, that of one of its writes, and writes the answer to `out`.
+    /// Ends the row with the `fault` of one of its writes, and writes the answer to `out`.
     pub(crate) fn fail(
         &mut self,
         fault: WriteFault,
@@ -218,10 +219,10 @@ impl Asking {
     ) -> (Answer, usize)
         requires { 6 ≤ length out.old }
         ensures broken { (block held : List ℕ) → IsKeptAfterFault fault (lent self.old block held) (lent self.new block held) }
-        ensures notes { (block held : List ℕ) → NotesAfter self.old.mode flash.now (lent self.old block held) (lent self.new block held) }
+        ensures notes { (block held : List ℕ) → NoteAfterRow self.old.mode flash.now (lent self.old block held) (lent self.new block held) }
         ensures gives { AnswerInBuffer (λ x sent. IsRowEndAnswer self.old.config self.new.mode asked x sent) result.0 result.1 out.old
             out.new }
-        ensures same { SameSetup self.old self.new }
+        ensures same { SameConfig self.old self.new }
         ensures block { self.new.block_len ≡ self.old.block_len }
     {
         self.break_off(fault, flash);

@@ -20,13 +20,13 @@ use crate::{FlashOp, FormatProgress, FormatStep, Formatting, MAX_PROGRAM, Mapped
 use dfu_slots::{FormatFault, Unit, WriteFault, capacity_of, is_sized};
 use dfu_suffix::Crc;
 
-// No image has more bytes.
+// The most bytes of an image.
 const MOST_IMAGE: usize = 0x100_0000;
 
 // Bytes of the image that are written at a time.
 const PART: usize = 4096;
 
-// The register over an image.
+// Returns the register over an image.
 fn register_of(image: &[u8]) -> u32
     ensures { result ≡ register image.now }
 {
@@ -35,7 +35,7 @@ fn register_of(image: &[u8]) -> u32
     crc.value()
 }
 
-// The first thing that is wrong with flash and an image, if anything is.
+// Returns the first fault of the flash or of the image for a format, if there is one.
 fn fault_of(flash: &[u8], unit: Unit, sector: Sector, image: &[u8]) -> Option<FormatFault>
     ensures some { IfSome result (λ e. (e ≢ FormatFault.Failed)
         × IsFormatFault e (mapped_medium (grain_of unit sector) flash.now) image.now) }
@@ -54,7 +54,7 @@ fn fault_of(flash: &[u8], unit: Unit, sector: Sector, image: &[u8]) -> Option<Fo
 }
 
 // Returns the step that comes after `phase` when a medium is formatted with an image of `len` bytes.
-fn part_behind(phase: FormatStep, unit: Unit, len: usize) -> FormatStep
+fn part_after(phase: FormatStep, unit: Unit, len: usize) -> FormatStep
     requires { len ≤ 2 ^ 24 }
     ensures parts { (w : Grain) (size crc : ℕ) (image : List ℕ) → w.unit ≡ unit → length image ≡ len →
         format_steps_from w size image crc phase ≡ part_steps w size image crc phase ++ format_steps_from w size image crc result }
@@ -86,7 +86,7 @@ fn part_behind(phase: FormatStep, unit: Unit, len: usize) -> FormatStep
 }
 
 impl Formatting {
-    /// Begins a format that puts `image` into the first slot of `flash` and makes it the active one, whatever the flash had.
+    /// Begins a format that puts `image` into the first slot of `flash` and makes it the active image, whatever the flash holds.
     ///
     /// # Errors
     ///
@@ -115,7 +115,7 @@ impl Formatting {
         })
     }
 
-    // Returns whether a piece is left of the part that is being carried out. Then the next one is found.
+    // Returns whether a piece of the current part is left; `cut` has found the next one then.
     fn due(&self, flash: &[u8], cut: &mut Cut<'_>) -> bool
         requires held { cut.old.stock.held.now ≡ [] }
         requires unit { cut.old.stock.unit ≡ self.now.unit }
@@ -136,8 +136,8 @@ impl Formatting {
     }
 
     /// Returns the next piece that is asked for: at most 256 bytes to be programmed, or one sector to be erased. The piece lies within the
-    /// flash, also if the kept state was damaged. The bytes of a program are at the front of `out` then. `image` must be the one that the
-    /// format began with.
+    /// flash, even if the kept state was damaged. The bytes of a program are at the front of `out` then. `image` must be the image with
+    /// which the format began.
     ///
     /// None if no write is due, or its range is not within the flash, or the kept state would erase less than a sector. Then `out` does not
     /// change. It is Some if `start` or `took` asked, and the pieces before this one are on the flash.
@@ -196,7 +196,7 @@ impl Formatting {
         Some(self.advance(flash.len(), image))
     }
 
-    // Asks for the next piece, or comes to the end. The flash has so many bytes.
+    // Asks for the next piece of the current part, or ends the part if none is left. The flash has `size` bytes.
     fn advance(&mut self, size: usize, image: &[u8]) -> FormatProgress
         requires flash { size < 2 ^ 32 }
         requires image { length image.now ≤ 2 ^ 24 }
@@ -215,7 +215,7 @@ impl Formatting {
         self.go_on(image)
     }
 
-    // A part is carried out: goes on with the one after it, if there is one.
+    // Begins the part after a part that is carried out, or ends the format after the last part.
     fn go_on(&mut self, image: &[u8]) -> FormatProgress
         requires { length image.now ≤ 2 ^ 24 }
         ensures outcome { (was flash : List ℕ) → FormatUnderWay self.old image.now was flash →
@@ -227,7 +227,7 @@ impl Formatting {
         ensures same { IsSameFormat self.old self.new }
         ensures ended { result ≢ FormatProgress.Asks → self.new.phase ≡ FormatStep.Ended }
     {
-        let behind = part_behind(self.phase, self.unit, image.len());
+        let behind = part_after(self.phase, self.unit, image.len());
         self.phase = behind;
         self.done = 0;
         match behind {

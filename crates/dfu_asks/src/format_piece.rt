@@ -65,8 +65,7 @@ fn open_piece(index: usize, register: u32, cut: &mut Cut<'_>) -> bool
     numbered_piece(sequence, index, cut)
 }
 
-/// Returns true if a piece is left of the part of a format that is being carried out, on a flash of `size` bytes. `cut` has found the next
-/// one then.
+/// Returns true if a piece of the current part of a format is left, on a flash of `size` bytes. `cut` has found the next piece then.
 pub(crate) fn part_piece(formatting: &Formatting, size: usize, cut: &mut Cut<'_>) -> bool
     requires flash { size < 2 ^ 32 }
     requires held { cut.old.stock.held.now ≡ [] }

@@ -1,4 +1,4 @@
-//! Place of the active image, which a program is to run.
+//! Place of the active image, which a program runs.
 ghost use Rattle.std.specs.Prelude.{◌≡◌, ◌/◌, ◌≤◌, IfSome, IfNone, if◌then◌else◌};
 ghost use Rattle.dfu_slots.specs.Image.{HasImage};
 ghost use Rattle.dfu_asks.specs.ActiveImage.{ImageIsAt};
@@ -17,7 +17,7 @@ pub struct ImagePlace {
     pub len: u32,
 }
 
-// Returns the place at which a slot begins in flash of so many bytes.
+// Returns the place at which a slot begins in flash of `size` bytes.
 fn slot_at(second: bool, size: usize) -> usize
     ensures value { result ≡ (if second then size / 2 else 0) }
     ensures most { result ≤ size / 2 }
@@ -44,7 +44,7 @@ impl ImagePlace {
 }
 
 impl Asking {
-    /// Returns the place of the active image in `flash`, as `ImagePlace::find`; whatever the device noted of it.
+    /// Returns the place of the active image in `flash`, as `ImagePlace::find`, regardless of the device's note.
     ///
     /// None exactly if the flash has no active image, or 2^32 bytes or more.
     pub fn image(&self, flash: &[u8]) -> Option<ImagePlace>

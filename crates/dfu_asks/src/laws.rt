@@ -25,9 +25,9 @@ ghost use Rattle.dfu_asks.specs.Series.{block_series, block_store, BlockWritten,
 
 use dfu_device::laws::rows_keep;
 
-/// Carrying a series out piece by piece makes its writes. Carried out to its end it is all of them; after a piece that is
-/// carried out it is one piece further; and whichever bytes a failed piece leaves in its range, the series was
-/// broken off in the write that the piece is of.
+/// Carrying out a series piece by piece makes its writes. A series carried out to its end has made all its writes; a piece that
+/// is carried out takes the series one piece further; and a failed piece, whichever bytes it leaves in its range, breaks the
+/// series off in the write of the piece.
 pub fn pieces_are_the_writes()
     ensures all { (grain : Grain) (writes : List Write) (bytes : List ℕ) →
         AllWrites (mapped_medium grain bytes) writes (mapped_medium grain (bytes_after_writes bytes writes (total writes))) }
@@ -47,8 +47,8 @@ pub fn steps_are_the_writes()
         step_writes (job_steps job grain end held block) ≡ job_writes job grain end held block }
 {}
 
-/// Making the writes of a row, in their order, makes the calls of the row; if one of them had a fault, the row's
-/// calls were broken off by it. Nothing else of a row touches the medium.
+/// Making the writes of a row, in their order, makes the calls of the row; a write with a fault breaks the row's
+/// calls off. No other part of a row touches the medium.
 pub fn writes_are_the_calls()
     ensures block { (s : SlotsState) (n : ℕ) (block : List ℕ) (now : MediumState) → IsStore s → is_shaped s ≡ true →
         (n ≡ 0) ⊎ (is_put n s ≡ true) → n + length block ≤ room_of s →
@@ -64,8 +64,8 @@ pub fn writes_are_the_calls()
 {}
 
 /// An error of the medium (errWRITE, errPROG or errVERIFY; USB DFU 1.1, section 6.1.2) comes only after an operation that failed. A call
-/// that is answered leads to none, since it has made no write; and a piece that was taken leads to one only if it failed, or if other
-/// bytes are there.
+/// that is answered leads to no such error, because it has made no write; a reported piece leads to one only if it failed, or if other
+/// bytes are on the flash.
 pub fn errors_follow_failures()
     ensures answered { (a now : LentDevice) (flash out out' : List ℕ) (cause : Cause) (x : Answer) (count : ℕ) →
         DeviceCalled a flash out (λ d y sent d'. Row d cause y sent d') now out' (Answered x count) →

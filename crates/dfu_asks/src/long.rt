@@ -1,4 +1,4 @@
-//! A body that is longer than a block may be.
+//! Setups whose body is longer than the transfer size.
 ghost use Rattle.std.specs.Prelude.{◌≡◌, ◌↔◌, ℕ, List, [], nat_lt, not, IsTrue, IfOk, IfErr, OnOk, OnErr, IfSome, IfNone, OnSome, IsSome, None};
 ghost use Rattle.dfu_device.specs.Rows.{Handles, body_length};
 ghost use Rattle.dfu_device.specs.declared.answer.Answer.TheVariants.{Stall};
@@ -6,7 +6,7 @@ ghost use Rattle.dfu_asks.specs.AfterLong.{after_long, IsLongerThanBlock};
 ghost use Rattle.dfu_asks.specs.Mapped.{UnseenState};
 ghost use Rattle.dfu_asks.specs.Asks.{device_with, IsDevice};
 ghost use Rattle.dfu_asks.specs.InMode.{IsDeviceIn};
-ghost use Rattle.dfu_asks.specs.Lent.{LentDevice, lent, SameSetup};
+ghost use Rattle.dfu_asks.specs.Lent.{LentDevice, lent, SameConfig};
 ghost use Rattle.dfu_asks.specs.Refused.{RoomForBlocks};
 ghost use Rattle.dfu_asks.specs.Verdict.{IsBodyOf};
 
@@ -14,7 +14,7 @@ use crate::{Asking, Refusal};
 use dfu_device::{Config, DeviceState};
 use dfu_wire::{Code, Setup};
 
-// Returns the mode of a device after a body in this mode that is longer than a block may be.
+// Returns the mode of a device after a setup in this mode whose body is longer than the transfer size.
 fn after_long(mode: DeviceState) -> DeviceState
     ensures { result ≡ after_long mode }
 {
@@ -28,15 +28,15 @@ fn after_long(mode: DeviceState) -> DeviceState
     }
 }
 
-// Returns whether the host sends more bytes with this setup than a block has.
+// Returns whether the host sends more bytes with this setup than the transfer size.
 fn is_long(setup: &Setup, transfer: u16) -> bool
     ensures { result ≡ nat_lt transfer (body_length setup.now) }
 {
     setup.kind == 0x21 && setup.length > transfer
 }
 
-/// Returns the mode to which `setup` leads a device with `config` in `mode`, if the host sends more bytes with it than a block has, as
-/// `Asking::too_long`; None exactly if it sends no more.
+/// Returns the mode to which `setup` leads a device with `config` in `mode`, if the host sends more bytes with it than the transfer size,
+/// as `Asking::too_long`; None exactly if the host sends no more.
 pub fn mode_after_long(config: &Config, mode: DeviceState, setup: &[u8; 8]) -> Option<DeviceState>
     ensures row { IfSome result (λ after. (a : LentDevice) (flash : List ℕ) → IsDeviceIn config.now mode a flash →
         IsDevice (record a { mode = after }) flash × ((body : List ℕ) → IsBodyOf setup.now body → (u : UnseenState) →
@@ -56,9 +56,9 @@ pub fn mode_after_long(config: &Config, mode: DeviceState, setup: &[u8; 8]) -> O
 }
 
 impl Asking {
-    /// Takes `setup` with a body of wLength bytes, as `handle`, if these are more than the transfer size, so that no memory has to take
-    /// them. Returns true if they are more, and then the caller must stall the request (USB DFU 1.1, section 6.1.1). Returns false if they
-    /// are not; nothing changes then. The call needs neither the flash nor the memory of the block.
+    /// Handles `setup`, as `handle`, if its body is longer than the transfer size, so that no memory must hold the body. Returns true if
+    /// the body is longer; the caller must then stall the request (USB DFU 1.1, section 6.1.1). Returns false if it is not; nothing changes
+    /// then. The call needs neither the flash nor the memory of the block.
     ///
     /// # Errors
     ///
@@ -75,7 +75,7 @@ impl Asking {
         ensures other { IfOk result (λ b. IsTrue (not b) → self.new ≡ self.old) }
         ensures work { OnOk result ((self.old.work ≡ None) × (self.new.work ≡ None)) }
         ensures fits { (room : ℕ) → OnOk result (RoomForBlocks self.old room → RoomForBlocks self.new room) }
-        ensures same { SameSetup self.old self.new }
+        ensures same { SameConfig self.old self.new }
     {
         if self.work.is_some() {
             return Err(Refusal::Asked);

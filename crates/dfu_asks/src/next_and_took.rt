@@ -1,4 +1,4 @@
-//! The calls for the writes that are due: `next` gives the next piece, and `took` takes the report of what became of it.
+//! The calls for the writes that are due: `next` returns the next piece, and `took` takes the report of its outcome.
 ghost use Rattle.std.specs.Prelude.{◌≡◌, ◌≢◌, ◌+◌, ◌≤◌, ◌<◌, ◌^◌, ◌↔◌, ℕ, List, length, Some, IfOk, IfErr, IfSome, IfNone, OnOk, OnErr, IsTrue, not, ◌&&◌, if◌then◌else◌};
 ghost use Rattle.dfu_slots.specs.declared.fault.WriteFault.TheVariants.{Failed, NotVerified};
 ghost use Rattle.dfu_slots.specs.Medium.{Torn};
@@ -8,15 +8,15 @@ ghost use Rattle.dfu_asks.specs.Mapped.{grain_of, mapped_medium, RangeIsInSpare,
 ghost use Rattle.dfu_asks.specs.Steps.{Step};
 ghost use Rattle.dfu_asks.specs.Carried.{IsStepPiece, ErasesSectorOrPrograms};
 ghost use Rattle.dfu_asks.specs.Jobs.{step_of_piece, PieceBounds};
-ghost use Rattle.dfu_asks.specs.Lent.{lent, HasRoom, SameSetup};
+ghost use Rattle.dfu_asks.specs.Lent.{lent, HasRoom, SameConfig};
 ghost use Rattle.dfu_asks.specs.Asks.{grain_in, steps_in, device_of};
-ghost use Rattle.dfu_asks.specs.Calls.{WritesPending, DevicePieceReported, PieceFollows, AnswerHasAtMost};
+ghost use Rattle.dfu_asks.specs.Calls.{WritesPending, DevicePieceReported, AnotherPieceFollows, ReplyHasAtMostBytes};
 ghost use Rattle.dfu_asks.specs.Refused.{HasRemainingWrites, ReportRefusedFor, ReportAccepted};
 ghost use Rattle.dfu_asks.specs.declared.pending_writes.PendingWrites.{PendingWrites};
 
 use crate::cut::{cut_at, fill};
 use crate::next_piece::next_piece;
-use crate::sector::behind_edge;
+use crate::sector::offset_in_sector;
 use crate::{Asking, FlashOp, MAX_PROGRAM, Mapped, PendingWrites, Refusal, Reply, Sector};
 use dfu_slots::laws::active_image_is_one;
 use dfu_slots::{OPEN_GATE, Unit, WriteFault, check, flash_byte_at};
@@ -28,7 +28,7 @@ fn slot_start(at: u64, size: u64) -> u64
     if at < size { 0 } else { size }
 }
 
-// Returns whether a range lies within the spare slot of this flash.
+// Returns whether a range lies within a slot whose gate is not open, or within the spare slot of an active image.
 fn is_spare(flash: &[u8], unit: Unit, sector: Sector, at: u64, len: u64) -> bool
     requires small { at + len < 2 ^ 44 }
     requires some { 0 < len }
@@ -68,17 +68,17 @@ pub(crate) fn is_sound(sector: Sector, piece: FlashOp) -> bool
         return true;
     }
     let size = sector.size();
-    size > 0 && piece.len == size as usize && behind_edge(size, piece.at) == 0
+    size > 0 && piece.len == size as usize && offset_in_sector(size, piece.at) == 0
 }
 
-// Returns whether a piece did not fail, and is on the flash.
+// Returns whether a piece did not fail, and its bytes are on the flash.
 fn went_well(failed: bool, stands: bool) -> bool
     ensures { result ≡ not failed && stands }
 {
     !failed && stands
 }
 
-// The fault of a piece that failed, or that is not on the flash.
+// Returns the fault of a piece that failed, or whose bytes are not on the flash.
 fn fault_of(failed: bool) -> WriteFault
     ensures { result ≡ (if failed then Failed else NotVerified) }
 {
@@ -91,7 +91,7 @@ fn fault_of(failed: bool) -> WriteFault
 
 impl Asking {
     /// Returns the next piece that is asked for: at most 256 bytes to be programmed, or one sector to be erased. The piece lies within the
-    /// spare slot of the flash as it is now, if that has an active image, also if the kept state was damaged. The bytes of a program are
+    /// spare slot of the flash as it is now, if that has an active image, even if the kept state was damaged. The bytes of a program are
     /// at the front of `out` then.
     ///
     /// None if no write is due, if its range is not within that slot, if the slot's gate is open and no image is active, or if the kept
@@ -145,7 +145,7 @@ impl Asking {
     ///
     /// # Errors
     ///
-    /// `NoRoom` if `out` has less than 6 bytes; else `NoDevice` if no write is due. Nothing changes then.
+    /// `NoRoom` if `out` has fewer than 6 bytes; else `NoDevice` if no write is due. Nothing changes then.
     pub fn took(
         &mut self,
         block: &[u8],
@@ -164,14 +164,14 @@ impl Asking {
             (lent self.new block.now held.new) out.new r) }
         ensures on { IfOk result (λ r. (w : PendingWrites) (p : Step) → self.old.work ≡ Some w →
             IsStepPiece (steps_in (lent self.old block.now held.old) w) w.done p →
-            (r ≡ Reply.Asks) ↔ PieceFollows (lent self.old block.now held.old) w p.write failed flash.now) }
+            (r ≡ Reply.Asks) ↔ AnotherPieceFollows (lent self.old block.now held.old) w p.write failed flash.now) }
         ensures further { IfOk result (λ r. r ≡ Reply.Asks → (w : PendingWrites) (p : Step) → self.old.work ≡ Some w →
             IsStepPiece (steps_in (lent self.old block.now held.old) w) w.done p →
             self.new.work ≡ Some (record w { done = w.done + length p.write.bytes })) }
         ensures refused { IfErr result (λ e. ReportRefusedFor e (lent self.old block.now held.old) (length out.old)) }
         ensures taken { OnOk result (ReportAccepted (lent self.old block.now held.old) (length out.old)) }
-        ensures few { IfOk result (λ r. AnswerHasAtMost 6 r) }
-        ensures same { SameSetup self.old self.new }
+        ensures few { IfOk result (λ r. ReplyHasAtMostBytes 6 r) }
+        ensures same { SameConfig self.old self.new }
         ensures block { self.new.block_len ≡ self.old.block_len }
         ensures unchanged { OnErr result ((self.new ≡ self.old) × (held.new ≡ held.old) × (out.new ≡ out.old)) }
     {

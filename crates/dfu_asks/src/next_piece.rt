@@ -3,7 +3,7 @@ ghost use Rattle.std.specs.Prelude.{◌≡◌, ◌+◌, ◌*◌, ◌^◌, ◌<�
 ghost use Rattle.dfu_slots.specs.Operations.{operations};
 ghost use Rattle.dfu_asks.specs.Steps.{step_writes, write_some_steps, erase_step, close_step};
 ghost use Rattle.dfu_asks.specs.Carried.{total, IsStepPiece};
-ghost use Rattle.dfu_asks.specs.Jobs.{input_grain, steps_for};
+ghost use Rattle.dfu_asks.specs.Jobs.{input_grain, steps_of_job};
 ghost use Rattle.dfu_asks.specs.Cuts.{source_bytes, range_of_source, step_of_cut, IsFoundPiece};
 ghost use Rattle.dfu_asks.specs.OpSteps.{ops_steps, op_steps_at, OpsHaveFewBytes};
 
@@ -15,7 +15,7 @@ use dfu_slots::{MAX_OPERATIONS, Op, Sequence, Source, VERSION, make_header};
 /// Largest number of bytes that are programmed at a time.
 pub const MAX_PROGRAM: usize = 256;
 
-// An erase of so many bytes there is found.
+// Makes an erase of `len` bytes at `at` the found piece.
 fn find_erase(at: u64, len: usize, cut: &mut Cut<'_>)
     ensures piece { (cut.new.piece.erases ≡ true) × (cut.new.piece.at ≡ at) × (cut.new.piece.len ≡ len) }
     ensures rest { (cut.new.stock ≡ cut.old.stock) × (cut.new.rest ≡ cut.old.rest) × (cut.new.front ≡ cut.old.front) }
@@ -27,7 +27,8 @@ fn find_erase(at: u64, len: usize, cut: &mut Cut<'_>)
     };
 }
 
-// Returns whether the next piece is one of the erase of the sector that begins there. Then it is found; else the search goes on after it.
+// Returns whether the next piece is one of the erase of the sector at `at`. `cut` has found it then; else the search goes on after the
+// erase.
 fn erase_piece(at: u64, cut: &mut Cut<'_>) -> bool
     requires { at < 2 ^ 41 }
     ensures found { IsTrue result → IsStepPiece (erase_step at cut.old.stock.sector.size ∷ []) cut.old.rest (step_of_cut cut.new) }
@@ -47,8 +48,8 @@ fn erase_piece(at: u64, cut: &mut Cut<'_>) -> bool
     false
 }
 
-// Returns whether the next piece is one of a write of `len` bytes there, or of its erases: of the bytes of this source, without the first
-// `skip`. Then it is found; else the search goes on after the write.
+// Returns whether the next piece is one of a write of `len` bytes at `at`, or of its erases. The write has the bytes of `source` after the
+// first `skip`. `cut` has found the piece then; else the search goes on after the write.
 fn write_piece(at: u64, source: Source, skip: usize, len: usize, cut: &mut Cut<'_>) -> bool
     requires small { at < 2 ^ 41 }
     requires short { len ≤ 4608 }
@@ -136,8 +137,8 @@ pub(crate) fn sequence_piece(sequence: Sequence, cut: &mut Cut<'_>) -> bool
     false
 }
 
-// Returns whether the next piece is one of those that close the gate of the slot that begins there, if that is to be closed.
-fn shut_piece(spare: u32, close: bool, cut: &mut Cut<'_>) -> bool
+// Returns whether the next piece is one that closes the gate of the slot at `spare`; false if `close` is false.
+fn close_piece(spare: u32, close: bool, cut: &mut Cut<'_>) -> bool
     ensures found { IsTrue result →
         IsStepPiece (if close then close_step (input_grain cut.old.stock) spare ∷ [] else []) cut.old.rest (step_of_cut cut.new) }
     ensures same { cut.new.stock ≡ cut.old.stock }
@@ -150,18 +151,18 @@ fn shut_piece(spare: u32, close: bool, cut: &mut Cut<'_>) -> bool
     close && sequence_piece(Sequence::Close { slot: spare }, cut)
 }
 
-// Returns whether the next piece is one that a block writes.
+// Returns whether the next piece is one of the writes of a block.
 fn block_piece(spare: u32, close: bool, cut: &mut Cut<'_>) -> bool
     requires held { length cut.old.stock.held.now ≤ 256 }
     requires block { length cut.old.stock.block.now ≤ 4096 }
     ensures found { IsTrue result →
-        IsStepPiece (steps_for (SlotWrite.Block spare close) cut.old.stock) cut.old.rest (step_of_cut cut.new) }
+        IsStepPiece (steps_of_job (SlotWrite.Block spare close) cut.old.stock) cut.old.rest (step_of_cut cut.new) }
     ensures same { cut.new.stock ≡ cut.old.stock }
     ensures is { IsTrue result → IsFoundPiece cut.old.stock.sector.size cut.new }
     ensures end { IsTrue result → cut.old.rest + cut.new.piece.len ≤ 2 ^ 22 }
-    ensures none { IsTrue (not result) → total (step_writes (steps_for (SlotWrite.Block spare close) cut.old.stock)) ≤ cut.old.rest }
+    ensures none { IsTrue (not result) → total (step_writes (steps_of_job (SlotWrite.Block spare close) cut.old.stock)) ≤ cut.old.rest }
 {
-    if shut_piece(spare, close, cut) {
+    if close_piece(spare, close, cut) {
         return true;
     }
     let sequence = Sequence::Put {
@@ -173,16 +174,16 @@ fn block_piece(spare: u32, close: bool, cut: &mut Cut<'_>) -> bool
     sequence_piece(sequence, cut)
 }
 
-// Returns whether the next piece is one that a commit writes.
+// Returns whether the next piece is one of the writes of a commit.
 fn commit_piece(spare: u32, generation: u8, register: u32, cut: &mut Cut<'_>) -> bool
     requires held { length cut.old.stock.held.now ≤ 256 }
     ensures found { IsTrue result →
-        IsStepPiece (steps_for (SlotWrite.Commit spare generation register) cut.old.stock) cut.old.rest (step_of_cut cut.new) }
+        IsStepPiece (steps_of_job (SlotWrite.Commit spare generation register) cut.old.stock) cut.old.rest (step_of_cut cut.new) }
     ensures same { cut.new.stock ≡ cut.old.stock }
     ensures is { IsTrue result → IsFoundPiece cut.old.stock.sector.size cut.new }
     ensures end { IsTrue result → cut.old.rest + cut.new.piece.len ≤ 2 ^ 22 }
     ensures none { IsTrue (not result) →
-        total (step_writes (steps_for (SlotWrite.Commit spare generation register) cut.old.stock)) ≤ cut.old.rest }
+        total (step_writes (steps_of_job (SlotWrite.Commit spare generation register) cut.old.stock)) ≤ cut.old.rest }
 {
     let end = cut.stock.put_end;
     cut.front = make_header(VERSION, generation, end, register);
@@ -198,11 +199,11 @@ fn commit_piece(spare: u32, generation: u8, register: u32, cut: &mut Cut<'_>) ->
 pub(crate) fn next_piece(job: SlotWrite, cut: &mut Cut<'_>) -> bool
     requires held { length cut.old.stock.held.now ≤ 256 }
     requires block { length cut.old.stock.block.now ≤ 4096 }
-    ensures found { IsTrue result → IsStepPiece (steps_for job cut.old.stock) cut.old.rest (step_of_cut cut.new) }
+    ensures found { IsTrue result → IsStepPiece (steps_of_job job cut.old.stock) cut.old.rest (step_of_cut cut.new) }
     ensures same { cut.new.stock ≡ cut.old.stock }
     ensures is { IsTrue result → IsFoundPiece cut.old.stock.sector.size cut.new }
     ensures end { IsTrue result → cut.old.rest + cut.new.piece.len ≤ 2 ^ 22 }
-    ensures none { IsTrue (not result) → total (step_writes (steps_for job cut.old.stock)) ≤ cut.old.rest }
+    ensures none { IsTrue (not result) → total (step_writes (steps_of_job job cut.old.stock)) ≤ cut.old.rest }
 {
     match job {
         SlotWrite::Block { spare, close } => block_piece(spare, close, cut),

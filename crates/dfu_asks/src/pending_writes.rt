@@ -3,21 +3,21 @@
 use crate::Sector;
 use dfu_slots::Unit;
 
-/// Writes that are left of a row, and the row's answer then.
+/// Writes that are left of a row, and the request that is answered after them.
 #[derive(Clone, Copy, Drop)]
 pub struct PendingWrites {
     /// The change that is written.
     pub job: SlotWrite,
-    /// wLength of the GETSTATUS that is answered last; None if nothing is, since time has passed.
+    /// wLength of the GETSTATUS that is answered after the writes; None if elapsed time caused the row, which has no answer.
     pub asked: Option<u16>,
     /// Number of bytes of the writes that are carried out.
     pub done: u32,
 }
 
-/// Writes of a row: the inputs of its writes that can no longer be read from the flash once some are carried out.
+/// Job of a row: the inputs of its writes that can no longer be read from the flash once some writes are carried out.
 #[derive(Clone, Copy, Drop)]
 pub enum SlotWrite {
-    /// A block is written after what was put.
+    /// Writes a block after the bytes that were put.
     Block {
         /// Place at which the spare slot begins.
         spare: u32,
@@ -30,12 +30,12 @@ pub enum SlotWrite {
         spare: u32,
         /// The generation of the new image.
         generation: u8,
-        /// The register over it.
+        /// The register over the new image.
         register: u32,
     },
 }
 
-/// Inputs of the writes of a `SlotWrite`, beside it: the unit, where the puts end, the bytes held back, and the block.
+/// Inputs of writes beside their `SlotWrite`: the unit, the sectors, the place at which the puts end, the bytes held back, and the block.
 #[derive(Clone, Copy, Drop)]
 pub(crate) struct WriteInputs<'a> {
     pub(crate) unit: Unit,

@@ -1,7 +1,7 @@
 //! The calls that power a device on.
 ghost use Rattle.std.specs.Prelude.{◌≡◌, ℕ, List, IfSome, IfNone, None};
 ghost use Rattle.dfu_slots.specs.Image.{HasImage};
-ghost use Rattle.dfu_device.specs.DeviceView.{powered_on};
+ghost use Rattle.dfu_device.specs.DeviceView.{powered_on_device};
 ghost use Rattle.dfu_device.specs.Stage.{InDfuIdle};
 ghost use Rattle.dfu_asks.specs.Mapped.{grain_of, mapped_medium};
 ghost use Rattle.dfu_asks.specs.Lent.{lent};
@@ -12,13 +12,13 @@ use dfu_device::{Config, DeviceState};
 use dfu_slots::Unit;
 
 impl Asking {
-    /// Returns a device that is powered on: in appIDLE, with no block, on `flash`, of which the images are read, to see which is active.
-    /// The flash is written in units of `unit`, and erased before in sectors of `sector`, or if there are none written over in place.
+    /// Returns a device that is powered on: in appIDLE, with no block, on `flash`. The call reads the images, to find the active one. The
+    /// flash is written in units of `unit`, and erased before in sectors of `sector`, or overwritten in place if there are none.
     ///
     /// None exactly if the flash has no active image, or 2^32 bytes or more.
     pub fn power_on(config: Config, unit: Unit, sector: Sector, flash: &[u8]) -> Option<Asking>
         ensures device { let m = mapped_medium (grain_of unit sector) flash.now in (block held : List ℕ) →
-            IfSome result (λ a. device_in (lent a block held) flash.now ≡ powered_on config m) }
+            IfSome result (λ a. device_in (lent a block held) flash.now ≡ powered_on_device config m) }
         ensures is { (block held : List ℕ) → IfSome result (λ a. IsDevice (lent a block held) flash.now) }
         ensures work { IfSome result (λ a. (a.work ≡ None) × (a.block_len ≡ 0) × (a.config ≡ config) × (a.unit ≡ unit)) }
         ensures sector { IfSome result (λ a. a.sector ≡ sector) }
@@ -40,12 +40,12 @@ impl Asking {
     }
 
     /// Returns a device that is powered on and begins in dfuIDLE, as by `power_on`, a DETACH and a reset of the bus (USB DFU 1.1, section
-    /// 5.1). A bootloader that was entered to take a download must start so.
+    /// 5.1). A bootloader that was entered to take a download must start this way.
     ///
     /// None exactly if the flash has no active image, or 2^32 bytes or more.
     pub fn begin(config: Config, unit: Unit, sector: Sector, flash: &[u8]) -> Option<Asking>
         ensures device { let m = mapped_medium (grain_of unit sector) flash.now in (block held : List ℕ) →
-            IfSome result (λ a. device_in (lent a block held) flash.now ≡ record (powered_on config m) { stage = InDfuIdle }) }
+            IfSome result (λ a. device_in (lent a block held) flash.now ≡ record (powered_on_device config m) { stage = InDfuIdle }) }
         ensures is { (block held : List ℕ) → IfSome result (λ a. IsDevice (lent a block held) flash.now) }
         ensures work { IfSome result (λ a. (a.work ≡ None) × (a.block_len ≡ 0) × (a.config ≡ config) × (a.unit ≡ unit)) }
         ensures sector { IfSome result (λ a. a.sector ≡ sector) }

@@ -3,7 +3,7 @@ ghost use Rattle.std.specs.Prelude.{◌≡◌, ◌↔◌, ℕ, List, not, IsTrue
 ghost use Rattle.dfu_device.specs.Rows.{ClosesDownload};
 ghost use Rattle.dfu_device.specs.Stage.{InError};
 ghost use Rattle.dfu_device.specs.Table.{objection_code, refuse_stage};
-ghost use Rattle.dfu_asks.specs.Lent.{lent, SameSetup};
+ghost use Rattle.dfu_asks.specs.Lent.{lent, SameConfig};
 ghost use Rattle.dfu_asks.specs.Asks.{device_in, IsDevice};
 ghost use Rattle.dfu_asks.specs.Refused.{RoomForBlocks};
 
@@ -29,7 +29,7 @@ impl Asking {
         ensures other { IfOk result (λ b. IsTrue (not b) → self.new ≡ self.old) }
         ensures work { OnOk result ((self.old.work ≡ None) × (self.new.work ≡ None)) }
         ensures asked { IfErr result (λ e. (e ≡ Refusal.Asked) × IsSome self.old.work) }
-        ensures same { SameSetup self.old self.new }
+        ensures same { SameConfig self.old self.new }
         ensures unchanged { OnErr result (self.new ≡ self.old) }
     {
         if self.work.is_some() {
@@ -56,7 +56,7 @@ impl Asking {
         ensures fits { (room : ℕ) → OnOk result (RoomForBlocks self.old room → RoomForBlocks self.new room) }
         ensures work { OnOk result ((self.old.work ≡ None) × (self.new.work ≡ None)) }
         ensures asked { IfErr result (λ e. (e ≡ Refusal.Asked) × IsSome self.old.work) }
-        ensures same { SameSetup self.old self.new }
+        ensures same { SameConfig self.old self.new }
         ensures unchanged { OnErr result (self.new ≡ self.old) }
     {
         if self.work.is_some() {

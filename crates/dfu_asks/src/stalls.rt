@@ -1,10 +1,10 @@
-//! The calls that tell, before the body of a setup is there, if a device will stall the setup.
+//! The calls that tell whether a device will stall a setup, before the body of the setup arrives.
 ghost use Rattle.std.specs.Prelude.{◌≡◌, ◌-◌, ◌*◌, ◌/◌, ℕ, List, length, Some, IfOk, IfErr, OnOk, IsSome, None};
 ghost use Rattle.dfu_device.specs.Stage.{Profile as TableProfile};
 ghost use Rattle.dfu_device.specs.Table.{plan};
 ghost use Rattle.dfu_device.specs.Rows.{request_for_table};
 ghost use Rattle.dfu_device.specs.Parts.{stage_of};
-ghost use Rattle.dfu_device.specs.Decision.{profile_in, plan_of, HasWrittenBytes, HasBodyLength};
+ghost use Rattle.dfu_device.specs.Decision.{table_profile_of, plan_of, HasWrittenBytes, HasBodyLength};
 ghost use Rattle.dfu_slots.specs.Units.{gate_room};
 ghost use Rattle.dfu_asks.specs.Asks.{grain_in, device_in, IsDevice};
 ghost use Rattle.dfu_asks.specs.InMode.{IsDeviceIn};
@@ -31,15 +31,15 @@ fn stalls(decision: Decision) -> bool
     }
 }
 
-// Returns whether a device of this profile stalls this request of the class in this mode, whatever body of the right length comes with it.
+// Returns whether a device of this profile stalls this request of the class in this mode, with every body of the right length.
 fn will_stall(profile: &Profile, mode: DeviceState, request: Request) -> bool
     ensures { (image spare unwritten body : List ℕ) → HasWrittenBytes mode spare → HasBodyLength request body
-        → Some result ≡ stall_verdict (plan (profile_in profile.now) image (stage_of mode spare unwritten) (request_for_table request body)) }
+        → Some result ≡ stall_verdict (plan (table_profile_of profile.now) image (stage_of mode spare unwritten) (request_for_table request body)) }
 {
     stalls(decide(profile, mode, request))
 }
 
-// Returns the bytes of data of a slot in flash of this size.
+// Returns the number of bytes of a slot's data in flash of `size` bytes.
 fn room_in(unit: Unit, sector: Sector, size: usize) -> u64
     ensures { result ≡ size / 2 - 2 * gate_room (grain_of unit sector) }
 {

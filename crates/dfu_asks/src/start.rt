@@ -1,39 +1,39 @@
-//! Writes of a row that begins, and the test that flash is erased where it is programmed with no erase before.
+//! Start of the writes of a row, and the test that flash is erased where it is programmed without an erase before.
 ghost use Rattle.std.specs.Prelude.{◌≡◌, ◌⊎◌, ◌+◌, ◌≤◌, ◌++◌, true, ℕ, List, Option, length, take, slice_range, Some, IsTrue, ◌^◌, ◌<◌, ◌↔◌};
 ghost use Rattle.dfu_suffix.specs.Register.{register};
 ghost use Rattle.dfu_device.specs.Parts.{stage_of, is_put};
 ghost use Rattle.dfu_asks.specs.declared.pending_writes.PendingWrites.{PendingWrites};
 ghost use Rattle.dfu_asks.specs.Mapped.{grain_of, mapped_medium};
-ghost use Rattle.dfu_asks.specs.Noted.{IsView};
-ghost use Rattle.dfu_asks.specs.Lent.{lent, HasRoom, SameSetup};
+ghost use Rattle.dfu_asks.specs.Noted.{IsNoteView};
+ghost use Rattle.dfu_asks.specs.Lent.{lent, HasRoom, SameConfig};
 ghost use Rattle.dfu_asks.specs.Due.{DueRow, IsDueStage};
 ghost use Rattle.dfu_asks.specs.Asks.{device_in, flash_store, IsDevice, IsBlockJob, IsCommitJob, IsJobOfMode};
-ghost use Rattle.dfu_asks.specs.Calls.{DeviceCalled, AnswerHasAtMost};
-ghost use Rattle.dfu_asks.specs.Ahead.{IsStretchToSector, IsErasedAhead};
+ghost use Rattle.dfu_asks.specs.Calls.{DeviceCalled, ReplyHasAtMostBytes};
+ghost use Rattle.dfu_asks.specs.Ahead.{ReachesSectorAt, IsErasedAhead};
 
 use crate::noted::View;
-use crate::sector::behind_edge;
+use crate::sector::offset_in_sector;
 use crate::{Asking, Mapped, PendingWrites, Reply, Sector, SlotWrite};
 use dfu_device::DeviceState;
 use dfu_slots::{WriteFault, crc_of_flash, data_at, is_flash_erased, is_open};
 
-// Returns the end of so many bytes from there on, or the place at which the first sector begins among them.
-fn stretch_end(size: u32, at: u64, len: u64) -> u64
+// Returns the place at which the first sector begins among the `len` bytes from `at` on, or their end if none begins there.
+fn end_before_sector(size: u32, at: u64, len: u64) -> u64
     requires some { 0 < size }
     requires most { size ≤ 2 ^ 18 }
     requires small { at < 2 ^ 43 }
     requires short { len < 2 ^ 43 }
-    ensures { IsStretchToSector size at len result }
+    ensures { ReachesSectorAt size at len result }
 {
-    let behind = behind_edge(size, at);
+    let behind = offset_in_sector(size, at);
     if behind == 0 {
         return at;
     }
     at + len.min(u64::from(size - behind))
 }
 
-// Returns whether so many bytes from there on are FFh, up to the sector that begins next; flash without sectors is written over.
-fn is_clear(flash: &[u8], sector: Sector, at: u64, len: u64) -> bool
+// Returns whether the `len` bytes from `at` on are FFh, up to the next sector. True for flash without sectors, which is overwritten.
+fn is_erased_to_sector(flash: &[u8], sector: Sector, at: u64, len: u64) -> bool
     requires small { at < 2 ^ 43 }
     requires short { len < 2 ^ 43 }
     ensures { IsTrue result ↔ IsErasedAhead sector.size flash.now at len }
@@ -42,11 +42,11 @@ fn is_clear(flash: &[u8], sector: Sector, at: u64, len: u64) -> bool
     if size == 0 {
         return true;
     }
-    let end = stretch_end(size, at, len).min(flash.len() as u64);
+    let end = end_before_sector(size, at, len).min(flash.len() as u64);
     is_flash_erased(flash, at as usize, end as usize)
 }
 
-// The register over bytes of flash, and these after them.
+// Returns the register over `size` bytes of flash followed by `held`.
 fn register_of(flash: &[u8], from: usize, size: usize, held: &[u8]) -> u32
     requires { from + size ≤ length flash.now }
     ensures { result ≡ register (slice_range flash.now from (from + size) ++ held.now) }
@@ -57,11 +57,11 @@ fn register_of(flash: &[u8], from: usize, size: usize, held: &[u8]) -> u32
 }
 
 impl Asking {
-    // The job of a commit of all that was put.
+    // Returns the job that commits all bytes that were put.
     fn commit_job(&self, held: &[u8], medium: &Mapped<'_>, view: &View) -> SlotWrite
         requires unit { medium.now.unit ≡ self.now.unit }
         requires sector { medium.now.sector ≡ self.now.sector }
-        requires view { IsView view.now self.now.noted (mapped_medium (grain_of self.now.unit self.now.sector) medium.now.bytes.now) }
+        requires view { IsNoteView view.now self.now.noted (mapped_medium (grain_of self.now.unit self.now.sector) medium.now.bytes.now) }
         requires end { self.now.put_end ≤ view.now.room }
         requires held { self.now.held_len ≤ self.now.put_end }
         requires memory { HasRoom self.now.unit held.now }
@@ -77,12 +77,12 @@ impl Asking {
         }
     }
 
-    // The job of a block after so many bytes, how many bytes are held back then, and where the puts end. The bytes that were put before a
-    // first block are forgotten.
+    // Returns the job of a block after `written` bytes, the number of bytes held back before it, and the place at which the puts end. A
+    // first block discards the bytes that were put before.
     fn block_job(&self, written: u32, medium: &Mapped<'_>, view: &View) -> (SlotWrite, usize, u32)
         requires unit { medium.now.unit ≡ self.now.unit }
         requires sector { medium.now.sector ≡ self.now.sector }
-        requires view { IsView view.now self.now.noted (mapped_medium (grain_of self.now.unit self.now.sector) medium.now.bytes.now) }
+        requires view { IsNoteView view.now self.now.noted (mapped_medium (grain_of self.now.unit self.now.sector) medium.now.bytes.now) }
         ensures job { (block held : List ℕ) → let s = flash_store (lent self.now block held) medium.now.bytes.now in
             IsDevice (lent self.now block held) medium.now.bytes.now → (written ≡ 0) ⊎ (is_put written s ≡ true) →
             IsBlockJob written s result.0 result.2 (take result.1 held) }
@@ -102,11 +102,11 @@ impl Asking {
         (job, self.held_len, self.put_end)
     }
 
-    // The job of the row that is due, and what is held back and put then.
+    // Returns the job of the due row, the number of bytes held back before it, and the place at which the puts end.
     fn begin_job(&self, held: &[u8], medium: &Mapped<'_>, view: &View) -> (SlotWrite, usize, u32)
         requires unit { medium.now.unit ≡ self.now.unit }
         requires sector { medium.now.sector ≡ self.now.sector }
-        requires view { IsView view.now self.now.noted (mapped_medium (grain_of self.now.unit self.now.sector) medium.now.bytes.now) }
+        requires view { IsNoteView view.now self.now.noted (mapped_medium (grain_of self.now.unit self.now.sector) medium.now.bytes.now) }
         requires end { self.now.put_end ≤ view.now.room }
         requires held { self.now.held_len ≤ self.now.put_end }
         requires memory { HasRoom self.now.unit held.now }
@@ -126,11 +126,11 @@ impl Asking {
         }
     }
 
-    // Returns whether the flash that the due row programs behind the puts with no erase before is erased, if its puts end there.
+    // Returns whether the flash after the puts, which the due row programs without an erase before, is erased. True if `end` is 0.
     fn is_ahead(&self, end: u32, medium: &Mapped<'_>, view: &View) -> bool
         requires unit { medium.now.unit ≡ self.now.unit }
         requires sector { medium.now.sector ≡ self.now.sector }
-        requires view { IsView view.now self.now.noted (mapped_medium (grain_of self.now.unit self.now.sector) medium.now.bytes.now) }
+        requires view { IsNoteView view.now self.now.noted (mapped_medium (grain_of self.now.unit self.now.sector) medium.now.bytes.now) }
         requires end { self.now.put_end ≤ view.now.room }
         requires held { self.now.held_len ≤ self.now.put_end }
         ensures { (block held : List ℕ) → HasRoom self.now.unit held → IsDevice (lent self.now block held) medium.now.bytes.now →
@@ -141,11 +141,11 @@ impl Asking {
         }
         let at = data_at(medium, view.spare) + (self.put_end - self.held_len as u32);
         let len = self.held_len + self.block_len;
-        is_clear(medium.bytes, self.sector, u64::from(at), len as u64)
+        is_erased_to_sector(medium.bytes, self.sector, u64::from(at), len as u64)
     }
 
-    /// Begins the work of the row that is due. Nothing is written, and the row ends with NotVerified, if the flash behind the bytes put so
-    /// far is not erased: for example because somebody else has written there.
+    /// Begins the writes of the due row. Nothing is written, and the row ends with NotVerified, if the flash behind the bytes put so far is
+    /// not erased: for example because another program has written there.
     pub(crate) fn start(
         &mut self,
         asked: Option<u16>,
@@ -158,7 +158,7 @@ impl Asking {
         requires room { 6 ≤ length out.old }
         requires unit { medium.now.unit ≡ self.old.unit }
         requires sector { medium.now.sector ≡ self.old.sector }
-        requires view { IsView view.now self.old.noted (mapped_medium (grain_of self.old.unit self.old.sector) medium.now.bytes.now) }
+        requires view { IsNoteView view.now self.old.noted (mapped_medium (grain_of self.old.unit self.old.sector) medium.now.bytes.now) }
         requires end { self.old.put_end ≤ view.now.room }
         requires held { self.old.held_len ≤ self.old.put_end }
         requires memory { HasRoom self.old.unit held.old }
@@ -167,8 +167,8 @@ impl Asking {
             (len : ℕ) → IsDevice a flash → IsDueStage (device_in a flash).stage asked len →
             DeviceCalled a flash out.old (DueRow len) (lent self.new block.now held.new) out.new result }
         ensures first { result ≡ Reply.Asks → (w : PendingWrites) × (self.new.work ≡ Some w) × (w.done ≡ 0) }
-        ensures few { AnswerHasAtMost 6 result }
-        ensures same { SameSetup self.old self.new }
+        ensures few { ReplyHasAtMostBytes 6 result }
+        ensures same { SameConfig self.old self.new }
         ensures block { self.new.block_len ≡ self.old.block_len }
     {
         let (job, held_len, put_end) = self.begin_job(held, medium, view);

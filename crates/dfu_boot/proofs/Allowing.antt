@@ -1,11 +1,11 @@
--- Due operations are allowed.
+-- Due operations, each of which is allowed.
 use Rattle.std.proofs.Common.{◌≡◌, ◌<◌, ◌+◌, ◌%◌, ℕ, List, length, Option, Some, None, sym, subst, arith}
 use Rattle.dfu_boot.specs.declared.install.due.Due.TheVariants.{Refuse, Erase, Program, Start}
-use Rattle.dfu_boot.specs.install.Allowed.{ImageByteDiffers, IsInLastSector, DueIsAllowed}
+use Rattle.dfu_boot.specs.install.Allowed.{ImageByteDiffers, IsInSectorOfLast, DueIsAllowed}
 use Rattle.dfu_boot.specs.install.Area.{RangeIsBlank, start_of}
 use Rattle.dfu_boot.specs.install.Next.{IsNextDifference, MayProgram, search_start}
 use Rattle.dfu_boot.proofs.Nexts.{next_byte_in_image, next_difference_differs}
-use Rattle.dfu_boot.proofs.WholeStarts.{whole_in_pieces, part_start_is_multiple, place_before_part_end, part_of_place_ends_by_edge}
+use Rattle.dfu_boot.proofs.WholeStarts.{sectors_are_whole_parts, part_start_is_multiple, place_is_before_part_end, part_of_place_ends_by_edge}
 
 -- The part that the next difference is in has a byte that differs.
 pub part_of_difference_differs : (image run : List ℕ) (part begins at : ℕ) (last : Option ℕ) → 0 < part
@@ -14,16 +14,16 @@ pub part_of_difference_differs : (image run : List ℕ) (part begins at : ℕ) (
 part_of_difference_differs image run part begins at last some next is = record {
   at = at;
   after = omega (arith, is);
-  before = subst (λ (x : ℕ). at < x + part) (sym is) (place_before_part_end part at some);
+  before = subst (λ (x : ℕ). at < x + part) (sym is) (place_is_before_part_end part at some);
   inside = next_byte_in_image image run last at next;
   differs = next_difference_differs image run (search_start image last) at next;
 }
 
 -- A piece that may be programmed is in the sector of the last operation.
-programmed_piece_in_last_sector : (run : List ℕ) (sector piece : ℕ) (last : Option ℕ) → MayProgram run sector last piece →
-    IsInLastSector sector last piece
-programmed_piece_in_last_sector run sector piece None may = may
-programmed_piece_in_last_sector run sector piece (Some last) may = may.1
+programs_only_in_last_sector : (run : List ℕ) (sector piece : ℕ) (last : Option ℕ) → MayProgram run sector last piece →
+    IsInSectorOfLast sector last piece
+programs_only_in_last_sector run sector piece None may = may
+programs_only_in_last_sector run sector piece (Some last) may = may.1
 
 -- A piece that may be programmed is blank.
 pub programmable_piece_is_blank : (run : List ℕ) (sector piece : ℕ) (last : Option ℕ) → MayProgram run sector last piece
@@ -49,10 +49,10 @@ does_only_allowed image run sector last (Program at) (ready, (d, e)) = (
   omega (
     arith,
     e.is,
-    part_of_place_ends_by_edge 256 d (length run) (whole_in_pieces 256 sector (length run) ready.area.pieces ready.area.whole)
+    part_of_place_ends_by_edge 256 d (length run) (sectors_are_whole_parts 256 sector (length run) ready.area.pieces ready.area.whole)
         (omega (arith, ready.fits, next_byte_in_image image run last d e.next)),
   ),
   part_of_difference_differs image run 256 at d last (omega arith) e.next e.is,
   programmable_piece_is_blank run sector at last e.may,
-  programmed_piece_in_last_sector run sector at last e.may,
+  programs_only_in_last_sector run sector at last e.may,
 )

@@ -5,7 +5,7 @@ use Rattle.dfu_slots.specs.Image.{Active, gate_of}
 use Rattle.dfu_slots.specs.Layout.{slot_size}
 use Rattle.dfu_slots.proofs.Sectors.{gate_unit_at_most_256}
 use Rattle.dfu_slots.proofs.Stands.{active_image_at_its_place}
-use Rattle.dfu_slots.proofs.Newest.{places_of_active_image}
+use Rattle.dfu_slots.proofs.Newest.{test_finds_active_image}
 use Rattle.dfu_boot.specs.trial.Marks.{mark_size, mark_at, is_mark_set, AreTries}
 use Rattle.dfu_boot.specs.trial.Calls.{IsSettledSlot, IsStanding, MediumAccepts, MarkIsWithin, mark_op}
 use Rattle.dfu_boot.specs.declared.trial.standing.Settled.{Settled}
@@ -19,7 +19,7 @@ module _ (m : MediumState) (tries : ℕ) (t : Trial) (are : AreTries m.grain tri
   pub trial_slot_ends_within : t.slot + slot_size m.bytes ≤ length m.bytes
   trial_slot_ends_within = slot_ends_within_medium m t.slot t.base stands.0.sized stands.0.places
 
-  -- The mark of the confirmation.
+  -- The mark of the confirmation ends within the medium.
   pub confirmation_ends_within : mark_at m.grain t.slot 0 + mark_size m.grain ≤ length m.bytes
   confirmation_ends_within = mark_ends_within_medium m tries t.slot 0 stands.0.sized are (omega arith) trial_slot_ends_within
 
@@ -38,7 +38,7 @@ module _ (m : MediumState) (tries : ℕ) (s : Settled) (are : AreTries m.grain t
   a = settled.has.active
 
   place : a.at ≡ s.slot
-  place = (places_of_active_image (gate_of m) m.bytes a.at a.spare settled.has.image (active_image_at_its_place a)).0 ∙ sym settled.slot
+  place = (test_finds_active_image (gate_of m) m.bytes a.at a.spare settled.has.image (active_image_at_its_place a)).0 ∙ sym settled.slot
 
   -- The active slot ends within the medium.
   pub slot_of_image_ends_within : s.slot + slot_size m.bytes ≤ length m.bytes

@@ -1,11 +1,11 @@
--- Places of the two slots that a look finds, and marks by which nothing is on trial.
+-- Places of the two slots that a look finds, and marks that exclude a trial.
 use Rattle.std.proofs.Common.{◌≡◌, ◌⊎◌, ⊎_elim, ℕ, true, false, sym, ◌∙◌, ap, subst}
 use Rattle.std.proofs.lemmas.Bool.{true≢false}
 use Rattle.dfu_slots.specs.Medium.{MediumState}
 use Rattle.dfu_slots.specs.Layout.{ArePlaces}
 use Rattle.dfu_slots.specs.Image.{gate_of, slot_of, IsNewest, HasImage, active_at, spare_at}
 use Rattle.dfu_slots.proofs.Stands.{active_image_at_its_place}
-use Rattle.dfu_slots.proofs.Newest.{places_of_active_image, places_of_newest_slot}
+use Rattle.dfu_slots.proofs.Newest.{test_finds_active_image, test_finds_newest_slot}
 use Rattle.dfu_boot.specs.trial.Marks.{is_mark_set}
 use Rattle.dfu_boot.specs.trial.Trial.{IsFilledSlot, HasTrial}
 use Rattle.dfu_boot.proofs.Slots.{active_slot_is_filled}
@@ -16,31 +16,32 @@ module _ (m : MediumState) (p q : ℕ) (has : HasImage m) (active : p ≡ active
   pub found_places_are_slots : ArePlaces m.bytes p q
   found_places_are_slots =
       let a = has.active in
-      let at = places_of_active_image (gate_of m) m.bytes a.at a.spare has.image (active_image_at_its_place a) in
+      let at = test_finds_active_image (gate_of m) m.bytes a.at a.spare has.image (active_image_at_its_place a) in
       subst (λ (x : ℕ). ArePlaces m.bytes x q) (at.0 ∙ sym active) (subst (λ (x : ℕ). ArePlaces m.bytes a.at x) (at.1 ∙ sym spare) a.places)
 
   -- The first slot that a look finds is the newest, and has an image.
   pub found_slot_is_newest : IsNewest (slot_of m p) (slot_of m q)
   found_slot_is_newest =
       let a = has.active in
-      let at = places_of_active_image (gate_of m) m.bytes a.at a.spare has.image (active_image_at_its_place a) in
+      let at = test_finds_active_image (gate_of m) m.bytes a.at a.spare has.image (active_image_at_its_place a) in
       subst (λ (x : ℕ). IsNewest (slot_of m x) (slot_of m q)) (at.0 ∙ sym active)
       (subst (λ (x : ℕ). IsNewest (slot_of m a.at) (slot_of m x)) (at.1 ∙ sym spare) a.newest)
 
   pub found_slot_is_filled : IsFilledSlot (slot_of m p)
   found_slot_is_filled =
       let a = has.active in
-      let at = places_of_active_image (gate_of m) m.bytes a.at a.spare has.image (active_image_at_its_place a) in
+      let at = test_finds_active_image (gate_of m) m.bytes a.at a.spare has.image (active_image_at_its_place a) in
       subst (λ (x : ℕ). IsFilledSlot (slot_of m x)) (at.0 ∙ sym active) (active_slot_is_filled m has.image a)
 
   -- If an image is on trial, it is in the first slot that a look finds, beside the second one.
-  pub trial_at_found_slots : (t : HasTrial m) → (t.at ≡ p) × (t.base ≡ q)
-  trial_at_found_slots t =
-      let at = places_of_newest_slot (gate_of m) m.bytes t.at t.base t.trial.places t.trial.newest in (at.0 ∙ sym active, at.1 ∙ sym spare)
+  pub trial_is_at_found_slots : (t : HasTrial m) → (t.at ≡ p) × (t.base ≡ q)
+  trial_is_at_found_slots t =
+      let at = test_finds_newest_slot (gate_of m) m.bytes t.at t.base t.trial.places t.trial.newest in (at.0 ∙ sym active, at.1 ∙ sym spare)
 
-  pub settled_marks_no_trial : (is_mark_set m p 0 ≡ true) ⊎ ((is_mark_set m q 0 ≡ false) ⊎ (¬ IsFilledSlot (slot_of m q))) → ¬ HasTrial m
-  settled_marks_no_trial why t =
-      let there = trial_at_found_slots t in
+  -- Nothing is on trial if the first slot is confirmed, or the second one is not confirmed or has no image.
+  pub marks_exclude_trial : (is_mark_set m p 0 ≡ true) ⊎ ((is_mark_set m q 0 ≡ false) ⊎ (¬ IsFilledSlot (slot_of m q))) → ¬ HasTrial m
+  marks_exclude_trial why t =
+      let there = trial_is_at_found_slots t in
       ⊎_elim
       (λ set. true≢false (sym set ∙ ap (λ (x : ℕ). is_mark_set m x 0) (sym there.0) ∙ t.trial.unconfirmed))
       (λ rest. ⊎_elim

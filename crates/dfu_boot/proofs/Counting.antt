@@ -14,29 +14,29 @@ unset_mark_ends_count : (m : MediumState) (at i most : ℕ) → is_mark_set m at
 unset_mark_ends_count m at i most unset = ap (λ (b : Bool). if b then marks_set_in_row m at (i + 1) most + 1 else 0) unset
 
 -- Of `most` marks no more than `most` are set.
-pub at_most_all_marks : (m : MediumState) (at i most : ℕ) → marks_set_in_row m at i most ≤ most
-at_most_all_marks m at i zero = omega arith
-at_most_all_marks m at i (suc most) = ⊎_elim
-    (λ set. omega (arith, set_mark_is_counted m at i most set, at_most_all_marks m at (i + 1) most))
+pub count_is_at_most_all_marks : (m : MediumState) (at i most : ℕ) → marks_set_in_row m at i most ≤ most
+count_is_at_most_all_marks m at i zero = omega arith
+count_is_at_most_all_marks m at i (suc most) = ⊎_elim
+    (λ set. omega (arith, set_mark_is_counted m at i most set, count_is_at_most_all_marks m at (i + 1) most))
     (λ unset. omega (arith, unset_mark_ends_count m at i most unset))
     (cases_Bool (is_mark_set m at i))
 
--- If fewer marks than `most` are set, the next mark is not set.
-pub next_mark_not_set : (m : MediumState) (at i most : ℕ) → marks_set_in_row m at i most < most
+-- If fewer than `most` marks are set in a row, the next mark is not set.
+pub next_mark_is_not_set : (m : MediumState) (at i most : ℕ) → marks_set_in_row m at i most < most
     → is_mark_set m at (i + marks_set_in_row m at i most) ≡ false
-next_mark_not_set m at i zero lt = absurd (omega (arith, lt))
-next_mark_not_set m at i (suc most) lt = ⊎_elim
+next_mark_is_not_set m at i zero lt = absurd (omega (arith, lt))
+next_mark_is_not_set m at i (suc most) lt = ⊎_elim
     (λ set.
     let on = set_mark_is_counted m at i most set in
     let e : i + marks_set_in_row m at i (suc most) ≡ i + 1 + marks_set_in_row m at (i + 1) most = omega (arith, on) in
-    ap (λ (k : ℕ). is_mark_set m at k) e ∙ next_mark_not_set m at (i + 1) most (omega (arith, on, lt)))
+    ap (λ (k : ℕ). is_mark_set m at k) e ∙ next_mark_is_not_set m at (i + 1) most (omega (arith, on, lt)))
     (λ unset.
     let none = unset_mark_ends_count m at i most unset in
     let e : i + marks_set_in_row m at i (suc most) ≡ i = omega (arith, none) in
     ap (λ (k : ℕ). is_mark_set m at k) e ∙ unset)
     (cases_Bool (is_mark_set m at i))
 
--- If the first mark is not set, no mark counts.
+-- If the first mark is not set, or `most` is 0, no mark counts.
 pub no_mark_counts : (m : MediumState) (at i most : ℕ) → (0 < most → is_mark_set m at i ≡ false) → marks_set_in_row m at i most ≡ 0
 no_mark_counts m at i zero unset = omega arith
 no_mark_counts m at i (suc most) unset = unset_mark_ends_count m at i most (unset (omega arith))
@@ -69,17 +69,17 @@ set_marks_are_counted m at i (suc most) (suc n) le each =
     )
 
 -- If the marks of two media agree, their counts are equal.
-pub equal_marks_equal_count : (m n : MediumState) (at i most : ℕ) → ((k : ℕ) → i ≤ k → k < i + most → is_mark_set n at k
+pub equal_marks_have_equal_counts : (m n : MediumState) (at i most : ℕ) → ((k : ℕ) → i ≤ k → k < i + most → is_mark_set n at k
     ≡ is_mark_set m at k)
     → marks_set_in_row n at i most ≡ marks_set_in_row m at i most
-equal_marks_equal_count m n at i zero same = omega arith
-equal_marks_equal_count m n at i (suc most) same = ⊎_elim
+equal_marks_have_equal_counts m n at i zero same = omega arith
+equal_marks_have_equal_counts m n at i (suc most) same = ⊎_elim
     (λ set.
     omega (
       arith,
       set_mark_is_counted m at i most set,
       set_mark_is_counted n at i most (same i (omega arith) (omega arith) ∙ set),
-      equal_marks_equal_count m n at (i + 1) most (λ k low high. same k (omega (arith, low)) (omega (arith, high))),
+      equal_marks_have_equal_counts m n at (i + 1) most (λ k low high. same k (omega (arith, low)) (omega (arith, high))),
     ))
     (λ unset. omega (
       arith,

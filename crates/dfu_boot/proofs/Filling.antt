@@ -5,20 +5,20 @@ use Rattle.std.proofs.Math.ListN.{get_or-append}
 use Rattle.dfu_boot.specs.install.Area.{program_piece}
 
 -- A buffer of FFh to whose front bytes were copied has those bytes, and FFh after them.
-pub buffer_filled_with_ff : (bytes copied : List ℕ) (most : ℕ) → copied ≡ bytes
+pub buffer_is_filled_with_ff : (bytes copied : List ℕ) (most : ℕ) → copied ≡ bytes
     → copied ++ drop (length bytes) (replicate most 255) ≡ bytes ++ replicate (most - length bytes) 255
-buffer_filled_with_ff bytes copied most is = λ i. is i ++ drop-replicate (length bytes) most 255 i
+buffer_is_filled_with_ff bytes copied most is = λ i. is i ++ drop-replicate (length bytes) most 255 i
 
--- The front of a list has the same elements, whichever of its length and n is smaller.
-front_by_shorter_length : (xs : List ℕ) (n : ℕ) → take (min (length xs) n) xs ≡ take n xs
-front_by_shorter_length xs n = let e : min (length xs) n ≡ min n (length xs) = omega arith in ap (λ (k : ℕ). take k xs) e ∙ take_min n xs
+-- The first min (length xs) n elements of a list are its first n elements.
+shorter_take_is_same_front : (xs : List ℕ) (n : ℕ) → take (min (length xs) n) xs ≡ take n xs
+shorter_take_is_same_front xs n = let e : min (length xs) n ≡ min n (length xs) = omega arith in ap (λ (k : ℕ). take k xs) e ∙ take_min n xs
 
--- Rest of the image from a place on.
-rest_of_image_from : (image : List ℕ) (at : ℕ) → take (length image - min at (length image)) (drop (min at (length image)) image)
+-- The range from a place to the end of the image is the image without the bytes before that place.
+range_to_end_is_rest_of_image : (image : List ℕ) (at : ℕ) → take (length image - min at (length image)) (drop (min at (length image)) image)
     ≡ drop at image
-rest_of_image_from image at = take_rest image (min at (length image)) ∙ drop_min at image
+range_to_end_is_rest_of_image image at = take_rest image (min at (length image)) ∙ drop_min at image
 
--- The front of the image's rest, filled up with FFh, is the piece.
+-- The bytes of the image from a place on, at most 256 of them, filled up with FFh, are the piece at that place.
 pub filled_rest_is_piece : (image made : List ℕ) (at from end_ : ℕ) → from ≡ min at (length image)
     → end_ ≡ min (length (take (length image - from) (drop from image))) 256
     → made ≡ take end_ (take (length image - from) (drop from image))
@@ -27,9 +27,9 @@ pub filled_rest_is_piece : (image made : List ℕ) (at from end_ : ℕ) → from
 filled_rest_is_piece image made at from end_ is_from is_end is =
     let rest : List ℕ = take (length image - from) (drop from image) in
     let left : rest ≡ drop at image =
-    ap (λ (n : ℕ). take (length image - n) (drop n image)) is_from ∙ rest_of_image_from image at in
+    ap (λ (n : ℕ). take (length image - n) (drop n image)) is_from ∙ range_to_end_is_rest_of_image image at in
     let front : take end_ rest ≡ take 256 (drop at image) =
-    ap (λ (n : ℕ). take n rest) is_end ∙ front_by_shorter_length rest 256 ∙ ap (λ (l : List ℕ). take 256 l) left in
+    ap (λ (n : ℕ). take n rest) is_end ∙ shorter_take_is_same_front rest 256 ∙ ap (λ (l : List ℕ). take 256 l) left in
     is ∙ ap (λ (l : List ℕ). l ++ replicate (256 - length l) 255) front
 
 -- A piece has the bytes of the image, as far as the image goes.

@@ -8,7 +8,7 @@ use Rattle.dfu_boot.specs.declared.install.due.Due.TheVariants.{Refuse, Erase, P
 use Rattle.dfu_boot.specs.declared.install.due.Refusal.TheVariants.{WrongSize, NoImage, TooLarge}
 use Rattle.dfu_boot.proofs.Nexts.{next_byte_in_image, next_difference_differs}
 
--- If the run area holds the image, each byte of the image is there.
+-- If the run area holds the image, each byte of the image reads the same there.
 pub stored_image_reads_same : (image run : List ℕ) → AreaStores run image → (i : ℕ) → i < length image → slice_index run i
     ≡ slice_index image i
 stored_image_reads_same image run held i lt = sym (get_or-take (length image) run i 0 lt) ∙ ap (λ (l : List ℕ). slice_index l i) held

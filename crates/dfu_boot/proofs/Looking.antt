@@ -1,13 +1,13 @@
--- Place up to which bytes were looked at.
+-- Bytes that were compared so far.
 use Rattle.std.specs.Prelude.{ℕ, ◌≤◌, List}
 use Rattle.dfu_boot.specs.install.Area.{RangeMatchesImage, RangeIsBlank}
 
--- From `from` on and before `at` all bytes are FFh.
+-- The bytes from `from` to before `at` are all FFh.
 pub record IsBlankUpTo (run : List ℕ) (from at : ℕ) : Type 0 where
   pub behind : from ≤ at
   pub blank : RangeIsBlank run from at
 
--- From `from` on and before `at` all bytes are those of the image.
+-- The bytes from `from` to before `at` are those of the image.
 pub record MatchesImageUpTo (image run : List ℕ) (from at : ℕ) : Type 0 where
   pub behind : from ≤ at
   pub same : RangeMatchesImage image run from at

@@ -1,4 +1,4 @@
--- Lists of sectors.
+-- Members of lists of sectors.
 use Rattle.std.proofs.Common.{◌≡◌, ◌⊎◌, inl, inr, ◌<◌, ◌≤◌, ◌*◌, ◌/◌, ◌%◌, ℕ, suc, zero, List, [], ◌∷◌, length, sym, ◌∙◌, ap, refl, subst, arith}
 use Rattle.std.proofs.lemmas.Bool.{cases_lt}
 use Rattle.std.proofs.Math.Nat.{div-add-mod, lt_of_mul-lt-mul_right}
@@ -9,14 +9,14 @@ IsInList a [] = ⊥
 IsInList a (x ∷ xs) = (x ≡ a) ⊎ IsInList a xs
 
 -- A list with one element less than `xs`, which has each number of `xs` other than `a`.
-pub record Without (a : ℕ) (xs : List ℕ) : Type 0 where
+pub record ListWithout (a : ℕ) (xs : List ℕ) : Type 0 where
   pub others : List ℕ
   pub fewer : length xs ≡ suc (length others)
   pub keeps : (i : ℕ) → IsInList i xs → ¬ (i ≡ a) → IsInList i others
 
 -- If `a` can be taken out of a list, it can be with one more element before it.
-without_one_behind_first : (a x : ℕ) (xs : List ℕ) → Without a xs → Without a (x ∷ xs)
-without_one_behind_first a x xs w = record {
+removal_skips_first_element : (a x : ℕ) (xs : List ℕ) → ListWithout a xs → ListWithout a (x ∷ xs)
+removal_skips_first_element a x xs w = record {
   others = x ∷ w.others;
   fewer = ap suc w.fewer;
   keeps = keeps;
@@ -27,8 +27,8 @@ without_one_behind_first a x xs w = record {
     keeps i (inr m) other = inr (w.keeps i m other)
 
 -- If `a` is the first element, it can be taken out.
-without_first_element : (a x : ℕ) (xs : List ℕ) → x ≡ a → Without a (x ∷ xs)
-without_first_element a x xs is = record {
+first_element_is_removable : (a x : ℕ) (xs : List ℕ) → x ≡ a → ListWithout a (x ∷ xs)
+first_element_is_removable a x xs is = record {
   others = xs;
   fewer = refl;
   keeps = keeps;
@@ -39,10 +39,10 @@ without_first_element a x xs is = record {
     keeps i (inr m) other = m
 
 -- A number that is in a list can be taken out of it.
-pub member_can_be_taken_away : (a : ℕ) (xs : List ℕ) → IsInList a xs → Without a xs
+pub member_can_be_taken_away : (a : ℕ) (xs : List ℕ) → IsInList a xs → ListWithout a xs
 member_can_be_taken_away a [] m = absurd m
-member_can_be_taken_away a (x ∷ xs) (inl e) = without_first_element a x xs e
-member_can_be_taken_away a (x ∷ xs) (inr m) = without_one_behind_first a x xs (member_can_be_taken_away a xs m)
+member_can_be_taken_away a (x ∷ xs) (inl e) = first_element_is_removable a x xs e
+member_can_be_taken_away a (x ∷ xs) (inr m) = removal_skips_first_element a x xs (member_can_be_taken_away a xs m)
 
 -- The first n multiples of a number, the largest one first.
 abbrev pub multiples : ℕ → ℕ → List ℕ
@@ -50,20 +50,20 @@ multiples part zero = []
 multiples part (suc n) = (n * part) ∷ multiples part n
 
 -- The first n multiples are n numbers.
-pub multiples_length : (part n : ℕ) → length (multiples part n) ≡ n
-multiples_length part zero = refl
-multiples_length part (suc n) = ap suc (multiples_length part n)
+pub multiples_have_length_n : (part n : ℕ) → length (multiples part n) ≡ n
+multiples_have_length_n part zero = refl
+multiples_have_length_n part (suc n) = ap suc (multiples_have_length_n part n)
 
--- Each of the first n + 1 multiples is one of the first n, or the next one.
+-- If q times a number is one of its first n multiples for q below n, it is one of the first n + 1 for q below n + 1.
 next_multiple_is_member : (part n q : ℕ) → q < suc n → (q < n → IsInList (q * part) (multiples part n)) →
     IsInList (q * part) (multiples part (suc n))
-next_multiple_is_member part n q lt fewer = by_place (cases_lt q n)
+next_multiple_is_member part n q lt fewer = at_either_place (cases_lt q n)
   where
-    by_place : (q < n) ⊎ (n ≤ q) → IsInList (q * part) (multiples part (suc n))
-    by_place (inl less) = inr (fewer less)
-    by_place (inr most) = let e : n ≡ q = omega (arith, most, lt) in inl (ap (λ (x : ℕ). x * part) e)
+    at_either_place : (q < n) ⊎ (n ≤ q) → IsInList (q * part) (multiples part (suc n))
+    at_either_place (inl less) = inr (fewer less)
+    at_either_place (inr most) = let e : n ≡ q = omega (arith, most, lt) in inl (ap (λ (x : ℕ). x * part) e)
 
--- Each q times a number, with q below n, is one of its first n multiples.
+-- q times a number is one of its first n multiples, if q is below n.
 multiple_is_member : (part n q : ℕ) → q < n → IsInList (q * part) (multiples part n)
 multiple_is_member part zero q lt = absurd (omega (arith, lt))
 multiple_is_member part (suc n) q lt = next_multiple_is_member part n q lt (multiple_is_member part n q)

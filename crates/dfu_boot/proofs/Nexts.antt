@@ -13,7 +13,7 @@ pub next_byte_in_image : (image run : List ℕ) (last : Option ℕ) (at : ℕ) �
 next_byte_in_image image run last at (inl d) = d.within
 next_byte_in_image image run last at (inr (same, d)) = omega (arith, d.within, search_starts_in_image image last)
 
--- The next byte that differs does differ.
+-- At the next difference the run area differs from the image.
 pub next_difference_differs : (image run : List ℕ) (from at : ℕ) → IsNextDifference image run from at →
     slice_index run at ≢ slice_index image at
 next_difference_differs image run from at (inl d) = d.differs

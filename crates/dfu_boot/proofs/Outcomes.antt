@@ -2,7 +2,7 @@
 use Rattle.std.proofs.Common.{◌≡◌, ◌⊎◌, inl, inr, ℕ, ◌+◌, ◌<◌, Bool, true, false, Some, refl, sym, ◌∙◌, ap, subst, arith, if◌then◌else◌}
 use Rattle.std.proofs.lemmas.Bool.{cases_Bool}
 use Rattle.dfu_slots.specs.Units.{Grain}
-use Rattle.dfu_slots.specs.Medium.{MediumState, FrameOutside}
+use Rattle.dfu_slots.specs.Medium.{MediumState, ChangedWithin}
 use Rattle.dfu_slots.specs.Image.{capacity_of}
 use Rattle.dfu_slots.proofs.Sectors.{gate_room_is_a_sector}
 use Rattle.dfu_boot.specs.trial.Marks.{mark_size, mark_at, is_mark_set, recorded_starts, AreTries}
@@ -12,13 +12,13 @@ use Rattle.dfu_boot.specs.declared.trial.starting.Starting.{Starting}
 use Rattle.dfu_boot.specs.declared.trial.operation.Operation.TheVariants.{Close}
 use Rattle.dfu_boot.specs.declared.trial.standing.Trial.{Trial}
 use Rattle.dfu_boot.specs.declared.trial.standing.Standing.TheVariants.{OnTrial}
-use Rattle.dfu_boot.proofs.Counting.{next_mark_not_set}
+use Rattle.dfu_boot.proofs.Counting.{next_mark_is_not_set}
 use Rattle.dfu_boot.proofs.Keeping.{unset_mark_continues_trial, set_mark_records_start, set_confirmation_confirms, gate_erase_ends_or_continues}
 
 -- Image that runs after the mark of a start.
 module _ (m now : MediumState) (tries : ℕ) (t : Trial) (are : AreTries m.grain tries) (stands : IsStanding m tries (OnTrial t))
     (lt : t.starts < tries) (grain : now.grain ≡ m.grain)
-    (keeps : FrameOutside (mark_at m.grain t.slot (t.starts + 1)) (mark_at m.grain t.slot (t.starts + 1) + mark_size m.grain) m.bytes
+    (keeps : ChangedWithin (mark_at m.grain t.slot (t.starts + 1)) (mark_at m.grain t.slot (t.starts + 1) + mark_size m.grain) m.bytes
     now.bytes) where
   abbrev w : MediumState
   w = record now { grain = m.grain }
@@ -29,39 +29,40 @@ module _ (m now : MediumState) (tries : ℕ) (t : Trial) (are : AreTries m.grain
   abbrev starting : Starting
   starting = record { operation = Some (mark_op m.grain t.slot next); slot = t.slot; otherwise = t.base }
 
+  -- The mark of the next start was not set before.
   start_mark_was_unset : is_mark_set m t.slot next ≡ false
   start_mark_was_unset =
       let e : 1 + recorded_starts m tries t.slot ≡ next = omega (arith, stands.1) in
-      sym (ap (λ (k : ℕ). is_mark_set m t.slot k) e) ∙ next_mark_not_set m t.slot 1 tries (omega (arith, stands.1, lt))
+      sym (ap (λ (k : ℕ). is_mark_set m t.slot k) e) ∙ next_mark_is_not_set m t.slot 1 tries (omega (arith, stands.1, lt))
 
-  slot_run_by_start_mark : (b : Bool) → is_mark_set w t.slot next ≡ b → runs_in now starting starting.operation
+  start_mark_decides_slot_to_run : (b : Bool) → is_mark_set w t.slot next ≡ b → runs_in now starting starting.operation
       ≡ (if b then t.slot else t.base)
   unfolding is_mark_set
-  slot_run_by_start_mark b is = ap (λ (b : Bool). if b then t.slot else t.base) is
+  start_mark_decides_slot_to_run b is = ap (λ (b : Bool). if b then t.slot else t.base) is
 
-  unmarked : is_mark_set w t.slot next ≡ false → MarkReadsUnset now starting.operation
+  unset_mark_reads_unset : is_mark_set w t.slot next ≡ false → MarkReadsUnset now starting.operation
   unfolding is_mark_set
-  unmarked is = is
+  unset_mark_reads_unset is = is
 
   -- The image on trial runs, and the start is recorded; or the mark does not read set, and the confirmed one runs.
-  pub start_mark_outcome_told : (StartIsRecorded m tries t now × (runs_in now starting starting.operation ≡ t.slot))
+  pub start_is_recorded_or_mark_unset : (StartIsRecorded m tries t now × (runs_in now starting starting.operation ≡ t.slot))
       ⊎ (TrialContinues m tries t now × (runs_in now starting starting.operation ≡ t.base) × MarkReadsUnset now starting.operation)
-  start_mark_outcome_told = elim (cases_Bool (is_mark_set w t.slot next)) [
+  start_is_recorded_or_mark_unset = elim (cases_Bool (is_mark_set w t.slot next)) [
     | inl set ↦ inl (
       subst (λ (x : Grain). StartIsRecorded m tries t (record now { grain = x })) (sym grain)
           (set_mark_records_start m now tries t are stands next (omega (arith, lt)) keeps refl set),
-      slot_run_by_start_mark true set,
+      start_mark_decides_slot_to_run true set,
     )
     | inr unset ↦ inr (
       subst (λ (x : Grain). TrialContinues m tries t (record now { grain = x })) (sym grain)
           (unset_mark_continues_trial m now tries t are stands next (omega (arith, lt)) keeps (unset ∙ sym start_mark_was_unset)),
-      slot_run_by_start_mark false unset,
-      unmarked unset,
+      start_mark_decides_slot_to_run false unset,
+      unset_mark_reads_unset unset,
     )
   ]
 
-  pub start_mark_outcome : MarkOutcome m tries t now (runs_in now starting starting.operation)
-  start_mark_outcome = elim start_mark_outcome_told [
+  pub start_mark_has_its_outcome : MarkOutcome m tries t now (runs_in now starting starting.operation)
+  start_mark_has_its_outcome = elim start_is_recorded_or_mark_unset [
     | inl on ↦ inl on
     | inr same ↦ inr (same.0, same.1)
   ]
@@ -81,5 +82,5 @@ module _ (m now : MediumState) (tries : ℕ) (t : Trial) (are : AreTries m.grain
       subst (λ (x : Grain). TrialContinues m tries t (record now { grain = x }) ⊎ ConfirmedImageIsBack m t (record now { grain = x }))
       (sym carried.1)
       (gate_erase_ends_or_continues m now tries t are stands
-      (subst (λ (k : ℕ). FrameOutside t.slot (t.slot + k) m.bytes now.bytes)
+      (subst (λ (k : ℕ). ChangedWithin t.slot (t.slot + k) m.bytes now.bytes)
       (sym (gate_room_is_a_sector m.grain (capacity_of m) stands.0.sized.whole are.sectors)) carried.0))

@@ -18,8 +18,8 @@ use Rattle.dfu_boot.specs.trial.Calls.{MediumAccepts, mark_op}
 use Rattle.dfu_boot.specs.declared.trial.operation.Operation.TheVariants.{Close}
 
 -- If p and q are the places of the two slots, q and p are.
-pub slot_places_symmetric : (l : List ℕ) (p q : ℕ) → ArePlaces l p q → ArePlaces l q p
-slot_places_symmetric l p q there = ⊎_elim (λ a. inr (a.1, a.0)) (λ a. inl (a.1, a.0)) there
+pub slot_places_swap : (l : List ℕ) (p q : ℕ) → ArePlaces l p q → ArePlaces l q p
+slot_places_swap l p q there = ⊎_elim (λ a. inr (a.1, a.0)) (λ a. inl (a.1, a.0)) there
 
 -- All bytes of a mark that is not set are FFh.
 unset_mark_is_erased : (m : MediumState) (at i : ℕ) → is_mark_set m at i ≡ false → list_all is_erased (mark_bytes m at i) ≡ true
@@ -27,26 +27,26 @@ unfolding is_mark_set
 unset_mark_is_erased m at i unset = not-false _ unset
 
 -- If all bytes of a list are FFh, each byte of it is.
-each_byte_of_erased_list : (l : List ℕ) (i : ℕ) → list_all is_erased l ≡ true → i < length l → get_or l i 0 ≡ 255
-each_byte_of_erased_list [] i all lt = absurd (omega (arith, lt))
-each_byte_of_erased_list (x ∷ xs) zero all lt = eqb-true x 255 (and_parts (x == 255) (list_all is_erased xs) all).0
-each_byte_of_erased_list (x ∷ xs) (suc i) all lt = each_byte_of_erased_list xs i (and_parts (x == 255) (list_all is_erased xs) all).1
+erased_list_bytes_are_ff : (l : List ℕ) (i : ℕ) → list_all is_erased l ≡ true → i < length l → get_or l i 0 ≡ 255
+erased_list_bytes_are_ff [] i all lt = absurd (omega (arith, lt))
+erased_list_bytes_are_ff (x ∷ xs) zero all lt = eqb-true x 255 (and_parts (x == 255) (list_all is_erased xs) all).0
+erased_list_bytes_are_ff (x ∷ xs) (suc i) all lt = erased_list_bytes_are_ff xs i (and_parts (x == 255) (list_all is_erased xs) all).1
     (omega (arith, lt))
 
 -- If all bytes of a range are FFh, each byte of the medium in that range is.
-each_byte_of_erased_range : (l : List ℕ) (at n p : ℕ) → list_all is_erased (slice_range l at (at + n)) ≡ true → at + n ≤ length l → at
+erased_range_bytes_are_ff : (l : List ℕ) (at n p : ℕ) → list_all is_erased (slice_range l at (at + n)) ≡ true → at + n ≤ length l → at
     ≤ p → p < at + n
     → slice_index l p ≡ 255
-each_byte_of_erased_range l at n p all room low high =
+erased_range_bytes_are_ff l at n p all room low high =
     let e : at + (p - at) ≡ p = omega (arith, low) in
     let f : at + n - at ≡ n = omega arith in
     let long : length (take n (drop at l)) ≡ n = length-take-le n (drop at l) (omega (arith, room, length-drop at l)) in
     ap (λ (k : ℕ). get_or l k 0) (sym e) ∙ sym (get_or-drop at l (p - at) 0)
     ∙ sym (get_or-take n (drop at l) (p - at) 0 (omega (arith, low, high)))
-    ∙ each_byte_of_erased_list (take n (drop at l)) (p - at) (ap (λ (k : ℕ). list_all is_erased (take k (drop at l))) (sym f) ∙ all)
+    ∙ erased_list_bytes_are_ff (take n (drop at l)) (p - at) (ap (λ (k : ℕ). list_all is_erased (take k (drop at l))) (sym f) ∙ all)
     (omega (arith, low, high, long))
 
--- The marks end within the sector of the header.
+-- Each mark ends within the sector of the header.
 pub marks_end_in_header_sector : (w : Grain) (tries i : ℕ) → AreTries w tries → i ≤ tries → 2 * mark_size w + i * mark_size w ≤ gate_room w
 marks_end_in_header_sector w tries i t le =
     let more : tries ≡ i + (tries - i) = omega (arith, le) in
@@ -54,16 +54,16 @@ marks_end_in_header_sector w tries i t le =
     ap (λ (k : ℕ). (k + 2) * mark_size w) more ∙ grind arith in
     omega (arith, t.room, product)
 
--- The marks end within the medium.
+-- Each mark of a slot within the medium ends within it.
 pub mark_ends_within_medium : (m : MediumState) (tries at i : ℕ) → IsSizedMedium m → AreTries m.grain tries → i ≤ tries
     → at + slot_size m.bytes ≤ length m.bytes → mark_at m.grain at i + mark_size m.grain ≤ length m.bytes
 mark_ends_within_medium m tries at i sized t le within = omega (arith, marks_end_in_header_sector m.grain tries i t le, sized.room, within)
 
 -- If the next mark is set, one start more is recorded.
-pub one_more_mark_set : (m : MediumState) (at done tries : ℕ) → done < tries → is_mark_set m at (done + 1) ≡ true
+pub set_mark_adds_a_start : (m : MediumState) (at done tries : ℕ) → done < tries → is_mark_set m at (done + 1) ≡ true
     → recorded_starts m tries at ≡ done + marks_set_in_row m at (done + 1) (tries - done)
     → recorded_starts m tries at ≡ done + 1 + marks_set_in_row m at (done + 1 + 1) (tries - (done + 1))
-one_more_mark_set m at done tries lt set so_far =
+set_mark_adds_a_start m at done tries lt set so_far =
     let rest : tries - done ≡ suc (tries - (done + 1)) = omega (arith, lt) in
     so_far ∙ ap (λ (k : ℕ). done + marks_set_in_row m at (done + 1) k) rest
     ∙ ap (λ (b : Bool). done + (if b then marks_set_in_row m at (done + 1 + 1) (tries - (done + 1)) + 1 else 0))
@@ -71,16 +71,16 @@ one_more_mark_set m at done tries lt set so_far =
     ∙ omega arith
 
 -- If the next mark is not set, no further start is recorded.
-pub no_further_mark : (m : MediumState) (at done tries : ℕ) → done < tries → is_mark_set m at (done + 1) ≡ false
+pub unset_mark_ends_starts : (m : MediumState) (at done tries : ℕ) → done < tries → is_mark_set m at (done + 1) ≡ false
     → recorded_starts m tries at ≡ done + marks_set_in_row m at (done + 1) (tries - done) → done ≡ recorded_starts m tries at
-no_further_mark m at done tries lt unset so_far =
+unset_mark_ends_starts m at done tries lt unset so_far =
     let rest : tries - done ≡ suc (tries - (done + 1)) = omega (arith, lt) in
     sym (so_far ∙ ap (λ (k : ℕ). done + marks_set_in_row m at (done + 1) k) rest
     ∙ ap (λ (b : Bool). done + (if b then marks_set_in_row m at (done + 1 + 1) (tries - (done + 1)) + 1 else 0))
     unset
     ∙ omega arith)
 
--- Sums of multiples of a unit.
+-- A mark begins at a multiple of the unit, as its slot and the room of a gate do.
 mark_place_is_multiple : (u : WriteUnit) (a r i : ℕ) → IsMultiple u a → IsMultiple u r →
     IsMultiple u (a + r + gate_size u + i * gate_size u)
 mark_place_is_multiple Byte a r i x y = omega arith
@@ -123,13 +123,13 @@ module _ (m : MediumState) (at other : ℕ) (sized : IsSizedMedium m) (places : 
         mark_place_is_multiple m.grain.unit at (gate_of m) i slot_begins_with_unit (gate_room_is_multiple m.grain (capacity_of m)
             sized.whole),
         gate_size_is_multiple m.grain.unit,
-        λ some p low high. each_byte_of_erased_range m.bytes place size p (unset_mark_is_erased m at i unset) room low high,
+        λ some p low high. erased_range_bytes_are_ff m.bytes place size p (unset_mark_is_erased m at i unset) room low high,
       )
 
   -- The medium accepts the erase of the gate's sector.
   pub gate_close_is_accepted : 0 < m.grain.sector → MediumAccepts m (Close at)
   gate_close_is_accepted some = (
     omega (arith, slot_ends_within_medium, sized.room, gate_room_is_a_sector m.grain (capacity_of m) sized.whole some),
-    slot_begins_at_edge m.grain m.bytes (sized_medium_has_two_slots m sized) sized.whole other at (slot_places_symmetric m.bytes at other
+    slot_begins_at_edge m.grain m.bytes (sized_medium_has_two_slots m sized) sized.whole other at (slot_places_swap m.bytes at other
         places) some,
   )

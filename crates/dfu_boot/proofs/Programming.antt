@@ -3,14 +3,15 @@ use Rattle.std.proofs.Common.{◌≡◌, ◌≢◌, ◌⊎◌, inl, inr, ◌<◌
 use Rattle.std.proofs.lemmas.Bool.{cases_lt}
 use Rattle.dfu_boot.specs.install.Allowed.{ImageByteDiffers}
 use Rattle.dfu_boot.specs.install.Area.{RangeMatchesImage, RangeIsBlank, start_of}
-use Rattle.dfu_boot.specs.install.Next.{HasNoRefusal, IsNextDifference, IsProgramOf, search_start}
+use Rattle.dfu_boot.specs.install.Next.{IsNotRefused, IsNextDifference, IsProgramDueAt, search_start}
 use Rattle.dfu_boot.specs.install.Operations.{OutsideUnchanged}
-use Rattle.dfu_boot.proofs.WholeStarts.{whole_in_pieces, part_start_is_multiple, place_before_part_end, part_start_not_before_edge, part_ends_by_edge, part_end_is_multiple}
-use Rattle.dfu_boot.proofs.Tidy.{IsTidySector, IsToErase, HasPiecesLeft, CostsAtMost}
+use Rattle.dfu_boot.proofs.WholeStarts.{sectors_are_whole_parts, part_start_is_multiple, place_is_before_part_end, part_start_not_before_edge, part_ends_by_edge, part_end_is_multiple}
+use Rattle.dfu_boot.proofs.Tidy.{IsTidySector, MustBeErased, HasPiecesLeft, CostsAtMost}
 
--- Facts of a piece that is programmed: it is in the sector of the last operation, and all bytes between are done.
-pub record IsDueProgram (image run : List ℕ) (sector last piece at : ℕ) : Type 0 where
-  pub ready : HasNoRefusal image run sector
+-- A piece is due to be programmed: it is in the sector of the last operation, not before its place, `at` is the piece's first byte that
+-- differs, and all bytes from the place of the last operation to before `at` equal the image.
+pub record IsProgramOfPiece (image run : List ℕ) (sector last piece at : ℕ) : Type 0 where
+  pub ready : IsNotRefused image run sector
   pub after : last ≤ piece
   pub sector_is : start_of sector last ≡ start_of sector piece
   pub is : piece ≡ start_of 256 at
@@ -20,20 +21,20 @@ pub record IsDueProgram (image run : List ℕ) (sector last piece at : ℕ) : Ty
   pub differs : slice_index run at ≢ slice_index image at
 
 -- The first byte that differs is not before the last operation, because its piece is not.
-difference_after_last_operation : (image run : List ℕ) (last piece at : ℕ) → IsNextDifference image run (search_start image (Some last)) at
+difference_not_before_last_op : (image run : List ℕ) (last piece at : ℕ) → IsNextDifference image run (search_start image (Some last)) at
     → piece ≡ start_of 256 at
     → last ≤ piece → (last ≤ at) × RangeMatchesImage image run last at × (at < length image) × (slice_index run at ≢ slice_index image at)
-difference_after_last_operation image run last piece at (inl d) is le =
+difference_not_before_last_op image run last piece at (inl d) is le =
     let low : last ≤ at = omega (arith, is, le) in
     let same : RangeMatchesImage image run last at = λ i x y z. d.before i (omega (arith, x)) y z in
     (low, same, d.within, d.differs)
-difference_after_last_operation image run last piece at (inr (same, d)) is le =
+difference_not_before_last_op image run last piece at (inr (same, d)) is le =
     absurd (omega (arith, is, le, d.within))
 
-pub due_program_facts : (image run : List ℕ) (sector last piece at : ℕ) → HasNoRefusal image run sector
-    → IsProgramOf image run sector (Some last) piece at → IsDueProgram image run sector last piece at
-due_program_facts image run sector last piece at ready p =
-    let f = difference_after_last_operation image run last piece at p.next p.is p.may.0 in record {
+pub program_due_is_of_piece : (image run : List ℕ) (sector last piece at : ℕ) → IsNotRefused image run sector
+    → IsProgramDueAt image run sector (Some last) piece at → IsProgramOfPiece image run sector last piece at
+program_due_is_of_piece image run sector last piece at ready p =
+    let f = difference_not_before_last_op image run last piece at p.next p.is p.may.0 in record {
       ready = ready;
       after = p.may.0;
       sector_is = p.may.1;
@@ -45,16 +46,16 @@ due_program_facts image run sector last piece at ready p =
     }
 
 -- The piece ends at the end of its sector, or before.
-pub piece_ends_in_its_sector : (image run : List ℕ) (sector last piece at : ℕ) → IsDueProgram image run sector last piece at
+pub piece_ends_in_its_sector : (image run : List ℕ) (sector last piece at : ℕ) → IsProgramOfPiece image run sector last piece at
     → piece + 256 ≤ start_of sector piece + sector
 piece_ends_in_its_sector image run sector last piece at p =
     let edge : ℕ = start_of sector piece + sector in
     let whole : edge % sector ≡ 0 = part_end_is_multiple sector piece in
     part_ends_by_edge 256 piece edge (subst (λ (x : ℕ). x % 256 ≡ 0) (sym p.is) (part_start_is_multiple 256 at))
-    (whole_in_pieces 256 sector edge p.ready.area.pieces whole) (place_before_part_end sector piece p.ready.area.some)
+    (sectors_are_whole_parts 256 sector edge p.ready.area.pieces whole) (place_is_before_part_end sector piece p.ready.area.some)
 
 -- A tidy sector stays tidy when its next piece is programmed.
-program_keeps_sector_tidy : (image run run' : List ℕ) (sector last piece at : ℕ) → IsDueProgram image run sector last piece at
+program_keeps_sector_tidy : (image run run' : List ℕ) (sector last piece at : ℕ) → IsProgramOfPiece image run sector last piece at
     → OutsideUnchanged run run' piece (piece + 256) → RangeMatchesImage image run' piece (piece + 256) → IsTidySector image run sector last
     → IsTidySector image run' sector piece
 program_keeps_sector_tidy image run run' sector last piece at p leaves same tidy = record {
@@ -65,11 +66,11 @@ program_keeps_sector_tidy image run run' sector last piece at p leaves same tidy
 }
   where
     done : RangeMatchesImage image run' (start_of sector piece) piece
-    done i low high inside = leaves.others i (inl high) ∙ by_order (cases_lt i last)
+    done i low high inside = leaves.others i (inl high) ∙ in_either_order (cases_lt i last)
       where
-        by_order : (i < last) ⊎ (last ≤ i) → slice_index run i ≡ slice_index image i
-        by_order (inl less) = tidy.done i (omega (arith, low, p.sector_is)) less inside
-        by_order (inr le) = p.same i le (omega (arith, high, p.is)) inside
+        in_either_order : (i < last) ⊎ (last ≤ i) → slice_index run i ≡ slice_index image i
+        in_either_order (inl less) = tidy.done i (omega (arith, low, p.sector_is)) less inside
+        in_either_order (inr le) = p.same i le (omega (arith, high, p.is)) inside
 
     blank : RangeIsBlank run' (piece + 256) (start_of sector piece + sector)
     blank i low high =
@@ -84,23 +85,23 @@ difference_was_before_program image run run' sector piece begins leaves same off
   after = off.after;
   before = off.before;
   inside = off.inside;
-  differs = λ e. off.differs (by_order (cases_lt off.at piece) e);
+  differs = λ e. off.differs (in_either_order (cases_lt off.at piece) e);
 }
   where
-    by_order : (off.at < piece) ⊎ (piece ≤ off.at) → slice_index run off.at ≡ slice_index image off.at
+    in_either_order : (off.at < piece) ⊎ (piece ≤ off.at) → slice_index run off.at ≡ slice_index image off.at
         → slice_index run' off.at ≡ slice_index image off.at
-    by_order (inl less) e = leaves.others off.at (inl less) ∙ e
-    by_order (inr le) e = difference_by_piece_end (cases_lt off.at (piece + 256))
+    in_either_order (inl less) e = leaves.others off.at (inl less) ∙ e
+    in_either_order (inr le) e = difference_by_piece_end (cases_lt off.at (piece + 256))
       where
         difference_by_piece_end : (off.at < piece + 256) ⊎ (piece + 256 ≤ off.at) → slice_index run' off.at ≡ slice_index image off.at
         difference_by_piece_end (inl less) = same off.at le less off.inside
         difference_by_piece_end (inr beyond) = leaves.others off.at (inr beyond) ∙ e
 
--- A sector that has to be erased after the program had to be before.
-to_erase_before_program : (image run run' : List ℕ) (sector last piece at begins : ℕ) → IsDueProgram image run sector last piece at
+-- A sector that has to be erased after the program had to be erased before it too.
+program_adds_no_erase : (image run run' : List ℕ) (sector last piece at begins : ℕ) → IsProgramOfPiece image run sector last piece at
     → OutsideUnchanged run run' piece (piece + 256) → RangeMatchesImage image run' piece (piece + 256)
-    → IsToErase image run' sector (Some piece) begins → IsToErase image run sector (Some last) begins
-to_erase_before_program image run run' sector last piece at begins p leaves same to_erase = record {
+    → MustBeErased image run' sector (Some piece) begins → MustBeErased image run sector (Some last) begins
+program_adds_no_erase image run run' sector last piece at begins p leaves same to_erase = record {
   whole = to_erase.whole;
   off = difference_was_before_program image run run' sector piece begins leaves same to_erase.off;
   is_untidy = λ tidy. to_erase.is_untidy (
@@ -111,37 +112,37 @@ to_erase_before_program image run run' sector last piece at begins p leaves same
 }
 
 -- The pieces that are left, this one among them, reach to the end of the sector.
-pieces_left_reach_sector_end : (image run : List ℕ) (sector last piece at left : ℕ) → IsDueProgram image run sector last piece at
+pieces_left_reach_sector_end : (image run : List ℕ) (sector last piece at left : ℕ) → IsProgramOfPiece image run sector last piece at
     → HasPiecesLeft image run sector (Some last) left → start_of sector piece + sector ≤ piece + 256 * left
 pieces_left_reach_sector_end image run sector last piece at left p (inl most) = omega (arith, most, p.sector_is, p.after)
 pieces_left_reach_sector_end image run sector last piece at left p (inr (whole, same, most)) =
-    by_order (cases_lt at (last + 256))
+    in_either_order (cases_lt at (last + 256))
   where
-    by_order : (at < last + 256) ⊎ (last + 256 ≤ at) → start_of sector piece + sector ≤ piece + 256 * left
-    by_order (inl less) = absurd (p.differs (same at p.from less p.inside))
-    by_order (inr le) =
+    in_either_order : (at < last + 256) ⊎ (last + 256 ≤ at) → start_of sector piece + sector ≤ piece + 256 * left
+    in_either_order (inl less) = absurd (p.differs (same at p.from less p.inside))
+    in_either_order (inr le) =
         let later : last + 256 ≤ start_of 256 at = part_start_not_before_edge 256 (last + 256) at (omega arith) (omega (arith, whole)) le in
         omega (arith, most, later, p.sector_is, p.is)
 
 -- A program costs one of the pieces that are left.
-pub program_costs_one_piece : (image run run' : List ℕ) (sector k last piece at most : ℕ) → IsDueProgram image run sector last piece at
+pub program_costs_one_piece : (image run run' : List ℕ) (sector k last piece at most : ℕ) → IsProgramOfPiece image run sector last piece at
     → OutsideUnchanged run run' piece (piece + 256) → RangeMatchesImage image run' piece (piece + 256)
     → CostsAtMost image run sector k (Some last) most
     → (least : ℕ) × ((suc least ≤ most) × CostsAtMost image run' sector k (Some piece) least)
 program_costs_one_piece image run run' sector k last piece at most p leaves same costs =
-    cost_by_pieces_left costs.left (pieces_left_reach_sector_end image run sector last piece at costs.left p costs.has) costs.enough
+    pieces_left_bound_cost costs.left (pieces_left_reach_sector_end image run sector last piece at costs.left p costs.has) costs.enough
   where
-    cost_by_pieces_left : (left : ℕ) → start_of sector piece + sector ≤ piece + 256 * left → length costs.sectors * (1 + k) + left ≤ most
+    pieces_left_bound_cost : (left : ℕ) → start_of sector piece + sector ≤ piece + 256 * left → length costs.sectors * (1 + k) + left ≤ most
         → (least : ℕ) × ((suc least ≤ most) × CostsAtMost image run' sector k (Some piece) least)
-    cost_by_pieces_left zero reaches enough = absurd (omega (arith, reaches, piece_ends_in_its_sector image run sector last piece at p))
-    cost_by_pieces_left (suc left) reaches enough = (
+    pieces_left_bound_cost zero reaches enough = absurd (omega (arith, reaches, piece_ends_in_its_sector image run sector last piece at p))
+    pieces_left_bound_cost (suc left) reaches enough = (
       length costs.sectors * (1 + k) + left,
       (
         omega (arith, enough),
         record {
           sectors = costs.sectors;
           left = left;
-          has_each_to_erase = λ i x. costs.has_each_to_erase i (to_erase_before_program image run run' sector last piece at i p leaves same
+          has_each_to_erase = λ i x. costs.has_each_to_erase i (program_adds_no_erase image run run' sector last piece at i p leaves same
               x);
           has = inr (subst (λ (x : ℕ). x % 256 ≡ 0) (sym p.is) (part_start_is_multiple 256 at), same, reaches);
           enough = omega arith;

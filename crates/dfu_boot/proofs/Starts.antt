@@ -15,32 +15,32 @@ use Rattle.dfu_boot.specs.declared.trial.standing.Standing.{Standing}
 use Rattle.dfu_boot.specs.declared.trial.standing.Standing.TheVariants as standing
 use Rattle.dfu_boot.specs.declared.trial.standing.Standing.TheVariants.{OnTrial}
 use Rattle.dfu_boot.proofs.Slots.{newest_image_is_active}
-use Rattle.dfu_boot.proofs.Outcomes.{start_mark_outcome, trial_continues_or_ends}
+use Rattle.dfu_boot.proofs.Outcomes.{start_mark_has_its_outcome, trial_continues_or_ends}
 
 module _ (m now : MediumState) (tries : ℕ) (are : AreTries m.grain tries) where
-  start_outcome_on_trial : (t : Trial) → IsStanding m tries (OnTrial t) → (b : Bool) → nat_lt t.starts tries ≡ b
+  trial_start_has_result : (t : Trial) → IsStanding m tries (OnTrial t) → (b : Bool) → nat_lt t.starts tries ≡ b
       → let s = trial_start m.grain tries (OnTrial t) in AskedResult m s.operation now
       → StartOutcome m tries (OnTrial t) now (runs_in now s s.operation)
-  start_outcome_on_trial t stands true is =
+  trial_start_has_result t stands true is =
       let marks : Starting = record { operation = Some (mark_op m.grain t.slot (t.starts + 1)); slot = t.slot; otherwise = t.base } in
-      let gives_up : Starting = record { operation = Some (Close t.slot); slot = t.base; otherwise = t.base } in
-      let so : trial_start m.grain tries (OnTrial t) ≡ marks = ap (λ (b : Bool). if b then marks else gives_up) is in
+      let abort_moves_host : Starting = record { operation = Some (Close t.slot); slot = t.base; otherwise = t.base } in
+      let so : trial_start m.grain tries (OnTrial t) ≡ marks = ap (λ (b : Bool). if b then marks else abort_moves_host) is in
       subst (λ (s : Starting). AskedResult m s.operation now → StartOutcome m tries (OnTrial t) now (runs_in now s s.operation)) (sym so)
-      (λ carried. inl (start_mark_outcome m now tries t are stands (ltb-true t.starts tries is) carried.1 carried.0))
-  start_outcome_on_trial t stands false is =
+      (λ carried. inl (start_mark_has_its_outcome m now tries t are stands (ltb-true t.starts tries is) carried.1 carried.0))
+  trial_start_has_result t stands false is =
       let marks : Starting = record { operation = Some (mark_op m.grain t.slot (t.starts + 1)); slot = t.slot; otherwise = t.base } in
-      let gives_up : Starting = record { operation = Some (Close t.slot); slot = t.base; otherwise = t.base } in
-      let so : trial_start m.grain tries (OnTrial t) ≡ gives_up = ap (λ (b : Bool). if b then marks else gives_up) is in
+      let abort_moves_host : Starting = record { operation = Some (Close t.slot); slot = t.base; otherwise = t.base } in
+      let so : trial_start m.grain tries (OnTrial t) ≡ abort_moves_host = ap (λ (b : Bool). if b then marks else abort_moves_host) is in
       subst (λ (s : Starting). AskedResult m s.operation now → StartOutcome m tries (OnTrial t) now (runs_in now s s.operation)) (sym so)
       (λ carried. inr (ltb-false t.starts tries is, refl, trial_continues_or_ends m now tries t are stands carried))
 
-  -- Result of a start, whatever becomes of the operation that it asks for.
-  pub start_outcome : (s : Standing) → IsStanding m tries s → AskedResult m (trial_start m.grain tries s).operation now
+  -- A start leaves the medium, and runs the slot, that `StartOutcome` names, for any outcome of its operation.
+  pub start_has_result : (s : Standing) → IsStanding m tries s → AskedResult m (trial_start m.grain tries s).operation now
       → StartOutcome m tries s now (runs_in now (trial_start m.grain tries s) (trial_start m.grain tries s).operation)
-  start_outcome (standing.Settled s) stands carried = (carried, refl)
-  start_outcome (standing.OnTrial t) stands carried = start_outcome_on_trial t stands (nat_lt t.starts tries) refl carried
+  start_has_result (standing.Settled s) stands carried = (carried, refl)
+  start_has_result (standing.OnTrial t) stands carried = trial_start_has_result t stands (nat_lt t.starts tries) refl carried
 
-  -- A medium with an image on trial has an active image.
+  -- Each medium with an image on trial has an active image.
   trial_medium_has_image : (w : MediumState) (t : Trial) → IsStanding w tries (OnTrial t) → HasImage w
   trial_medium_has_image w t stands =
       let trial = stands.0 in
@@ -55,6 +55,6 @@ module _ (m now : MediumState) (tries : ℕ) (are : AreTries m.grain tries) wher
       came
 
 -- The mark lies within the medium after the operation too.
-pub mark_within_medium : (m now : MediumState) (o : Operation) → OperationOutcome m o now → MarkIsWithin m o → MarkIsWithin now o
-mark_within_medium m now (Mark at len) carried within = (omega (arith, carried.0.size, within.0), within.1)
-mark_within_medium m now (Close at) carried within = within
+pub mark_stays_within_medium : (m now : MediumState) (o : Operation) → OperationOutcome m o now → MarkIsWithin m o → MarkIsWithin now o
+mark_stays_within_medium m now (Mark at len) carried within = (omega (arith, carried.0.size, within.0), within.1)
+mark_stays_within_medium m now (Close at) carried within = within

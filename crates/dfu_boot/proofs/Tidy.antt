@@ -1,10 +1,10 @@
--- Work that is left of a run area, as long as the medium works.
+-- Operations that are left for a run area, as long as the medium works.
 use Rattle.std.proofs.Common.{◌≡◌, ◌⊎◌, ◌≤◌, ◌+◌, ◌*◌, ◌%◌, ℕ, suc, List, length, Option, Some, None}
 use Rattle.dfu_boot.specs.install.Allowed.{ImageByteDiffers}
 use Rattle.dfu_boot.specs.install.Area.{RangeMatchesImage, RangeIsBlank, start_of}
 use Rattle.dfu_boot.proofs.Members.{IsInList}
 
--- A tidy sector, as the last operation in it left it: the bytes before the piece are done, and those after it are blank.
+-- A tidy sector: the bytes before the piece equal the image, the piece equals the image or is blank, and the bytes after it are blank.
 pub record IsTidySector (image run : List ℕ) (sector piece : ℕ) : Type 0 where
   pub whole : piece % 256 ≡ 0
   pub done : RangeMatchesImage image run (start_of sector piece) piece
@@ -12,27 +12,27 @@ pub record IsTidySector (image run : List ℕ) (sector piece : ℕ) : Type 0 whe
   pub blank : RangeIsBlank run (piece + 256) (start_of sector piece + sector)
 
 -- The last operation left the sector that begins at a place tidy.
-abbrev pub LeftTidy : List ℕ → List ℕ → ℕ → Option ℕ → ℕ → Type 0
-LeftTidy image run sector None begins = ⊥
-LeftTidy image run sector (Some last) begins = (start_of sector last ≡ begins) × IsTidySector image run sector last
+abbrev pub WasLeftTidy : List ℕ → List ℕ → ℕ → Option ℕ → ℕ → Type 0
+WasLeftTidy image run sector None begins = ⊥
+WasLeftTidy image run sector (Some last) begins = (start_of sector last ≡ begins) × IsTidySector image run sector last
 
 -- The sector that begins at a place has to be erased: it has a difference, and was not left tidy.
-pub record IsToErase (image run : List ℕ) (sector : ℕ) (last : Option ℕ) (begins : ℕ) : Type 0 where
+pub record MustBeErased (image run : List ℕ) (sector : ℕ) (last : Option ℕ) (begins : ℕ) : Type 0 where
   pub whole : begins % sector ≡ 0
   pub off : ImageByteDiffers image run begins (begins + sector)
-  pub is_untidy : ¬ LeftTidy image run sector last begins
+  pub is_untidy : ¬ WasLeftTidy image run sector last begins
 
--- Number of pieces that may be programmed before the next erase.
+-- At most `left` pieces may be programmed before the next erase; without a last operation none may.
 abbrev pub HasPiecesLeft : List ℕ → List ℕ → ℕ → Option ℕ → ℕ → Type 0
 HasPiecesLeft image run sector None left = Unit {0}
 HasPiecesLeft image run sector (Some last) left =
     (start_of sector last + sector ≤ last + 256 * left)
     ⊎ ((last % 256 ≡ 0) × RangeMatchesImage image run last (last + 256) × (start_of sector last + sector ≤ last + 256 * suc left))
 
--- Cost of what is left: at most `most` operations, in sectors of k pieces.
+-- At most `most` operations are left, in sectors of k pieces.
 pub record CostsAtMost (image run : List ℕ) (sector k : ℕ) (last : Option ℕ) (most : ℕ) : Type 0 where
   pub sectors : List ℕ
   pub left : ℕ
-  pub has_each_to_erase : (i : ℕ) → IsToErase image run sector last i → IsInList i sectors
+  pub has_each_to_erase : (i : ℕ) → MustBeErased image run sector last i → IsInList i sectors
   pub has : HasPiecesLeft image run sector last left
   pub enough : length sectors * (1 + k) + left ≤ most

@@ -18,7 +18,7 @@ use Rattle.dfu_boot.specs.declared.trial.standing.Standing.{Standing}
 use Rattle.dfu_boot.specs.declared.trial.standing.Standing.TheVariants.{OnTrial}
 use Rattle.dfu_boot.proofs.Unique.{standing_is_unique}
 
--- A mark of zeros is set.
+-- A mark of one zero or more is set.
 zeros_are_marked : (n : ℕ) → 0 < n → is_marked (replicate n 0) ≡ true
 zeros_are_marked zero some = absurd (omega (arith, some))
 zeros_are_marked (suc n) some = refl
@@ -36,9 +36,9 @@ module _ (m now : MediumState) (tries : ℕ) (t : Trial) (left : t.starts < trie
 
   start_is_of_trial : (s : Standing) → IsStanding m tries s → IsStanding m tries (OnTrial t) → trial_start m.grain tries s ≡ marks
   start_is_of_trial s stands trial =
-      let gives_up : Starting = record { operation = Some (Close t.slot); slot = t.base; otherwise = t.base } in
+      let abort_moves_host : Starting = record { operation = Some (Close t.slot); slot = t.base; otherwise = t.base } in
       ap (λ (x : Standing). trial_start m.grain tries x) (standing_is_unique m tries s (OnTrial t) stands trial)
-      ∙ ap (λ (b : Bool). if b then marks else gives_up) (lt-ltb t.starts tries left)
+      ∙ ap (λ (b : Bool). if b then marks else abort_moves_host) (lt-ltb t.starts tries left)
 
   mark_write_worked : (at len : ℕ) → WroteOrLied m at (replicate len 0) now → WroteBytes m at (replicate len 0) now
   mark_write_worked at len (inl w) = w
@@ -69,14 +69,14 @@ module _ (m now : MediumState) (tries : ℕ) (t : Trial) (left : t.starts < trie
       → runs_in now (trial_start m.grain tries s) (trial_start m.grain tries s).operation ≡ t.slot
   start_runs_image_on_trial s o stands trial is within came =
       let start = start_is_of_trial s stands trial in
-      let same : o ≡ mark_op m.grain t.slot (t.starts + 1) = some_is o (mark_op m.grain t.slot (t.starts + 1))
+      let same : o ≡ mark_op m.grain t.slot (t.starts + 1) = same_some_same_operation o (mark_op m.grain t.slot (t.starts + 1))
       (sym is ∙ ap (λ (x : Starting). x.operation) start) in
       ap (λ (x : Starting). runs_in now x x.operation) start
       ∙ worked_mark_runs_trial (subst (λ (x : Operation). MarkIsWithin m x) same within)
       (subst (λ (x : Operation). OperationReportedOk m x now) same (mark_operation_worked o came))
     where
-      some_is : (x y : Operation) → ◌≡◌ {A = Option Operation} (Some x) (Some y) → x ≡ y
-      some_is x y e = cc
+      same_some_same_operation : (x y : Operation) → ◌≡◌ {A = Option Operation} (Some x) (Some y) → x ≡ y
+      same_some_same_operation x y e = cc
 
   -- The start asks for the mark of the next start.
   pub start_on_trial_asks_mark : (s : Standing) → IsStanding m tries s → IsStanding m tries (OnTrial t)

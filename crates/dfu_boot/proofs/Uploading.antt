@@ -5,14 +5,14 @@ use Rattle.dfu_slots.specs.Medium.{MediumState}
 use Rattle.dfu_boot.specs.trial.Marks.{AreTries}
 use Rattle.dfu_boot.specs.trial.Trial.{image_at}
 use Rattle.dfu_boot.specs.trial.Calls.{IsStanding, mark_op, trial_start, runs_in, upload_operation, upload_slot}
-use Rattle.dfu_boot.specs.trial.Laws.{AskedResult, RunsAtNextStart, UploadOutcome, RunsOrIsNext}
+use Rattle.dfu_boot.specs.trial.Laws.{AskedResult, RunsAtNextStart, UploadOutcome, RunsOrIsNextToRun}
 use Rattle.dfu_boot.specs.declared.trial.operation.Operation.{Operation}
 use Rattle.dfu_boot.specs.declared.trial.operation.Operation.TheVariants.{Close}
 use Rattle.dfu_boot.specs.declared.trial.starting.Starting.{Starting}
 use Rattle.dfu_boot.specs.declared.trial.standing.Trial.{Trial}
 use Rattle.dfu_boot.specs.declared.trial.standing.Standing.{Standing}
 use Rattle.dfu_boot.specs.declared.trial.standing.Standing.TheVariants as standing
-use Rattle.dfu_boot.proofs.Outcomes.{start_mark_outcome_told, trial_continues_or_ends}
+use Rattle.dfu_boot.proofs.Outcomes.{start_is_recorded_or_mark_unset, trial_continues_or_ends}
 use Rattle.dfu_boot.proofs.Unique.{standing_is_unique}
 
 -- With a start left an upload asks for nothing, and without one for the end of the trial.
@@ -29,9 +29,9 @@ pub start_is_left : (tries : ℕ) (t : Trial) → upload_operation tries (standi
 start_is_left tries t e = no_operation_means_start_left (Close t.slot) (nat_lt t.starts tries) e
 
 module _ (m now : MediumState) (tries : ℕ) (are : AreTries m.grain tries) where
-  upload_outcome_on_trial : (t : Trial) → IsStanding m tries (standing.OnTrial t) → (b : Bool) → nat_lt t.starts tries ≡ b
+  trial_upload_has_result : (t : Trial) → IsStanding m tries (standing.OnTrial t) → (b : Bool) → nat_lt t.starts tries ≡ b
       → AskedResult m (upload_operation tries (standing.OnTrial t)) now → UploadOutcome m tries (standing.OnTrial t) now
-  upload_outcome_on_trial t stands true is carried =
+  trial_upload_has_result t stands true is carried =
       let asks : upload_operation tries (standing.OnTrial t) ≡ None = upload_operation_by_starts tries t true is in
       let same : now ≡ m = subst (λ (o : Option Operation). AskedResult m o now) asks carried in
       inl (
@@ -39,7 +39,7 @@ module _ (m now : MediumState) (tries : ℕ) (are : AreTries m.grain tries) wher
         subst (λ (x : MediumState). RunsAtNextStart x tries (image_at m t.slot)) (sym same)
             (record { standing = standing.OnTrial t; stands = stands; asks = asks; image_is = refl }),
       )
-  upload_outcome_on_trial t stands false is carried =
+  trial_upload_has_result t stands false is carried =
       let ends = subst (λ (o : Option Operation). AskedResult m o now) (upload_operation_by_starts tries t false is) carried in
       inr (
         ltb-false t.starts tries is,
@@ -53,24 +53,24 @@ module _ (m now : MediumState) (tries : ℕ) (are : AreTries m.grain tries) wher
             (trial_continues_or_ends m now tries t are stands ends),
       )
 
-  -- Result of an upload, whatever becomes of the operation that it asks for.
-  pub upload_outcome : (s : Standing) → IsStanding m tries s → AskedResult m (upload_operation tries s) now → UploadOutcome m tries s now
-  upload_outcome (standing.Settled s) stands same =
+  -- An upload leaves the medium that `UploadOutcome` names, for any outcome of its operation.
+  pub upload_has_result : (s : Standing) → IsStanding m tries s → AskedResult m (upload_operation tries s) now → UploadOutcome m tries s now
+  upload_has_result (standing.Settled s) stands same =
       subst (λ (x : MediumState). RunsAtNextStart x tries (image_at m s.slot)) (sym same)
       (record { standing = standing.Settled s; stands = stands; asks = refl; image_is = refl })
-  upload_outcome (standing.OnTrial t) stands carried = upload_outcome_on_trial t stands (nat_lt t.starts tries) refl carried
+  upload_has_result (standing.OnTrial t) stands carried = trial_upload_has_result t stands (nat_lt t.starts tries) refl carried
 
-  -- Start of an image on trial, with a start left.
+  -- A start of the image on trial, with a start left, runs the image, or its mark does not read set.
   start_on_trial_runs_image : (t : Trial) → IsStanding m tries (standing.OnTrial t) → nat_lt t.starts tries ≡ true
       → AskedResult m (trial_start m.grain tries (standing.OnTrial t)).operation now
       → let s = trial_start m.grain tries (standing.OnTrial t) in
-      RunsOrIsNext (image_at m t.slot) tries s.operation now (runs_in now s s.operation)
+      RunsOrIsNextToRun (image_at m t.slot) tries s.operation now (runs_in now s s.operation)
   start_on_trial_runs_image t stands is =
       let marks : Starting = record { operation = Some (mark_op m.grain t.slot (t.starts + 1)); slot = t.slot; otherwise = t.base } in
-      let gives_up : Starting = record { operation = Some (Close t.slot); slot = t.base; otherwise = t.base } in
-      let so : trial_start m.grain tries (standing.OnTrial t) ≡ marks = ap (λ (b : Bool). if b then marks else gives_up) is in
+      let abort_moves_host : Starting = record { operation = Some (Close t.slot); slot = t.base; otherwise = t.base } in
+      let so : trial_start m.grain tries (standing.OnTrial t) ≡ marks = ap (λ (b : Bool). if b then marks else abort_moves_host) is in
       subst (λ (s : Starting). AskedResult m s.operation now
-      → RunsOrIsNext (image_at m t.slot) tries s.operation now (runs_in now s s.operation)) (sym so)
+      → RunsOrIsNextToRun (image_at m t.slot) tries s.operation now (runs_in now s s.operation)) (sym so)
       (λ carried. ⊎_elim
       (λ on. inl (ap (λ (p : ℕ). image_at now p) on.1 ∙ on.0.images.new))
       (λ same. inr (
@@ -82,11 +82,11 @@ module _ (m now : MediumState) (tries : ℕ) (are : AreTries m.grain tries) wher
           image_is = same.0.images.new;
         },
       ))
-      (start_mark_outcome_told m now tries t are stands (ltb-true t.starts tries is) carried.1 carried.0))
+      (start_is_recorded_or_mark_unset m now tries t are stands (ltb-true t.starts tries is) carried.1 carried.0))
 
   start_runs_uploaded_image : (s : Standing) → IsStanding m tries s → upload_operation tries s ≡ None
       → AskedResult m (trial_start m.grain tries s).operation now
-      → RunsOrIsNext (image_at m (upload_slot s)) tries (trial_start m.grain tries s).operation now
+      → RunsOrIsNextToRun (image_at m (upload_slot s)) tries (trial_start m.grain tries s).operation now
       (runs_in now (trial_start m.grain tries s) (trial_start m.grain tries s).operation)
   start_runs_uploaded_image (standing.Settled s) stands asks same = inl (ap (λ (x : MediumState). image_at x s.slot) same)
   start_runs_uploaded_image (standing.OnTrial t) stands asks carried = start_on_trial_runs_image t stands (start_is_left tries t asks)
@@ -95,12 +95,12 @@ module _ (m now : MediumState) (tries : ℕ) (are : AreTries m.grain tries) wher
   -- The next start runs the image that an upload gives, or its mark does not read set.
   pub next_start_runs_upload : (image : List ℕ) (s : Standing) → RunsAtNextStart m tries image → IsStanding m tries s
       → AskedResult m (trial_start m.grain tries s).operation now
-      → RunsOrIsNext image tries (trial_start m.grain tries s).operation now
+      → RunsOrIsNextToRun image tries (trial_start m.grain tries s).operation now
       (runs_in now (trial_start m.grain tries s) (trial_start m.grain tries s).operation)
   next_start_runs_upload image s next stands carried =
       let same = standing_is_unique m tries next.standing s next.stands stands in
       let asks = subst (λ (x : Standing). upload_operation tries x ≡ None) same next.asks in
       let is : image_at m (upload_slot s) ≡ image = ap (λ (x : Standing). image_at m (upload_slot x)) (sym same) ∙ next.image_is in
-      subst (λ (x : List ℕ). RunsOrIsNext x tries (trial_start m.grain tries s).operation now
+      subst (λ (x : List ℕ). RunsOrIsNextToRun x tries (trial_start m.grain tries s).operation now
       (runs_in now (trial_start m.grain tries s) (trial_start m.grain tries s).operation)) is (start_runs_uploaded_image s stands asks
       carried)

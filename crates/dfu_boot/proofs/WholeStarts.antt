@@ -5,11 +5,12 @@ use Rattle.std.proofs.lemmas.Nat.Gcd.{dvd_trans, dvd_of_mod-eq-zero, mod-eq-zero
 use Rattle.std.proofs.lemmas.Bool.{cases_lt}
 use Rattle.dfu_boot.specs.install.Area.{start_of}
 
--- A length that is whole in sectors is whole in pieces.
-pub whole_in_pieces : (part sector n : ℕ) → sector % part ≡ 0 → n % sector ≡ 0 → n % part ≡ 0
-whole_in_pieces part sector n x y = mod-eq-zero_of_dvd part (dvd_trans part (dvd_of_mod-eq-zero part x) (dvd_of_mod-eq-zero sector y))
+-- A length that is whole in sectors is whole in the parts of which sectors are whole.
+pub sectors_are_whole_parts : (part sector n : ℕ) → sector % part ≡ 0 → n % sector ≡ 0 → n % part ≡ 0
+sectors_are_whole_parts part sector n x y =
+    mod-eq-zero_of_dvd part (dvd_trans part (dvd_of_mod-eq-zero part x) (dvd_of_mod-eq-zero sector y))
 
--- A part that begins before an edge ends there at the latest.
+-- A part that begins before an edge ends at the edge or before it.
 pub part_ends_by_edge : (part at n : ℕ) → at % part ≡ 0 → n % part ≡ 0 → at < n → at + part ≤ n
 part_ends_by_edge part at n x y lt =
     let divides = (dvd-sub_iff_left part (omega (arith, lt)) (dvd_of_mod-eq-zero part x)).1 (dvd_of_mod-eq-zero part y) in
@@ -23,49 +24,49 @@ part_start_is_multiple part at =
     ap (λ (n : ℕ). n % part) e ∙ mul-mod_right part (at / part)
 
 -- A place lies before the end of its part.
-pub place_before_part_end : (part at : ℕ) → 0 < part → at < start_of part at + part
-place_before_part_end part at some = omega (arith, mod-lt at some, mod-le at part)
+pub place_is_before_part_end : (part at : ℕ) → 0 < part → at < start_of part at + part
+place_is_before_part_end part at some = omega (arith, mod-lt at some, mod-le at part)
 
 -- The part of a place before an edge ends at the edge, or before.
 pub part_of_place_ends_by_edge : (part at n : ℕ) → n % part ≡ 0 → at < n → start_of part at + part ≤ n
 part_of_place_ends_by_edge part at n whole lt =
     part_ends_by_edge part (start_of part at) n (part_start_is_multiple part at) whole (omega (arith, lt, mod-le at part))
 
--- A multiple of the size is where a part begins.
-pub start_of_part_start : (part at : ℕ) → at % part ≡ 0 → start_of part at ≡ at
-start_of_part_start part at whole = omega (arith, whole)
+-- The part of a multiple of the size begins at that multiple.
+pub multiple_begins_its_part : (part at : ℕ) → at % part ≡ 0 → start_of part at ≡ at
+multiple_begins_its_part part at whole = omega (arith, whole)
 
 -- If a place is not before an edge, its part does not begin before the edge.
 pub part_start_not_before_edge : (part edge at : ℕ) → 0 < part → edge % part ≡ 0 → edge ≤ at → edge ≤ start_of part at
-part_start_not_before_edge part edge at some whole le = by_order (cases_lt (start_of part at) edge)
+part_start_not_before_edge part edge at some whole le = in_either_order (cases_lt (start_of part at) edge)
   where
-    by_order : (start_of part at < edge) ⊎ (edge ≤ start_of part at) → edge ≤ start_of part at
-    by_order (inr x) = x
-    by_order (inl less) =
+    in_either_order : (start_of part at < edge) ⊎ (edge ≤ start_of part at) → edge ≤ start_of part at
+    in_either_order (inr x) = x
+    in_either_order (inl less) =
         let fits = part_ends_by_edge part (start_of part at) edge (part_start_is_multiple part at) whole less in
-        omega (arith, fits, le, place_before_part_end part at some)
+        omega (arith, fits, le, place_is_before_part_end part at some)
 
 -- A place within a part is in the part that begins there.
-pub start_of_place_in_part : (part begins at : ℕ) → 0 < part → begins % part ≡ 0 → begins ≤ at → at < begins + part → start_of part at
+pub place_in_part_has_its_start : (part begins at : ℕ) → 0 < part → begins % part ≡ 0 → begins ≤ at → at < begins + part → start_of part at
     ≡ begins
-start_of_place_in_part part begins at some whole low high =
+place_in_part_has_its_start part begins at some whole low high =
     let least = part_start_not_before_edge part begins at some whole low in
-    by_order (cases_lt begins (start_of part at)) least
+    in_either_order (cases_lt begins (start_of part at)) least
   where
-    by_order : (begins < start_of part at) ⊎ (start_of part at ≤ begins) → begins ≤ start_of part at → start_of part at ≡ begins
-    by_order (inr most) least = omega (arith, most, least)
-    by_order (inl more) least =
+    in_either_order : (begins < start_of part at) ⊎ (start_of part at ≤ begins) → begins ≤ start_of part at → start_of part at ≡ begins
+    in_either_order (inr most) least = omega (arith, most, least)
+    in_either_order (inl more) least =
         let fits = part_ends_by_edge part begins (start_of part at) whole (part_start_is_multiple part at) more in
         absurd (omega (arith, fits, high, mod-le at part))
 
 -- Two sectors that begin at different places have no place in common.
 pub sectors_do_not_overlap : (part one other : ℕ) → one % part ≡ 0 → other % part ≡ 0 → ¬ (one ≡ other) → (one + part
     ≤ other) ⊎ (other + part ≤ one)
-sectors_do_not_overlap part one other x y apart = by_order (cases_lt one other)
+sectors_do_not_overlap part one other x y apart = in_either_order (cases_lt one other)
   where
-    by_order : (one < other) ⊎ (other ≤ one) → (one + part ≤ other) ⊎ (other + part ≤ one)
-    by_order (inl less) = inl (part_ends_by_edge part one other x y less)
-    by_order (inr le) = inr (part_ends_by_edge part other one y x (starts_in_order le))
+    in_either_order : (one < other) ⊎ (other ≤ one) → (one + part ≤ other) ⊎ (other + part ≤ one)
+    in_either_order (inl less) = inl (part_ends_by_edge part one other x y less)
+    in_either_order (inr le) = inr (part_ends_by_edge part other one y x (starts_in_order le))
       where
         starts_in_order : other ≤ one → other < one
         starts_in_order le = omega (arith, le, apart)

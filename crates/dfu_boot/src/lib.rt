@@ -1,4 +1,4 @@
-//! Starts of an image of a slot store: a new image on trial, and a run area, to which images are linked.
+//! Starts of an image of a slot store: a new image on trial, and a run area, for which images are linked.
 #![tactic(auto)]
 
 pub mod install;

@@ -1,4 +1,4 @@
-//! A new image of a slot store runs on trial until it is confirmed; else the one before it comes back.
+//! A new image of a slot store runs on trial until it is confirmed; otherwise the image before it becomes active again.
 
 mod again;
 mod booting;

@@ -1,4 +1,4 @@
--- Operations of two areas that are due, as a call in C tells them.
+-- Due operations of two areas, in the answers of a call in C.
 use Rattle.std.proofs.Common.{◌≡◌, ◌⊎◌, inl, ℕ, ℤ, List, subst}
 use Rattle.dfu_slots.specs.Medium.{MediumState}
 use Rattle.dfu_home.specs.declared.due.Due.{Due}
@@ -10,12 +10,13 @@ use Rattle.dfu_boot_c.specs.declared.home.numbers.DfuHomeRecord.{DfuHomeRecord}
 use Rattle.dfu_boot_c.specs.home.Flash.{home_medium_state, progress_of, RefusesFlash}
 use Rattle.dfu_boot_c.specs.home.DueRecords.{HomeDueInAsk, HomeNextResult}
 
--- The call tells the operation that is due on the medium of the flash, with the progress of the record.
-pub home_operation_is_told : (c : DfuConfig) (r : DfuHomeRecord) (flash : List ℕ) (m : MediumState) (p : Progress) (due : Due) (n : ℤ)
+-- A returned operation that is due on the flash, by the progress in the record, is a result of dfu_core_home_next.
+pub returned_operation_is_due : (c : DfuConfig) (r : DfuHomeRecord) (flash : List ℕ) (m : MediumState) (p : Progress) (due : Due)
+    (n : ℤ)
     (before after : DfuAsk)
     → m ≡ home_medium_state c flash → p ≡ progress_of r → IsNextDue m p due → HomeDueInAsk (home_medium_state c flash) due n before after
     → HomeNextResult c r flash n before after ⊎ (RefusesFlash c flash n × (after ≡ before))
-home_operation_is_told c r flash m p due n before after state progress does tells = inl (record {
+returned_operation_is_due c r flash m p due n before after state progress does tells = inl (record {
   due = due;
   does = subst (λ (x : MediumState). IsNextDue x (progress_of r) due) state (subst (λ (q : Progress). IsNextDue m q due) progress does);
   tells = tells;

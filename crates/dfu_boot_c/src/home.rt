@@ -1,4 +1,4 @@
-//! Two areas for programs in C, as a static library: `include/dfu_home_core.h` has its calls.
+//! Calls for two areas, for programs in C, in a static library. `include/dfu_home_core.h` describes them.
 
 mod calls;
 mod flash;

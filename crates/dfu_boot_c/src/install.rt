@@ -1,4 +1,4 @@
-//! The run area for programs in C, as a static library: `include/dfu_install_core.h` has its calls.
+//! Calls for a run area, for programs in C, in a static library. `include/dfu_install_core.h` describes them.
 
 pub(crate) mod area;
 mod calls;

@@ -1,4 +1,4 @@
-//! Starts of an image, for programs in C, as a static library.
+//! Start of an image, for programs in C: trials, two areas and run areas, in static libraries.
 #![tactic(auto)]
 
 mod home;

@@ -1,4 +1,4 @@
-//! A trial for programs in C, as a static library: `include/dfu_trial_core.h` has its calls.
+//! Calls for a trial, for programs in C, in a static library. `include/dfu_trial_core.h` describes them.
 
 mod again;
 mod calls;

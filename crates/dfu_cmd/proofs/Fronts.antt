@@ -1,11 +1,11 @@
--- Bytes that a buffer has written.
+-- Bytes that a buffer has passed to its writer.
 use Rattle.std.proofs.Common.{refl, sym, ℕ, List, None, Option, Some, IfSome}
 use Rattle.std.specs.Io.KnownBytes.{Keeps, append_known}
-use Rattle.dfu_cmd.specs.Buffering.{HasFront}
+use Rattle.dfu_cmd.specs.Buffering.{HasWrittenPrefix}
 
--- The bytes that the writer got of a buffer are a prefix of those written into the buffer, if these are known.
+-- If the bytes written into the buffer are known, those that it has passed to its writer are a prefix of them.
 pub buffer_front_is_out : (written behind : Option (List ℕ)) (buffer : List ℕ) → Keeps written (append_known behind buffer)
-    → IfSome written (λ w. HasFront w behind)
+    → IfSome written (λ w. HasWrittenPrefix w behind)
 buffer_front_is_out None behind buffer kept = tt
 buffer_front_is_out (Some w) None buffer kept = absurd kept
 buffer_front_is_out (Some w) (Some front) buffer kept = record { front = front; rest = buffer; whole = sym kept; out = refl }

@@ -4,24 +4,24 @@ use Rattle.dfu_fs.specs.declared.changing.Change.{Change}
 use Rattle.dfu_wire.specs.declared.ids.Ids.{Ids}
 use Rattle.dfu_wire.specs.Identifier.{identifier_in}
 
--- Identifiers of three numbers, if each of them is there.
+-- The three numbers as identifiers; None if a number is missing.
 abbrev pub ids_of_numbers : (vendor product device : Option ℕ) → Option Ids
 ids_of_numbers (Some vendor) (Some product) (Some device) = Some (record { device = device; product = product; vendor = vendor })
 ids_of_numbers vendor product device = None
 
--- Identifiers of three texts, if each is four hexadecimal digits.
-abbrev pub ids_said : (vendor product device : List ℕ) → Option Ids
-ids_said vendor product device = ids_of_numbers (identifier_in vendor) (identifier_in product) (identifier_in device)
+-- The identifiers in three texts; None if a text is not four hexadecimal digits.
+abbrev pub ids_in_texts : (vendor product device : List ℕ) → Option Ids
+ids_in_texts vendor product device = ids_of_numbers (identifier_in vendor) (identifier_in product) (identifier_in device)
 
--- The first option whose text is no identifier, with its label.
+-- The label and the text of the first option whose text is no identifier; None if all are identifiers.
 abbrev pub wrong_option : (vendor product device : List ℕ) → Option (List ℕ × List ℕ)
 wrong_option vendor product device =
     if is_some (identifier_in vendor) then (if is_some (identifier_in product) then (if is_some (identifier_in device) then None
     else Some (codes "--did ", device)) else Some (codes "--pid ", product)) else Some (codes "--vid ", vendor)
 
--- Change of identifiers: each option that is given, and is four hexadecimal digits, gives its number. Any other identifier stays.
-abbrev pub change_said : (vendor product device : Option (List ℕ)) → Change
-change_said vendor product device = record {
+-- Change of identifiers: each option that is given, with a text of four hexadecimal digits, gives its number. Any other identifier stays.
+abbrev pub change_in_texts : (vendor product device : Option (List ℕ)) → Change
+change_in_texts vendor product device = record {
   vendor = option_and_then identifier_in vendor;
   product = option_and_then identifier_in product;
   device = option_and_then identifier_in device;

@@ -1,4 +1,4 @@
--- Text of a line that has a number.
+-- Lines that end in a number.
 use Rattle.std.specs.Prelude.{◌⊎◌, ℕ, List, [], ◌∷◌, ◌++◌, Option}
 use Rattle.std.specs.Fmt.{decimal}
 use Rattle.dfu_suffix.specs.declared.fault.SuffixFault.TheVariants as suffix
@@ -7,7 +7,8 @@ use Rattle.dfu_output.specs.declared.exit.Exit.TheVariants.{Refused}
 use Rattle.dfu_output.specs.AnswerLines.{fault_line}
 use Rattle.dfu_output.specs.Output.{TextIsOut}
 
--- A line that names a line of the script by its number is written; or, if there is no memory for it, the line that says so.
-abbrev pub WritesNumber : List ℕ → ℕ → Option (List ℕ) → Option (List ℕ) → Exit → Type 0
-WritesNumber text n old new result =
+-- `text` and the number `n` are written as a line; or, if there is no memory for it, the line `refused NoMemory`. The result is Refused, or
+-- Fault if the writer fails.
+abbrev pub NumberedLineIsOut : List ℕ → ℕ → Option (List ℕ) → Option (List ℕ) → Exit → Type 0
+NumberedLineIsOut text n old new result =
     TextIsOut old new (text ++ decimal n ++ 10 ∷ []) Refused result ⊎ TextIsOut old new (fault_line suffix.NoMemory) Refused result

@@ -1,9 +1,9 @@
-//! `dfu run` through a buffer.
+//! `dfu run` with buffered output.
 
 ghost use Rattle.std.specs.Prelude.{None};
 ghost use Rattle.std.specs.Io.Buffered.{writer_contents};
 ghost use Rattle.dfu_link.specs.LineContent.{given_bytes};
-ghost use Rattle.dfu_cmd.specs.Buffering.{RunsBuffered};
+ghost use Rattle.dfu_cmd.specs.Buffering.{IsBufferedRun};
 
 use crate::running::run_with_fault;
 use dfu_link::{ScriptFault, Stopped};
@@ -11,23 +11,22 @@ use dfu_output::Exit;
 use std::alloc::Global;
 use std::io::{BufWriter, Read, Write};
 
-/// Runs the script as `run_text` does, into the buffer, and then writes what the buffer still
-/// holds. It returns how the script ended, and the writer that the buffer had.
+/// Runs the script as `run_text` does, into the buffer, and then writes the bytes that the buffer still holds to its writer. Returns the
+/// exit and that writer.
 ///
-/// If that writer fails, it returns Fault, and a prefix of the text is out.
+/// If the writer fails, the exit is Fault, and a prefix of the text is written.
 pub fn run_buffered<R: Read + Drop, W: Write + Drop>(
     alloc: Global,
     reader: R,
     buffer: BufWriter<W>,
 ) -> (Exit, W)
-    ensures { RunsBuffered None (R.remaining reader) (writer_contents W.contents buffer) (W.contents result.1) result.0 }
+    ensures { IsBufferedRun None (R.remaining reader) (writer_contents W.contents buffer) (W.contents result.1) result.0 }
 {
     let (exit, _, writer) = run_buffered_with_fault(alloc, None, reader, buffer, &Stopped::new());
     (exit, writer)
 }
 
-/// Does what `run_buffered` does, with the bytes of `file` as FILE, if it is given, and also returns the fault at which the script
-/// stopped.
+/// Runs the script as `run_buffered` does, with the bytes of `file`, if given, as FILE. Also returns the fault at which the script stopped.
 pub(crate) fn run_buffered_with_fault<R: Read + Drop, W: Write + Drop>(
     alloc: Global,
     file: Option<&[u8]>,
@@ -35,14 +34,14 @@ pub(crate) fn run_buffered_with_fault<R: Read + Drop, W: Write + Drop>(
     mut buffer: BufWriter<W>,
     stopped: &Stopped,
 ) -> (Exit, Option<ScriptFault>, W)
-    ensures { RunsBuffered (given_bytes file.entry) (R.remaining reader) (writer_contents W.contents buffer) (W.contents result.2)
+    ensures { IsBufferedRun (given_bytes file.entry) (R.remaining reader) (writer_contents W.contents buffer) (W.contents result.2)
         result.0 }
 {
     let (exit, fault) = run_with_fault(alloc, file, reader, &mut buffer, stopped);
     match buffer.into_inner() {
         Ok(writer) => (exit, fault, writer),
         Err(error) => {
-            // Taken apart, since a buffer that is dropped is written once more.
+            // A dropped buffer would write its bytes again, so it's taken apart.
             let (writer, _) = error.into_inner().into_parts();
             (Exit::Fault, fault, writer)
         }

@@ -1,19 +1,19 @@
-//! Captures that `dfu judge` reads, and what its words say of them.
+//! Captures for `dfu judge`, and its options `--interface` and `--device`.
 
 use crate::numbering::number_of;
 use dfu_conformance::captures::{Address, CaptureFault};
 use std::io::{self, Read};
 
-/// Largest number of bytes of a capture.
+/// Largest size of a capture, in bytes.
 pub(crate) const MAX_CAPTURE: usize = 16_777_216;
 
-/// Reads `word` as the number of an interface, 0 to 255; None if it is none.
+/// Reads `word` as the number of an interface, 0 to 255; None for any other word.
 pub(crate) fn interface_in(word: &str) -> Option<u8> {
     u8::try_from(number_of(word)?).ok()
 }
 
-/// Reads `word`, the value of `--device`: `Some(Some(address))` for BUS.DEVICE, up to 65,535 and 255; `Some(None)` for `only`; and `None`
-/// for anything else.
+/// Reads `word`, the value of `--device`: `Some(Some(address))` for BUS.DEVICE, two numbers up to 65,535 and 255; `Some(None)` for `only`;
+/// and `None` for anything else.
 pub(crate) fn device_in(word: &str) -> Option<Option<Address>> {
     if word == "only" {
         return Some(None);
@@ -24,18 +24,18 @@ pub(crate) fn device_in(word: &str) -> Option<Option<Address>> {
     Some(Some(Address { bus, device }))
 }
 
-/// The first bytes of a reader, which were read, and the reader of the bytes after them.
+/// Reader whose first four bytes have been read ahead, or fewer if it has no more.
 #[derive(Drop)]
-pub(crate) struct Headed<R> {
+pub(crate) struct PeekedReader<R> {
     head: [u8; 4],
     from: usize,
     to: usize,
     rest: R,
 }
 
-impl<R: Read + Drop> Headed<R> {
-    /// Returns a reader of all bytes of `rest`, of which the first four were read, or fewer if it has no more.
-    pub(crate) fn new(mut rest: R) -> io::Result<Headed<R>> {
+impl<R: Read + Drop> PeekedReader<R> {
+    /// Returns a reader of all bytes of `rest`, with the first four of them, or all if there are fewer, already read.
+    pub(crate) fn new(mut rest: R) -> io::Result<PeekedReader<R>> {
         let mut head = [0u8; 4];
         let mut to = 0usize;
         for _turn in 0..4 {
@@ -48,7 +48,7 @@ impl<R: Read + Drop> Headed<R> {
                 to = to.saturating_add(1);
             }
         }
-        Ok(Headed {
+        Ok(PeekedReader {
             head,
             from: 0,
             to,
@@ -62,7 +62,7 @@ impl<R: Read + Drop> Headed<R> {
     }
 }
 
-impl<R: Read> Read for Headed<R> {
+impl<R: Read> Read for PeekedReader<R> {
     fn read(&mut self, buf: &mut [u8]) -> io::Result<usize> {
         let ready = self.head.get(self.from..self.to).unwrap_or(&[]);
         if ready.is_empty() {
@@ -75,7 +75,7 @@ impl<R: Read> Read for Headed<R> {
     }
 }
 
-/// Returns the line for a capture that gives no log because of `fault`.
+/// Returns the line that refuses a capture because of `fault`.
 pub(crate) fn capture_line(fault: CaptureFault) -> &'static str {
     match fault {
         CaptureFault::NotUsbmon => "refused NotUsbmon\n",
@@ -86,7 +86,7 @@ pub(crate) fn capture_line(fault: CaptureFault) -> &'static str {
     }
 }
 
-/// Returns the reason in words for which a capture gives no log because of `fault`.
+/// Explains in words why `fault` refuses a capture; None for NoMemory.
 pub(crate) fn capture_why(fault: CaptureFault) -> Option<&'static str> {
     match fault {
         CaptureFault::NotUsbmon => Some(

@@ -1,20 +1,20 @@
-//! The commands that make or change files, `dfu add` and `dfu set`, if the words can be used.
+//! `dfu add` and `dfu set`: check the words of the command line, then make or change files.
 
-use crate::identifiers::{IdTexts, change_said, ids_said};
-use crate::words::{WordFault, bad_identifier, refused, refused_word, word_reason};
+use crate::identifiers::{IdTexts, change_in_texts, ids_in_texts};
+use crate::words::{WordFault, bad_identifier_reason, refused, refused_word, word_reason};
 use dfu_fs::{AddOptions, Owned, add_file, set_file};
-use dfu_output::{FormatChoice, Outcome, fill_in, format_in};
+use dfu_output::{FormatChoice, Outcome, fill_in, format_choice_in};
 use std::alloc::Global;
 use std::rt::Files;
 
-/// Returns the options that `--format` and `--fill` give for FILE, or the reason for which they can't be used.
-fn how_said(
+/// Returns the options that `--format` and `--fill` give for FILE, or the reason for refusing one of them.
+fn add_options_in(
     alloc: Global,
     format: &Option<String>,
     fill: &Option<String>,
 ) -> Result<AddOptions, Option<String>> {
     let taken = match format {
-        Some(word) => match format_in(word) {
+        Some(word) => match format_choice_in(word) {
             Some(taken) => taken,
             None => return Err(word_reason(alloc, WordFault::Format, word)),
         },
@@ -39,7 +39,7 @@ fn how_said(
     }
 }
 
-/// Adds a suffix with the identifiers of `texts` to `file`, if the words can be used.
+/// Makes file `to` from `file` and a suffix with the identifiers of `texts`; or refuses the first invalid word.
 pub(crate) fn perform_add<R: Files + Input + Print + AllocGlobal>(
     rt: &R,
     file: &str,
@@ -52,19 +52,19 @@ where
     R::File: Owned,
 {
     let alloc = rt.alloc();
-    let Some(ids) = ids_said(texts) else {
-        return refused(rt, bad_identifier(alloc, texts));
+    let Some(ids) = ids_in_texts(texts) else {
+        return refused(rt, bad_identifier_reason(alloc, texts));
     };
     if to == "-" {
         return refused_word(rt, WordFault::Out, to);
     }
-    match how_said(alloc, format, fill) {
+    match add_options_in(alloc, format, fill) {
         Ok(how) => add_file(rt, file, to, ids, how),
         Err(reason) => refused(rt, reason),
     }
 }
 
-/// Returns the text of an option; `ffff`, an identifier that is right, if it isn't given.
+/// Returns the text of an option, or `ffff`, a valid identifier, if the option isn't given.
 fn text_in(text: &Option<String>) -> &str {
     match text {
         Some(text) => text,
@@ -72,7 +72,7 @@ fn text_in(text: &Option<String>) -> &str {
     }
 }
 
-/// Changes the identifiers of `file`, if the words can be used.
+/// Changes the identifiers of `file`; or refuses the first invalid word, or the command if it gives no identifier.
 pub(crate) fn perform_set<R: Files + Input + Print + AllocGlobal>(
     rt: &R,
     file: &str,
@@ -86,8 +86,8 @@ where
 {
     let alloc = rt.alloc();
     let texts = IdTexts::new(text_in(vid), text_in(pid), text_in(did));
-    if ids_said(&texts).is_none() {
-        return refused(rt, bad_identifier(alloc, &texts));
+    if ids_in_texts(&texts).is_none() {
+        return refused(rt, bad_identifier_reason(alloc, &texts));
     }
     if file == "-" {
         return refused_word(rt, WordFault::Place, file);
@@ -95,5 +95,5 @@ where
     if vid.is_none() && pid.is_none() && did.is_none() {
         return refused_word(rt, WordFault::NoChange, file);
     }
-    set_file(rt, file, &change_said(vid, pid, did), explain)
+    set_file(rt, file, &change_in_texts(vid, pid, did), explain)
 }

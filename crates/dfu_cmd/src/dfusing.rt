@@ -1,4 +1,4 @@
-//! `dfu judge --dfuse`: what is written of a log, if the device is to speak DfuSe.
+//! `dfu judge --dfuse`: judges the log of a DfuSe device.
 
 use dfu_conformance::dfuse::DfuseJudge;
 use dfu_conformance::{Departure, Line, LogEvent, Verdict};
@@ -10,19 +10,19 @@ use dfu_suffix::{READ_BYTES, SuffixFault, write_whole};
 use std::alloc::Global;
 use std::io::{Read, Write};
 
-/// A device that is followed through a log.
+/// A DfuSe device, followed through a log.
 #[derive(Drop)]
 struct FollowedDevice {
     judge: DfuseJudge,
     lines: LogLines,
     has_departed: bool,
     events: u64,
-    // After how many of them one state was left.
+    // Number of events after which a single state was possible.
     single: u64,
 }
 
 impl FollowedDevice {
-    /// Returns a device before the first byte of a log; `None` if an allocation was refused.
+    /// Returns a device before the first byte of its log; `None` if an allocation was refused.
     fn new(alloc: Global) -> Option<FollowedDevice> {
         Some(FollowedDevice {
             judge: DfuseJudge::new(),
@@ -34,7 +34,7 @@ impl FollowedDevice {
     }
 
     /// Takes the next event of the log. Returns the departure if the device departs from DfuSe at `event`.
-    fn come(&mut self, event: &LogEvent) -> Option<Departure> {
+    fn take_next_event(&mut self, event: &LogEvent) -> Option<Departure> {
         self.events = self.events.saturating_add(1);
         match self.judge.take(event) {
             Some(departure) => {
@@ -53,7 +53,7 @@ impl FollowedDevice {
     /// Takes the next byte of the log, at `interface`. Returns the departure if `byte` ends a line at which the device departs from DfuSe.
     fn take(&mut self, interface: u8, byte: u8) -> Result<Option<Departure>, LogFault> {
         match self.lines.take(interface, byte)? {
-            Some(Line::Came(event)) => Ok(self.come(&event)),
+            Some(Line::Came(event)) => Ok(self.take_next_event(&event)),
             Some(Line::Blank) | Some(Line::Elsewhere) | None => Ok(None),
         }
     }
@@ -68,7 +68,7 @@ impl FollowedDevice {
     }
 }
 
-/// Takes the next byte of the log, and writes a departure at the line that `byte` ends to `writer`.
+/// Takes the next byte of the log. If it ends a line at which the device departs from DfuSe, writes the line of the departure to `writer`.
 fn step<W: Write>(
     alloc: Global,
     interface: u8,
@@ -88,7 +88,7 @@ fn step<W: Write>(
     }
 }
 
-/// Takes all bytes that `reader` gives, and the end of the last line, and writes the departures to `writer`.
+/// Judges all bytes of `reader`, ends the last line, and writes each departure to `writer`.
 fn judge_all<R: Read + Drop, W: Write>(
     alloc: Global,
     interface: u8,
@@ -112,8 +112,8 @@ fn judge_all<R: Read + Drop, W: Write>(
     step(alloc, interface, followed, b'\n', writer)
 }
 
-/// Writes the verdict on all events that were taken to `writer`.
-fn verdict_out<W: Write>(alloc: Global, followed: &FollowedDevice, writer: &mut W) -> Exit {
+/// Writes the line of the verdict on all events that were taken to `writer`. Once it is written, the exit is Done for Kept, else Refused.
+fn write_verdict<W: Write>(alloc: Global, followed: &FollowedDevice, writer: &mut W) -> Exit {
     let verdict = followed.verdict();
     let exit = match verdict {
         Verdict::Kept => Exit::Done,
@@ -126,8 +126,8 @@ fn verdict_out<W: Write>(alloc: Global, followed: &FollowedDevice, writer: &mut 
     }
 }
 
-/// Judges the log that the reader gives as `judge_with_fault` does, but by what DfuSe adds to the standard: `kept` is a device that speaks
-/// DfuSe, and `not kept` one that doesn't.
+/// Judges the log of `reader` as `judge_with_fault` does, but against DfuSe: `kept` means that the device speaks DfuSe, and `not kept` that
+/// it doesn't.
 pub(crate) fn judge_dfuse<R: Read + Drop, W: Write>(
     alloc: Global,
     interface: u8,
@@ -139,7 +139,7 @@ pub(crate) fn judge_dfuse<R: Read + Drop, W: Write>(
         return (stop_text(alloc, fault, writer), Some(fault));
     };
     match judge_all(alloc, interface, reader, &mut followed, writer) {
-        Ok(()) => (verdict_out(alloc, &followed, writer), None),
+        Ok(()) => (write_verdict(alloc, &followed, writer), None),
         Err(fault) => (stop_text(alloc, fault, writer), Some(fault)),
     }
 }

@@ -1,33 +1,33 @@
-//! The output of `dfu judge`, which says of no events that there are none.
+//! Output of `dfu judge` that holds back the verdict on a log without events.
 
 ghost use Rattle.std.specs.Prelude.{◌≤◌, length, IfOk};
 
 use std::io::{self, Write};
 
-/// Beginning of the verdict on no events.
+/// Beginning of the verdict on a log without events.
 const NONE: &[u8] = b"kept events 0 ";
 
-/// An output that holds back the verdict on no events. Any other line goes through.
+/// Output that holds back the verdict on a log without events, if that is its first line. It passes on any other text.
 #[derive(Drop)]
-pub(crate) struct Eventful<W> {
+pub(crate) struct NoEventsFilter<W> {
     out: W,
-    // Bytes of that beginning that were written.
+    // Number of bytes of `NONE` that were held back.
     held: usize,
     is_passing: bool,
 }
 
-impl<W> Eventful<W> {
-    /// Returns an output before the first byte is written to `out`.
-    pub(crate) fn new(out: W) -> Eventful<W> {
-        Eventful {
+impl<W> NoEventsFilter<W> {
+    /// Returns a new output in front of `out`.
+    pub(crate) fn new(out: W) -> NoEventsFilter<W> {
+        NoEventsFilter {
             out,
             held: 0,
             is_passing: false,
         }
     }
 
-    /// Returns whether the verdict on no events was held back.
-    pub(crate) fn is_without(&self) -> bool {
+    /// Returns true if the verdict on a log without events was held back.
+    pub(crate) fn is_verdict_held(&self) -> bool {
         !self.is_passing && self.held == NONE.len()
     }
 
@@ -37,10 +37,10 @@ impl<W> Eventful<W> {
     }
 }
 
-impl<W: Write> Eventful<W> {
-    /// Takes one byte more of the beginning, or lets all through from now on.
+impl<W: Write> NoEventsFilter<W> {
+    /// Holds back `byte` if it continues or follows `NONE`. Otherwise writes the held bytes and `byte`, and passes on all later bytes.
     fn hold(&mut self, byte: u8) -> io::Result<()> {
-        if self.is_without() {
+        if self.is_verdict_held() {
             return Ok(());
         }
         if NONE.get(self.held).copied() == Some(byte) {
@@ -54,7 +54,7 @@ impl<W: Write> Eventful<W> {
     }
 }
 
-impl<W: Write> Write for Eventful<W> {
+impl<W: Write> Write for NoEventsFilter<W> {
     fn write(&mut self, buf: &[u8]) -> io::Result<usize> {
         let Some(first) = buf.first() else {
             return Ok(0);

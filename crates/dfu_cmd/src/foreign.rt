@@ -1,4 +1,4 @@
-//! Words of dfu-suffix and of dfu-prefix: what to type in place of them.
+//! Advice on words of dfu-suffix and dfu-prefix: what to type instead.
 
 use dfu_output::reason_line;
 use std::alloc::Global;
@@ -11,7 +11,7 @@ const EXTRACT: &str = "type dfu extract FILE OUT";
 
 const PREFIX: &str = "a prefix is neither made nor read here; dfu-prefix does both";
 
-/// A word of another program, and what stands for it here.
+/// A word of another program, and the advice on it.
 struct Foreign(&'static str, &'static str);
 
 static FOREIGN: [Foreign; 19] = [
@@ -36,11 +36,11 @@ static FOREIGN: [Foreign; 19] = [
     Foreign("dfu-suffix", ADD),
 ];
 
-/// Options of dfu-suffix that have a value, and stand before the file.
+/// Options of dfu-suffix that take a value.
 static VALUED: [&str; 8] = ["-v", "--vid", "-p", "--pid", "-d", "--did", "-S", "--spec"];
 
-/// Returns what to type in place of `word`, if it is a word of another program; else None.
-fn typed_for(word: &str) -> Option<&'static str> {
+/// Returns the advice on `word` if it is a word of another program; else None.
+fn advice_on_word(word: &str) -> Option<&'static str> {
     for Foreign(name, typed) in &FOREIGN {
         if *name == word {
             return Some(*typed);
@@ -49,8 +49,8 @@ fn typed_for(word: &str) -> Option<&'static str> {
     None
 }
 
-/// Returns true if `word` is an option that has a value.
-fn is_valued(word: &str) -> bool {
+/// Returns true if `word` is an option of dfu-suffix that takes a value.
+fn option_takes_value(word: &str) -> bool {
     for name in &VALUED {
         if *name == word {
             return true;
@@ -59,17 +59,17 @@ fn is_valued(word: &str) -> bool {
     false
 }
 
-/// Returns the line that says what to type, if the first of `words` behind options that have values is a word of another program. None if
-/// it is no such word, or if there is no memory.
+/// Returns the line of advice if the first of `words` after the program's name, past options with their values, is a word of another
+/// program. None if it isn't, or if there is no memory.
 pub(crate) fn foreign_reason(alloc: Global, words: &[String]) -> Option<String> {
     let mut is_value = false;
     for word in words.get(1..)? {
         let word = word.as_str();
         if is_value {
             is_value = false;
-        } else if let Some(typed) = typed_for(word) {
+        } else if let Some(typed) = advice_on_word(word) {
             return reason_line(alloc, "", word, typed).ok();
-        } else if is_valued(word) {
+        } else if option_takes_value(word) {
             is_value = true;
         } else {
             return None;

@@ -1,21 +1,21 @@
-//! The digits of bytes as other programs print them.
+//! Hexadecimal digits of bytes, from words in the forms that other programs print.
 
 ghost use Rattle.std.specs.Prelude.{◌≡◌, IfOk, fold, map};
 ghost use Rattle.std.specs.String.{string_bytes};
-ghost use Rattle.dfu_cmd.specs.HexWords.{bare_digits, is_between, is_hex_mark, digits_after_byte, digits_after_word};
+ghost use Rattle.dfu_cmd.specs.HexWords.{digits_of_words, is_byte_separator, is_hex_prefix_x, digits_after_byte, digits_after_word};
 
 use std::alloc::{AllocError, Global};
 
-/// Returns true if `byte` is a character that separates bytes.
-fn is_between(byte: u8) -> bool
-    ensures { result ≡ is_between byte }
+/// Returns true if `byte` is a character that separates bytes: a space, a tab, a line end, a colon or a comma.
+fn is_byte_separator(byte: u8) -> bool
+    ensures { result ≡ is_byte_separator byte }
 {
     byte == b' ' || byte == b'\t' || byte == b'\n' || byte == b'\r' || byte == b':' || byte == b','
 }
 
-/// Returns true if `byte`, after `digits`, is the x of a 0x before a byte.
-fn is_mark(digits: &[u8], byte: u8) -> bool
-    ensures { result ≡ is_hex_mark digits.now byte }
+/// Returns true if `byte`, after `digits`, is the x or X of a 0x before a byte.
+fn is_prefix_x(digits: &[u8], byte: u8) -> bool
+    ensures { result ≡ is_hex_prefix_x digits.now byte }
 {
     if byte != b'x' && byte != b'X' || digits.len() % 2 != 1 {
         return false;
@@ -23,19 +23,19 @@ fn is_mark(digits: &[u8], byte: u8) -> bool
     digits[digits.len() - 1] == b'0'
 }
 
-/// Returns `digits` with one sign, `byte`, more.
+/// Returns `digits` after one more character, `byte`.
 #[tactic(auto, using(std::proofs::lemmas::Bool::Decides::nat_tests), unfolding(crate::specs::HexWords::digits_after_byte))]
-fn stepped(mut digits: Vec<u8>, byte: u8) -> Result<Vec<u8>, AllocError>
+fn with_character(mut digits: Vec<u8>, byte: u8) -> Result<Vec<u8>, AllocError>
     ensures { IfOk result (λ v. v.items ≡ digits_after_byte digits.items byte) }
 {
-    if is_between(byte) {
+    if is_byte_separator(byte) {
         if digits.len() % 2 == 0 {
             return Ok(digits);
         }
         digits.extend_from_slice(b"?")?;
         return Ok(digits);
     }
-    if is_mark(&digits, byte) {
+    if is_prefix_x(&digits, byte) {
         digits.truncate(digits.len() - 1);
         return Ok(digits);
     }
@@ -43,21 +43,21 @@ fn stepped(mut digits: Vec<u8>, byte: u8) -> Result<Vec<u8>, AllocError>
     Ok(digits)
 }
 
-/// Returns `digits` with one word, `word`, more.
+/// Returns `digits` after one more word, `word`.
 fn with_word(digits: Vec<u8>, word: &str) -> Result<Vec<u8>, AllocError>
     ensures { IfOk result (λ v. v.items ≡ digits_after_word digits.items word.now) }
 {
     let mut digits = digits;
     for byte in word.as_bytes() {
-        digits = stepped(digits, *byte)?;
+        digits = with_character(digits, *byte)?;
     }
-    stepped(digits, b' ')
+    with_character(digits, b' ')
 }
 
-/// Returns the digits of the bytes in `words`: without signs between bytes, as spaces, line ends, colons and commas, and without 0x before
-/// a byte. If a byte is parted, the digits have `?` there, which is no digit.
+/// Returns the digits of the bytes in `words`, without separators between bytes (spaces, tabs, line ends, colons and commas) and without 0x
+/// before a byte. A separator inside a byte gives `?`, which is no digit.
 pub(crate) fn bare(alloc: Global, words: &[String]) -> Result<Vec<u8>, AllocError>
-    ensures { IfOk result (λ v. v.items ≡ bare_digits (map string_bytes words.now)) }
+    ensures { IfOk result (λ v. v.items ≡ digits_of_words (map string_bytes words.now)) }
 {
     let mut digits = Vec::new(alloc);
     for word in words {

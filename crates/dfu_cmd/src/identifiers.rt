@@ -3,19 +3,19 @@
 ghost use Rattle.std.specs.Prelude.{◌≡◌, option_and_then, option_map};
 ghost use Rattle.std.specs.String.{string_bytes};
 ghost use Rattle.dfu_wire.specs.Identifier.{identifier_in};
-ghost use Rattle.dfu_cmd.specs.Identifiers.{change_said, ids_said, wrong_option};
+ghost use Rattle.dfu_cmd.specs.Identifiers.{change_in_texts, ids_in_texts, wrong_option};
 
 use dfu_fs::Change;
 use dfu_wire::{Ids, identifier};
 
-/// The texts of the three options.
+/// Texts of the options `--vid`, `--pid` and `--did`.
 #[derive(Clone, Copy)]
 pub(crate) struct IdTexts<'t> {
-    /// `--vid`.
+    /// Text of `--vid`.
     pub vendor: &'t str,
-    /// `--pid`.
+    /// Text of `--pid`.
     pub product: &'t str,
-    /// `--did`.
+    /// Text of `--did`.
     pub device: &'t str,
 }
 
@@ -34,9 +34,9 @@ impl<'t> IdTexts<'t> {
     }
 }
 
-/// Returns the identifiers that `texts` say; None if a text is not four hexadecimal digits.
-pub(crate) fn ids_said(texts: &IdTexts<'_>) -> Option<Ids>
-    ensures { result ≡ ids_said texts.now.vendor.now texts.now.product.now texts.now.device.now }
+/// Returns the identifiers in `texts`; None if a text is not four hexadecimal digits.
+pub(crate) fn ids_in_texts(texts: &IdTexts<'_>) -> Option<Ids>
+    ensures { result ≡ ids_in_texts texts.now.vendor.now texts.now.product.now texts.now.device.now }
 {
     let vendor = identifier(texts.vendor.as_bytes())?;
     let product = identifier(texts.product.as_bytes())?;
@@ -48,7 +48,7 @@ pub(crate) fn ids_said(texts: &IdTexts<'_>) -> Option<Ids>
     })
 }
 
-/// Returns the first option of `texts` whose text is no identifier, as a label, and the text; None if each is one.
+/// Returns the label and the text of the first option whose text is no identifier; None if all are identifiers.
 pub(crate) fn wrong_option<'t>(texts: &IdTexts<'t>) -> Option<(&'static str, &'t str)>
     ensures { option_map (λ o. (o.0.now, o.1.now)) result
         ≡ wrong_option texts.now.vendor.now texts.now.product.now texts.now.device.now }
@@ -65,7 +65,7 @@ pub(crate) fn wrong_option<'t>(texts: &IdTexts<'t>) -> Option<(&'static str, &'t
     None
 }
 
-/// Returns the number that `text` says; None if it is not given, or is not four hexadecimal digits.
+/// Returns the identifier in `text`; None if there is no text, or it is not four hexadecimal digits.
 fn number_in(text: &Option<String>) -> Option<u16>
     ensures { result ≡ option_and_then identifier_in (option_map string_bytes text.now) }
 {
@@ -76,12 +76,12 @@ fn number_in(text: &Option<String>) -> Option<u16>
 }
 
 /// Returns the change of identifiers: a number for each text that is given and is four hexadecimal digits. Every other identifier stays.
-pub(crate) fn change_said(
+pub(crate) fn change_in_texts(
     vendor: &Option<String>,
     product: &Option<String>,
     device: &Option<String>,
 ) -> Change
-    ensures { result ≡ change_said (option_map string_bytes vendor.now) (option_map string_bytes product.now)
+    ensures { result ≡ change_in_texts (option_map string_bytes vendor.now) (option_map string_bytes product.now)
         (option_map string_bytes device.now) }
 {
     Change {

@@ -1,12 +1,12 @@
-//! `dfu judge`: the verdict on a log or a capture of a file or of standard input.
+//! `dfu judge`: judges logs and captures, from files or standard input.
 
-use crate::captures::{Headed, MAX_CAPTURE};
+use crate::captures::{MAX_CAPTURE, PeekedReader};
 use crate::dfusing::judge_dfuse;
-use crate::eventful::Eventful;
+use crate::eventful::NoEventsFilter;
 use crate::line_ends::LineEnds;
-use crate::passes::{is_kept, judge_passes, without_log};
+use crate::passes::{can_be_reread, judge_in_passes, refuse_capture};
 use crate::prefixing::Prefixed;
-use crate::watching::Watched;
+use crate::watching::ErrorKeeper;
 use dfu_conformance::LineFault;
 use dfu_conformance::captures::{Address, is_capture, log_of};
 use dfu_fs::{JsonLines, error_reason, file_reason, gather_fault, open};
@@ -16,7 +16,7 @@ use std::alloc::Global;
 use std::io::{self, Printer, Read};
 use std::rt::Files;
 
-/// Returns the fault `why` of a line, in words.
+/// Explains the fault `why` of a line in words.
 fn fault_why(why: LineFault) -> &'static str {
     match why {
         LineFault::Long => "it has over 262,158 bytes",
@@ -30,12 +30,12 @@ fn fault_why(why: LineFault) -> &'static str {
     }
 }
 
-/// Returns the line of the reason for which log `name` was judged no further because of `fault`, if the line of the fault doesn't say it.
+/// Returns the line that explains `fault`, at which the judging of log `name` stopped; None for Write, or if there is no memory.
 fn stop_reason<S>(
     alloc: Global,
     name: &str,
     fault: LogFault,
-    watched: &Watched<S>,
+    watched: &ErrorKeeper<S>,
 ) -> Option<String> {
     match fault {
         LogFault::BadLine { number, why } => {
@@ -56,34 +56,34 @@ fn stop_reason<S>(
     }
 }
 
-/// Options by which files are to be judged.
+/// Options of `dfu judge`.
 #[derive(Clone, Copy)]
 pub(crate) struct JudgeOptions {
     /// The number of the interface.
     pub interface: u8,
     /// The address of the device of a capture, if one is named.
     pub only: Option<Address>,
-    /// True if the device is to speak DfuSe.
+    /// True if the device is judged as a DfuSe device.
     pub dfuse: bool,
-    /// True if each line is an object.
+    /// True if each line is printed as a JSON object.
     pub json: bool,
 }
 
-/// Files that are judged, and the options.
+/// A file to judge, and the options.
 #[derive(Clone, Copy)]
-pub(crate) struct Judged<'w> {
+pub(crate) struct JudgedFile<'w> {
     /// The name of the file.
     pub name: &'w str,
     /// Text in front of each line.
     pub before: &'w str,
-    /// Options by which it is judged.
+    /// Options for judging it.
     pub how: JudgeOptions,
 }
 
-impl<'w> Judged<'w> {
-    /// Returns the value for file `name`, without its name before the lines.
-    fn bare(name: &'w str, how: JudgeOptions) -> Judged<'w> {
-        Judged {
+impl<'w> JudgedFile<'w> {
+    /// Returns file `name` and the options, with no text in front of each line.
+    fn bare(name: &'w str, how: JudgeOptions) -> JudgedFile<'w> {
+        JudgedFile {
             name,
             before: "",
             how,
@@ -94,7 +94,7 @@ impl<'w> Judged<'w> {
 /// Returns the output for the lines of `judged`.
 pub(crate) fn output<'o, R: Print + AllocGlobal>(
     rt: &'o R,
-    judged: Judged<'o>,
+    judged: JudgedFile<'o>,
 ) -> Prefixed<'o, JsonLines<'o, Printer<'o, R>>> {
     Prefixed::new(
         judged.before,
@@ -107,21 +107,21 @@ pub(crate) fn output<'o, R: Print + AllocGlobal>(
     )
 }
 
-/// Judges the log that `log` gives, and returns the outcome.
-pub(crate) fn judge_text_of<R: Print + AllocGlobal, S: Read + Drop>(
+/// Judges the log read from `log`, and returns the outcome. A log without events is refused.
+pub(crate) fn judge_log<R: Print + AllocGlobal, S: Read + Drop>(
     rt: &R,
-    judged: Judged<'_>,
+    judged: JudgedFile<'_>,
     log: S,
 ) -> Outcome {
     let alloc = rt.alloc();
-    let mut watched = Watched::new(log);
-    let mut out = Eventful::new(output(rt, judged));
+    let mut watched = ErrorKeeper::new(log);
+    let mut out = NoEventsFilter::new(output(rt, judged));
     let (exit, fault) = if judged.how.dfuse {
         judge_dfuse(alloc, judged.how.interface, &mut watched, &mut out)
     } else {
         judge_with_fault(alloc, judged.how.interface, &mut watched, &mut out)
     };
-    if out.is_without() {
+    if out.is_verdict_held() {
         let why =
             "no request of DFU at the interface is in it; record a session, or see --interface";
         return Outcome {
@@ -136,23 +136,23 @@ pub(crate) fn judge_text_of<R: Print + AllocGlobal, S: Read + Drop>(
     Outcome { exit, reason }
 }
 
-/// Judges the log of a device that is in `capture`, and returns the outcome.
-fn judge_bytes<R: Print + AllocGlobal>(rt: &R, judged: Judged<'_>, capture: &[u8]) -> Outcome {
+/// Judges the log of one device in `capture`, and returns the outcome; or refuses the capture if it gives no log.
+fn judge_bytes<R: Print + AllocGlobal>(rt: &R, judged: JudgedFile<'_>, capture: &[u8]) -> Outcome {
     let alloc = rt.alloc();
     match log_of(alloc, capture, judged.how.interface, judged.how.only) {
-        Ok(log) => judge_text_of(rt, judged, log.as_slice()),
-        Err(fault) => without_log(rt, judged, fault),
+        Ok(log) => judge_log(rt, judged, log.as_slice()),
+        Err(fault) => refuse_capture(rt, judged, fault),
     }
 }
 
-/// Judges the capture that `capture` gives, and returns the outcome.
+/// Judges the capture read from `capture`, and returns the outcome.
 fn judge_capture<R: Print + AllocGlobal, S: Read + Drop>(
     rt: &R,
-    judged: Judged<'_>,
+    judged: JudgedFile<'_>,
     capture: S,
 ) -> Outcome {
     let alloc = rt.alloc();
-    let mut watched = Watched::new(capture);
+    let mut watched = ErrorKeeper::new(capture);
     match gather(alloc, &mut watched, MAX_CAPTURE) {
         Ok(bytes) => judge_bytes(rt, judged, &bytes),
         Err(fault) => Outcome {
@@ -165,7 +165,7 @@ fn judge_capture<R: Print + AllocGlobal, S: Read + Drop>(
 /// Writes the line for a file or standard input that can't be read, and returns the outcome with the reason of `error`.
 pub(crate) fn unread<R: Print + AllocGlobal>(
     rt: &R,
-    judged: Judged<'_>,
+    judged: JudgedFile<'_>,
     error: &io::Error,
 ) -> Outcome {
     Outcome {
@@ -174,21 +174,21 @@ pub(crate) fn unread<R: Print + AllocGlobal>(
     }
 }
 
-/// Judges a log or a capture, or that of standard input if the name is `-`, with the reason if it is judged no further.
-fn judge_file<R: Files + Input + Print + AllocGlobal>(rt: &R, judged: Judged<'_>) -> Outcome {
+/// Judges the log or capture in a file, or on standard input if the name is `-`. The outcome has the reason if judging stops early.
+fn judge_file<R: Files + Input + Print + AllocGlobal>(rt: &R, judged: JudgedFile<'_>) -> Outcome {
     let given = match open(rt, judged.name) {
         Ok(given) => given,
         Err(error) => return unread(rt, judged, &error),
     };
-    match Headed::new(given) {
+    match PeekedReader::new(given) {
         Ok(given) => {
             if is_capture(given.head()) {
-                if is_kept(rt, judged.name) {
-                    return judge_passes(rt, judged);
+                if can_be_reread(rt, judged.name) {
+                    return judge_in_passes(rt, judged);
                 }
                 judge_capture(rt, judged, given)
             } else {
-                judge_text_of(rt, judged, LineEnds::new(given))
+                judge_log(rt, judged, LineEnds::new(given))
             }
         }
         Err(error) => unread(rt, judged, &error),
@@ -204,9 +204,9 @@ fn judge_named<R: Files + Input + Print + AllocGlobal>(
     match name_before(rt.alloc(), name) {
         Ok(before) => judge_file(
             rt,
-            Judged {
+            JudgedFile {
                 before: &before,
-                ..Judged::bare(name, how)
+                ..JudgedFile::bare(name, how)
             },
         ),
         Err(_) => Outcome {
@@ -216,16 +216,16 @@ fn judge_named<R: Files + Input + Print + AllocGlobal>(
     }
 }
 
-/// Judges logs and captures, or those of standard input if a name is `-`, each with the reason if it is judged no further. If there is more
-/// than one file, each line begins with its name; with `json` each line is a JSON object with the name as its member `file`. The end is the
-/// worst one.
+/// Judges logs and captures in files, or on standard input for the name `-`. The outcome has the worst exit of all, and the reasons for
+/// which judging stopped early. With several files, each line begins with its file's name; with `json`, each line is a JSON object with the
+/// name as its member `file`.
 pub(crate) fn judge_files<R: Files + Input + Print + AllocGlobal>(
     rt: &R,
     names: &[String],
     how: JudgeOptions,
 ) -> Outcome {
     if let [name] = names {
-        return judge_file(rt, Judged::bare(name, how));
+        return judge_file(rt, JudgedFile::bare(name, how));
     }
     let mut all = Outcome {
         exit: Exit::Done,
@@ -233,7 +233,7 @@ pub(crate) fn judge_files<R: Files + Input + Print + AllocGlobal>(
     };
     for name in names {
         let answer = if how.json {
-            judge_file(rt, Judged::bare(name, how))
+            judge_file(rt, JudgedFile::bare(name, how))
         } else {
             judge_named(rt, name, how)
         };

@@ -1,25 +1,25 @@
-//! Logs whose lines end as those of Windows do.
+//! Conversion of Windows line ends, CR LF, to LF.
 
 ghost use Rattle.std.specs.Prelude.{◌≤◌, length, IfOk};
 
 use std::io::{self, Read};
 
-/// Bytes that are read at a time.
+/// Number of bytes that are read at a time.
 const BUFFER_BYTES: usize = 4096;
 
-/// A reader that gives a line feed for a carriage return and a line feed. Any other carriage return stays.
+/// Reader that replaces each CR LF by LF. Any other carriage return stays.
 #[derive(Drop)]
 pub(crate) struct LineEnds<R> {
     reader: R,
     piece: [u8; BUFFER_BYTES],
     from: usize,
     to: usize,
-    // A carriage return was read, and nothing after it.
-    is_returned: bool,
+    // True if a carriage return was taken, and the byte after it isn't known yet.
+    is_return_pending: bool,
     is_ended: bool,
 }
 
-/// Copies `bytes` up to a carriage return to `to`, as far as they fit. Returns the number of bytes copied.
+/// Copies the bytes before the first carriage return to `to`, as far as they fit. Returns the number of bytes copied.
 fn copied(bytes: &[u8], to: &mut [u8]) -> usize {
     let most = bytes.len().min(to.len());
     for at in 0..most {
@@ -33,19 +33,19 @@ fn copied(bytes: &[u8], to: &mut [u8]) -> usize {
 }
 
 impl<R> LineEnds<R> {
-    /// Returns a reader before the first byte is read from `reader`.
+    /// Returns a new reader of the bytes of `reader`.
     pub(crate) fn new(reader: R) -> LineEnds<R> {
         LineEnds {
             reader,
             piece: [0; BUFFER_BYTES],
             from: 0,
             to: 0,
-            is_returned: false,
+            is_return_pending: false,
             is_ended: false,
         }
     }
 
-    /// Returns the next byte that was read and not given, and keeps it; None if there is none.
+    /// Returns the next byte of the buffer without taking it; None if the buffer is empty.
     fn ahead(&self) -> Option<u8> {
         if self.from < self.to {
             self.piece.get(self.from).copied()
@@ -54,24 +54,24 @@ impl<R> LineEnds<R> {
         }
     }
 
-    /// Takes the next byte to give; None if it isn't known before more bytes are read.
+    /// Takes the next byte to return; None if more bytes must be read first, or no byte is left.
     fn next(&mut self) -> Option<u8> {
-        if self.is_returned {
-            return self.after_return();
+        if self.is_return_pending {
+            return self.byte_for_return();
         }
         let byte = self.ahead()?;
         self.from = self.from.saturating_add(1);
         if byte == b'\r' {
-            self.is_returned = true;
-            return self.after_return();
+            self.is_return_pending = true;
+            return self.byte_for_return();
         }
         Some(byte)
     }
 
-    /// Writes the bytes that were read, up to a carriage return, to `buf`, as far as they fit; or the byte that stands for a carriage
-    /// return. Returns the number of bytes written.
+    /// Writes the buffered bytes before the next carriage return to `buf`, as far as they fit. If there are none, writes the byte that
+    /// replaces the carriage return. Returns the number of bytes written.
     fn give(&mut self, buf: &mut [u8]) -> usize {
-        let count = if self.is_returned {
+        let count = if self.is_return_pending {
             0
         } else {
             let ahead = self.piece.get(self.from..self.to).unwrap_or(&[]);
@@ -93,14 +93,14 @@ impl<R> LineEnds<R> {
         }
     }
 
-    /// Takes the byte to give after a carriage return was read: the line feed after it, or the carriage return. None if the byte after it
-    /// has to be read first.
-    fn after_return(&mut self) -> Option<u8> {
+    /// Takes the byte that replaces a carriage return: the line feed after it, or else the carriage return itself. None if the byte after
+    /// it must be read first.
+    fn byte_for_return(&mut self) -> Option<u8> {
         let ahead = self.ahead();
         if ahead.is_none() && !self.is_ended {
             return None;
         }
-        self.is_returned = false;
+        self.is_return_pending = false;
         if ahead != Some(b'\n') {
             return Some(b'\r');
         }
@@ -110,7 +110,7 @@ impl<R> LineEnds<R> {
 }
 
 impl<R: Read> LineEnds<R> {
-    /// Reads bytes if none is left to give, unless the reader has ended.
+    /// Refills the buffer if it is empty and the reader has not ended.
     fn fill(&mut self) -> io::Result<()> {
         if self.from < self.to || self.is_ended {
             return Ok(());
@@ -127,7 +127,7 @@ impl<R: Read> LineEnds<R> {
 impl<R: Read> Read for LineEnds<R> {
     fn read(&mut self, buf: &mut [u8]) -> io::Result<usize> {
         let mut count = 0usize;
-        // A carriage return at the end of what was read needs one reading more.
+        // A carriage return at the end of the buffer needs one more read.
         for _turn in 0..3 {
             if count > 0 {
                 break;

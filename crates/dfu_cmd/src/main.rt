@@ -1,5 +1,4 @@
-//! The program `dfu`: it reads the words of a command line, opens files, and prints what the
-//! library crates answer. It doesn't talk to a USB device.
+//! The program `dfu`: parses its command line, opens files, and prints the results of the library crates. It doesn't talk to a USB device.
 #![tactic(auto)]
 
 ghost use Rattle.std.specs.Prelude.{◌≡◌, IfSome, codes};
@@ -43,7 +42,7 @@ use std::env::{Env, FillError};
 use std::io::{self, ErrorKind, IsTerminal};
 use std::process::ExitCode;
 
-/// Largest number of bytes of a word that is looked at.
+/// Largest size, in bytes, of a word that is examined.
 const WORD_BYTES: usize = 4096;
 
 /// Returns the words of the command line.
@@ -55,7 +54,8 @@ fn words_of(rt: &HostRuntime) -> io::Result<Vec<String>> {
     Ok(words)
 }
 
-/// Returns the place of the first word that isn't text, and whether the reason is asked for.
+/// Returns the position of the first word that isn't UTF-8, or 0 if each is, and true if a word is `--explain`. A word of over 4,096 bytes
+/// is not examined.
 fn looked_at(rt: &HostRuntime) -> (usize, bool) {
     let mut wrong = 0;
     let mut explain = false;
@@ -77,9 +77,9 @@ fn looked_at(rt: &HostRuntime) -> (usize, bool) {
     (wrong, explain)
 }
 
-/// Returns the reason for which a word isn't understood that isn't UTF-8 text, as some names of files: `place` is its place, counted from 1
-/// after the program's name.
-fn unread_word(alloc: Global, place: usize) -> Option<String>
+/// Returns the reason for refusing a word that isn't UTF-8, such as a file name in another encoding; None if there is no memory. `place` is
+/// its position, counted from 1 after the program's name.
+fn non_utf8_reason(alloc: Global, place: usize) -> Option<String>
     ensures { IfSome result (λ t. string_bytes t ≡ reason_line (codes "word ") (decimal place)
         (codes "it has to be UTF-8 text; a file with another name can be given as standard input")) }
 {
@@ -93,19 +93,19 @@ fn unread_word(alloc: Global, place: usize) -> Option<String>
     }
 }
 
-/// Refuses words if one of them isn't text.
+/// Refuses a command line with a word that isn't UTF-8, and prints the reason if it is wanted or `--explain` is given.
 fn refuse_word(rt: &HostRuntime, is_wanted: bool) -> Exit {
     let exit = bad_words(&mut io::writer(rt));
     let (place, explain) = looked_at(rt);
     if is_wanted || explain {
-        if let Some(line) = &unread_word(rt.alloc(), place) {
+        if let Some(line) = &non_utf8_reason(rt.alloc(), place) {
             let _ = rt.eprint(line.as_str());
         }
     }
     exit
 }
 
-/// Refuses words that can't be had: one of them isn't text, or there is no memory for them.
+/// Refuses a command line that can't be read: a word isn't UTF-8, or there is no memory for the words.
 fn refuse_words(rt: &HostRuntime, error: &io::Error, is_wanted: bool) -> Exit {
     match error.kind() {
         ErrorKind::InvalidData => refuse_word(rt, is_wanted),

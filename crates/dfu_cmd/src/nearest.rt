@@ -1,24 +1,24 @@
-//! Names in a table of parts, and the one that is most like a word.
+//! Names of the parts in a table, and the name nearest to a word.
 
 use dfu_plan::row_in;
 use std::alloc::{AllocError, Global};
 
-/// Bytes at the front that a name and a word must have in common to be alike, less one.
+/// A name is near a word if they share more than this number of leading bytes, or if it contains the word.
 const LEAST_LIKENESS: usize = 3;
 
-/// Names in a table of parts, with a comma between two of them, and the one that is most like a word.
+/// Names of the parts in a table, and the name nearest to a word.
 #[derive(Drop)]
-pub(crate) struct Known<'t> {
-    /// The names, with a comma between two of them.
+pub(crate) struct KnownParts<'t> {
+    /// The names, separated by commas.
     pub names: String,
-    /// The name that is most like the word; empty if none is like it.
+    /// The name nearest to the word; empty if none is near.
     pub nearest: &'t str,
     likeness: usize,
     last: &'t str,
 }
 
-/// Bytes that two words have in common at their front, in either case.
-fn common_front(one: &str, other: &str) -> usize {
+/// Returns the number of leading bytes that two words share, in either case.
+fn shared_prefix_length(one: &str, other: &str) -> usize {
     let one = one.as_bytes();
     let other = other.as_bytes();
     let most = one.len().min(other.len());
@@ -30,16 +30,17 @@ fn common_front(one: &str, other: &str) -> usize {
     most
 }
 
-/// Likeness of a name to a word: it is the greatest if the name has the word in it, as `f407`.
+/// Returns the likeness of a name to a word: the number of their shared leading bytes, or the maximum if the name contains the word, of at
+/// least three bytes, such as `f407`.
 fn likeness(name: &str, word: &str) -> usize {
     if word.len() >= 3 && name.contains(word) {
         return usize::MAX;
     }
-    common_front(name, word)
+    shared_prefix_length(name, word)
 }
 
-impl<'t> Known<'t> {
-    /// Takes a name, unless it is that of the region before.
+impl<'t> KnownParts<'t> {
+    /// Adds a name, unless the name before is equal, and keeps it as the nearest if it is nearer to `word` than those before.
     fn take(&mut self, name: &'t str, word: &str) -> Result<(), AllocError> {
         if name == self.last {
             return Ok(());
@@ -58,13 +59,13 @@ impl<'t> Known<'t> {
     }
 }
 
-/// The names in a table of parts whose lines are right, and the one that is most like a word.
-pub(crate) fn known_in<'t>(
+/// Returns the names on the valid lines of a table of parts, and the one nearest to `word`.
+pub(crate) fn known_parts_in<'t>(
     alloc: Global,
     table: &'t [u8],
     word: &str,
-) -> Result<Known<'t>, AllocError> {
-    let mut known = Known {
+) -> Result<KnownParts<'t>, AllocError> {
+    let mut known = KnownParts {
         names: String::new(alloc),
         nearest: "",
         likeness: LEAST_LIKENESS,

@@ -1,9 +1,9 @@
-//! Numbers: of the line that names a line of a script, and in a word.
+//! Numbers: lines that end in a number, and words that are numbers.
 
 ghost use Rattle.std.specs.Prelude.{◌≡◌, ◌++◌, ◌∷◌, IfOk, [], codes};
 ghost use Rattle.std.specs.Fmt.{decimal};
 ghost use Rattle.std.specs.String.{string_bytes};
-ghost use Rattle.dfu_cmd.specs.NumberText.{WritesNumber};
+ghost use Rattle.dfu_cmd.specs.NumberText.{NumberedLineIsOut};
 
 use dfu_output::{Exit, fault_text, write_out};
 use dfu_places::Areas;
@@ -11,22 +11,22 @@ use dfu_suffix::SuffixFault;
 use std::alloc::{AllocError, Global};
 use std::io::Write;
 
-/// Returns the line of `text` and `number` after it.
+/// Returns a line of `text` followed by `number`.
 ///
 /// # Errors
 ///
 /// AllocError if there is no memory for the line.
-fn numbered(alloc: Global, text: &str, number: u32) -> Result<String, AllocError>
+fn numbered_line(alloc: Global, text: &str, number: u32) -> Result<String, AllocError>
     ensures { IfOk result (λ t. string_bytes t ≡ text.now ++ decimal number ++ 10 ∷ []) }
 {
     format!(in alloc; "{text}{number}\n")
 }
 
-/// Writes the line of `text` and `number`, that of a line of the script, to `writer`.
+/// Writes a line of `text` followed by `number`, which is that of a line of the script, to `writer`.
 pub(crate) fn number_text<W: Write>(alloc: Global, text: &str, number: u32, writer: &mut W) -> Exit
-    ensures { WritesNumber text.now number (W.contents writer.old) (W.contents writer.new) result }
+    ensures { NumberedLineIsOut text.now number (W.contents writer.old) (W.contents writer.new) result }
 {
-    match numbered(alloc, text, number) {
+    match numbered_line(alloc, text, number) {
         Ok(line) => write_out(writer, line.as_bytes(), Exit::Refused),
         Err(_) => fault_text(SuffixFault::NoMemory, writer),
     }
@@ -44,7 +44,7 @@ pub(crate) fn number_of(word: &str) -> Option<u32> {
     }
 }
 
-/// Areas that the word `2` or `3` asks for.
+/// Returns the areas that the word `2` or `3` asks for; None for any other word.
 pub(crate) fn areas_in(word: &str) -> Option<Areas> {
     match word {
         "2" => Some(Areas::Two),

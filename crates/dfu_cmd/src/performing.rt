@@ -1,4 +1,4 @@
-//! The run of a command: the words of the command line are read, and what they ask for is done.
+//! Runs a command: parses the words of the command line, and performs the subcommand.
 
 use crate::captures::{device_in, interface_in};
 use crate::changing::{perform_add, perform_set};
@@ -7,9 +7,9 @@ use crate::identifiers::IdTexts;
 use crate::judging::{JudgeOptions, judge_files};
 use crate::plan_words::PlanWords;
 use crate::planning::perform_plan;
-use crate::scripts::{Ways, run_script};
+use crate::scripts::{RunOptions, run_script};
 use crate::shown::perform_show;
-use crate::tips::advised;
+use crate::tips::advised_message;
 use crate::watching::read_file;
 use crate::words::{WordFault, refused_word};
 use dfu_args::{ArgsFault, ParsedArgs, Subcommand, parse_args};
@@ -19,7 +19,7 @@ use dfu_suffix::SuffixFault;
 use std::io::{self, IsTerminal};
 use std::rt::Files;
 
-/// Judges a log or a capture in each of the files `names`, if the words can be used.
+/// Judges the log or capture in each of the files `names`; or refuses the first invalid option.
 fn perform_judge<R: Files + Input + Print + AllocGlobal>(
     rt: &R,
     names: &[String],
@@ -43,12 +43,12 @@ fn perform_judge<R: Files + Input + Print + AllocGlobal>(
     judge_files(rt, names, how)
 }
 
-/// Runs `script` by `ways`, if the words can be used: the script and its `file` can't both be standard input.
+/// Runs `script` with the options `ways`. Refuses standard input for both the script and its `file`.
 fn perform_run<R: Files + Input + Print + AllocGlobal>(
     rt: &R,
     script: &str,
     file: &Option<String>,
-    ways: Ways<'_>,
+    ways: RunOptions<'_>,
 ) -> Outcome
 where
     R::File: IsTerminal,
@@ -64,7 +64,7 @@ where
         Ok(bytes) => run_script(
             rt,
             script,
-            Ways {
+            RunOptions {
                 file: Some(&bytes),
                 ..ways
             },
@@ -97,7 +97,7 @@ fn given(word: &Option<String>) -> Option<&str> {
     }
 }
 
-/// Does what `subcommand` asks for, and returns the outcome.
+/// Performs `subcommand`, and returns the outcome.
 fn perform<R: Files + Input + Print + AllocGlobal>(
     rt: &R,
     subcommand: &Subcommand,
@@ -130,7 +130,7 @@ where
             script,
             trace,
             file,
-        } => perform_run(rt, script, file, Ways::without_file(*trace, explain)),
+        } => perform_run(rt, script, file, RunOptions::without_file(*trace, explain)),
         Subcommand::Judge {
             files,
             interface,
@@ -148,19 +148,20 @@ where
     }
 }
 
-/// Prints the parser's text of `error`, with other tips in place of misleading ones, if there is memory for them.
+/// Prints the parser's message for `error`, with misleading tips replaced if there is memory for it.
 fn print_advised<R: Print + AllocGlobal>(rt: &R, error: &clap::Error) -> io::Result<()> {
     let alloc = rt.alloc();
     let Ok(text) = format!(in alloc; "{error}") else {
         return rt.print(error);
     };
-    match advised(alloc, &text) {
+    match advised_message(alloc, &text) {
         Ok(text) => rt.print(text.as_str()),
         Err(_) => rt.print(error),
     }
 }
 
-/// Prints the parser's text of `error`, which for a mistake ends with how to ask for help, and returns the exit status.
+/// Prints the parser's message for `error`, and returns the error's exit status, or that of Fault if the message can't be printed. For a
+/// mistake, the message ends by saying how to ask for help.
 fn print_text<R: Print + AllocGlobal>(rt: &R, error: &clap::Error) -> u8 {
     match print_advised(rt, error) {
         Ok(()) => error.exit_code() as u8,
@@ -168,8 +169,8 @@ fn print_text<R: Print + AllocGlobal>(rt: &R, error: &clap::Error) -> u8 {
     }
 }
 
-/// Does what `words` ask for. Returns the exit status, and the reason if it is wanted: by the words, or because `is_wanted` is set. For
-/// words of another program the call returns what to type in any case.
+/// Performs the command of `words`. Returns the exit status, and the reason if `--explain` or `is_wanted` asks for it. For words of another
+/// program, always returns what to type instead.
 fn answer_words<R: Files + Input + Print + AllocGlobal>(
     rt: &R,
     words: &[String],
@@ -200,7 +201,7 @@ where
     }
 }
 
-/// Does what `words` ask for, and returns the exit status. No reason is written.
+/// Performs the command of `words`, and returns the exit status. Writes no reason.
 pub fn run_words<R: Files + Input + Print + AllocGlobal>(rt: &R, words: &[String]) -> u8
 where
     R::File: Owned + IsTerminal,
@@ -210,8 +211,9 @@ where
     status
 }
 
-/// Does what `run_words` does, and writes the reason of a refusal to standard error if `words` have `--explain` or `is_wanted` is set, and
-/// for words of another program what to type. If the reason can't be written, nothing else changes.
+/// Performs the command of `words` as `run_words` does. Writes the reason of a refusal to standard error if `words` have `--explain` or
+/// `is_wanted` is set, and always, for words of another program, what to type instead. If the reason can't be written, nothing else
+/// changes.
 pub fn run_explained<R: Files + Input + Print + Eprint + AllocGlobal>(
     rt: &R,
     words: &[String],
@@ -228,6 +230,7 @@ where
     status
 }
 
+/// Writes the line of NoMemory, and returns its exit.
 fn no_memory<R: Print>(rt: &R) -> Exit {
     fault_text(SuffixFault::NoMemory, &mut io::writer(rt))
 }

@@ -13,12 +13,12 @@ pub(crate) struct PlanWords<'w> {
     pub areas: &'w str,
     /// File of parts; the built-in table without it.
     pub parts: Option<&'w str>,
-    /// Tells whether each line is to be an object.
+    /// True if each line is to be printed as a JSON object.
     pub json: bool,
 }
 
 impl<'w> PlanWords<'w> {
-    /// Returns the words of a command line.
+    /// Returns the words of a command line as one value.
     pub(crate) fn new(
         part: &'w str,
         boot: &'w str,

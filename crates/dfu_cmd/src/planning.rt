@@ -1,10 +1,10 @@
 //! `dfu plan`: the placement of gates, headers and data on a part.
 
 use crate::line_ends::LineEnds;
-use crate::nearest::{Known, known_in};
+use crate::nearest::{KnownParts, known_parts_in};
 use crate::numbering::areas_in;
 use crate::plan_words::PlanWords;
-use crate::watching::Watched;
+use crate::watching::ErrorKeeper;
 use crate::words::{WordFault, refused_word};
 use dfu_fs::{JsonLines, error_reason, file_reason, gather_fault, open};
 use dfu_output::{Exit, Outcome, fault_text, reason_line, write_out};
@@ -16,10 +16,10 @@ use std::alloc::{AllocError, Global};
 use std::io::{self, Printer};
 use std::rt::Files;
 
-/// The most bytes of a table of parts.
+/// Largest size of a table of parts, in bytes.
 const MAX_TABLE: usize = 1_048_576;
 
-/// The output for the line of a refusal or a fault.
+/// Returns the output for the line of a refusal or a fault, which is a JSON object if `--json` is given.
 fn output<'o, R: Print + AllocGlobal>(
     rt: &'o R,
     words: PlanWords<'o>,
@@ -27,7 +27,7 @@ fn output<'o, R: Print + AllocGlobal>(
     JsonLines::new(rt.alloc(), words.json, words.parts, io::writer(rt))
 }
 
-/// A table of parts, read whole; or the outcome if it can't be. Its lines may end in CR LF.
+/// Reads a whole table of parts, or returns the outcome if that fails. Its lines may end in CR LF.
 fn read_table<R: Files + Input + Print + AllocGlobal>(
     rt: &R,
     words: PlanWords<'_>,
@@ -43,7 +43,7 @@ fn read_table<R: Files + Input + Print + AllocGlobal>(
             });
         }
     };
-    let mut watched = Watched::new(given);
+    let mut watched = ErrorKeeper::new(given);
     match gather(alloc, LineEnds::new(&mut watched), MAX_TABLE) {
         Ok(bytes) => Ok(bytes),
         Err(fault) => Err(Outcome {
@@ -53,9 +53,9 @@ fn read_table<R: Files + Input + Print + AllocGlobal>(
     }
 }
 
-/// Returns the reason for which a part is unknown: the nearest name, and all.
+/// Returns the reason for refusing an unknown part: the names in the table, and the nearest one.
 fn unknown_reason(alloc: Global, table: &[u8], part: &str) -> Result<String, AllocError> {
-    let Known { names, nearest, .. } = known_in(alloc, table, part)?;
+    let KnownParts { names, nearest, .. } = known_parts_in(alloc, table, part)?;
     let why = if nearest.is_empty() {
         format!(in alloc; "it isn't in the table, which has {names}")?
     } else {
@@ -64,8 +64,8 @@ fn unknown_reason(alloc: Global, table: &[u8], part: &str) -> Result<String, All
     reason_line(alloc, "--part ", part, &why)
 }
 
-/// Refuses a part that no line names, or a table with a wrong line.
-fn without_part<R: Print + AllocGlobal>(
+/// Refuses a part that no line of the table names, or a table with an invalid line.
+fn refuse_part<R: Print + AllocGlobal>(
     rt: &R,
     words: PlanWords<'_>,
     table: &[u8],
@@ -86,7 +86,7 @@ fn without_part<R: Print + AllocGlobal>(
     }
 }
 
-/// Refuses a line of a table.
+/// Refuses a table because of line `number`, which has the fault `why`.
 fn bad_line<R: Print + AllocGlobal>(
     rt: &R,
     words: PlanWords<'_>,
@@ -107,8 +107,8 @@ fn bad_line<R: Print + AllocGlobal>(
     }
 }
 
-/// Refuses a bootloader and areas for which a part has no room.
-fn without_room<R: Print + AllocGlobal>(
+/// Refuses a bootloader of `boot` bytes and a number of areas for which the part has no room.
+fn refuse_no_room<R: Print + AllocGlobal>(
     rt: &R,
     words: PlanWords<'_>,
     part: &Part,
@@ -132,6 +132,7 @@ fn without_room<R: Print + AllocGlobal>(
     }
 }
 
+/// Writes the line of NoMemory, and returns the outcome without a reason.
 fn no_memory<R: Print + AllocGlobal>(rt: &R, words: PlanWords<'_>) -> Outcome {
     Outcome {
         exit: fault_text(SuffixFault::NoMemory, &mut output(rt, words)),
@@ -139,20 +140,20 @@ fn no_memory<R: Print + AllocGlobal>(rt: &R, words: PlanWords<'_>) -> Outcome {
     }
 }
 
-/// Address of the first byte of a part.
-fn begin_of(part: &Part) -> u32 {
+/// Returns the address of the first byte of a part; 0 if it has no regions.
+fn first_address_of(part: &Part) -> u32 {
     match part.regions.first() {
         Some(region) => region.at,
         None => 0,
     }
 }
 
-/// Returns whether a bootloader takes all of a part.
+/// Returns true if a bootloader of `boot` bytes fills the part.
 fn is_full(part: &Part, boot: u32) -> bool {
-    part.end <= u64::from(begin_of(part)).saturating_add(u64::from(boot))
+    part.end <= u64::from(first_address_of(part)).saturating_add(u64::from(boot))
 }
 
-/// Prints the placement on a part.
+/// Prints the placement on a part, as text or as JSON objects.
 fn print_plan<R: Print + AllocGlobal>(
     rt: &R,
     words: PlanWords<'_>,
@@ -182,7 +183,7 @@ fn print_plan<R: Print + AllocGlobal>(
     }
 }
 
-/// Places gates, headers and data on a part of a table.
+/// Prints where gates, headers and data lie on a part of a table; or refuses the part, or the bootloader and the areas.
 fn plan_part<R: Print + AllocGlobal>(
     rt: &R,
     words: PlanWords<'_>,
@@ -192,13 +193,13 @@ fn plan_part<R: Print + AllocGlobal>(
 ) -> Outcome {
     let part = match part_in(rt.alloc(), table, words.part.as_bytes()) {
         Ok(part) => part,
-        Err(fault) => return without_part(rt, words, table, fault),
+        Err(fault) => return refuse_part(rt, words, table, fault),
     };
     let boot = Span {
-        at: begin_of(&part),
+        at: first_address_of(&part),
         len: boot,
     };
-    // A unit of 256 bytes is the largest, so that gates and headers have room for any.
+    // 256 bytes is the largest unit, so gates and headers have room for any unit.
     let needs = Needs {
         boot,
         unit: Unit::U256,
@@ -206,11 +207,11 @@ fn plan_part<R: Print + AllocGlobal>(
     };
     match plan(&part.regions, needs, areas) {
         Ok(placement) => print_plan(rt, words, &part, boot, placement),
-        Err(_) => without_room(rt, words, &part, boot.len),
+        Err(_) => refuse_no_room(rt, words, &part, boot.len),
     }
 }
 
-/// Prints where gates, headers and data lie on a part, if the words can be used.
+/// Prints where gates, headers and data lie on a part; or refuses the first invalid word.
 pub(crate) fn perform_plan<R: Files + Input + Print + AllocGlobal>(
     rt: &R,
     words: PlanWords<'_>,

@@ -1,10 +1,10 @@
-//! Lines with a name before each.
+//! Output that begins each line with a text, such as the name of a file.
 
 ghost use Rattle.std.specs.Prelude.{◌≤◌, length, IfOk};
 
 use std::io::{self, Write};
 
-/// An output in which each line begins with this text.
+/// Output that begins each line with `text`.
 #[derive(Drop)]
 pub(crate) struct Prefixed<'t, W> {
     text: &'t str,
@@ -13,7 +13,7 @@ pub(crate) struct Prefixed<'t, W> {
 }
 
 impl<'t, W> Prefixed<'t, W> {
-    /// Returns an output before its first line, in which each line to `out` has `text` before it.
+    /// Returns an output that writes `text` to `out` before each line.
     pub(crate) fn new(text: &'t str, out: W) -> Prefixed<'t, W> {
         Prefixed {
             text,
@@ -24,7 +24,7 @@ impl<'t, W> Prefixed<'t, W> {
 }
 
 impl<W: Write> Prefixed<'_, W> {
-    /// Writes the text, if a line begins.
+    /// Writes the text, unless the line has begun.
     fn begin(&mut self) -> io::Result<()> {
         if self.is_begun || self.text.is_empty() {
             return Ok(());

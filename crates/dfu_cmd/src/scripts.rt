@@ -1,4 +1,4 @@
-//! `dfu run`: the script of a file or of standard input, and how often it prints.
+//! `dfu run`: runs the script in a file or on standard input, with buffered output.
 
 ghost use Rattle.std.specs.Prelude.{◌≡◌, None};
 
@@ -6,7 +6,7 @@ use crate::buffering::run_buffered_with_fault;
 use crate::line::{line_why, setup_why};
 use crate::running::run_traced_with_fault;
 use crate::sharing::Shared;
-use crate::watching::Watched;
+use crate::watching::ErrorKeeper;
 use dfu_fs::{error_reason, file_reason, open};
 use dfu_link::{Reason, ScriptFault, Stopped};
 use dfu_output::{Exit, Outcome, fault_text};
@@ -15,12 +15,12 @@ use std::alloc::Global;
 use std::io::{self, BufWriter, IsTerminal, Printer, Read, Write};
 use std::rt::Files;
 
-/// Number of bytes of the buffer of `run`. Two writes after one another put out at least this number of bytes, whatever the lines are; so
+/// Size of the buffer of `dfu run`, in bytes. Two successive writes put out at least this number of bytes, for lines of any length; so
 /// there is at most one write for each 8,192 bytes, and one more.
 const BUFFER: usize = 16_384;
 
-/// Returns a buffer of `room` bytes in front of the output, or if there is no memory for it, one of no bytes, so that each text goes
-/// through at once.
+/// Returns a buffer of `room` bytes in front of the output. If there is no memory for it, the buffer has no room, and each text is written
+/// at once.
 fn buffer_of<R: Print + AllocGlobal>(rt: &R, room: usize) -> BufWriter<Printer<'_, R>> {
     if let Ok(buffer) = BufWriter::with_capacity(rt.alloc(), room, io::writer(rt)) {
         return buffer;
@@ -31,25 +31,25 @@ fn buffer_of<R: Print + AllocGlobal>(rt: &R, room: usize) -> BufWriter<Printer<'
     buffer
 }
 
-/// Options of a script's run, beside its own lines.
+/// Options of a script's run.
 #[derive(Clone, Copy)]
-pub(crate) struct Ways<'f> {
+pub(crate) struct RunOptions<'f> {
     /// True if each action of the host is printed.
     pub trace: bool,
-    /// The bytes of FILE, if there are any.
+    /// The bytes of FILE, if it is given.
     pub file: Option<&'f [u8]>,
-    /// True if the reason is wanted if the script stops.
+    /// True if the reason is wanted when the script stops.
     pub explain: bool,
 }
 
-impl Ways<'_> {
-    /// Returns the ways `trace` and `explain`, without bytes of FILE.
-    pub(crate) fn without_file(trace: bool, explain: bool) -> Ways<'static>
+impl RunOptions<'_> {
+    /// Returns the options `trace` and `explain`, without a FILE.
+    pub(crate) fn without_file(trace: bool, explain: bool) -> RunOptions<'static>
         ensures trace { result.trace ≡ trace }
         ensures file { result.file ≡ None }
         ensures explain { result.explain ≡ explain }
     {
-        Ways {
+        RunOptions {
             trace,
             file: None,
             explain,
@@ -57,13 +57,13 @@ impl Ways<'_> {
     }
 }
 
-/// Returns the reason for which a script stopped at a fault, if its line doesn't say it.
+/// Returns the line that explains why script `name` stopped at `fault`; None for Write, if no reason was noted, or if there is no memory.
 fn fault_reason<S>(
     alloc: Global,
     name: &str,
     fault: ScriptFault,
     stopped: &Stopped,
-    watched: &Watched<S>,
+    watched: &ErrorKeeper<S>,
 ) -> Option<String> {
     match fault {
         ScriptFault::BadLine(number) => {
@@ -105,7 +105,7 @@ fn fault_reason<S>(
     }
 }
 
-/// Returns the line that says `why`, for line `number` of script `name`; None if there is no memory.
+/// Returns the line with the reason `why` for line `number` of script `name`; None if there is no memory.
 fn line_reason(alloc: Global, name: &str, number: u32, why: &str) -> Option<String> {
     match format!(in alloc; "line {number}: {why}") {
         Ok(why) => file_reason(alloc, name, &why),
@@ -113,8 +113,8 @@ fn line_reason(alloc: Global, name: &str, number: u32, why: &str) -> Option<Stri
     }
 }
 
-/// Runs a script with its trace: both go through the buffer, in the order in which they are written. If a line of either isn't out, the end
-/// is Fault.
+/// Runs a script with a trace. The output and the trace share the buffer, in the order of their writes. If a line of either can't be
+/// written, the exit is Fault.
 fn run_traced<R: Read + Drop, W: Write + Drop>(
     alloc: Global,
     file: Option<&[u8]>,
@@ -140,10 +140,10 @@ fn run_traced<R: Read + Drop, W: Write + Drop>(
     }
 }
 
-/// Runs the script that `reader` gives by `ways`.
-fn run_in<R: Read + Drop, W: Write + Drop>(
+/// Runs the script of `reader` with the options `ways`.
+fn run_with_options<R: Read + Drop, W: Write + Drop>(
     alloc: Global,
-    ways: Ways<'_>,
+    ways: RunOptions<'_>,
     reader: R,
     buffer: BufWriter<W>,
     stopped: &Stopped,
@@ -155,19 +155,19 @@ fn run_in<R: Read + Drop, W: Write + Drop>(
     (exit, fault)
 }
 
-/// Runs a script through a buffer, so that it makes few writes. If the script is typed at a
-/// terminal, the buffer has no room, so that what a line prints is out before the next one is read.
-fn run_from<R: Print + AllocGlobal, S: Read + IsTerminal + Drop>(
+/// Runs a script through a buffer, to make few writes. If the script is typed at a terminal, the buffer has no room, so that the output of
+/// a line is written before the next line is read.
+fn run_opened_script<R: Print + AllocGlobal, S: Read + IsTerminal + Drop>(
     rt: &R,
     name: &str,
     script: S,
-    ways: Ways<'_>,
+    ways: RunOptions<'_>,
 ) -> Outcome {
     let alloc = rt.alloc();
     let room = if script.is_terminal() { 0 } else { BUFFER };
-    let mut watched = Watched::new(script);
+    let mut watched = ErrorKeeper::new(script);
     let stopped = Stopped::new();
-    let (exit, fault) = run_in(alloc, ways, &mut watched, buffer_of(rt, room), &stopped);
+    let (exit, fault) = run_with_options(alloc, ways, &mut watched, buffer_of(rt, room), &stopped);
     let reason = match fault {
         Some(fault) if ways.explain => fault_reason(alloc, name, fault, &stopped, &watched),
         _ => None,
@@ -175,18 +175,18 @@ fn run_from<R: Print + AllocGlobal, S: Read + IsTerminal + Drop>(
     Outcome { exit, reason }
 }
 
-/// Runs `script`, or that of standard input if the name is `-`, by `ways`.
+/// Runs the script in file `script`, or on standard input if the name is `-`, with the options `ways`.
 pub(crate) fn run_script<R: Files + Input + Print + AllocGlobal>(
     rt: &R,
     script: &str,
-    ways: Ways<'_>,
+    ways: RunOptions<'_>,
 ) -> Outcome
 where
     R::File: IsTerminal,
     R::Reader: IsTerminal,
 {
     match open(rt, script) {
-        Ok(reader) => run_from(rt, script, reader, ways),
+        Ok(reader) => run_opened_script(rt, script, reader, ways),
         Err(error) => Outcome {
             exit: fault_text(SuffixFault::Read, &mut io::writer(rt)),
             reason: error_reason(rt.alloc(), script, &error),

@@ -1,20 +1,21 @@
-//! One output for two writers.
+//! An output that several writers share.
 
 use std::cell::RefCell;
 use std::io::{self, BufWriter, ErrorKind, Write};
 
-/// An output with a buffer before it. Once something could not be written nothing more is.
+/// An output behind a buffer. After a failed write, nothing more is written.
 #[derive(Drop)]
 struct Output<W: Write + Drop> {
     buffer: BufWriter<W>,
     is_broken: bool,
 }
 
-/// An output that several writers share: what they write comes out in the order in which they wrote it.
+/// An output that several writers share. Their bytes are written in the order of their writes.
 #[derive(Drop)]
 pub(crate) struct Shared<W: Write + Drop>(RefCell<Output<W>>);
 
 impl<W: Write + Drop> Shared<W> {
+    /// Returns an output behind `buffer`, without a failed write so far.
     pub(crate) fn new(buffer: BufWriter<W>) -> Shared<W> {
         Shared(RefCell::new(Output {
             buffer,
@@ -27,11 +28,11 @@ impl<W: Write + Drop> Shared<W> {
         SharedWriter(self)
     }
 
-    /// Writes what the buffer still holds, and returns whether all that was written is out.
+    /// Writes the bytes that the buffer still holds. Returns true if all bytes of all writers are written.
     pub(crate) fn finish(self) -> bool {
         let Output { buffer, is_broken } = self.0.into_inner();
         if is_broken {
-            // Taken apart, since a buffer that is dropped is written once more.
+            // A dropped buffer would write its bytes again, so it's taken apart.
             let _ = buffer.into_parts();
             return false;
         }
@@ -45,22 +46,22 @@ impl<W: Write + Drop> Shared<W> {
     }
 }
 
-/// A writer of an output that others write to as well.
+/// One of the writers of a shared output.
 #[derive(Drop)]
 pub(crate) struct SharedWriter<'o, W: Write + Drop>(&'o Shared<W>);
 
 /// Returns the error of an output that can't be written any more.
-fn broken() -> io::Error {
+fn broken_output() -> io::Error {
     io::Error::from(ErrorKind::BrokenPipe)
 }
 
 impl<W: Write + Drop> Write for SharedWriter<'_, W> {
     fn write(&mut self, buf: &[u8]) -> io::Result<usize> {
         let Ok(mut output) = self.0.0.try_borrow_mut() else {
-            return Err(broken());
+            return Err(broken_output());
         };
         if output.is_broken {
-            return Err(broken());
+            return Err(broken_output());
         }
         let answer = output.buffer.write(buf);
         output.is_broken = answer.is_err();
@@ -69,10 +70,10 @@ impl<W: Write + Drop> Write for SharedWriter<'_, W> {
 
     fn flush(&mut self) -> io::Result<()> {
         let Ok(mut output) = self.0.0.try_borrow_mut() else {
-            return Err(broken());
+            return Err(broken_output());
         };
         if output.is_broken {
-            return Err(broken());
+            return Err(broken_output());
         }
         let answer = output.buffer.flush();
         output.is_broken = answer.is_err();

@@ -1,4 +1,4 @@
-//! `dfu show`, and the reasons for which it refuses bytes, by the line that it printed.
+//! `dfu show`, and the reasons for its refusals, found by the printed line.
 
 ghost use Rattle.std.specs.Prelude.{◌≤◌, length, IfOk};
 
@@ -10,33 +10,33 @@ use dfu_suffix::SuffixFault;
 use std::alloc::Global;
 use std::io::{self, Write};
 
-/// Bytes that are remembered: more than the longest line of a refusal of `dfu show` has.
+/// Number of bytes to remember: more than the longest refusal of `dfu show` has.
 const REMEMBERED_BYTES: usize = 32;
 
-/// An output, and the first bytes that were written to it.
+/// Output that remembers the first bytes written to it.
 #[derive(Drop)]
-struct Remembering<W> {
+struct PrefixKeeper<W> {
     out: W,
     kept: [u8; REMEMBERED_BYTES],
     count: usize,
 }
 
-impl<W> Remembering<W> {
-    /// Returns an output before the first byte is written to `out`.
-    fn new(out: W) -> Remembering<W> {
-        Remembering {
+impl<W> PrefixKeeper<W> {
+    /// Returns a new output in front of `out`.
+    fn new(out: W) -> PrefixKeeper<W> {
+        PrefixKeeper {
             out,
             kept: [0; REMEMBERED_BYTES],
             count: 0,
         }
     }
 
-    /// Returns the first bytes that were written, at most 32.
+    /// Returns the first 32 bytes that were written, or all if there were fewer.
     fn front(&self) -> &[u8] {
         self.kept.get(..self.count).unwrap_or(&[])
     }
 
-    /// Keeps the first of `bytes`, as far as there is room.
+    /// Remembers the first of `bytes`, as far as there is room.
     fn keep(&mut self, bytes: &[u8]) {
         for byte in bytes {
             match self.kept.get_mut(self.count) {
@@ -48,7 +48,7 @@ impl<W> Remembering<W> {
     }
 }
 
-impl<W: Write> Write for Remembering<W> {
+impl<W: Write> Write for PrefixKeeper<W> {
     fn write(&mut self, buf: &[u8]) -> io::Result<usize> {
         let taken = self.out.write(buf)?;
         self.keep(&buf[..taken]);
@@ -60,7 +60,7 @@ impl<W: Write> Write for Remembering<W> {
     }
 }
 
-/// Returns the reason for which bytes are refused, by `line`, the line that was printed, and what to do; None for any other line.
+/// Explains a refusal of bytes by its printed line, and says what to do; None if `line` is no refusal of bytes.
 fn why(line: &str) -> Option<&'static str> {
     match line {
         "refused BadHex\n" => Some(
@@ -106,7 +106,7 @@ fn is_kind(kind: &str) -> bool {
     )
 }
 
-/// Shows the bytes of `words` as `kind`, with the reason if they are refused.
+/// Shows the bytes of `words` as `kind`. The outcome has the reason if the kind or the bytes are refused.
 pub(crate) fn perform_show<R: Print + AllocGlobal>(
     rt: &R,
     kind: &str,
@@ -114,16 +114,16 @@ pub(crate) fn perform_show<R: Print + AllocGlobal>(
     json: bool,
 ) -> Outcome {
     let alloc = rt.alloc();
-    // Words that aren't understood have no object.
+    // The line `bad words` is never printed as an object.
     let lines = JsonLines::new(alloc, json && is_kind(kind), None, io::writer(rt));
-    let mut out = Remembering::new(lines);
+    let mut out = PrefixKeeper::new(lines);
     let Ok(digits) = bare(alloc, words) else {
         return Outcome {
             exit: fault_text(SuffixFault::NoMemory, &mut out),
             reason: None,
         };
     };
-    // A text from which ASCII characters are taken stays a text.
+    // UTF-8 text without some of its ASCII characters is still UTF-8.
     let hex = std::str::from_utf8(&digits).unwrap_or("?");
     let exit = show_text(alloc, kind, hex, &mut out);
     let reason = match exit {

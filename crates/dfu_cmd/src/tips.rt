@@ -1,4 +1,4 @@
-//! Advice in the parser's text for a mistake.
+//! Tips in the parser's message for a mistake.
 
 use std::alloc::{AllocError, Global};
 
@@ -15,7 +15,7 @@ fn owners(option: &str) -> Option<&'static str> {
     }
 }
 
-/// Returns the option, with its `--`, that `line`, the first line of a text, says is unexpected; None if it says something else.
+/// Returns the option, with its `--`, that `line`, the first line of a message, reports as unexpected; None for any other line.
 fn unexpected(line: &str) -> Option<&str> {
     let option = line.strip_prefix("error: unexpected argument '")?;
     let option = option.strip_suffix("' found")?;
@@ -26,7 +26,7 @@ fn unexpected(line: &str) -> Option<&str> {
     }
 }
 
-/// Adds the tips for an option: which commands have it, or else those of the parser, but for how it would be a value.
+/// Appends the tips for an option: the commands that have it, or else the parser's own tips, except how to pass the option as a value.
 fn push_tips(text: &mut String, option: &str, tips: &str) -> Result<(), AllocError> {
     if let Some(names) = owners(option) {
         text.push_str("\n\n  tip: '")?;
@@ -45,9 +45,9 @@ fn push_tips(text: &mut String, option: &str, tips: &str) -> Result<(), AllocErr
     Ok(())
 }
 
-/// Returns `text`, that of the parser, with other tips: for an option that another command has, which command that is, and for no option
-/// how it would be a value.
-pub(crate) fn advised(alloc: Global, text: &str) -> Result<String, AllocError> {
+/// Returns the parser's message `text`; if it reports an unexpected option, with better tips: for an option of other commands, they name
+/// these commands; for any other, the tip to pass the option as a value is left out.
+pub(crate) fn advised_message(alloc: Global, text: &str) -> Result<String, AllocError> {
     let Some((line, rest)) = text.split_once('\n') else {
         return String::from_str(alloc, text);
     };

@@ -1,4 +1,4 @@
-//! Reader that keeps the error at which it failed, and a file that is read whole with it.
+//! Reader that keeps the error at which it failed, and the reading of whole files.
 
 use dfu_fs::{error_reason, gather_fault, open};
 use dfu_output::{Outcome, fault_text};
@@ -7,20 +7,20 @@ use std::alloc::Global;
 use std::io::{self, Read};
 use std::rt::Files;
 
-/// Largest number of bytes of a file.
+/// Largest size of a file, in bytes.
 const MAX_FILE: usize = 16_777_216;
 
-/// A reader, and the error at which it failed.
+/// Reader that keeps the error at which it failed.
 #[derive(Drop)]
-pub(crate) struct Watched<R> {
+pub(crate) struct ErrorKeeper<R> {
     reader: R,
     error: Option<io::Error>,
 }
 
-impl<R> Watched<R> {
-    /// Returns a reader before the first byte is read from `reader`.
-    pub(crate) fn new(reader: R) -> Watched<R> {
-        Watched {
+impl<R> ErrorKeeper<R> {
+    /// Returns a new reader of the bytes of `reader`.
+    pub(crate) fn new(reader: R) -> ErrorKeeper<R> {
+        ErrorKeeper {
             reader,
             error: None,
         }
@@ -35,7 +35,7 @@ impl<R> Watched<R> {
     }
 }
 
-impl<R: Read> Read for Watched<R> {
+impl<R: Read> Read for ErrorKeeper<R> {
     fn read(&mut self, buf: &mut [u8]) -> io::Result<usize> {
         match self.reader.read(buf) {
             Ok(count) => Ok(count),
@@ -48,8 +48,7 @@ impl<R: Read> Read for Watched<R> {
     }
 }
 
-/// Reads the whole file `name`, or standard input if the name is `-`; or returns the outcome if it can't be read, which is that of `dfu
-/// check`.
+/// Reads the whole file `name`, or standard input if the name is `-`. If that fails, returns the outcome that `dfu check` has.
 pub(crate) fn read_file<R: Files + Input + Print + AllocGlobal>(
     rt: &R,
     name: &str,
@@ -64,7 +63,7 @@ pub(crate) fn read_file<R: Files + Input + Print + AllocGlobal>(
             });
         }
     };
-    let mut watched = Watched::new(given);
+    let mut watched = ErrorKeeper::new(given);
     match gather(alloc, &mut watched, MAX_FILE) {
         Ok(bytes) => Ok(bytes),
         Err(fault) => Err(Outcome {

@@ -1,9 +1,9 @@
-//! Reasons for which words are refused.
+//! Reasons for refusing words of the command line.
 
 ghost use Rattle.std.specs.Prelude.{◌≡◌, IfOk, IfSome, None, is_some, true};
 ghost use Rattle.std.specs.String.{string_bytes};
 ghost use Rattle.dfu_output.specs.ReasonLines.{reason_line};
-ghost use Rattle.dfu_cmd.specs.Identifiers.{ids_said};
+ghost use Rattle.dfu_cmd.specs.Identifiers.{ids_in_texts};
 ghost use Rattle.dfu_cmd.specs.WordReasons.{label_and_why};
 
 use crate::identifiers::{IdTexts, wrong_option};
@@ -11,7 +11,7 @@ use dfu_output::{Outcome, bad_words, reason_line};
 use std::alloc::{AllocError, Global};
 use std::io;
 
-/// Refuses words, for `reason`.
+/// Refuses the words of the command line: writes the line `bad words`, and returns the outcome with `reason`.
 pub(crate) fn refused<R: Print>(rt: &R, reason: Option<String>) -> Outcome {
     Outcome {
         exit: bad_words(&mut io::writer(rt)),
@@ -19,7 +19,7 @@ pub(crate) fn refused<R: Print>(rt: &R, reason: Option<String>) -> Outcome {
     }
 }
 
-/// Refuses `word`, which has `fault`.
+/// Refuses `word` because of `fault`.
 pub(crate) fn refused_word<R: Print + AllocGlobal>(
     rt: &R,
     fault: WordFault,
@@ -28,7 +28,7 @@ pub(crate) fn refused_word<R: Print + AllocGlobal>(
     refused(rt, word_reason(rt.alloc(), fault, word))
 }
 
-/// Returns the line, if there was memory for it; else None.
+/// Returns the line; None if there was no memory for it.
 fn made(line: Result<String, AllocError>) -> Option<String>
     ensures { (t : _) → IfOk line (λ s. string_bytes s ≡ t) → IfSome result (λ s. string_bytes s ≡ t) }
 {
@@ -38,9 +38,9 @@ fn made(line: Result<String, AllocError>) -> Option<String>
     }
 }
 
-/// Returns the reason for which the first wrong one of the three identifiers is refused.
-pub(crate) fn bad_identifier(alloc: Global, texts: &IdTexts<'_>) -> Option<String>
-    ensures sound { is_some (ids_said texts.now.vendor.now texts.now.product.now texts.now.device.now) ≡ true → result ≡ None }
+/// Returns the reason for refusing the first wrong one of the three identifiers; None if all are right, or if there is no memory.
+pub(crate) fn bad_identifier_reason(alloc: Global, texts: &IdTexts<'_>) -> Option<String>
+    ensures sound { is_some (ids_in_texts texts.now.vendor.now texts.now.product.now texts.now.device.now) ≡ true → result ≡ None }
 {
     match wrong_option(texts) {
         Some((option, text)) => {
@@ -51,36 +51,36 @@ pub(crate) fn bad_identifier(alloc: Global, texts: &IdTexts<'_>) -> Option<Strin
     }
 }
 
-/// Fault of a word.
+/// Fault of a word of the command line.
 #[derive(Clone, Copy)]
 pub(crate) enum WordFault {
     /// KIND is unknown.
     Kind,
     /// OUT can't be `-`.
     Out,
-    /// FILE, which changes, can't be `-`.
+    /// FILE of `dfu set` can't be `-`, because it is changed in place.
     Place,
-    /// A format is unknown.
+    /// The format is unknown.
     Format,
-    /// A byte for gaps isn't two digits.
+    /// The byte for gaps isn't two hexadecimal digits.
     Fill,
     /// A raw image has no byte for gaps.
     LoneFill,
-    /// No identifier of FILE changes.
+    /// No option gives FILE a new identifier.
     NoChange,
     /// A script and its file can't both be standard input.
     File,
-    /// An interface is no number below 256.
+    /// The interface isn't a number from 0 to 255.
     Interface,
-    /// A device of a capture isn't a bus and a device.
+    /// The device of a capture is neither `only` nor a bus and a device.
     Device,
-    /// The size of a bootloader is no size.
+    /// The size of the bootloader isn't a valid size.
     Boot,
-    /// Areas are neither two nor three.
+    /// The number of areas is neither 2 nor 3.
     Areas,
 }
 
-/// Returns the label of a word that has `fault`, and the reason for which the word is refused.
+/// Returns the label of a word that has `fault`, and the reason for refusing it.
 fn label_and_why(fault: WordFault) -> (&'static str, &'static str)
     ensures label { result.0.now ≡ (label_and_why fault).0 }
     ensures why { result.1.now ≡ (label_and_why fault).1 }
@@ -116,7 +116,7 @@ fn label_and_why(fault: WordFault) -> (&'static str, &'static str)
     }
 }
 
-/// Returns the line of the reason for which `word` is refused, which has `fault`.
+/// Returns the line with the reason for refusing `word`, which has `fault`; None if there is no memory.
 pub(crate) fn word_reason(alloc: Global, fault: WordFault, word: &str) -> Option<String>
     ensures { IfSome result (λ t. string_bytes t ≡ reason_line (label_and_why fault).0 word.now (label_and_why fault).1) }
 {

@@ -5,26 +5,28 @@ use Rattle.dfu_conformance.specs.declared.row.StandardState.{StandardState}
 use Rattle.dfu_conformance.specs.declared.event.LogEvent.{LogEvent}
 use Rattle.dfu_conformance.specs.declared.event.Response.{Response}
 use Rattle.dfu_conformance.specs.declared.event.Response.TheVariants as answer
-use Rattle.dfu_conformance.specs.RowMatches.{device_stays_at}
+use Rattle.dfu_conformance.specs.RowMatches.{may_stay_by_answer}
 use Rattle.dfu_conformance.specs.MayAnswer.{MayAnswer as StandardAnswer, Run as StandardRun}
 use Rattle.dfu_conformance.specs.dfuse.Laws.{StandardIsIncluded}
-use Rattle.dfu_conformance.specs.dfuse.Runs.{dfuse_attributes, dfuse_habits, reports_place, DfuseAnswer, DfuseRun}
+use Rattle.dfu_conformance.specs.dfuse.Runs.{dfuse_attributes, dfuse_habits, reports_place, DfuseMayAnswer, DfuseRun}
 
--- A device that may stay if more requests have to be answered may stay if fewer have to.
-staying_with_fewer_duties : (plain other : Bool) (a : Response) → device_stays_at plain a ≡ true → device_stays_at (plain && other) a ≡ true
-staying_with_fewer_duties plain other answer.Nothing e = refl
-staying_with_fewer_duties false other answer.Stall e = refl
-staying_with_fewer_duties true other answer.Stall e = absurd cc
-staying_with_fewer_duties plain other (answer.Bytes count first fifth) e = absurd cc
+-- A device that may stay at its place may also stay if it must answer fewer requests.
+fewer_duties_allow_staying : (plain other : Bool) (a : Response) → may_stay_by_answer plain a ≡ true
+    → may_stay_by_answer (plain && other) a ≡ true
+fewer_duties_allow_staying plain other answer.Nothing e = refl
+fewer_duties_allow_staying false other answer.Stall e = refl
+fewer_duties_allow_staying true other answer.Stall e = absurd cc
+fewer_duties_allow_staying plain other (answer.Bytes count first fifth) e = absurd cc
 
+-- Every answer that the standard allows is one that DfuSe allows.
 standard_answer_is_dfuse_answer : (from next : StandardState) (e : LogEvent) → StandardAnswer dfuse_attributes dfuse_habits from e next →
-    DfuseAnswer from e next
+    DfuseMayAnswer from e next
 standard_answer_is_dfuse_answer from next e (inl by_s) = inl by_s
 standard_answer_is_dfuse_answer from next e (inr (inl by_m)) = inr (inl by_m)
 standard_answer_is_dfuse_answer from next e (inr (inr (inl by_h))) = inr (inr (inl by_h))
 standard_answer_is_dfuse_answer from next e (inr (inr (inr (same, stay)))) = inr (inr (inr (inr (
   same,
-  staying_with_fewer_duties e.is_plain
+  fewer_duties_allow_staying e.is_plain
       (reports_place e.asked) e.answer stay,
 ))))
 

@@ -1,4 +1,4 @@
--- Every device may be everywhere at first.
+-- Before the first event every device may be at every place.
 use Rattle.std.specs.Prelude.{◌≡◌, ℕ, ◌<◌, ◌==◌, Bool, true, [], slice_index, slice_index_or}
 use Rattle.std.specs.Int.{bit_at}
 use Rattle.std.proofs.Common.{refl, ap, ◌∙◌, inl, arith}
@@ -6,13 +6,13 @@ use Rattle.std.proofs.lemmas.Bool.{agree_below, agree_below_at, eqb-true}
 use Rattle.dfu_conformance.specs.declared.row.StandardState.{StandardState}
 use Rattle.dfu_conformance.specs.declared.judge.TheConstants.{EVERY}
 use Rattle.dfu_conformance.specs.RowMatches.{place_number}
-use Rattle.dfu_conformance.specs.Candidates.{may_be_at}
+use Rattle.dfu_conformance.specs.Candidates.{is_held_at}
 use Rattle.dfu_conformance.specs.MayAnswer.{CandidatesExact, PlainCandidatesExact}
 use Rattle.dfu_conformance.proofs.Places.{place_number_below_12}
 use Rattle.dfu_conformance.proofs.Words.{each_set_has_bit}
 
--- Every device is held at each place.
-every_device_is_held : (p : StandardState) (a r : ℕ) → a < 16 → r < 64 → may_be_at EVERY p a r ≡ true
+-- `EVERY` holds every device at every place.
+every_device_is_held : (p : StandardState) (a r : ℕ) → a < 16 → r < 64 → is_held_at EVERY p a r ≡ true
 every_device_is_held p a r below within =
     let is_all : (n k : ℕ) → Bool = λ n k. slice_index (slice_index_or EVERY n []) k == 0xffff_ffff_ffff_ffff in
     let at : agree_below (is_all (place_number p)) (λ k. true) 16 ≡ true =
@@ -20,10 +20,10 @@ every_device_is_held p a r below within =
     ap (λ (w : ℕ). bit_at w r == 1) (eqb-true _ _ (agree_below_at (is_all (place_number p)) (λ k. true) 16 a at below))
     ∙ each_set_has_bit r within
 
--- At first all devices are held, because each may have answered no event.
-pub all_devices_at_first : CandidatesExact EVERY []
-all_devices_at_first a r p below within = (λ x. (p, inl refl), λ x. every_device_is_held p a r below within)
+-- Before any event the candidates `EVERY` are exact, because each device may have answered the empty list of events.
+pub all_devices_are_exact_at_first : CandidatesExact EVERY []
+all_devices_are_exact_at_first a r p below within = (λ x. (p, inl refl), λ x. every_device_is_held p a r below within)
 
--- At first all devices without habits are held.
-pub all_plain_devices_at_first : PlainCandidatesExact EVERY []
-all_plain_devices_at_first a p below = (λ x. (p, inl refl), λ x. every_device_is_held p a 0 below (omega arith))
+-- Before any event the candidates `EVERY` without habits are exact.
+pub plain_devices_are_exact_at_first : PlainCandidatesExact EVERY []
+plain_devices_are_exact_at_first a p below = (λ x. (p, inl refl), λ x. every_device_is_held p a 0 below (omega arith))

@@ -1,4 +1,4 @@
--- A device goes by a row or a move of a list exactly if one of them leads to the place.
+-- The tests for rows and moves of a list pass exactly if a row or a move leads a device to the place.
 use Rattle.std.specs.Prelude.{◌≡◌, ◌⊎◌, ℕ, ◌==◌, ◌&&◌, ◌||◌, Bool, true, List}
 use Rattle.std.specs.List.{list_any}
 use Rattle.std.proofs.Common.{refl, ap, ◌∙◌, inl, inr}
@@ -9,19 +9,19 @@ use Rattle.dfu_conformance.specs.declared.row.Row.{Row}
 use Rattle.dfu_conformance.specs.declared.row.Drift.{Drift}
 use Rattle.dfu_conformance.specs.declared.event.LogEvent.{LogEvent}
 use Rattle.dfu_conformance.specs.RowMatches.{place_number, row_fits}
-use Rattle.dfu_conformance.specs.Candidates.{is_row_for}
+use Rattle.dfu_conformance.specs.Candidates.{applies_to}
 use Rattle.dfu_conformance.specs.MayAnswer.{RowStep, MovesBy}
 use Rattle.dfu_conformance.proofs.Places.{equal_place_numbers_equal_place}
 
--- The row leads a device to the place, from a place where the device may be.
+-- The row leads a device to place `n`, from a place at which the test `held` is true.
 abbrev pub leads_from : (StandardState → Bool) → LogEvent → StandardState → (attributes readings : ℕ) → Row → Bool
-leads_from held e n a r row = (place_number row.next == place_number n) && (row_fits row e && (held row.from && is_row_for row.when a r))
+leads_from held e n a r row = (place_number row.next == place_number n) && (row_fits row e && (held row.from && applies_to row.when a r))
 
--- If a row leads to the place, a device goes by a row to it.
-pub device_goes_by_row : (rows : List Row) (held : StandardState → Bool) (e : LogEvent) (n : StandardState) (a r : ℕ)
+-- If some row passes the test, a row of the list leads a device from a place where it is held to `n`.
+pub leading_row_is_row_step : (rows : List Row) (held : StandardState → Bool) (e : LogEvent) (n : StandardState) (a r : ℕ)
     → list_any (leads_from held e n a r) rows ≡ true
     → (p : StandardState) × (held p ≡ true) × RowStep rows a r p e n
-device_goes_by_row rows held e n a r some =
+leading_row_is_row_step rows held e n a r some =
     let (k, row, in', is, led) = Any-from_list_any (leads_from held e n a r) rows some in
     let there = and_parts _ _ led in
     let speaks = and_parts _ _ there.1 in
@@ -38,11 +38,11 @@ device_goes_by_row rows held e n a r some =
       },
     )
 
--- If a device goes by a row to a place, the row leads there.
-pub row_leads_device : (rows : List Row) (held : StandardState → Bool) (e : LogEvent) (p n : StandardState) (a r : ℕ) → held p ≡ true
+-- If a row of the list leads a device from a place where it is held to `n`, some row passes the test.
+pub row_step_is_leading_row : (rows : List Row) (held : StandardState → Bool) (e : LogEvent) (p n : StandardState) (a r : ℕ) → held p ≡ true
     → RowStep rows a r p e n
     → list_any (leads_from held e n a r) rows ≡ true
-row_leads_device rows held e p n a r is g =
+row_step_is_leading_row rows held e p n a r is g =
     list_any-from_Any (leads_from held e n a r) rows (
       g.listed.0,
       g.row,
@@ -51,15 +51,15 @@ row_leads_device rows held e p n a r is g =
       and_from _ _ (eq-eqb _ _ (ap place_number g.ends)) (and_from _ _ g.speaks (and_from _ _ (ap held g.begins ∙ is) g.row_is_for_device)),
     )
 
--- If a move leads to the place, a device makes the move or is there already.
-pub device_moves_by_drift : (moves : List Drift) (held : StandardState → Bool) (n : StandardState) (a r : ℕ)
-    → (held n || list_any (λ (d : Drift). (place_number d.next == place_number n) && (held d.from && is_row_for d.when a r)) moves) ≡ true
+-- If a device is at `n` after the moves, it was held there before, or a move of the list leads it there from a place where it was held.
+pub leading_drift_is_move : (moves : List Drift) (held : StandardState → Bool) (n : StandardState) (a r : ℕ)
+    → (held n || list_any (λ (d : Drift). (place_number d.next == place_number n) && (held d.from && applies_to d.when a r)) moves) ≡ true
     → (p : StandardState) × (held p ≡ true) × ((n ≡ p) ⊎ MovesBy moves a r p n)
-device_moves_by_drift moves held n a r some = elim (or_cases _ _ some) [
+leading_drift_is_move moves held n a r some = elim (or_cases _ _ some) [
   | inl stayed ↦ (n, stayed, inl refl)
   | inr moved ↦
       let (k, row, in', is, led) =
-      Any-from_list_any (λ (d : Drift). (place_number d.next == place_number n) && (held d.from && is_row_for d.when a r)) moves moved in
+      Any-from_list_any (λ (d : Drift). (place_number d.next == place_number n) && (held d.from && applies_to d.when a r)) moves moved in
       let there = and_parts _ _ led in
       let from = and_parts _ _ there.1 in (
         row.from,
@@ -74,12 +74,13 @@ device_moves_by_drift moves held n a r some = elim (or_cases _ _ some) [
       )
 ]
 
-pub drift_leads_from_held : (moves : List Drift) (held : StandardState → Bool) (p n : StandardState) (a r : ℕ) → held p ≡ true
+-- If a device is held at `p`, and stays or makes a move of the list, the test passes for the place `n` where it is then.
+pub move_is_leading_drift : (moves : List Drift) (held : StandardState → Bool) (p n : StandardState) (a r : ℕ) → held p ≡ true
     → (n ≡ p) ⊎ MovesBy moves a r p n
-    → (held n || list_any (λ (d : Drift). (place_number d.next == place_number n) && (held d.from && is_row_for d.when a r)) moves) ≡ true
-drift_leads_from_held moves held p n a r is (inl same) = or_left _ _ (ap held same ∙ is)
-drift_leads_from_held moves held p n a r is (inr m) =
-    or_right _ _ (list_any-from_Any (λ (d : Drift). (place_number d.next == place_number n) && (held d.from && is_row_for d.when a r))
+    → (held n || list_any (λ (d : Drift). (place_number d.next == place_number n) && (held d.from && applies_to d.when a r)) moves) ≡ true
+move_is_leading_drift moves held p n a r is (inl same) = or_left _ _ (ap held same ∙ is)
+move_is_leading_drift moves held p n a r is (inr m) =
+    or_right _ _ (list_any-from_Any (λ (d : Drift). (place_number d.next == place_number n) && (held d.from && applies_to d.when a r))
     moves (
       m.listed.0,
       m.row,

@@ -3,28 +3,31 @@ use Rattle.std.specs.Prelude.{◌≡◌, ◌<◌, ◌==◌, ◌&&◌, ◌||◌, 
 use Rattle.std.specs.Int.{bit_at}
 use Rattle.std.proofs.Common.{refl, sym, ap, ◌∙◌}
 use Rattle.std.proofs.lemmas.Bool.{false_from_ne_true, true≢false}
-use Rattle.dfu_conformance.specs.Candidates.{word_has_bit}
+use Rattle.dfu_conformance.specs.Candidates.{holds_device}
 use Rattle.dfu_conformance.specs.inside.Stepped.{has_candidate}
-use Rattle.dfu_conformance.proofs.Somewhere.{some_device_held}
+use Rattle.dfu_conformance.proofs.Somewhere.{candidate_is_device}
 use Rattle.dfu_conformance.proofs.Words.{none}
 
--- If no reading has a device in the words, the words hold no device.
-pub no_device_held : (words : List ℕ) (all a r : ℕ) → ((r : ℕ) → r < 64 → (bit_at all r == 1) ≡ has_candidate words r) → all ≡ 0 → a < 16
+-- If `all`, the word of the sets of habits of all devices in the words, is 0, the words hold no device.
+pub words_hold_none : (words : List ℕ) (all a r : ℕ) → ((r : ℕ) → r < 64 → (bit_at all r == 1) ≡ has_candidate words r) → all ≡ 0 → a < 16
     → r < 64
-    → word_has_bit words a r ≡ false
-no_device_held words all a r is zero below within = false_from_ne_true _ (λ yes.
-    true≢false (sym ((some_device_held words r).1 (a, below, yes)) ∙ sym (is r within) ∙ ap (λ (k : ℕ). bit_at k r == 1) zero
+    → holds_device words a r ≡ false
+words_hold_none words all a r is zero below within = false_from_ne_true _ (λ yes.
+    true≢false (sym ((candidate_is_device words r).1 (a, below, yes)) ∙ sym (is r within) ∙ ap (λ (k : ℕ). bit_at k r == 1) zero
     ∙ none r within))
 
+-- x || y is x if y is false.
 pub false_adds_nothing : (x y : Bool) → y ≡ false → x ≡ (x || y)
 false_adds_nothing true y none = refl
 false_adds_nothing false y none = sym none
 
-pub second_of_three_false : (x y z : Bool) → y ≡ false → (x && (y && z)) ≡ false
-second_of_three_false true y z fails = ap (λ (b : Bool). b && z) fails
-second_of_three_false false y z fails = refl
+-- x && (y && z) is false if y is false.
+pub second_false_falsifies_three : (x y z : Bool) → y ≡ false → (x && (y && z)) ≡ false
+second_false_falsifies_three true y z fails = ap (λ (b : Bool). b && z) fails
+second_false_falsifies_three false y z fails = refl
 
-pub third_of_four_false : (x y z w : Bool) → z ≡ false → (x && (y && (z && w))) ≡ false
-third_of_four_false true true z w fails = ap (λ (b : Bool). b && w) fails
-third_of_four_false true false z w fails = refl
-third_of_four_false false y z w fails = refl
+-- x && (y && (z && w)) is false if z is false.
+pub third_false_falsifies_four : (x y z w : Bool) → z ≡ false → (x && (y && (z && w))) ≡ false
+third_false_falsifies_four true true z w fails = ap (λ (b : Bool). b && w) fails
+third_false_falsifies_four true false z w fails = refl
+third_false_falsifies_four false y z w fails = refl

@@ -7,35 +7,35 @@ use Rattle.dfu_conformance.specs.declared.event.LogEvent.{LogEvent}
 use Rattle.dfu_conformance.specs.declared.verdict.Verdict.TheVariants.{Kept, KeptBy, NotKept}
 use Rattle.dfu_conformance.specs.declared.verdict.Departure.{Departure}
 use Rattle.dfu_conformance.specs.RowMatches.{place_number}
-use Rattle.dfu_conformance.specs.Candidates.{may_be_at}
+use Rattle.dfu_conformance.specs.Candidates.{is_held_at}
 use Rattle.dfu_conformance.specs.MayAnswer.{CanAnswer, CandidatesExact, PlainCandidatesExact}
-use Rattle.dfu_conformance.specs.Verdict.{IsVerdict, HasBits, ArePlacesAfter, EventDeparts}
-use Rattle.dfu_conformance.specs.inside.Stepped.{is_held_after_event, has_candidate, is_held_anywhere, least_below}
-use Rattle.dfu_conformance.proofs.Exact.{devices_after_event}
-use Rattle.dfu_conformance.proofs.Least.{IsLeastBelow, least_below_is_least}
+use Rattle.dfu_conformance.specs.Verdict.{IsVerdict, HasSixBits, ArePlacesAfter, EventDeparts}
+use Rattle.dfu_conformance.specs.inside.Stepped.{is_held_after_event, has_candidate, is_held_anywhere, least_set_below}
+use Rattle.dfu_conformance.proofs.Exact.{step_keeps_exactness}
+use Rattle.dfu_conformance.proofs.Least.{IsLeastSetBelow, least_set_below_is_least}
 use Rattle.dfu_conformance.proofs.Places.{place_number_below_12}
-use Rattle.dfu_conformance.proofs.Somewhere.{PlacesHeldWith, held_device_can_answer, held_place_is_possible}
+use Rattle.dfu_conformance.proofs.Somewhere.{ExactForReadings, held_device_can_answer, held_place_is_possible}
 
--- Places that are exact for every set of readings are exact for one set.
-pub places_held_for_readings : (held : List (List ℕ)) (events : List LogEvent) (r : ℕ) → r < 64 → CandidatesExact held events
-    → PlacesHeldWith held events r
-places_held_for_readings held events r within so = λ a p below. so a r p below within
+-- If the candidates are exact, they are exact for each set of habits.
+pub candidates_are_exact_for_each : (held : List (List ℕ)) (events : List LogEvent) (r : ℕ) → r < 64 → CandidatesExact held events
+    → ExactForReadings held events r
+candidates_are_exact_for_each held events r within so = λ a p below. so a r p below within
 
 -- If a device without habits is held somewhere, the verdict is `Kept`.
-pub device_is_kept : (held : List (List ℕ)) (events : List LogEvent) → CandidatesExact held events → is_held_anywhere held 0 ≡ true
+pub plain_device_gives_kept : (held : List (List ℕ)) (events : List LogEvent) → CandidatesExact held events → is_held_anywhere held 0 ≡ true
     → IsVerdict Kept events
-device_is_kept held events so is_so =
-    (held_device_can_answer held events 0 (places_held_for_readings held events 0 (omega arith) so)).0 is_so
+plain_device_gives_kept held events so is_so =
+    (held_device_can_answer held events 0 (candidates_are_exact_for_each held events 0 (omega arith) so)).0 is_so
 
--- If no device without habits is held, and `s` is the least set of readings with a device that is held, the verdict is `KeptBy s`.
-pub device_kept_by_readings : (held : List (List ℕ)) (events : List LogEvent) (s : ℕ) → CandidatesExact held events
+-- If no device without habits is held, and `s` is the least set of habits with a device that is held, the verdict is `KeptBy s`.
+pub least_readings_give_kept_by : (held : List (List ℕ)) (events : List LogEvent) (s : ℕ) → CandidatesExact held events
     → is_held_anywhere held 0 ≡ false
-    → Some s ≡ least_below (is_held_anywhere held) 64 → IsVerdict (KeptBy s) events
-device_kept_by_readings held events s so not_plain is =
-    let least : IsLeastBelow (is_held_anywhere held) 64 (Some s) = subst (IsLeastBelow (is_held_anywhere held) 64) (sym is)
-    (least_below_is_least (is_held_anywhere held) 64) in
+    → Some s ≡ least_set_below (is_held_anywhere held) 64 → IsVerdict (KeptBy s) events
+least_readings_give_kept_by held events s so not_plain is =
+    let least : IsLeastSetBelow (is_held_anywhere held) 64 (Some s) = subst (IsLeastSetBelow (is_held_anywhere held) 64) (sym is)
+    (least_set_below_is_least (is_held_anywhere held) 64) in
     let can : (r : ℕ) → r < 64 → (is_held_anywhere held r ≡ true) ↔ CanAnswer r events =
-    λ r within. held_device_can_answer held events r (places_held_for_readings held events r within so) in (
+    λ r within. held_device_can_answer held events r (candidates_are_exact_for_each held events r within so) in (
       λ plain. both_ways (is_held_anywhere held 0) not_plain ((can 0 (omega arith)).1 plain),
       record {
         below = least.0;
@@ -45,47 +45,49 @@ device_kept_by_readings held events s so not_plain is =
       },
     )
 
--- The least set of readings that is found has six bits.
-pub least_set_has_six_bits : (held : List (List ℕ)) (s : ℕ) → Some s ≡ least_below (is_held_anywhere held) 64 → HasBits (KeptBy s)
+-- The number of the least set of habits, of those below 64, has at most six bits.
+pub least_set_has_six_bits : (held : List (List ℕ)) (s : ℕ) → Some s ≡ least_set_below (is_held_anywhere held) 64 → HasSixBits (KeptBy s)
 least_set_has_six_bits held s is =
-    let least : IsLeastBelow (is_held_anywhere held) 64 (Some s) = subst (IsLeastBelow (is_held_anywhere held) 64) (sym is)
-    (least_below_is_least (is_held_anywhere held) 64) in
+    let least : IsLeastSetBelow (is_held_anywhere held) 64 (Some s) = subst (IsLeastSetBelow (is_held_anywhere held) 64) (sym is)
+    (least_set_below_is_least (is_held_anywhere held) 64) in
     least.0
 
--- If no device is held with any set of readings, the verdict is `NotKept`.
-pub device_is_not_kept : (held : List (List ℕ)) (events : List LogEvent) → CandidatesExact held events
-    → None ≡ least_below (is_held_anywhere held) 64
+-- If no device is held with any set of habits, the verdict is `NotKept`.
+pub no_device_gives_not_kept : (held : List (List ℕ)) (events : List LogEvent) → CandidatesExact held events
+    → None ≡ least_set_below (is_held_anywhere held) 64
     → IsVerdict NotKept events
-device_is_not_kept held events so is = λ r within may.
-    let none_held : IsLeastBelow (is_held_anywhere held) 64 None = subst (IsLeastBelow (is_held_anywhere held) 64) (sym is)
-    (least_below_is_least (is_held_anywhere held) 64) in
+no_device_gives_not_kept held events so is = λ r within may.
+    let none_held : IsLeastSetBelow (is_held_anywhere held) 64 None = subst (IsLeastSetBelow (is_held_anywhere held) 64) (sym is)
+    (least_set_below_is_least (is_held_anywhere held) 64) in
     both_ways (is_held_anywhere held r) (none_held r within)
-    ((held_device_can_answer held events r (places_held_for_readings held events r within so)).1 may)
+    ((held_device_can_answer held events r (candidates_are_exact_for_each held events r within so)).1 may)
 
--- The devices `before` become the devices `after` by the event `e`.
-abbrev pub IsDeviceStep : List (List ℕ) → LogEvent → List (List ℕ) → Type 0
-IsDeviceStep before e after = (n : StandardState) (a r : ℕ) → a < 16 → r < 64 → may_be_at after n a r ≡ is_held_after_event before e n a r
+-- The candidates `after` are those of the judge's step from `before` at event `e`.
+abbrev pub IsCandidateStep : List (List ℕ) → LogEvent → List (List ℕ) → Type 0
+IsCandidateStep before e after = (n : StandardState) (a r : ℕ) → a < 16 → r < 64
+    → is_held_at after n a r ≡ is_held_after_event before e n a r
 
--- If the devices before an event are exact, those after it are exact for the events and the further one.
-pub devices_held_next : (before after : List (List ℕ)) (events : List LogEvent) (e : LogEvent) → IsDeviceStep before e after
+-- If the candidates are exact before an event, they are exact after it.
+pub candidates_stay_exact : (before after : List (List ℕ)) (events : List LogEvent) (e : LogEvent) → IsCandidateStep before e after
     → CandidatesExact before events
     → CandidatesExact after (events ++ e ∷ [])
-devices_held_next before after events e says so a r p below within =
-    devices_after_event before after events e a r (λ q. so a r q below within) (λ n. says n a r below within) p
+candidates_stay_exact before after events e says so a r p below within =
+    step_keeps_exactness before after events e a r (λ q. so a r q below within) (λ n. says n a r below within) p
 
--- If the devices without habits are exact before an event, those after it are exact too.
-pub plain_devices_held_next : (before after : List (List ℕ)) (events : List LogEvent) (e : LogEvent) → IsDeviceStep before e after
+-- If the candidates without habits are exact before an event, they are exact after it.
+pub plain_candidates_stay_exact : (before after : List (List ℕ)) (events : List LogEvent) (e : LogEvent) → IsCandidateStep before e after
     → PlainCandidatesExact before events
     → PlainCandidatesExact after (events ++ e ∷ [])
-plain_devices_held_next before after events e says so a p below =
-    devices_after_event before after events e a 0 (λ q. so a q below) (λ n. says n a 0 below (omega arith)) p
+plain_candidates_stay_exact before after events e says so a p below =
+    step_keeps_exactness before after events e a 0 (λ q. so a q below) (λ n. says n a 0 below (omega arith)) p
 
--- If a device without habits is left after an event, it may have answered all events up to it.
-pub plain_device_can_answer : (before after : List (List ℕ)) (events : List LogEvent) (e : LogEvent) → IsDeviceStep before e after
+-- If a device without habits is left after an event, such a device may have answered all events up to it, and the candidates after it are
+-- exact.
+pub plain_device_can_answer : (before after : List (List ℕ)) (events : List LogEvent) (e : LogEvent) → IsCandidateStep before e after
     → PlainCandidatesExact before events
     → is_held_anywhere after 0 ≡ true → CanAnswer 0 (events ++ e ∷ []) × PlainCandidatesExact after (events ++ e ∷ [])
 plain_device_can_answer before after events e says so left =
-    let next = plain_devices_held_next before after events e says so in (
+    let next = plain_candidates_stay_exact before after events e says so in (
       (held_device_can_answer after (events
           ++ e ∷ []) 0 next).0 left,
       next,
@@ -100,18 +102,18 @@ held_places_are_possible before at events so places = λ p.
     places (place_number p) (place_number_below_12 p) in
     (λ here. is.0 (sym same ∙ here), λ x. same ∙ is.1 x)
 
--- The departure that is returned has the event, says where a device might be before it, and leaves no device without habits.
-abbrev pub DepartureIsTold : (before after : List (List ℕ)) → LogEvent → Departure → Type 0
-DepartureIsTold before after e d = (d.event ≡ e) × (is_held_anywhere after 0 ≡ false)
+-- The departure has the event and the places of devices without habits before it, and no such device is held after it.
+abbrev pub IsDepartureOfStep : (before after : List (List ℕ)) → LogEvent → Departure → Type 0
+IsDepartureOfStep before after e d = (d.event ≡ e) × (is_held_anywhere after 0 ≡ false)
     × ((n : ℕ) → n < 12 → slice_index_or d.before n false ≡ has_candidate (slice_index_or before n []) 0)
 
 -- If no device without habits is left, the event is a departure.
 pub event_without_devices_departs : (before after anew : List (List ℕ)) (events : List LogEvent) (e : LogEvent) (d : Departure) →
-    IsDeviceStep before e after
-    → PlainCandidatesExact before events → PlainCandidatesExact anew [] → DepartureIsTold before after e d → EventDeparts events d anew
+    IsCandidateStep before e after
+    → PlainCandidatesExact before events → PlainCandidatesExact anew [] → IsDepartureOfStep before after e d → EventDeparts events d anew
 event_without_devices_departs before after anew events e d says so first (is, none_left, places) = record {
   before = held_places_are_possible before d.before events so places;
   none = λ may. both_ways (is_held_anywhere after 0) none_left ((held_device_can_answer after (events ++ e ∷ []) 0
-      (plain_devices_held_next before after events e says so)).1 (subst (λ (x : LogEvent). CanAnswer 0 (events ++ x ∷ [])) is may));
+      (plain_candidates_stay_exact before after events e says so)).1 (subst (λ (x : LogEvent). CanAnswer 0 (events ++ x ∷ [])) is may));
   anew = first;
 }

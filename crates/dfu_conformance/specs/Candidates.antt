@@ -1,4 +1,4 @@
--- Devices that are held.
+-- Candidates: the devices that a judge holds at each place, as bits of words. Readings are habits: bit n of the number of a set is habit n.
 use Rattle.std.specs.Prelude.{ℕ, ◌==◌, Bool, true, false, List, [], slice_index, slice_index_or}
 use Rattle.std.specs.Int.{bit_at}
 use Rattle.dfu_conformance.specs.declared.row.StandardState.{StandardState}
@@ -8,7 +8,7 @@ use Rattle.dfu_conformance.specs.declared.row.When.TheVariants.{Always, CanDownl
 use Rattle.dfu_conformance.specs.declared.row.Reading.{Reading}
 use Rattle.dfu_conformance.specs.declared.row.Reading.TheVariants.{Bootloader, RuntimeMute, SelfReset, DetachAtOnce, DetachLeaves, ErrorWithoutCode}
 
--- The bit of a reading in the number of a set of readings.
+-- Index of the bit of a habit in the number of a set of habits.
 abbrev pub reading_bit : Reading → ℕ
 reading_bit Bootloader = 0
 reading_bit RuntimeMute = 1
@@ -17,30 +17,32 @@ reading_bit DetachAtOnce = 3
 reading_bit DetachLeaves = 4
 reading_bit ErrorWithoutCode = 5
 
--- The row is for the devices of these bmAttributes with this set of readings.
-abbrev pub is_row_for : When → (attributes readings : ℕ) → Bool
-is_row_for Always a r = true
-is_row_for CanDownload a r = bit_at a 0 == 1
-is_row_for CanUpload a r = bit_at a 1 == 1
-is_row_for Tolerant a r = bit_at a 2 == 1
-is_row_for NotTolerant a r = bit_at a 2 == 0
-is_row_for WillDetach a r = bit_at a 3 == 1
-is_row_for (By reading) a r = bit_at r (reading_bit reading) == 1
+-- A row with this `when` applies to devices with these bmAttributes and this set of habits.
+abbrev pub applies_to : When → (attributes readings : ℕ) → Bool
+applies_to Always a r = true
+applies_to CanDownload a r = bit_at a 0 == 1
+applies_to CanUpload a r = bit_at a 1 == 1
+applies_to Tolerant a r = bit_at a 2 == 1
+applies_to NotTolerant a r = bit_at a 2 == 0
+applies_to WillDetach a r = bit_at a 3 == 1
+applies_to (By reading) a r = bit_at r (reading_bit reading) == 1
 
--- Word a of the list has bit r.
-abbrev pub word_has_bit : List ℕ → (attributes readings : ℕ) → Bool
-word_has_bit words a r = bit_at (slice_index words a) r == 1
+-- The words hold the device with bmAttributes `a` and the set of habits `r`: bit `r` of word `a` is 1.
+abbrev pub holds_device : List ℕ → (attributes readings : ℕ) → Bool
+holds_device words a r = bit_at (slice_index words a) r == 1
 
--- A device of these bmAttributes with this set of readings may be at the place.
-abbrev pub may_be_at : List (List ℕ) → StandardState → (attributes readings : ℕ) → Bool
-may_be_at held p a r = word_has_bit (slice_index_or held (place_number p) []) a r
+-- The device with these bmAttributes and habits is held at place `p`.
+abbrev pub is_held_at : List (List ℕ) → StandardState → (attributes readings : ℕ) → Bool
+is_held_at held p a r = holds_device (slice_index_or held (place_number p) []) a r
 
--- Devices that a judge holds: those since the last departure, and those since the start.
+-- Candidates of a judge: by the events since the last departure, and by all events since the start.
 pub record JudgedDevices : Type 0 where
+  -- Candidates by the events since the last departure, or since the start if there is none.
   pub since : List (List ℕ)
+  -- Candidates by all events since the start.
   pub whole : List (List ℕ)
 
--- Devices since the last departure; before the first departure they are those since the start.
+-- Candidates since the last departure; before the first departure, the candidates since the start.
 abbrev pub devices_since : (has_departed : Bool) → (since whole : List (List ℕ)) → List (List ℕ)
 devices_since true since whole = since
 devices_since false since whole = whole

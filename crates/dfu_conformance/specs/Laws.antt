@@ -8,7 +8,7 @@ use Rattle.dfu_conformance.specs.MayAnswer.{MayMove, Run}
 abbrev pub TwoMovesAreOne : Type 0
 TwoMovesAreOne = (a r : ℕ) (p q s : StandardState) → MayMove a r p q → MayMove a r q s → MayMove a r p s
 
--- A run from a place to which a device moved is a run from where the device was.
+-- A run from a place that a device reached by a move is also a run from the place that the device left.
 abbrev pub MovedRunIsRun : Type 0
 MovedRunIsRun =
     (a r : ℕ) (p q : StandardState) (events : List LogEvent) (last : StandardState) → MayMove a r p q → Run a r q events last

@@ -1,5 +1,5 @@
--- Answers that a device that keeps the standard may give, with every freedom that the standard leaves: the rows are in the tables of
--- `src/standard.rt`, `src/marks.rt`, `src/habits.rt` and `src/drifts.rt`, a line each or, in `marks.rt`, a line for each place.
+-- Answers that a device that keeps the standard, or has a habit, may give: the rows of `src/standard.rt`, `src/marks.rt` and
+-- `src/habits.rt`, and the moves of `src/drifts.rt`.
 use Rattle.std.specs.Prelude.{◌≡◌, ◌⊎◌, ◌↔◌, ℕ, ◌<◌, true, List, [], ◌∷◌, Contains}
 use Rattle.dfu_conformance.specs.declared.row.StandardState.{StandardState}
 use Rattle.dfu_conformance.specs.declared.row.Row.{Row}
@@ -9,55 +9,67 @@ use Rattle.dfu_conformance.specs.declared.standard.TheConstants.{STANDARD}
 use Rattle.dfu_conformance.specs.declared.marks.TheConstants.{MARKS}
 use Rattle.dfu_conformance.specs.declared.habits.TheConstants.{HABITS}
 use Rattle.dfu_conformance.specs.declared.drifts.TheConstants.{DRIFTS}
-use Rattle.dfu_conformance.specs.RowMatches.{row_fits, device_stays}
-use Rattle.dfu_conformance.specs.Candidates.{is_row_for, may_be_at}
+use Rattle.dfu_conformance.specs.RowMatches.{row_fits, may_stay_at_event}
+use Rattle.dfu_conformance.specs.Candidates.{applies_to, is_held_at}
 
--- A device of these bmAttributes with this set of readings goes by a row of the list: the event leads it from one place to another.
+-- A row of the list leads a device with these bmAttributes and habits from place `from` to place `next` at the event.
 pub record RowStep (rows : List Row) (attributes readings : ℕ) (from : StandardState) (e : LogEvent) (next : StandardState) : Type 0 where
+  -- Row that leads the device.
   pub row : Row
+  -- The list has the row.
   pub listed : Contains rows row
+  -- The row begins at place `from`.
   pub begins : row.from ≡ from
+  -- The row ends at place `next`.
   pub ends : row.next ≡ next
+  -- The row fits the event: it applies to its kind, and allows the answer that was seen.
   pub speaks : row_fits row e ≡ true
-  pub row_is_for_device : is_row_for row.when attributes readings ≡ true
+  -- The row applies to the device.
+  pub row_is_for_device : applies_to row.when attributes readings ≡ true
 
--- An event may lead a device from one place to another by a row; or the device stays, because the request didn't come, or is not as section
--- 3 has it and was stalled.
+-- The event may lead a device from place `from` to place `next` by a row of a table; or the device stays, because no answer was seen, so
+-- the request may not have come, or because it stalled a request that is not well-formed by section 3.
 abbrev pub MayAnswer : (attributes readings : ℕ) → StandardState → LogEvent → StandardState → Type 0
 MayAnswer a r from e next =
     RowStep STANDARD a r from e next ⊎ RowStep MARKS a r from e next ⊎ RowStep HABITS a r from e next
-    ⊎ ((next ≡ from) × (device_stays e ≡ true))
+    ⊎ ((next ≡ from) × (may_stay_at_event e ≡ true))
 
--- A device moves by itself, by a row of the list.
+-- A device with these bmAttributes and habits goes from place `from` to place `next` by a move of the list, without an event.
 pub record MovesBy (moves : List Drift) (attributes readings : ℕ) (from next : StandardState) : Type 0 where
+  -- Move of the device.
   pub row : Drift
+  -- The list has the move.
   pub listed : Contains moves row
+  -- The move begins at place `from`.
   pub begins : row.from ≡ from
+  -- The move ends at place `next`.
   pub ends : row.next ≡ next
-  pub row_is_for_device : is_row_for row.when attributes readings ≡ true
+  -- The move applies to the device.
+  pub row_is_for_device : applies_to row.when attributes readings ≡ true
 
--- Between two events a device stays or moves by itself.
+-- Between two events a device stays at its place or moves by itself.
 abbrev pub MayMove : (attributes readings : ℕ) → StandardState → StandardState → Type 0
 MayMove a r from next = (next ≡ from) ⊎ MovesBy DRIFTS a r from next
 
--- A run: a device begins at one place, the events come to it, and it ends at another.
+-- A run of a device through the events, from place `from` to place `last`: before each event, and at the end, the device stays or moves by
+-- itself; and each event leads it on by an answer that it may give.
 abbrev pub Run : (attributes readings : ℕ) → StandardState → List LogEvent → StandardState → Type 0
 Run a r from [] last = MayMove a r from last
 Run a r from (e ∷ events) last =
     (here : StandardState) × (next : StandardState) × MayMove a r from here × MayAnswer a r here e next × Run a r next events last
 
--- A device that began anywhere may be at this place after the events.
+-- A device that began at some place may be at this place after the events.
 abbrev pub MayBeAt : (attributes readings : ℕ) → List LogEvent → StandardState → Type 0
 MayBeAt a r events last = (from : StandardState) × Run a r from events last
 
--- Some device with this set of readings, of any bmAttributes, may have answered the events.
+-- A device with this set of habits, and with some bmAttributes, may have given the answers of the events.
 abbrev pub CanAnswer : (readings : ℕ) → List LogEvent → Type 0
 CanAnswer r events = (a : ℕ) × (a < 16) × (last : StandardState) × MayBeAt a r events last
 
--- The devices that may have answered the events are held, and only they, each at the places where it may be.
+-- The candidates are exact: a device is held at a place exactly if it may be there after the events.
 abbrev pub CandidatesExact : List (List ℕ) → List LogEvent → Type 0
-CandidatesExact held events = (a r : ℕ) (p : StandardState) → a < 16 → r < 64 → (may_be_at held p a r ≡ true) ↔ MayBeAt a r events p
+CandidatesExact held events = (a r : ℕ) (p : StandardState) → a < 16 → r < 64 → (is_held_at held p a r ≡ true) ↔ MayBeAt a r events p
 
--- Places of the devices that have no habit.
+-- The candidates without habits are exact: each is held at a place exactly if it may be there after the events.
 abbrev pub PlainCandidatesExact : List (List ℕ) → List LogEvent → Type 0
-PlainCandidatesExact held events = (a : ℕ) (p : StandardState) → a < 16 → (may_be_at held p a 0 ≡ true) ↔ MayBeAt a 0 events p
+PlainCandidatesExact held events = (a : ℕ) (p : StandardState) → a < 16 → (is_held_at held p a 0 ≡ true) ↔ MayBeAt a 0 events p

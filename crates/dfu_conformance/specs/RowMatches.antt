@@ -1,4 +1,4 @@
--- Tests whether a row of the table fits an event.
+-- Tests that a row of a table fits an event.
 use Rattle.std.specs.Prelude.{ℕ, ◌==◌, ◌&&◌, ◌||◌, nat_lt, min, Bool, true, false, not}
 use Rattle.dfu_conformance.specs.declared.row.StandardState.{StandardState}
 use Rattle.dfu_conformance.specs.declared.row.StandardState.TheVariants.{AppIdle, AppDetach, DfuIdle, DownloadSync, DownloadBusy, DownloadIdle, ManifestSync, Manifest, ManifestWaitReset, UploadIdle, Error, Fresh}
@@ -11,7 +11,7 @@ use Rattle.dfu_conformance.specs.declared.event.Response.{Response}
 use Rattle.dfu_conformance.specs.declared.event.Response.TheVariants as answer
 use Rattle.dfu_conformance.specs.declared.event.LogEvent.{LogEvent}
 
--- Number of a place in the list of all twelve.
+-- Index of a place in the list of all twelve.
 abbrev pub place_number : StandardState → ℕ
 place_number AppIdle = 0
 place_number AppDetach = 1
@@ -26,71 +26,71 @@ place_number UploadIdle = 9
 place_number Error = 10
 place_number Fresh = 11
 
--- Number of the state of the standard at a place.
-abbrev pub number_of_state : StandardState → ℕ
-number_of_state Fresh = 2
-number_of_state p = place_number p
+-- bState of a device at a place: 2, dfuIDLE, also for `Fresh`.
+abbrev pub bstate_of_place : StandardState → ℕ
+bstate_of_place Fresh = 2
+bstate_of_place p = place_number p
 
--- Number of what came in the list of all eleven.
-abbrev pub request_number : EventKind → ℕ
-request_number Detach = 0
-request_number Block = 1
-request_number Close = 2
-request_number Upload = 3
-request_number GetStatus = 4
-request_number ClrStatus = 5
-request_number GetState = 6
-request_number Abort = 7
-request_number Other = 8
-request_number Reset = 9
-request_number Power = 10
+-- Index of a kind of event in the list of all eleven.
+abbrev pub event_kind_number : EventKind → ℕ
+event_kind_number Detach = 0
+event_kind_number Block = 1
+event_kind_number Close = 2
+event_kind_number Upload = 3
+event_kind_number GetStatus = 4
+event_kind_number ClrStatus = 5
+event_kind_number GetState = 6
+event_kind_number Abort = 7
+event_kind_number Other = 8
+event_kind_number Reset = 9
+event_kind_number Power = 10
 
--- A row with this request is about the event. A request that is not as section 3 has it may be taken as any other, too.
+-- A row for `asked` applies to the event. A device may take a request that is not well-formed by section 3 as `Other`, too.
 abbrev pub asks : EventKind → LogEvent → Bool
-asks asked e = (request_number asked == request_number e.asked) || (not e.is_plain && (request_number asked == request_number Other))
+asks asked e = (event_kind_number asked == event_kind_number e.asked)
+    || (not e.is_plain && (event_kind_number asked == event_kind_number Other))
 
--- The status that enters the place may have the code: OK outside dfuERROR, and another code in it.
+-- A device that enters the place may report the status code: OK outside dfuERROR, and 1 to 15 in dfuERROR.
 abbrev pub has_code : StandardState → ℕ → Bool
 has_code Error code = nat_lt 0 code && nat_lt code 16
 has_code p code = code == 0
 
--- The count of bytes, with the first and the fifth one, is what a row gives that leads from one place to another, if `len` bytes were asked
--- for.
-abbrev pub bytes_match : Gives → (from next : StandardState) → (len count first fifth : ℕ) → Bool
-bytes_match gives.Silent from next len count first fifth = true
-bytes_match gives.Stall from next len count first fifth = false
-bytes_match gives.Ack from next len count first fifth = count == 0
-bytes_match gives.Full from next len count first fifth = count == len
-bytes_match gives.Short from next len count first fifth = nat_lt count len || ((count == 0) && (len == 0))
-bytes_match gives.State from next len count first fifth = (count == min len 1) && ((count == 0) || (first == number_of_state from))
-bytes_match gives.Status from next len count first fifth =
-    (count == min len 6) && (((count == 0) || has_code next first) && (nat_lt count 5 || (fifth == number_of_state next)))
-bytes_match gives.NoCode from next len count first fifth =
-    (count == min len 6) && (((count == 0) || (first == 0)) && (nat_lt count 5 || (fifth == number_of_state next)))
+-- A row from `from` to `next` with this answer allows the bytes (their count, the first and the fifth), if `len` bytes were asked for.
+abbrev pub answer_allows_bytes : Gives → (from next : StandardState) → (len count first fifth : ℕ) → Bool
+answer_allows_bytes gives.Silent from next len count first fifth = true
+answer_allows_bytes gives.Stall from next len count first fifth = false
+answer_allows_bytes gives.Ack from next len count first fifth = count == 0
+answer_allows_bytes gives.Full from next len count first fifth = count == len
+answer_allows_bytes gives.Short from next len count first fifth = nat_lt count len || ((count == 0) && (len == 0))
+answer_allows_bytes gives.State from next len count first fifth = (count == min len 1) && ((count == 0) || (first == bstate_of_place from))
+answer_allows_bytes gives.Status from next len count first fifth =
+    (count == min len 6) && (((count == 0) || has_code next first) && (nat_lt count 5 || (fifth == bstate_of_place next)))
+answer_allows_bytes gives.NoCode from next len count first fifth =
+    (count == min len 6) && (((count == 0) || (first == 0)) && (nat_lt count 5 || (fifth == bstate_of_place next)))
 
--- A row that gives this answer may stall.
-abbrev pub row_may_stall : Gives → Bool
-row_may_stall gives.Stall = true
-row_may_stall gives.Silent = true
-row_may_stall g = false
+-- A row with this answer allows a stall.
+abbrev pub answer_allows_stall : Gives → Bool
+answer_allows_stall gives.Stall = true
+answer_allows_stall gives.Silent = true
+answer_allows_stall g = false
 
--- The answer that was seen is what the row gives; if nothing was seen, any answer may have been given.
+-- The answer that was seen is one that a row with answer `g` allows. If no answer was seen, the device may have given any.
 abbrev pub answer_matches : Gives → (from next : StandardState) → ℕ → Response → Bool
 answer_matches g from next len answer.Nothing = true
-answer_matches g from next len answer.Stall = row_may_stall g
-answer_matches g from next len (answer.Bytes count first fifth) = bytes_match g from next len count first fifth
+answer_matches g from next len answer.Stall = answer_allows_stall g
+answer_matches g from next len (answer.Bytes count first fifth) = answer_allows_bytes g from next len count first fifth
 
--- A row fits an event: it is about what was asked, and gives what was seen.
+-- The row fits the event: it applies to the kind of event, and allows the answer that was seen.
 abbrev pub row_fits : Row → LogEvent → Bool
 row_fits row e = asks row.asked e && answer_matches row.gives row.from row.next e.length e.answer
 
--- A device may stay where it was, by whether the request is as section 3 has it and by what was seen.
-abbrev pub device_stays_at : Bool → Response → Bool
-device_stays_at plain answer.Nothing = true
-device_stays_at plain answer.Stall = not plain
-device_stays_at plain (answer.Bytes count first fifth) = false
+-- A device may stay at its place: no answer was seen, or it stalled a request that it may stall (`plain` is false).
+abbrev pub may_stay_by_answer : Bool → Response → Bool
+may_stay_by_answer plain answer.Nothing = true
+may_stay_by_answer plain answer.Stall = not plain
+may_stay_by_answer plain (answer.Bytes count first fifth) = false
 
--- A device may stay where it was: nothing was seen, so that the request may not have come; or a request was stalled because it is not as
--- section 3 has it.
-abbrev pub device_stays : LogEvent → Bool
-device_stays e = device_stays_at e.is_plain e.answer
+-- A device may stay at its place: no answer was seen, so the request may not have come; or it stalled a request that is not well-formed by
+-- section 3.
+abbrev pub may_stay_at_event : LogEvent → Bool
+may_stay_at_event e = may_stay_by_answer e.is_plain e.answer

@@ -1,4 +1,4 @@
--- Verdict of a judge.
+-- Verdict and departures of a judge.
 use Rattle.std.specs.Prelude.{◌≡◌, ◌↔◌, ℕ, ◌<◌, ◌≤◌, Bool, true, false, List, [], ◌∷◌, ◌++◌, slice_index_or, count_ones, ⊤}
 use Rattle.dfu_conformance.specs.declared.row.StandardState.{StandardState}
 use Rattle.dfu_conformance.specs.declared.event.LogEvent.{LogEvent}
@@ -8,33 +8,41 @@ use Rattle.dfu_conformance.specs.declared.verdict.Departure.{Departure}
 use Rattle.dfu_conformance.specs.RowMatches.{place_number}
 use Rattle.dfu_conformance.specs.MayAnswer.{MayBeAt, CanAnswer, PlainCandidatesExact}
 
--- A device with this set of readings may have answered the events; no other such set has fewer readings, and of those with as many this one
--- has the least number.
+-- `readings` is the smallest set of habits with which a device may have answered the events: no such set has fewer habits, and of those
+-- with as many this one has the lowest number.
 pub record IsLeastSet (readings : ℕ) (events : List LogEvent) : Type 0 where
+  -- The set is one of the 64.
   pub below : readings < 64
+  -- A device with the set may have answered the events.
   pub can : CanAnswer readings events
+  -- No set with which a device may have answered them has fewer habits.
   pub fewest : (r : ℕ) → r < 64 → CanAnswer r events → count_ones readings ≤ count_ones r
+  -- Each such set with a lower number has more habits.
   pub first : (r : ℕ) → r < readings → CanAnswer r events → count_ones readings < count_ones r
 
--- The verdict is right for the events.
+-- The verdict is right for the events: `Kept` if a device without habits may have answered them; else `KeptBy` the smallest set of habits
+-- with which a device may have answered them; `NotKept` if there is no such set.
 abbrev pub IsVerdict : Verdict → List LogEvent → Type 0
 IsVerdict Kept events = CanAnswer 0 events
 IsVerdict (KeptBy readings) events = (CanAnswer 0 events → ⊥) × IsLeastSet readings events
 IsVerdict NotKept events = (r : ℕ) → r < 64 → CanAnswer r events → ⊥
 
--- The set of a verdict has six bits.
-abbrev pub HasBits : Verdict → Type 0
-HasBits (KeptBy readings) = readings < 64
-HasBits verdict = ⊤
+-- The number of the set of habits of a verdict, if it has one, has at most six bits: it is below 64.
+abbrev pub HasSixBits : Verdict → Type 0
+HasSixBits (KeptBy readings) = readings < 64
+HasSixBits verdict = ⊤
 
--- Places where a device with this set of readings, of any bmAttributes, may be after the events.
+-- The list has exactly the places where a device with this set of habits, and with some bmAttributes, may be after the events.
 abbrev pub ArePlacesAfter : (readings : ℕ) → List LogEvent → List Bool → Type 0
 ArePlacesAfter r events at =
     (p : StandardState) → (slice_index_or at (place_number p) false ≡ true) ↔ ((a : ℕ) × (a < 16) × MayBeAt a r events p)
 
--- A further event is a departure: a device without habits might be at the places of `d` before it, and none may have answered it; from then
--- on a device may be anywhere again.
+-- The event of `d`, after `events`, is a departure: a device without habits might be at the places of `d` before it, and no such device may
+-- have answered `events` and it. The search starts again with the candidates `since`, which are exact before any event.
 pub record EventDeparts (events : List LogEvent) (d : Departure) (since : List (List ℕ)) : Type 0 where
+  -- The departure has the places of a device without habits before the event.
   pub before : ArePlacesAfter 0 events d.before
+  -- No device without habits may have answered `events` and the event.
   pub none : CanAnswer 0 (events ++ d.event ∷ []) → ⊥
+  -- The candidates of the new search are exact before any event.
   pub anew : PlainCandidatesExact since []

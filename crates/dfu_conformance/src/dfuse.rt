@@ -1,5 +1,5 @@
-//! Could a DfuSe device have given these answers? Rows that DfuSe adds to the table of USB DFU 1.1, and a judge that follows each device
-//! that keeps both.
+//! Checks whether a DfuSe device could have given the answers in a log: rows that DfuSe adds to the tables of USB DFU 1.1, and a judge that
+//! follows all places of such a device at once.
 
 mod judge;
 pub mod laws;

@@ -1,20 +1,20 @@
-//! Events that come to a device, and the answers that are seen.
+//! Events at a device, and the answers that a log has for them.
 
 ghost use Rattle.std.specs.Prelude.{◌≡◌, ◌↔◌, IfSome, IsNone};
-ghost use Rattle.dfu_conformance.specs.RowMatches.{row_fits, device_stays, asks, answer_matches, has_code, number_of_state};
-ghost use Rattle.dfu_conformance.specs.Setups.{kind_of_request, has_its_numbers, is_plain};
+ghost use Rattle.dfu_conformance.specs.RowMatches.{row_fits, may_stay_at_event, asks, answer_matches, has_code, bstate_of_place};
+ghost use Rattle.dfu_conformance.specs.Setups.{kind_of_request, has_section_3_numbers, is_plain};
 
 use crate::{EventKind, Gives, Row, StandardState};
 use dfu_wire::{Request, Setup};
 
-/// The answer that was seen.
+/// Answer of a device to a request, as a log has it.
 #[derive(Clone, Copy)]
 pub enum Response {
-    /// A stall.
+    /// The device stalled the request.
     Stall,
-    /// Nothing was seen, so that the request may not have come.
+    /// No answer was seen, so the request may not have reached the device.
     Nothing,
-    /// Bytes came; 0 of them if the request was acknowledged.
+    /// The device sent bytes, or acknowledged the request (a count of 0).
     Bytes {
         /// Number of bytes of the answer.
         count: u32,
@@ -25,35 +25,36 @@ pub enum Response {
     },
 }
 
-/// Event that came to a device, and the answer that was seen. A reset and power have no answer.
+/// Event at a device, and the answer that was seen. A reset and a return of power have no answer.
 #[derive(Clone, Copy)]
 pub struct LogEvent {
-    /// Kind of the event that came to the device.
+    /// Kind of the event.
     pub asked: EventKind,
-    /// True if the request is as section 3 has it: its wValue and wLength, and a body of wLength bytes.
+    /// True if the request is well-formed: its wValue and wLength, and the size of its body, are those of section 3. True without a
+    /// request.
     pub is_plain: bool,
-    /// wLength of the request: the number of bytes of its body, or the most that are asked for.
+    /// wLength of the request: the number of bytes of its body, or the most bytes that the host asks for; 0 without a request.
     pub length: u16,
     /// The answer that was seen.
     pub answer: Response,
 }
 
 impl LogEvent {
-    ghost use Rattle.dfu_wire.specs.Request.{SetupRequest};
+    ghost use Rattle.dfu_wire.specs.Request.{SetupAsksFor};
     ghost use Rattle.dfu_wire.specs.declared.requests.Request.{Request};
     ghost use Rattle.dfu_conformance.specs.Setups.{event_of};
 
-    /// Returns the event of a request with `setup` and a body of `body` bytes that was answered with `answer`. None if the request is none
-    /// of the class for interface 0.
+    /// Returns the event of a request with `setup` and a body of `body` bytes that was answered with `answer`. None if the request is no
+    /// class request to interface 0.
     pub fn exchange(setup: &Setup, body: usize, answer: Response) -> Option<LogEvent>
-        ensures some { IfSome result (λ e. (q : Request) → SetupRequest setup.now q → e ≡ event_of setup.now q body answer) }
-        ensures none { IsNone result ↔ SetupRequest setup.now Request.NotDfu }
+        ensures some { IfSome result (λ e. (q : Request) → SetupAsksFor setup.now q → e ≡ event_of setup.now q body answer) }
+        ensures none { IsNone result ↔ SetupAsksFor setup.now Request.NotDfu }
     {
         let request = setup.request();
         match request {
             Request::NotDfu => None,
             request => Some(LogEvent {
-                asked: asked_for(&request),
+                asked: event_kind_of(&request),
                 is_plain: is_told(setup, &request, body),
                 length: setup.length,
                 answer,
@@ -62,8 +63,8 @@ impl LogEvent {
     }
 }
 
-/// Returns the kind of event that the table has for `request`: a DNLOAD of no bytes is a kind of its own there.
-fn asked_for(request: &Request) -> EventKind
+/// Returns the kind of event of `request` in the tables. A DNLOAD of no bytes has its own kind, `Close`.
+fn event_kind_of(request: &Request) -> EventKind
     ensures { result ≡ kind_of_request request.now }
 {
     match *request {
@@ -79,7 +80,7 @@ fn asked_for(request: &Request) -> EventKind
     }
 }
 
-/// Returns true if a request with `setup` and a body of `body` bytes is as section 3 has it.
+/// Returns true if a request with `setup` and a body of `body` bytes is well-formed by section 3.
 fn is_told(setup: &Setup, request: &Request, body: usize) -> bool
     ensures { result ≡ is_plain setup.now request.now body }
 {
@@ -90,12 +91,12 @@ fn is_told(setup: &Setup, request: &Request, body: usize) -> bool
         ..
     } = *setup;
     let wanted = if kind == 0x21 { length as usize } else { 0 };
-    body == wanted && has_numbers(request, value)
+    body == wanted && has_standard_numbers(request, value)
 }
 
-/// Returns true if `request` has the wValue, which is `value`, and the wLength of section 3.
-fn has_numbers(request: &Request, value: u16) -> bool
-    ensures { result ≡ has_its_numbers request.now value }
+/// Returns true if `request` has the wLength of section 3, and `value` is the wValue of section 3.
+fn has_standard_numbers(request: &Request, value: u16) -> bool
+    ensures { result ≡ has_section_3_numbers request.now value }
 {
     match *request {
         Request::Upload { length, .. } => length != 0,
@@ -106,15 +107,14 @@ fn has_numbers(request: &Request, value: u16) -> bool
     }
 }
 
-/// Returns true if `row` fits `event`: what came, and what was seen.
-pub fn speaks_of(row: &Row, event: &LogEvent) -> bool
+/// Returns true if `row` fits `event`: the row applies to the kind of event, and allows the answer that was seen.
+pub fn row_fits_event(row: &Row, event: &LogEvent) -> bool
     ensures { result ≡ row_fits row.now event.now }
 {
     is_asked(row.asked, event) && is_shown(row, event)
 }
 
-/// Returns true if a row for `asked` is about what came in `event`. A request that is not as section 3 has it may be taken as any other,
-/// too.
+/// Returns true if a row for `asked` applies to `event`. A device may take a request that is not well-formed as `Other`, too.
 pub(crate) fn is_asked(asked: EventKind, event: &LogEvent) -> bool
     ensures { result ≡ asks asked event.now }
 {
@@ -122,7 +122,7 @@ pub(crate) fn is_asked(asked: EventKind, event: &LogEvent) -> bool
         || !event.is_plain && asked.number() == EventKind::Other.number()
 }
 
-/// Returns true if the answer that was seen in `event` is the one that `row` gives.
+/// Returns true if `row` allows the answer that was seen in `event`.
 fn is_shown(row: &Row, event: &LogEvent) -> bool
     ensures { result ≡ answer_matches row.now.gives row.now.from row.now.next event.now.length event.now.answer }
 {
@@ -147,7 +147,7 @@ fn is_shown(row: &Row, event: &LogEvent) -> bool
                 && (count == 0 || first as usize == state_of(row.from)),
             Gives::Status => {
                 count == length.min(6)
-                    && (count == 0 || is_code_of(row.next, first))
+                    && (count == 0 || may_place_report_code(row.next, first))
                     && (count < 5 || fifth as usize == state_of(row.next))
             }
             Gives::NoCode => count == length.min(6)
@@ -157,9 +157,9 @@ fn is_shown(row: &Row, event: &LogEvent) -> bool
     }
 }
 
-/// Returns the number of the state of the standard (bState, section 6.1.2) that a device at `place` is in.
+/// Returns bState (section 6.1.2) of a device at `place`.
 fn state_of(place: StandardState) -> usize
-    ensures { result ≡ number_of_state place }
+    ensures { result ≡ bstate_of_place place }
 {
     match place {
         StandardState::Fresh => 2,
@@ -167,8 +167,8 @@ fn state_of(place: StandardState) -> usize
     }
 }
 
-/// Returns true if a status that enters `place` may have the number `code` as its code.
-fn is_code_of(place: StandardState, code: u8) -> bool
+/// Returns true if a device that enters `place` may report the status code `code`: OK outside dfuERROR, and 1 to 15 in dfuERROR.
+fn may_place_report_code(place: StandardState, code: u8) -> bool
     ensures { result ≡ has_code place code }
 {
     match place {
@@ -177,9 +177,10 @@ fn is_code_of(place: StandardState, code: u8) -> bool
     }
 }
 
-/// Returns true if a device may stay where it was at `event`.
+/// Returns true if a device may stay at its place at `event`, without a row: no answer was seen, or it stalled a request that is not
+/// well-formed.
 pub(crate) fn may_stay(event: &LogEvent) -> bool
-    ensures { result ≡ device_stays event.now }
+    ensures { result ≡ may_stay_at_event event.now }
 {
     match event.answer {
         Response::Nothing => true,

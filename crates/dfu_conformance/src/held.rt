@@ -1,26 +1,26 @@
-//! Devices that may be at each place.
+//! Candidates: the devices that may be at each place, as bits of words.
 
 ghost use Rattle.std.specs.Prelude.{◌≡◌, ◌<◌, ◌≤◌, ℕ, ◌||◌, ◌&&◌, slice_index, length, ◌==◌, List, [], false, true, slice_index_or};
 ghost use Rattle.std.specs.Int.{bit_at};
 ghost use Rattle.std.specs.List.{list_any};
-ghost use Rattle.dfu_conformance.specs.Candidates.{is_row_for, word_has_bit, reading_bit, may_be_at};
-ghost use Rattle.dfu_conformance.specs.inside.Stepped.{CoversPlaces, row_leads, drift_leads, is_held_after_event, has_candidate, is_held_anywhere, better_readings, least_below};
-ghost use Rattle.dfu_conformance.specs.RowMatches.{place_number, device_stays};
+ghost use Rattle.dfu_conformance.specs.Candidates.{applies_to, holds_device, reading_bit, is_held_at};
+ghost use Rattle.dfu_conformance.specs.inside.Stepped.{CoversPlaces, row_leads, drift_leads, is_held_after_event, has_candidate, is_held_anywhere, smaller_set_of_readings, least_set_below};
+ghost use Rattle.dfu_conformance.specs.RowMatches.{place_number, may_stay_at_event};
 ghost use Rattle.dfu_conformance.specs.declared.marks.TheConstants.{MARKS};
 
 use crate::drifts::DRIFTS;
-use crate::event::{may_stay, speaks_of};
+use crate::event::{may_stay, row_fits_event};
 use crate::habits::HABITS;
 use crate::marks::MARKS;
 use crate::standard::STANDARD;
 use crate::{Drift, LogEvent, Reading, Row, StandardState, When};
 
-/// Sets of readings for each bmAttributes: bit r of word a is the device of bmAttributes a whose readings are the bits of r.
+/// A set of devices: bit r of word a is 1 if it has the device with bmAttributes a and the set of habits (readings) r.
 pub(crate) type Devices = [u64; 16];
 
-/// Returns the sets of readings for which a row with `when` is, in a device of bmAttributes `attributes`, 0 to 15.
+/// Returns the sets of habits to which a row with `when` applies, for devices with bmAttributes `attributes`, 0 to 15.
 fn word(when: When, attributes: usize) -> u64
-    ensures { (r : ℕ) → r < 64 → (bit_at result r == 1) ≡ is_row_for when attributes r }
+    ensures { (r : ℕ) → r < 64 → (bit_at result r == 1) ≡ applies_to when attributes r }
 {
     match when {
         When::Always => all_if(true),
@@ -33,14 +33,14 @@ fn word(when: When, attributes: usize) -> u64
     }
 }
 
-/// Returns all 64 sets of readings if `yes`, and else none.
+/// Returns all 64 sets of habits if `yes`, and else no set.
 fn all_if(yes: bool) -> u64
     ensures { (r : ℕ) → r < 64 → (bit_at result r == 1) ≡ yes }
 {
     if yes { u64::MAX } else { 0 }
 }
 
-/// For each reading, by its number, the sets of readings that have it.
+/// For each habit, by its number, the sets of habits that contain it.
 const SETS_WITH: [u64; 6] = [
     0xaaaa_aaaa_aaaa_aaaa,
     0xcccc_cccc_cccc_cccc,
@@ -58,7 +58,7 @@ fn number_of(reading: Reading) -> usize
     reading as usize
 }
 
-/// Returns the sets of readings that have `reading`.
+/// Returns the sets of habits that contain `reading`.
 #[tactic(auto, using(crate::proofs::Words::word_of_reading_has_bit))]
 fn readings_with(reading: Reading) -> u64
     ensures { (r : ℕ) → r < 64 → (bit_at result r == 1) ≡ (bit_at r (reading_bit reading) == 1) }
@@ -66,11 +66,11 @@ fn readings_with(reading: Reading) -> u64
     SETS_WITH[number_of(reading)]
 }
 
-/// Returns the devices of `to`, and those of `from` for which a row with `when` is.
+/// Returns the devices of `to`, and the devices of `from` to which a row with `when` applies.
 fn join(to: &Devices, from: &Devices, when: When) -> Devices
     ensures size { length result ≡ 16 }
     ensures all { (a r : ℕ) → a < 16 → r < 64 →
-        word_has_bit result a r ≡ (word_has_bit to.now a r || (word_has_bit from.now a r && is_row_for when a r)) }
+        holds_device result a r ≡ (holds_device to.now a r || (holds_device from.now a r && applies_to when a r)) }
 {
     let mut after = *to;
     for a in 0..16 {
@@ -79,7 +79,7 @@ fn join(to: &Devices, from: &Devices, when: When) -> Devices
     after
 }
 
-/// Returns the sets of readings of all devices in `devices`, whatever their bmAttributes.
+/// Returns the sets of habits of all devices in `devices`, whatever their bmAttributes.
 fn readings_of(devices: &Devices) -> u64
     ensures { (r : ℕ) → r < 64 → (bit_at result r == 1) ≡ has_candidate devices.now r }
 {
@@ -91,20 +91,20 @@ fn readings_of(devices: &Devices) -> u64
 }
 
 /// Returns true if `devices` has no device.
-#[tactic(auto, using(crate::proofs::Untaken::no_device_held))]
+#[tactic(auto, using(crate::proofs::Untaken::words_hold_none))]
 fn is_empty(devices: &Devices) -> bool
-    ensures { result ≡ true → (a r : ℕ) → a < 16 → r < 64 → word_has_bit devices.now a r ≡ false }
+    ensures { result ≡ true → (a r : ℕ) → a < 16 → r < 64 → holds_device devices.now a r ≡ false }
 {
     readings_of(devices) == 0
 }
 
-/// For each place the devices that may be there.
+/// Candidates: for each place, by its number, the devices that may be there.
 pub(crate) type Places = [Devices; 12];
 
-/// For each place, by its number, true if devices may be there. A row from a place without devices leads none.
+/// For each place, by its number, false only if no device may be there. Rows from such a place lead no device, and are skipped.
 type Taken = [bool; 12];
 
-/// Returns the places where a device may be by `places`.
+/// Returns the places at which `places` has a device.
 fn taken(places: &Places) -> Taken
     ensures { CoversPlaces places.now result }
 {
@@ -115,65 +115,65 @@ fn taken(places: &Places) -> Taken
     at
 }
 
-/// Adds to place `to` of `after` the devices that may be at `from` by `before` and for which a row with `when` is.
+/// Adds to place `to` of `after` the devices at `from` in `before` to which a row with `when` applies.
 fn lead(before: &Places, from: StandardState, when: When, after: &mut Places, to: StandardState)
     ensures { (n : StandardState) (a r : ℕ) → a < 16 → r < 64
-        → may_be_at after.new n a r
-        ≡ (may_be_at after.old n a r || ((place_number to == place_number n) && (may_be_at before.now from a r && is_row_for when a r))) }
+        → is_held_at after.new n a r
+        ≡ (is_held_at after.old n a r || ((place_number to == place_number n) && (is_held_at before.now from a r && applies_to when a r))) }
 {
     let to = to.number();
     after[to] = join(&after[to], &before[from.number()], when);
 }
 
-/// Adds to `after` the devices of `before` that go by `row` at `event`.
+/// Adds to `after` the devices of `before` to which `row` applies at `event`, at the place to which it leads.
 fn go(row: &Row, before: &Places, at: &Taken, event: &LogEvent, after: &mut Places)
     requires { CoversPlaces before.now at.now }
     ensures { (n : StandardState) (a r : ℕ) → a < 16 → r < 64
-        → may_be_at after.new n a r ≡ (may_be_at after.old n a r || row_leads before.now event.now n a r row.now) }
+        → is_held_at after.new n a r ≡ (is_held_at after.old n a r || row_leads before.now event.now n a r row.now) }
 {
-    if at[row.from.number()] && speaks_of(row, event) {
+    if at[row.from.number()] && row_fits_event(row, event) {
         lead(before, row.from, row.when, after, row.next);
     }
 }
 
-/// Adds to `after` the devices of `before` that go by one of `rows` at `event`.
+/// Adds to `after`, for each of `rows`, the devices of `before` to which the row applies at `event`.
 fn pass(rows: &[Row], before: &Places, at: &Taken, event: &LogEvent, after: &mut Places)
     requires { CoversPlaces before.now at.now }
     ensures { (n : StandardState) (a r : ℕ) → a < 16 → r < 64
-        → may_be_at after.new n a r ≡ (may_be_at after.old n a r || list_any (row_leads before.now event.now n a r) rows.now) }
+        → is_held_at after.new n a r ≡ (is_held_at after.old n a r || list_any (row_leads before.now event.now n a r) rows.now) }
 {
     for row in rows {
         go(row, before, at, event, after);
     }
 }
 
-/// Adds the devices that go by a row of a reset or of power, because no such row is about a request.
+/// Adds to `after` the devices of `before` to which a row of `MARKS` applies. Skips requests, because no row of `MARKS` is for one.
 #[tactic(auto, using(crate::proofs::Requests::marks_lead_no_request))]
 fn pass_marks(before: &Places, at: &Taken, event: &LogEvent, after: &mut Places)
     requires { CoversPlaces before.now at.now }
     ensures { (n : StandardState) (a r : ℕ) → a < 16 → r < 64
-        → may_be_at after.new n a r ≡ (may_be_at after.old n a r || list_any (row_leads before.now event.now n a r) MARKS) }
+        → is_held_at after.new n a r ≡ (is_held_at after.old n a r || list_any (row_leads before.now event.now n a r) MARKS) }
 {
     if event.asked.number() > 8 {
         pass(&MARKS, before, at, event, after);
     }
 }
 
-/// Adds to `after` the devices of `before` that make the move `one` by themselves.
+/// Adds to `after` the devices of `before` that make the move `one`.
 fn slide(one: &Drift, before: &Places, at: &Taken, after: &mut Places)
     requires { CoversPlaces before.now at.now }
     ensures { (n : StandardState) (a r : ℕ) → a < 16 → r < 64
-        → may_be_at after.new n a r ≡ (may_be_at after.old n a r || drift_leads before.now n a r one.now) }
+        → is_held_at after.new n a r ≡ (is_held_at after.old n a r || drift_leads before.now n a r one.now) }
 {
     if at[one.from.number()] {
         lead(before, one.from, one.when, after, one.next);
     }
 }
 
-/// Returns the devices of `before`, and those of them that make one of `moves` by themselves, at the place to which the move leads.
+/// Returns the devices of `before`, and each of them that makes one of `moves` also at the place to which the move leads.
 fn drift(moves: &[Drift], before: &Places) -> Places
     ensures { (n : StandardState) (a r : ℕ) → a < 16 → r < 64
-        → may_be_at result n a r ≡ (may_be_at before.now n a r || list_any (drift_leads before.now n a r) moves.now) }
+        → is_held_at result n a r ≡ (is_held_at before.now n a r || list_any (drift_leads before.now n a r) moves.now) }
 {
     let mut after = *before;
     let at = taken(before);
@@ -183,10 +183,10 @@ fn drift(moves: &[Drift], before: &Places) -> Places
     after
 }
 
-/// Returns the devices that may be where they were by `before` after `event`.
+/// Returns the devices of `before` that may stay at their places at `event`: all of them, or none.
 fn rest(before: &Places, event: &LogEvent) -> Places
     ensures { (n : StandardState) (a r : ℕ) → a < 16 → r < 64
-        → may_be_at result n a r ≡ (device_stays event.now && may_be_at before.now n a r) }
+        → is_held_at result n a r ≡ (may_stay_at_event event.now && is_held_at before.now n a r) }
 {
     if may_stay(event) {
         *before
@@ -195,9 +195,9 @@ fn rest(before: &Places, event: &LogEvent) -> Places
     }
 }
 
-/// Returns the devices that may be at each place after `event`, if `before` has those that may be there before it.
+/// Returns the candidates after `event`, if `before` are the candidates before it.
 pub(crate) fn step(before: &Places, event: &LogEvent) -> Places
-    ensures { (n : StandardState) (a r : ℕ) → a < 16 → r < 64 → may_be_at result n a r ≡ is_held_after_event before.now event.now n a r }
+    ensures { (n : StandardState) (a r : ℕ) → a < 16 → r < 64 → is_held_at result n a r ≡ is_held_after_event before.now event.now n a r }
 {
     let at = taken(before);
     let mut after = rest(before, event);
@@ -215,7 +215,7 @@ fn has_bit(word: u64, bit: u8) -> bool
     word >> bit & 1 == 1
 }
 
-/// Returns true if a device with the set `readings` is held, with any bmAttributes.
+/// Returns true if `devices` has a device with the set of habits `readings`, and with some bmAttributes.
 fn is_held(devices: &Devices, readings: u8) -> bool
     requires { readings < 64 }
     ensures { result ≡ has_candidate devices.now readings }
@@ -223,7 +223,7 @@ fn is_held(devices: &Devices, readings: u8) -> bool
     has_bit(readings_of(devices), readings)
 }
 
-/// Returns for each place whether a device with the set `readings` may be there by `places`.
+/// Returns, for each place, true if `places` has a device with the set of habits `readings` there.
 pub(crate) fn places_of(places: &Places, readings: u8) -> [bool; 12]
     requires { readings < 64 }
     ensures { (n : ℕ) → n < 12 → slice_index_or result n false ≡ has_candidate (slice_index_or places.now n []) readings }
@@ -235,7 +235,7 @@ pub(crate) fn places_of(places: &Places, readings: u8) -> [bool; 12]
     at
 }
 
-/// Returns true if a device with the set `readings` may be at any place by `places`.
+/// Returns true if `places` has a device with the set of habits `readings` at some place.
 pub(crate) fn is_any_held(places: &Places, readings: u8) -> bool
     requires { readings < 64 }
     ensures { result ≡ is_held_anywhere places.now readings }
@@ -247,22 +247,22 @@ pub(crate) fn is_any_held(places: &Places, readings: u8) -> bool
     is_some
 }
 
-/// Returns the least set of readings below number `sets` with which a device may be somewhere by `places`: a set with the fewest readings,
-/// and of several the one with the least number. None if there is no such set.
+/// Returns the smallest set of habits, of those with a number below `sets`, with which `places` has a device: the set with the fewest
+/// habits, and among equals the lowest number. None if there is no such set.
 pub(crate) fn least_held(places: &Places, sets: u8) -> Option<u8>
     requires { sets ≤ 64 }
-    ensures { result ≡ least_below (is_held_anywhere places.now) sets }
+    ensures { result ≡ least_set_below (is_held_anywhere places.now) sets }
 {
     let mut least = None;
     for readings in 0..sets {
-        least = better(is_any_held(places, readings), readings, least);
+        least = smaller_set(is_any_held(places, readings), readings, least);
     }
     least
 }
 
-/// Returns the better set of two: `readings`, if it is held and has fewer readings than `least`, and else `least`.
-fn better(held: bool, readings: u8, least: Option<u8>) -> Option<u8>
-    ensures { result ≡ better_readings held readings least }
+/// Returns the smaller of two sets: `readings`, if `held`, and `least` is None or has more habits than `readings`; else `least`.
+fn smaller_set(held: bool, readings: u8, least: Option<u8>) -> Option<u8>
+    ensures { result ≡ smaller_set_of_readings held readings least }
 {
     if !held {
         return least;

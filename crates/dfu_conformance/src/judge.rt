@@ -1,4 +1,4 @@
-//! The judge of a device of the standard.
+//! The judge of one device, by the tables of the standard and of the habits.
 
 ghost use Rattle.std.specs.Prelude.{◌≡◌, ◌<◌, ℕ, List, IsNone, IfSome, [], ◌∷◌, ◌++◌, slice_index_or, true, false};
 ghost use Rattle.dfu_conformance.specs.inside.Stepped.{is_held_anywhere, has_candidate};
@@ -7,20 +7,22 @@ use crate::held::{Places, is_any_held, least_held, places_of, step};
 use crate::{Departure, LogEvent, Verdict};
 use std::marker::Model;
 
-/// Every device, at every place.
+/// Candidates before the first event: every device, at every place.
 const EVERY: Places = [[u64::MAX; 16]; 12];
 
-/// A judge of one device, about which nothing is known at first: it follows every device at once, with each set of habits, and takes no
-/// memory beyond its own 3,080 bytes.
+/// A judge of one device, about which nothing is known at first: it follows every possible device at once, with each set of habits, and
+/// allocates no memory beyond its own 3,080 bytes.
 #[derive(Drop)]
 pub struct Judge {
-    // Up to the first departure both lists are the same, and `since` is not used.
+    // True after the first departure. Until then `since` is not used, because `whole` has the candidates since the start.
     has_departed: bool,
+    // Candidates by the events since the last departure.
     since: Places,
+    // Candidates by all events.
     whole: Places,
 }
 
-// a clause sees the devices that are held, since the last departure and since the start
+// Contracts see the candidates by the events since the last departure, and by all events since the start.
 impl Model for Judge {
     ghost use Rattle.dfu_conformance.specs.Candidates.{JudgedDevices, devices_since};
 
@@ -46,10 +48,10 @@ fn departure(before: &Places, after: &Places, event: &LogEvent) -> Option<Depart
 
 impl Judge {
     ghost use Rattle.dfu_conformance.specs.MayAnswer.{CanAnswer, CandidatesExact, PlainCandidatesExact};
-    ghost use Rattle.dfu_conformance.specs.Verdict.{IsVerdict, HasBits, ArePlacesAfter, EventDeparts};
+    ghost use Rattle.dfu_conformance.specs.Verdict.{IsVerdict, HasSixBits, ArePlacesAfter, EventDeparts};
     ghost use Rattle.dfu_conformance.specs.declared.event.LogEvent.{LogEvent};
 
-    /// Returns a judge before the first event, of a device about which nothing is known, and which may be at every place.
+    /// Returns a judge before the first event: nothing is known about the device, which may be at any place.
     pub fn new() -> Judge
         ensures whole { CandidatesExact result.whole [] }
         ensures since { PlainCandidatesExact result.since [] }
@@ -61,8 +63,8 @@ impl Judge {
         }
     }
 
-    /// Takes the next event. Returns the departure if no device of the standard is left after `event`, and from then on the device may be
-    /// anywhere again, for departures; for the verdict nothing changes.
+    /// Takes the next event. Returns a departure if no device that keeps the standard could have answered all events since the last
+    /// departure and `event`. The search for departures then starts again from every place; the verdict remains on all events.
     pub fn take(&mut self, event: &LogEvent) -> Option<Departure>
         ensures whole { (es : List LogEvent) → CandidatesExact self.old.whole es → CandidatesExact self.new.whole (es ++ event.now ∷ []) }
         ensures kept { IsNone result → (es : List LogEvent) → PlainCandidatesExact self.old.since es
@@ -101,10 +103,10 @@ impl Judge {
         }
     }
 
-    /// Returns the verdict on all events that were taken.
+    /// Returns the verdict on all events that the judge took.
     pub fn verdict(&self) -> Verdict
         ensures is { (es : List LogEvent) → CandidatesExact self.now.whole es → IsVerdict result es }
-        ensures bits { HasBits result }
+        ensures bits { HasSixBits result }
     {
         if is_any_held(&self.whole, 0) {
             return Verdict::Kept;
@@ -115,8 +117,8 @@ impl Judge {
         }
     }
 
-    /// Returns for each place whether the device may be there now if it has the set `readings`, 0 to 63. The places are in the order of
-    /// [`crate::StandardState`].
+    /// Returns, for each place, true if a device with the set of habits `readings`, 0 to 63, may be there after all events. The places are
+    /// in the order of [`crate::StandardState`].
     pub fn places(&self, readings: u8) -> [bool; 12]
         requires { readings < 64 }
         ensures { (es : List LogEvent) → CandidatesExact self.now.whole es → ArePlacesAfter readings es result }
@@ -124,8 +126,8 @@ impl Judge {
         places_of(&self.whole, readings)
     }
 
-    /// Returns for each place whether a device without habits may be there now, by the events since the last departure. The places are in
-    /// the order of [`crate::StandardState`].
+    /// Returns, for each place, true if a device without habits may be there, by the events since the last departure. The places are in the
+    /// order of [`crate::StandardState`].
     pub fn standing(&self) -> [bool; 12]
         ensures { (es : List LogEvent) → PlainCandidatesExact self.now.since es → ArePlacesAfter 0 es result }
     {

@@ -1,7 +1,8 @@
-//! Could a device that keeps USB DFU 1.1 have given these answers? A table of all that the standard leaves open, and a judge that follows
-//! every device of it at once.
+//! Checks whether a device that keeps USB DFU 1.1 could have given the answers in a log: tables of all answers that the standard allows,
+//! and a judge that follows all possible devices at once.
 #![tactic(auto)]
 
+// Row of a table: the place, the event, the devices, the answer, the place after the event, and the source.
 macro_rules! row {
     ($from:ident, $asked:ident, $when:expr, $gives:ident, $next:ident, $source:ident) => {
         $crate::Row {
@@ -15,6 +16,7 @@ macro_rules! row {
     };
 }
 
+// Move of a device by itself: the place, the devices, the place after the move, and the source.
 macro_rules! drift {
     ($from:ident, $when:expr, $next:ident, $source:ident) => {
         $crate::Drift {
@@ -43,7 +45,7 @@ mod verdict;
 mod whole;
 
 pub use drifts::DRIFTS;
-pub use event::{LogEvent, Response, speaks_of};
+pub use event::{LogEvent, Response, row_fits_event};
 pub use habits::HABITS;
 pub use judge::Judge;
 pub use log::{Line, LineFault, read_line, why_unread};

@@ -45,7 +45,7 @@ fn are_digits(text: &[u8]) -> bool
     text.iter().all(|byte| value_of(*byte) < 16)
 }
 
-/// Returns true if `text` is bytes, pairs of hexadecimal digits, at most 65,535 of them.
+/// Returns true if `text` is pairs of hexadecimal digits, for at most 65,535 bytes.
 #[tactic(auto, unfolding(crate::specs::Line::is_hex))]
 fn is_bytes(text: &[u8]) -> bool
     ensures { result ≡ is_hex text.now }
@@ -59,7 +59,7 @@ fn is_bytes(text: &[u8]) -> bool
     are_digits(text)
 }
 
-/// Returns the byte that pair `n` of the hexadecimal digits of `text` makes, or 0 if `text` ends before it does.
+/// Returns the byte that pair `n` of hexadecimal digits in `text` makes, or 0 if `text` ends before the pair does.
 fn byte_at(text: &[u8], n: usize) -> u8
     requires { n < 8 }
     ensures { result ≡ byte_of_digit_pair text.now n }
@@ -72,7 +72,7 @@ fn byte_at(text: &[u8], n: usize) -> u8
     ((16 * high + low) % 256) as u8
 }
 
-/// Returns the number that the pairs `n` and `n` + 1 of `text` make, the low byte first.
+/// Returns the number that pairs `n` and `n` + 1 of `text` make, the low byte first.
 fn number_at(text: &[u8], n: usize) -> u16
     requires { n < 7 }
     ensures { result ≡ byte_of_digit_pair text.now n + 256 * byte_of_digit_pair text.now (n + 1) }
@@ -80,7 +80,7 @@ fn number_at(text: &[u8], n: usize) -> u16
     byte_at(text, n) as u16 + 256 * byte_at(text, n + 1) as u16
 }
 
-/// Returns the setup that `text` says in sixteen hexadecimal digits; None if `text` is anything else.
+/// Returns the setup that `text` encodes in sixteen hexadecimal digits; None for any other text.
 #[tactic(auto, unfolding(crate::specs::Line::setup_in))]
 pub(crate) fn setup_of(text: &[u8]) -> Option<Setup>
     ensures { result ≡ setup_in text.now }
@@ -97,7 +97,7 @@ pub(crate) fn setup_of(text: &[u8]) -> Option<Setup>
     })
 }
 
-/// Returns the number of bytes of the body `text`: half as many as it has digits, or 0 for a dash; None if it is no body.
+/// Returns the number of bytes of the body `text`: half the number of its hexadecimal digits, or 0 for a dash; None for any other text.
 #[tactic(auto, unfolding(crate::specs::Line::body_in))]
 pub(crate) fn body_of(text: &[u8]) -> Option<usize>
     ensures { result ≡ body_in text.now }
@@ -111,7 +111,7 @@ pub(crate) fn body_of(text: &[u8]) -> Option<usize>
     Some(text.len() / 2)
 }
 
-/// Reads `text` as an answer: a word, or the bytes that came; None if it is neither.
+/// Reads `text` as an answer: `ack`, `stall`, `nothing`, or the bytes of the device; None for any other text.
 #[tactic(auto, unfolding(crate::specs::Line::answer_in, crate::specs::Line::is_hex))]
 pub(crate) fn answer_of(text: &[u8]) -> Option<Response>
     ensures { result ≡ answer_in text.now }

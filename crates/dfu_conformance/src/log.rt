@@ -1,9 +1,9 @@
 //! The lines of a log.
 
 ghost use Rattle.std.specs.Prelude.{◌≡◌, MatchBool, Some, None};
-ghost use Rattle.dfu_wire.specs.Request.{SetupRequest};
+ghost use Rattle.dfu_wire.specs.Request.{SetupAsksFor};
 ghost use Rattle.dfu_wire.specs.declared.requests.Request.{Request};
-ghost use Rattle.dfu_conformance.specs.Line.{LineMeaning, LineOfFields, IsRead, field_of, rest_of, is_blank, why_unread};
+ghost use Rattle.dfu_conformance.specs.Line.{LineMeaning, LineOfFields, IsRequestLine, field_of, rest_of, is_blank, why_unread};
 ghost use Rattle.dfu_conformance.specs.Setups.{reset_event, power_event};
 
 use crate::line::{answer_of, body_of, field_end, setup_of};
@@ -13,35 +13,35 @@ use dfu_wire::Setup;
 /// Content of a line of a log.
 #[derive(Clone, Copy)]
 pub enum Line {
-    /// The line says nothing, because it is empty or begins with `#`.
+    /// An empty line, or a comment, which begins with `#`.
     Blank,
-    /// A request that is no request of the class, or one for another interface.
+    /// A request that is no class request, or a request to another interface.
     Elsewhere,
-    /// An event that came to the device.
+    /// An event at the device.
     Came(LogEvent),
 }
 
-/// Fault of a line that is not a line of a log.
+/// Reason why a line is no valid line of a log.
 #[derive(Clone, Copy)]
 pub enum LineFault {
-    /// The line has over 262,158 bytes: only a comment may be longer.
+    /// The line has over 262,158 bytes, more than any valid line but a comment.
     Long,
     /// The first field is no setup.
     Setup,
     /// The second field is no body.
     Body,
-    /// The rest behind the second field is no answer.
+    /// The text behind the second field is no answer.
     Answer,
 }
 
-/// Answer to a reset or to power: none.
+/// Answer in the event of a reset or power: no bytes.
 const SILENT: Response = Response::Bytes {
     count: 0,
     first: 0,
     fifth: 0,
 };
 
-/// Returns the first field of `line`, and the bytes after the space that ends it.
+/// Returns the first field of `line`, and the bytes after the space that ends it; none if no space does.
 fn parts(line: &[u8]) -> (&[u8], &[u8])
     ensures field { result.0.now ≡ field_of line.now }
     ensures rest { result.1.now ≡ rest_of line.now }
@@ -55,10 +55,10 @@ fn parts(line: &[u8]) -> (&[u8], &[u8])
     (&line[..end], rest)
 }
 
-/// Returns the content of a line for a device whose DFU interface has this number, wIndex of its requests:
+/// Returns the content of `line`, for a device whose DFU interface has the number `interface`, the wIndex of its requests:
 ///
 /// - `SETUP BODY ANSWER`, with one space between them: the sixteen hexadecimal digits of a setup; the bytes of its body in such digits, or
-///   `-`; and `ack`, `stall`, `nothing`, or the bytes that were answered;
+///   `-`; and `ack`, `stall`, `nothing`, or the bytes of the answer in such digits;
 /// - `reset` and `power`;
 /// - an empty line, or one that begins with `#`.
 ///
@@ -95,7 +95,7 @@ pub fn why_unread(line: &[u8]) -> LineFault
     LineFault::Answer
 }
 
-/// Returns true if `line` says nothing.
+/// Returns true if `line` is empty or begins with `#`.
 fn begins_blank(line: &[u8]) -> bool
     ensures { result ≡ is_blank line.now }
 {
@@ -105,7 +105,7 @@ fn begins_blank(line: &[u8]) -> bool
     }
 }
 
-/// Returns the event of a line of a reset or of power, as `asked` says.
+/// Returns the event of kind `asked` of a `reset` or `power` line.
 fn mark(asked: EventKind) -> LogEvent
     ensures { result ≡ record reset_event { asked = asked } }
 {
@@ -117,7 +117,7 @@ fn mark(asked: EventKind) -> LogEvent
     }
 }
 
-/// Returns the line of a request, by its fields `setup`, `body` and `answer`; None if one of them can't be read.
+/// Returns the line of a request with the fields `setup`, `body` and `answer`, for a device at `interface`; None if a field is None.
 fn request_of(
     interface: u8,
     setup: Option<Setup>,
@@ -138,9 +138,9 @@ fn request_of(
     }
 }
 
-/// Returns the line of a request with `setup`, a body of `body` bytes and `answer`: Elsewhere if it is none of the class for interface 0.
+/// Returns the line of a request with `setup`, a body of `body` bytes and `answer`: Elsewhere if it is no class request to interface 0.
 fn line_of(setup: &Setup, body: usize, answer: Response) -> Line
-    ensures { (q : Request) → SetupRequest setup.now q → IsRead q setup.now body answer (Some result) }
+    ensures { (q : Request) → SetupAsksFor setup.now q → IsRequestLine q setup.now body answer (Some result) }
 {
     match LogEvent::exchange(setup, body, answer) {
         Some(event) => Line::Came(event),

@@ -1,4 +1,4 @@
--- A board as a program in C has it, all as bytes and numbers.
+-- Board of a program in C, made of bytes and numbers, and the events that may happen to it.
 use Rattle.std.specs.Prelude.{◌≡◌, ℕ, Bool, List, []}
 use Rattle.dfu_wire.specs.declared.states.State.{State}
 use Rattle.dfu_slots.specs.Medium.{MediumState}
@@ -11,14 +11,14 @@ use Rattle.dfu_core.specs.declared.record.DfuRecord.{DfuRecord}
 use Rattle.dfu_core.specs.Config.{config_grain}
 use Rattle.dfu_core.specs.Mode.{HasMode}
 
--- A board in C: its configuration, the record, the bytes in the memory of the block, and those of its flash.
+-- Board in C: its configuration, its device record, the bytes of the block memory and the bytes of the flash.
 pub record CoreBoard : Type 0 where
   pub config : DfuConfig
   pub kept : DfuRecord
   pub block : List ℕ
   pub flash : List ℕ
 
--- The flash of a board in C as a medium, on which any write may fail.
+-- The flash of a board in C as a medium, on which each write may fail.
 abbrev pub medium_of_core : CoreBoard → MediumState
 medium_of_core b = mapped_medium (config_grain b.config) b.flash
 
@@ -43,9 +43,9 @@ pub data CoreEvent : Type 0 where
   CoreWrite : CoreEvent
   -- The call dfu_core_took.
   CoreTook : (failed : ℕ) (out : List ℕ) → CoreEvent
-  -- The power goes, and comes back: dfu_core_power_on, or dfu_core_begin if the device begins for a host. The call returns 0.
+  -- A power cycle: after it the program calls dfu_core_power_on, or dfu_core_begin if the device starts in dfuIDLE. The call returns 0.
   CoreRestart : (begins : Bool) → CoreEvent
 
--- The board in C of its parts.
+-- The board in C made of these four parts.
 abbrev pub core_board : DfuConfig → DfuRecord → (block flash : List ℕ) → CoreBoard
 core_board c r block flash = record { config = c; kept = r; block = block; flash = flash }

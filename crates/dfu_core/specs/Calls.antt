@@ -1,4 +1,4 @@
--- Numbers that calls return to a program in C, and what they say of the record.
+-- Results of calls from a program in C: the number returned, and the record after the call.
 use Rattle.std.specs.Prelude.{◌≡◌, ◌≢◌, ◌⊎◌, ℕ, ℤ, Bool, ◌<◌, ◌≤◌, IsSome, List, length, replicate, None}
 use Rattle.dfu_slots.specs.Medium.{Torn}
 use Rattle.dfu_slots.specs.StoreView.{SlotsState}
@@ -12,20 +12,20 @@ use Rattle.dfu_asks.specs.Steps.{Step}
 use Rattle.dfu_asks.specs.Lent.{LentDevice}
 use Rattle.dfu_asks.specs.Asks.{device_of, steps_in}
 use Rattle.dfu_asks.specs.Calls.{DeviceCalled, WritesPending, DevicePieceReported}
-use Rattle.dfu_asks.specs.Refused.{IsDeviceOn, HasNotedImage, RoomForBlocks, HasRemainingWrites}
+use Rattle.dfu_asks.specs.Refused.{IsDeviceOn, NotedHeaderIsOnFlash, RoomForBlocks, HasRemainingWrites}
 use Rattle.dfu_core.specs.declared.config.DfuConfig.{DfuConfig}
 use Rattle.dfu_core.specs.declared.record.DfuRecord.{DfuRecord}
 use Rattle.dfu_core.specs.declared.numbers.Refusal.{Refusal}
 use Rattle.dfu_core.specs.declared.numbers.Refusal.TheVariants as refusal
 use Rattle.dfu_core.specs.Config.{transfer_of, block_memory_size, IsConfig}
-use Rattle.dfu_core.specs.RecordMeaning.{IsRecordOf, block_in_memory, tail_memory}
+use Rattle.dfu_core.specs.RecordMeaning.{IsRecordOf, block_in_memory, held_memory}
 use Rattle.dfu_core.specs.Formatting.{FORMAT_WORK}
 use Rattle.dfu_core.specs.Further.{PiecesAdvance}
 use Rattle.dfu_core.specs.Numbers.{refusal_number, reply_number, time_reply_number, NO_ROOM_NUMBER}
 
--- The record is no device that asks, for a reason, with a memory of the given size for its block. In this order: a format is due; the
--- configuration is not allowed; the memory has less room than the transfer size and the unit together; the record is not that of a device
--- that asks with a block of at most the transfer size.
+-- The record represents no device, for a reason, with a block memory of the given size. In this order: the record is that of a format; the
+-- configuration is not allowed; the memory has less room than the transfer size and the unit together; the record represents no device
+-- with a block of at most the transfer size.
 abbrev pub DeviceNotFound : Refusal → DfuConfig → DfuRecord → ℕ → Type 0
 DeviceNotFound refusal.Asked c r room = r.work ≡ FORMAT_WORK
 DeviceNotFound refusal.NoConfig c r room = (r.work ≢ FORMAT_WORK) × ¬ IsConfig c
@@ -34,24 +34,24 @@ DeviceNotFound refusal.NoDevice c r room = (r.work ≢ FORMAT_WORK) × IsConfig 
     × ((a : Asking) → IsRecordOf c r a → transfer_of c < a.block_len)
 DeviceNotFound e c r room = ⊥
 
--- The memory of the block is as the last call of the device left it, on the flash.
+-- The block memory and the flash fit the device's record, as the last call left them.
 abbrev pub IsIntactBlock : (memory flash : List ℕ) → Asking → Type 0
-IsIntactBlock memory flash a = IsDeviceOn a (block_in_memory a memory) (tail_memory a memory) flash
+IsIntactBlock memory flash a = IsDeviceOn a (block_in_memory a memory) (held_memory a memory) flash
 
--- A call for a device that asks is refused for a reason. In this order: writes are due; the noted header is not in an open slot of the
--- flash; the device is not as the last call left it.
-abbrev pub CallRefusal : Refusal → (block flash : List ℕ) → Asking → Type 0
-CallRefusal refusal.Asked block flash a = IsSome a.work
-CallRefusal refusal.NoMedium block flash a = (a.work ≡ None) × ¬ HasNotedImage a flash
-CallRefusal refusal.NoDevice block flash a = (a.work ≡ None) × HasNotedImage a flash × ¬ IsIntactBlock block flash a
-CallRefusal e block flash a = ⊥
+-- A call for a device is refused for a reason. In this order: writes are due; the noted header is not in an open slot of the flash; the
+-- block memory or the flash is not as the last call left it.
+abbrev pub IsCallRefused : Refusal → (block flash : List ℕ) → Asking → Type 0
+IsCallRefused refusal.Asked block flash a = IsSome a.work
+IsCallRefused refusal.NoMedium block flash a = (a.work ≡ None) × ¬ NotedHeaderIsOnFlash a flash
+IsCallRefused refusal.NoDevice block flash a = (a.work ≡ None) × NotedHeaderIsOnFlash a flash × ¬ IsIntactBlock block flash a
+IsCallRefused e block flash a = ⊥
 
--- A call is refused for a reason: the record is no device that asks; or else the call for that device is refused.
+-- A call is refused for a reason: the record represents no device; or else the call for its device is refused.
 abbrev pub IsRefusedByCore : Refusal → DfuConfig → DfuRecord → (block flash : List ℕ) → Type 0
 IsRefusedByCore e c r block flash = DeviceNotFound e c r (length block)
-    ⊎ ((a : Asking) × IsConfig c × IsRecordOf c r a × (block_memory_size c ≤ length block) × CallRefusal e block flash a)
+    ⊎ ((a : Asking) × IsConfig c × IsRecordOf c r a × (block_memory_size c ≤ length block) × IsCallRefused e block flash a)
 
--- A call was refused with the number, and left the record and the block as they were.
+-- A refused call returned the number of its reason, and left the record and the block unchanged.
 pub record CoreRefuses (c : DfuConfig) (r : DfuRecord) (block flash : List ℕ) (result : ℤ) (r' : DfuRecord) (block' : List ℕ) : Type 0 where
   pub why : Refusal
   pub number_is : result ≡ refusal_number why
@@ -59,7 +59,8 @@ pub record CoreRefuses (c : DfuConfig) (r : DfuRecord) (block flash : List ℕ) 
   pub unchanged : r' ≡ r
   pub block_is : block' ≡ block
 
--- A call changed the record from one device that asks to another as `Does` says. The block fits in its memory, if it did before.
+-- A call with an allowed configuration and a large enough block memory changed the record of one device into that of another, and `Does`
+-- relates the two devices. The block fits in its memory if it did before.
 pub record RecordAfterCall (c : DfuConfig) (r : DfuRecord) (block : List ℕ) (r' : DfuRecord) (block' : List ℕ) (Does : Asking → Asking →
     Type 0)
     : Type 0 where
@@ -72,8 +73,8 @@ pub record RecordAfterCall (c : DfuConfig) (r : DfuRecord) (block : List ℕ) (r
   pub fits : RoomForBlocks before (transfer_of c) → RoomForBlocks after (transfer_of c)
   pub does : Does before after
 
--- A call came while no writes were due, and its number says the reply. If the device was as the last call left it, the reply ends a row, or
--- asks for the writes of a row.
+-- A call was made while no writes were due, and its number encodes the reply. If `Whole` holds, the reply ends a row of the device table,
+-- or asks for the writes of a row.
 pub record ReplyOutcome (Whole : Type 0) (a : LentDevice) (flash out : List ℕ) (Row : DeviceView → Answer → List ℕ → DeviceView → Type 0)
     (number : Reply → ℤ) (result : ℤ) (a' : LentDevice) (out' : List ℕ) : Type 0 where
   pub idle : a.work ≡ None
@@ -81,7 +82,7 @@ pub record ReplyOutcome (Whole : Type 0) (a : LentDevice) (flash out : List ℕ)
   pub number_is : result ≡ number reply
   pub called : Whole → DeviceCalled a flash out Row a' out' reply
 
--- Time passed while no writes were due, and made a row as a call does. The number is 0, or DFU_WRITE_PENDING.
+-- Time passed while no writes were due. If `Whole` holds, it ended a row or asked for its writes. The number is 0, or DFU_WRITE_PENDING.
 pub record TimeOutcome (Whole : Type 0) (a : LentDevice) (flash : List ℕ) (Row : DeviceView → Answer → List ℕ → DeviceView → Type 0)
     (result : ℤ) (a' : LentDevice) : Type 0 where
   pub idle : a.work ≡ None
@@ -89,8 +90,9 @@ pub record TimeOutcome (Whole : Type 0) (a : LentDevice) (flash : List ℕ) (Row
   pub number_is : result ≡ time_reply_number reply
   pub called : Whole → (out : List ℕ) × DeviceCalled a flash (replicate 6 0) Row a' out reply
 
--- Writes were due, the program reported how a piece went, and the number says the reply.
-pub record RecordAfterReport (a : LentDevice) (flash : List ℕ) (failed : Bool) (out : List ℕ) (result : ℤ) (a' : LentDevice) (out' : List ℕ)
+-- Writes were due, the program reported the outcome of a piece, and the number encodes the reply. If the piece was the next one, and the
+-- flash changed only in its range, the device is as the report and the flash say.
+pub record ReportOutcome (a : LentDevice) (flash : List ℕ) (failed : Bool) (out : List ℕ) (result : ℤ) (a' : LentDevice) (out' : List ℕ)
     : Type 0 where
   pub work : PendingWrites
   pub left : HasRemainingWrites a work
@@ -101,8 +103,9 @@ pub record RecordAfterReport (a : LentDevice) (flash : List ℕ) (failed : Bool)
       → DevicePieceReported (device_of a s) len s was p.write failed flash out a' out' reply
   pub further : PiecesAdvance a reply a'
 
--- The buffer was too small, and nothing happened.
-pub record HasNoRoom (least : ℕ) (r : DfuRecord) (block out : List ℕ) (result : ℤ) (r' : DfuRecord) (block' out' : List ℕ) : Type 0 where
+-- The buffer had fewer than `least` bytes, and the call changed nothing.
+pub record BufferTooSmall (least : ℕ) (r : DfuRecord) (block out : List ℕ) (result : ℤ) (r' : DfuRecord)
+    (block' out' : List ℕ) : Type 0 where
   pub number_is : result ≡ NO_ROOM_NUMBER
   pub short : length out < least
   pub unchanged : r' ≡ r

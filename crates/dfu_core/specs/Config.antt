@@ -1,4 +1,4 @@
--- Configuration with which a program in C sets a device up.
+-- Configuration that a program in C gives a device.
 use Rattle.std.specs.Prelude.{◌≡◌, ◌==◌, ◌+◌, ◌%◌, ◌^◌, ◌≤◌, ℕ, if◌then◌else◌}
 use Rattle.dfu_wire.specs.Functional.{functional_of}
 use Rattle.dfu_slots.specs.declared.layout.Unit.{Unit as WriteUnit}
@@ -11,7 +11,7 @@ use Rattle.dfu_core.specs.declared.config.DfuConfig.{DfuConfig}
 unfoldable pub unit_of : DfuConfig → WriteUnit
 unit_of c = if c.unit == 16 then U16 else if c.unit == 64 then U64 else if c.unit == 256 then U256 else Byte
 
--- The setting of the numbers of a configuration, with bcdDFUVersion 0110h.
+-- The device setting that a configuration gives, with bcdDFUVersion 0110h.
 abbrev pub config_setting : DfuConfig → Setting
 config_setting c = record {
   ids = record { device = c.device; product = c.product; vendor = c.vendor };
@@ -26,26 +26,27 @@ config_setting c = record {
 abbrev pub version : ℕ
 version = 300
 
--- The most bytes of a block.
+-- The transfer size of a configuration: the most bytes of a block.
 abbrev pub transfer_of : DfuConfig → ℕ
 transfer_of c = (config_setting c).functional.transfer
 
--- The fewest bytes of the memory of a block: the transfer size, and after it a unit for the bytes that are held back.
+-- The fewest bytes of a block memory: the transfer size, followed by a unit for the bytes that are held back.
 abbrev pub block_memory_size : DfuConfig → ℕ
 block_memory_size c = transfer_of c + unit_size (unit_of c)
 
--- Sizes of a sector that are allowed, in bytes; 0 says that the flash has no sectors, and is written over in place.
-abbrev pub IsSector : ℕ → Type 0
-IsSector n = (n % 256 ≡ 0) × (n ≤ 2 ^ 18)
+-- The sector size, in bytes, is allowed: a multiple of 256 and at most 262,144. Size 0 means that the flash has no sectors and is
+-- overwritten in place.
+abbrev pub IsAllowedSectorSize : ℕ → Type 0
+IsAllowedSectorSize n = (n % 256 ≡ 0) × (n ≤ 2 ^ 18)
 
 -- The unit and the sectors of a configuration.
 abbrev pub config_grain : DfuConfig → Grain
 config_grain c = record { unit = unit_of c; sector = c.sector }
 
--- The configuration is allowed: its version is that of the library, dfu_device takes its setting, a unit has its unit size, and its sector
--- size is allowed.
+-- The configuration is allowed: its version is that of the library, its setting is allowed by dfu_device, its unit size is that of a unit,
+-- and its sector size is allowed.
 pub record IsConfig (c : DfuConfig) : Type 0 where
   pub version_is : c.version ≡ version
   pub allowed : IsAllowedSetting (config_setting c)
   pub unit_is : unit_size (unit_of c) ≡ c.unit
-  pub sector_is : IsSector c.sector
+  pub sector_is : IsAllowedSectorSize c.sector

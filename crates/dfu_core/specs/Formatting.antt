@@ -1,4 +1,4 @@
--- Records that stand for a format.
+-- Records that represent a format.
 use Rattle.std.specs.Prelude.{◌≡◌, ℕ}
 use Rattle.dfu_asks.specs.declared.formatting.FormatStep.{FormatStep}
 use Rattle.dfu_asks.specs.declared.formatting.FormatStep.TheVariants as format_step
@@ -7,11 +7,12 @@ use Rattle.dfu_core.specs.declared.config.DfuConfig.{DfuConfig}
 use Rattle.dfu_core.specs.Config.{unit_of}
 use Rattle.dfu_core.specs.declared.record.DfuRecord.{DfuRecord}
 
--- The number of `work` by which a record is a format.
+-- The value of `work` in the record of a format.
 abbrev pub FORMAT_WORK : ℕ
 FORMAT_WORK = 3
 
--- The two numbers stand for a part of a format: its number, and the place at which the image goes on.
+-- The two numbers encode a part of a format: the number of the part, and, if the part writes the image, the place at which the image goes
+-- on.
 abbrev pub HasFormatPhase : ℕ → ℕ → FormatStep → Type 0
 HasFormatPhase n from format_step.CloseSecond = n ≡ 0
 HasFormatPhase n from format_step.CloseFirst = n ≡ 1
@@ -24,7 +25,7 @@ HasFormatPhase n from format_step.Ended = n ≡ 5
 abbrev pub ChangesOnlyFormat : DfuRecord → DfuRecord → Type 0
 ChangesOnlyFormat r r' = r' ≡ record r { work = r'.work; spare = r'.spare; sum = r'.sum; done = r'.done; generation = r'.generation }
 
--- The record stands for the format f.
+-- The record represents the format f.
 pub record IsFormatRecord (c : DfuConfig) (r : DfuRecord) (f : Formatting) : Type 0 where
   pub work : r.work ≡ FORMAT_WORK
   pub unit : f.unit ≡ unit_of c

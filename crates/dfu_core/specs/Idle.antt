@@ -1,4 +1,4 @@
--- Refusals of calls that only look at a record.
+-- Refusals for which a call needs only the configuration and the record.
 use Rattle.std.specs.Prelude.{◌≡◌, ◌≢◌, ◌⊎◌, ℤ}
 use Rattle.dfu_device.specs.declared.device_state.DeviceState.{DeviceState}
 use Rattle.dfu_core.specs.declared.config.DfuConfig.{DfuConfig}
@@ -8,8 +8,8 @@ use Rattle.dfu_core.specs.Mode.{HasMode}
 use Rattle.dfu_core.specs.Numbers.{NO_CONFIG_NUMBER, NO_DEVICE_NUMBER, BUSY_NUMBER}
 
 -- A call is refused: the configuration is not allowed; or else the record has no mode.
-abbrev pub RefusesRecord : DfuConfig → DfuRecord → ℤ → Type 0
-RefusesRecord c r result = ((result ≡ NO_CONFIG_NUMBER) × ¬ IsConfig c)
+abbrev pub RefusesConfigOrRecord : DfuConfig → DfuRecord → ℤ → Type 0
+RefusesConfigOrRecord c r result = ((result ≡ NO_CONFIG_NUMBER) × ¬ IsConfig c)
     ⊎ ((result ≡ NO_DEVICE_NUMBER) × IsConfig c × ((m : DeviceState) → ¬ HasMode r m))
 
 -- The configuration is allowed, the record has a mode, and no writes are due.
@@ -20,6 +20,6 @@ pub record IsIdleRecord (c : DfuConfig) (r : DfuRecord) : Type 0 where
   pub idle : r.work ≡ 0
 
 -- A call is refused: the configuration is not allowed; or else the record has no mode; or else writes of a device or of a format are due.
-abbrev pub RefusesSetup : DfuConfig → DfuRecord → ℤ → Type 0
-RefusesSetup c r result = RefusesRecord c r result
+abbrev pub RefusesUnlessIdle : DfuConfig → DfuRecord → ℤ → Type 0
+RefusesUnlessIdle c r result = RefusesConfigOrRecord c r result
     ⊎ ((result ≡ BUSY_NUMBER) × IsConfig c × ((m : DeviceState) × HasMode r m) × (r.work ≢ 0))

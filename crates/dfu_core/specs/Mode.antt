@@ -1,4 +1,4 @@
--- Modes of a record.
+-- Mode that a record encodes.
 use Rattle.std.specs.Prelude.{◌≡◌, replicate}
 use Rattle.dfu_wire.specs.Code.{code_byte}
 use Rattle.dfu_device.specs.declared.device_state.DeviceState.{DeviceState}
@@ -6,7 +6,7 @@ use Rattle.dfu_device.specs.declared.device_state.DeviceState.TheVariants as dev
 use Rattle.dfu_core.specs.declared.record.DfuRecord.{DfuRecord}
 use Rattle.dfu_core.specs.Config.{version}
 
--- The record has the number of the mode, and the numbers that the mode keeps. Fields that the mode does not keep may be anything.
+-- The record has the number of the mode, and the numbers that the mode keeps. Fields that the mode does not keep may hold any number.
 abbrev pub HasModeNumbers : DfuRecord → DeviceState → Type 0
 HasModeNumbers r device_state.AppIdle = r.mode ≡ 0
 HasModeNumbers r (device_state.AppDetach timer passed) = (r.mode ≡ 1) × (timer ≡ r.first) × (passed ≡ r.second)

@@ -11,59 +11,59 @@ use Rattle.dfu_asks.specs.declared.reply.Refusal.TheVariants as why
 use Rattle.dfu_core.specs.declared.numbers.Refusal.{Refusal}
 use Rattle.dfu_core.specs.declared.numbers.Refusal.TheVariants as refusal
 
--- DFU_STALL.
+-- DFU_STALL: the request is stalled.
 abbrev pub STALL_NUMBER : ℤ
 STALL_NUMBER = negsuc 0
 
--- DFU_NO_CONFIG.
+-- DFU_NO_CONFIG: the configuration is not allowed.
 abbrev pub NO_CONFIG_NUMBER : ℤ
 NO_CONFIG_NUMBER = negsuc 1
 
--- DFU_NO_MEDIUM.
+-- DFU_NO_MEDIUM: the flash has no active image, or 2^32 bytes or more; for a device, the noted header is not in an open slot of the flash.
 abbrev pub NO_MEDIUM_NUMBER : ℤ
 NO_MEDIUM_NUMBER = negsuc 2
 
--- DFU_NO_DEVICE.
+-- DFU_NO_DEVICE: the record represents no device, or none that fits the flash and the block; for a piece, no write is due.
 abbrev pub NO_DEVICE_NUMBER : ℤ
 NO_DEVICE_NUMBER = negsuc 3
 
--- DFU_NO_ROOM.
+-- DFU_NO_ROOM: the buffer is too small for an answer.
 abbrev pub NO_ROOM_NUMBER : ℤ
 NO_ROOM_NUMBER = negsuc 4
 
--- DFU_WRONG_SIZE.
+-- DFU_WRONG_SIZE: the flash cannot be divided into two slots.
 abbrev pub WRONG_SIZE_NUMBER : ℤ
 WRONG_SIZE_NUMBER = negsuc 5
 
--- DFU_NOT_LONG.
+-- DFU_NOT_LONG: the body of the setup is no longer than the transfer size.
 abbrev pub NOT_LONG_NUMBER : ℤ
 NOT_LONG_NUMBER = negsuc 8
 
--- DFU_NO_BLOCK.
+-- DFU_NO_BLOCK: the block memory is too small.
 abbrev pub NO_BLOCK_NUMBER : ℤ
 NO_BLOCK_NUMBER = negsuc 9
 
--- DFU_WRITE_PENDING: an operation is due.
+-- DFU_WRITE_PENDING: an operation of the flash is due.
 abbrev pub WRITE_PENDING_NUMBER : ℤ
 WRITE_PENDING_NUMBER = negsuc 10
 
--- DFU_BUSY.
+-- DFU_BUSY: operations are due and must be carried out first.
 abbrev pub BUSY_NUMBER : ℤ
 BUSY_NUMBER = negsuc 11
 
--- DFU_NO_CLOSE.
+-- DFU_NO_CLOSE: the setup closes no download.
 abbrev pub NO_CLOSE_NUMBER : ℤ
 NO_CLOSE_NUMBER = negsuc 12
 
--- DFU_NO_STATUS.
+-- DFU_NO_STATUS: the status is neither errTARGET nor errFILE.
 abbrev pub NO_STATUS_NUMBER : ℤ
 NO_STATUS_NUMBER = negsuc 13
 
--- DFU_NO_CANDIDATE.
+-- DFU_NO_CANDIDATE: no image was received that may be refused.
 abbrev pub NO_CANDIDATE_NUMBER : ℤ
 NO_CANDIDATE_NUMBER = negsuc 19
 
--- The number of a refusal.
+-- The number that a call in C returns for a refusal.
 abbrev pub refusal_number : Refusal → ℤ
 refusal_number refusal.NoConfig = NO_CONFIG_NUMBER
 refusal_number refusal.NoBlock = NO_BLOCK_NUMBER
@@ -71,11 +71,11 @@ refusal_number refusal.Asked = BUSY_NUMBER
 refusal_number refusal.NoMedium = NO_MEDIUM_NUMBER
 refusal_number refusal.NoDevice = NO_DEVICE_NUMBER
 
--- The refusal of a call in C, by the reason that dfu_asks has.
-abbrev pub refusal_of : Why → Refusal
-refusal_of why.Asked = refusal.Asked
-refusal_of why.NoMedium = refusal.NoMedium
-refusal_of e = refusal.NoDevice
+-- The refusal in C that reports a refusal of dfu_asks.
+abbrev pub core_refusal_of : Why → Refusal
+core_refusal_of why.Asked = refusal.Asked
+core_refusal_of why.NoMedium = refusal.NoMedium
+core_refusal_of e = refusal.NoDevice
 
 -- The number of an answer: 0 for an acknowledgement, DFU_STALL for a stall, and else the number of its bytes.
 abbrev pub answer_number : Answer → ℕ → ℤ
@@ -93,7 +93,7 @@ abbrev pub time_reply_number : Reply → ℤ
 time_reply_number reply.Asks = WRITE_PENDING_NUMBER
 time_reply_number (reply.Answered x count) = pos 0
 
--- The number of a yes or a no.
+-- The number of a yes or a no: 1 for true, 0 for false.
 abbrev pub yes_no_number : Bool → ℤ
 yes_no_number true = pos 1
 yes_no_number false = pos 0

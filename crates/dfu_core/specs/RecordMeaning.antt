@@ -1,4 +1,4 @@
--- Records that stand for a device that asks.
+-- Records that represent a device which asks its program for each write.
 use Rattle.std.specs.Prelude.{◌≡◌, ◌+◌, ◌^◌, ◌<◌, ℕ, Bool, true, false, List, take, drop, Option, Some, None}
 use Rattle.dfu_slots.specs.declared.layout.Unit.{Unit as WriteUnit}
 use Rattle.dfu_device.specs.Setting.{Setting}
@@ -19,7 +19,7 @@ abbrev pub IsFlagNumber : Bool → ℕ → Type 0
 IsFlagNumber true n = n ≡ 1
 IsFlagNumber false n = n ≡ 0
 
--- The record has the numbers of the job.
+-- The record encodes the job whose writes are pending.
 abbrev pub HasJobNumbers : DfuRecord → SlotWrite → Type 0
 HasJobNumbers r (slot_write.Block spare close) = (r.work ≡ 1) × (spare ≡ r.spare) × IsFlagNumber close r.close
 HasJobNumbers r (slot_write.Commit spare generation register) =
@@ -29,34 +29,34 @@ HasJobNumbers r (slot_write.Commit spare generation register) =
 abbrev pub ChangesOnlyJob : DfuRecord → DfuRecord → Type 0
 ChangesOnlyJob r r' = r' ≡ record r { work = r'.work; spare = r'.spare; sum = r'.sum; generation = r'.generation; close = r'.close }
 
--- The number is 1 more than the length of the GETSTATUS that waits, or 0 if none waits.
-abbrev pub IsPendingNumber : ℕ → Option ℕ → Type 0
-IsPendingNumber n None = n ≡ 0
-IsPendingNumber n (Some len) = (n ≡ len + 1) × (len < 2 ^ 16)
+-- The number is 1 more than wLength of the pending GETSTATUS, or 0 if none is pending.
+abbrev pub IsPendingLengthNumber : ℕ → Option ℕ → Type 0
+IsPendingLengthNumber n None = n ≡ 0
+IsPendingLengthNumber n (Some len) = (n ≡ len + 1) × (len < 2 ^ 16)
 
--- The record has the numbers of the work, or of none.
+-- The record encodes the pending writes, or that none are pending.
 abbrev pub HasWorkNumbers : DfuRecord → Option PendingWrites → Type 0
 HasWorkNumbers r None = r.work ≡ 0
-HasWorkNumbers r (Some w) = HasJobNumbers r w.job × IsPendingNumber r.asked w.asked × (w.done ≡ r.done)
+HasWorkNumbers r (Some w) = HasJobNumbers r w.job × IsPendingLengthNumber r.asked w.asked × (w.done ≡ r.done)
 
--- Only the fields of work differ in the two records.
+-- Only the fields of the pending writes differ in the two records.
 abbrev pub ChangesOnlyWork : DfuRecord → DfuRecord → Type 0
 ChangesOnlyWork r r' = ChangesOnlyJob (record r { done = r'.done; asked = r'.asked }) r'
 
--- The record has the numbers of what is noted of the active image.
+-- The record encodes the note on the active image: its slot and its header.
 pub record HasNoteNumbers (r : DfuRecord) (n : Noted) : Type 0 where
   pub second : IsFlagNumber n.second r.slot
   pub header : n.header ≡ r.header
 
 -- The setting, the unit and the sectors are those of the configuration.
-pub record IsSetupOfConfig (c : DfuConfig) (config : Setting) (unit : WriteUnit) (sector : Sector) : Type 0 where
+pub record AreConfigParts (c : DfuConfig) (config : Setting) (unit : WriteUnit) (sector : Sector) : Type 0 where
   pub config_is : config ≡ config_setting c
   pub unit_is : unit ≡ unit_of c
   pub sector_is : sector.size ≡ c.sector
 
--- The record stands for the device a, which asks for its writes.
+-- The record represents the device a.
 pub record IsRecordOf (c : DfuConfig) (r : DfuRecord) (a : Asking) : Type 0 where
-  pub set_up : IsSetupOfConfig c a.config a.unit a.sector
+  pub set_up : AreConfigParts c a.config a.unit a.sector
   pub mode : HasMode r a.mode
   pub block : a.block_len ≡ r.length
   pub held : a.held_len ≡ r.held_length
@@ -64,14 +64,14 @@ pub record IsRecordOf (c : DfuConfig) (r : DfuRecord) (a : Asking) : Type 0 wher
   pub noted : HasNoteNumbers r a.noted
   pub work : HasWorkNumbers r a.work
 
--- The first part of the memory of a block, as long as the transfer size: the bytes of the block.
+-- The first part of a block memory, as long as the transfer size: it holds the block.
 abbrev pub block_in_memory : Asking → List ℕ → List ℕ
 block_in_memory a memory = take a.config.functional.transfer memory
 
--- The rest of the memory of a block, for the bytes that are held back.
-abbrev pub tail_memory : Asking → List ℕ → List ℕ
-tail_memory a memory = drop a.config.functional.transfer memory
+-- The rest of a block memory: it holds the bytes that are held back.
+abbrev pub held_memory : Asking → List ℕ → List ℕ
+held_memory a memory = drop a.config.functional.transfer memory
 
 -- The device with its block and its held bytes in the memory.
 abbrev pub with_memory : List ℕ → Asking → LentDevice
-with_memory memory a = lent a (block_in_memory a memory) (tail_memory a memory)
+with_memory memory a = lent a (block_in_memory a memory) (held_memory a memory)

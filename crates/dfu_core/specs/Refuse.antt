@@ -1,4 +1,4 @@
--- Images that a program in C refuses.
+-- Refusal of an image by a program in C.
 use Rattle.std.specs.Prelude.{◌≡◌, ◌⊎◌, ◌==◌, if◌then◌else◌, ℕ, ℤ, pos, List, [], None}
 use Rattle.dfu_wire.specs.Code.{code_byte}
 use Rattle.dfu_device.specs.declared.answer.Answer.{Answer}
@@ -11,11 +11,11 @@ use Rattle.dfu_asks.specs.declared.asking.Asking.{Asking}
 use Rattle.dfu_asks.specs.Asks.{device_in, IsDevice}
 use Rattle.dfu_core.specs.declared.config.DfuConfig.{DfuConfig}
 use Rattle.dfu_core.specs.declared.record.DfuRecord.{DfuRecord}
-use Rattle.dfu_core.specs.Idle.{IsIdleRecord, RefusesSetup}
+use Rattle.dfu_core.specs.Idle.{IsIdleRecord, RefusesUnlessIdle}
 use Rattle.dfu_core.specs.RecordMeaning.{IsRecordOf, with_memory}
 use Rattle.dfu_core.specs.Numbers.{STALL_NUMBER, NO_CLOSE_NUMBER, NO_STATUS_NUMBER}
 
--- The objection that a status stands for.
+-- The objection that a status reports: 1 is errTARGET, and any other number counts as errFILE.
 abbrev pub objection_of_status : ℕ → Objection
 objection_of_status status = if status == 1 then Target else File
 
@@ -23,30 +23,32 @@ objection_of_status status = if status == 1 then Target else File
 abbrev pub IsObjectionStatus : ℕ → Type 0
 IsObjectionStatus status = code_byte (objection_code (objection_of_status status)) ≡ status
 
--- The record takes the row of the cause, which has the answer and no bytes; the block stays as long as before.
+-- The record takes the row of the cause, with the answer and no bytes. No writes are due afterwards, and the block keeps its length.
 abbrev pub RecordTakesRow : DfuConfig → DfuRecord → Cause → Answer → DfuRecord → Type 0
 RecordTakesRow c r cause x r' = (a : Asking) → IsRecordOf c r a → (a' : Asking) × IsRecordOf c r' a' × (a'.work ≡ None) × (a'.block_len
     ≡ a.block_len)
     × ((block flash : List ℕ) → IsDevice (with_memory block a) flash → IsDevice (with_memory block a') flash
     × Row (device_in (with_memory block a) flash) cause x [] (device_in (with_memory block a') flash))
 
--- The setup closes no download of the record's device.
+-- The setup closes no download of the record's device, on any flash and block memory that fit the device.
 abbrev pub ClosesNoDownload : DfuConfig → DfuRecord → List ℕ → Type 0
 ClosesNoDownload c r setup = (a : Asking) → IsRecordOf c r a → (block flash : List ℕ) → IsDevice (with_memory block a) flash
     → ¬ ClosesDownload setup (device_in (with_memory block a) flash)
 
--- A call is refused as dfu_core_would_stall is; or else the status stands for no objection.
+-- A call with a status is refused as dfu_core_would_stall is; or else the status is not that of an objection.
 abbrev pub RefusesStatus : DfuConfig → DfuRecord → ℕ → ℤ → Type 0
-RefusesStatus c r status result = ((result ≡ NO_STATUS_NUMBER) × IsIdleRecord c r × ¬ IsObjectionStatus status) ⊎ RefusesSetup c r result
+RefusesStatus c r status result =
+    ((result ≡ NO_STATUS_NUMBER) × IsIdleRecord c r × ¬ IsObjectionStatus status) ⊎ RefusesUnlessIdle c r result
 
--- Result of dfu_core_refuse.
+-- Outcome of dfu_core_refuse with a status: 0 and the row of the refusal, or a call that is refused and leaves the record unchanged.
 abbrev pub RefuseOutcome : DfuConfig → DfuRecord → ℕ → ℤ → DfuRecord → Type 0
 RefuseOutcome c r status result r' =
     ((result ≡ pos 0) × IsIdleRecord c r × IsObjectionStatus status
     × RecordTakesRow c r (Refusing (objection_of_status status)) answer.Ack r')
     ⊎ ((r' ≡ r) × RefusesStatus c r status result)
 
--- Result of dfu_core_refuse_close, with a setup as the table of the device knows it.
+-- Outcome of dfu_core_refuse_close with a status, and a setup as the device table reads it: a stall and the row of the refusal, or a call
+-- that is refused and leaves the record unchanged.
 abbrev pub RefuseCloseOutcome : DfuConfig → DfuRecord → List ℕ → ℕ → ℤ → DfuRecord → Type 0
 RefuseCloseOutcome c r setup status result r' =
     ((result ≡ STALL_NUMBER) × IsIdleRecord c r × IsObjectionStatus status

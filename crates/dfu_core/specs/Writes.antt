@@ -1,4 +1,4 @@
--- Writes for which a program in C is asked.
+-- Writes that a device asks a program in C to carry out.
 use Rattle.std.specs.Prelude.{◌≡◌, ◌⊎◌, ◌==◌, ◌^◌, ℕ, ℤ, pos, ◌<◌, ◌≤◌, List, length, take, replicate, Some, if◌then◌else◌}
 use Rattle.dfu_slots.specs.Image.{Active}
 use Rattle.dfu_slots.specs.StoreView.{SlotsState}
@@ -26,7 +26,7 @@ ask_step ask = record {
   write = record { at = ask.at; bytes = if ask.kind == 1 then replicate ask.length 255 else take ask.length ask.bytes };
 }
 
--- The next write that is due was handed out.
+-- The next write that is due was handed out. If the flash has an active image, the write lies in the spare slot.
 pub record WriteHandedOut (c : DfuConfig) (r : DfuRecord) (block flash : List ℕ) (result : ℤ) (ask : DfuAsk) : Type 0 where
   pub number_is : result ≡ pos 0
   pub config : IsConfig c
@@ -48,14 +48,14 @@ abbrev pub HasRowPending : LentDevice → List ℕ → Type 0
 HasRowPending a flash = (len : ℕ) × (s : SlotsState) × (was : List ℕ) × WritesPending a len s was flash
 
 -- No write is handed out: the device asks for none on the flash, or the flash has 2^32 bytes or more.
-abbrev pub NoWriteHandedOut : LentDevice → List ℕ → Type 0
-NoWriteHandedOut a flash = ¬ HasRowPending a flash ⊎ 2 ^ 32 ≤ length flash
+abbrev pub HasNoWriteToHandOut : LentDevice → List ℕ → Type 0
+HasNoWriteToHandOut a flash = ¬ HasRowPending a flash ⊎ 2 ^ 32 ≤ length flash
 
 -- There is a flash on which the device asks for the writes of a row.
-abbrev pub IsPendingSomewhere : LentDevice → Type 0
-IsPendingSomewhere a = (flash : List ℕ) × HasRowPending a flash
+abbrev pub IsPendingOnSomeFlash : LentDevice → Type 0
+IsPendingOnSomeFlash a = (flash : List ℕ) × HasRowPending a flash
 
--- A call for a piece is refused: the record is no device that asks; or else with DFU_NO_DEVICE, for the reason `Why`.
+-- A call for a piece is refused: the record represents no device; or else, with DFU_NO_DEVICE, its device satisfies `Why`.
 pub data RefusesPiece (c : DfuConfig) (r : DfuRecord) (block : List ℕ) (Why : Asking → Type 0) (result : ℤ) : Type 0 where
   device_is_not_found : (e : Refusal) → result ≡ refusal_number e → DeviceNotFound e c r (length block) → RefusesPiece c r block Why result
   piece_is_refused : (a : Asking) → result ≡ NO_DEVICE_NUMBER → IsConfig c → block_memory_size c ≤ length block → IsRecordOf c r a → Why a

@@ -1,4 +1,4 @@
-//! Configuration with which a program in C sets a device up.
+//! Configuration that a program in C gives a device.
 ghost use Rattle.std.specs.Prelude.{◌≡◌, IfSome, IfNone, OnSome};
 ghost use Rattle.dfu_core.specs.Config.{config_setting, unit_of, IsConfig};
 
@@ -34,7 +34,7 @@ pub struct DfuConfig {
     /// bInterfaceNumber: a setup whose wIndex is another number is stalled.
     pub interface: u8,
     /// Time of each block beside its erases and programs, in milliseconds, 0 to 16,777,215. With 0 a block is written before its status is
-    /// answered, and the status tells no time.
+    /// answered, and the status reports no time.
     pub busy_ms: u32,
     /// Time of each image beside its erases and programs, in milliseconds, 0 to 16,777,215; at least 1 without bitManifestationTolerant.
     pub manifest_ms: u32,
@@ -42,12 +42,12 @@ pub struct DfuConfig {
     pub least: u32,
     /// Size of a unit, the bytes that the flash is written at a time: 1, 16, 64 or 256.
     pub unit: u32,
-    /// Size of a sector, the bytes that the flash is erased at a time: a multiple of 256 up to 262,144; or 0 if it is written over in
+    /// Size of a sector, the bytes that the flash is erased at a time: a multiple of 256 up to 262,144; or 0 if it is overwritten in
     /// place.
     pub sector: u32,
-    /// Milliseconds to erase a sector, which a status tells for each sector that a block or an image erases.
+    /// Milliseconds to erase a sector, which a status counts for each sector that a block or an image erases.
     pub erase_ms: u16,
-    /// Milliseconds to program 256 bytes, which a status tells in proportion.
+    /// Milliseconds to program 256 bytes, which a status counts in proportion.
     pub program_ms: u16,
 }
 

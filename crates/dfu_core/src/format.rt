@@ -1,19 +1,19 @@
-//! Records of a format that asks for its writes: how they are read and written.
+//! Reading and writing of the record of a format.
 ghost use Rattle.std.specs.Prelude.{◌≡◌, IfSome, IfNone};
 ghost use Rattle.dfu_asks.specs.declared.formatting.FormatStep.{FormatStep as Part};
 ghost use Rattle.dfu_asks.specs.declared.formatting.Formatting.{Formatting as Going};
 ghost use Rattle.dfu_core.specs.declared.config.DfuConfig.{DfuConfig as Given};
-ghost use Rattle.dfu_core.specs.RecordMeaning.{IsSetupOfConfig};
+ghost use Rattle.dfu_core.specs.RecordMeaning.{AreConfigParts};
 ghost use Rattle.dfu_core.specs.Formatting.{FORMAT_WORK, HasFormatPhase, IsFormatRecord, ChangesOnlyFormat};
 
 use crate::config::Settings;
 use crate::record::DfuRecord;
 use dfu_asks::{FormatStep, Formatting};
 
-/// The number of `work` by which a record is a format.
+/// The value of `work` in the record of a format.
 pub(crate) const WORK: u32 = 3;
 
-// The part of a format by its number, and the place at which the image goes on.
+// Returns the part of a format with the number; `from` is the place at which the image goes on. None if no part has the number.
 fn phase_of(number: u8, from: u32) -> Option<FormatStep>
     ensures some { IfSome result (λ phase. HasFormatPhase number from phase) }
     ensures none { IfNone result ((phase : Part) → ¬ HasFormatPhase number from phase) }
@@ -29,9 +29,9 @@ fn phase_of(number: u8, from: u32) -> Option<FormatStep>
     }
 }
 
-/// Returns the format for which record `kept` stands; None if it stands for none.
+/// Returns the format that record `kept` represents; None if it represents none.
 pub fn formatting_of(settings: &Settings, kept: &DfuRecord) -> Option<Formatting>
-    ensures some { IfSome result (λ f. (c : Given) → IsSetupOfConfig c settings.now.config settings.now.unit settings.now.sector
+    ensures some { IfSome result (λ f. (c : Given) → AreConfigParts c settings.now.config settings.now.unit settings.now.sector
         → IsFormatRecord c kept.now f) }
     ensures none { IfNone result ((c : Given) (f : Going) → ¬ IsFormatRecord c kept.now f) }
 {
@@ -48,7 +48,7 @@ pub fn formatting_of(settings: &Settings, kept: &DfuRecord) -> Option<Formatting
     })
 }
 
-// The number of a part of a format, and the place at which the image goes on.
+// Returns the number of a part of a format, and the place at which the image goes on.
 fn numbers_of(phase: FormatStep) -> (u8, u32)
     ensures { HasFormatPhase result.0 result.1 phase }
 {

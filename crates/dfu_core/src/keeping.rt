@@ -1,10 +1,10 @@
-//! Records of a device that asks for its writes: how they are read and written.
+//! Reading and writing of the record of a device that asks its program for each write.
 ghost use Rattle.std.specs.Prelude.{◌≡◌, ◌≤◌, ◌<◌, IfOk, IfErr, OnOk, IfSome, IfNone, ℕ, Bool, Option, Some};
 ghost use Rattle.dfu_asks.specs.declared.asking.Asking.{Asking as Device};
 ghost use Rattle.dfu_asks.specs.declared.noted.Noted.{Noted as Note};
 ghost use Rattle.dfu_core.specs.declared.config.DfuConfig.{DfuConfig as Given};
 ghost use Rattle.dfu_core.specs.Config.{block_memory_size, IsConfig};
-ghost use Rattle.dfu_core.specs.RecordMeaning.{IsFlagNumber, IsRecordOf, IsSetupOfConfig, HasNoteNumbers, HasJobNumbers, IsPendingNumber, HasWorkNumbers, ChangesOnlyJob, ChangesOnlyWork};
+ghost use Rattle.dfu_core.specs.RecordMeaning.{IsFlagNumber, IsRecordOf, AreConfigParts, HasNoteNumbers, HasJobNumbers, IsPendingLengthNumber, HasWorkNumbers, ChangesOnlyJob, ChangesOnlyWork};
 ghost use Rattle.dfu_core.specs.Calls.{DeviceNotFound};
 ghost use Rattle.dfu_asks.specs.declared.pending_writes.PendingWrites.{PendingWrites as Due};
 ghost use Rattle.dfu_asks.specs.declared.pending_writes.SlotWrite.{SlotWrite as Series};
@@ -17,10 +17,10 @@ use crate::record::DfuRecord;
 use dfu_asks::{Asking, Noted, PendingWrites, SlotWrite};
 use dfu_slots::MAX_UNIT;
 
-// Returns wLength of the GETSTATUS that waits, if one waits, by the number of the record; `None` if the number is not valid.
-fn asked_of(number: u32) -> Option<Option<u16>>
-    ensures some { IfSome result (λ asked. IsPendingNumber number asked) }
-    ensures only { (asked : Option ℕ) → IsPendingNumber number asked → result ≡ Some asked }
+// Returns wLength of the pending GETSTATUS, if one is pending, from its number in the record; `None` if the number is not valid.
+fn pending_length_of(number: u32) -> Option<Option<u16>>
+    ensures some { IfSome result (λ asked. IsPendingLengthNumber number asked) }
+    ensures only { (asked : Option ℕ) → IsPendingLengthNumber number asked → result ≡ Some asked }
 {
     match number {
         0 => Some(None),
@@ -29,7 +29,7 @@ fn asked_of(number: u32) -> Option<Option<u16>>
     }
 }
 
-// Returns true for 1, false for 0, and none for any other number.
+// Returns true for 1, false for 0, and None for any other number.
 fn flag_of(number: u8) -> Option<bool>
     ensures some { IfSome result (λ yes. IsFlagNumber yes number) }
     ensures only { (yes : Bool) → IsFlagNumber yes number → result ≡ Some yes }
@@ -41,7 +41,7 @@ fn flag_of(number: u8) -> Option<bool>
     }
 }
 
-// Returns the job of a record, if its numbers are those of a job.
+// Returns the job of a record; None if its numbers are those of no job.
 fn job_of(kept: &DfuRecord) -> Option<SlotWrite>
     ensures some { IfSome result (λ job. HasJobNumbers kept.now job) }
     ensures only { (job : Series) → HasJobNumbers kept.now job → result ≡ Some job }
@@ -61,7 +61,7 @@ fn job_of(kept: &DfuRecord) -> Option<SlotWrite>
     }
 }
 
-// Returns the work of a record, or no work; none if its numbers are those of neither.
+// Returns the pending writes of a record, or that none are pending; None if its numbers encode neither.
 fn work_of(kept: &DfuRecord) -> Option<Option<PendingWrites>>
     ensures some { IfSome result (λ work. HasWorkNumbers kept.now work) }
     ensures only { (work : Option Due) → HasWorkNumbers kept.now work → result ≡ Some work }
@@ -70,7 +70,7 @@ fn work_of(kept: &DfuRecord) -> Option<Option<PendingWrites>>
         return Some(None);
     }
     let job = job_of(kept)?;
-    let asked = asked_of(kept.asked)?;
+    let asked = pending_length_of(kept.asked)?;
     Some(Some(PendingWrites {
         job,
         asked,
@@ -110,7 +110,7 @@ fn set_job(kept: &mut DfuRecord, job: SlotWrite)
     }
 }
 
-// Writes the work that is left into a record.
+// Writes the pending writes, or that none are pending, into a record.
 fn set_work(kept: &mut DfuRecord, work: Option<PendingWrites>)
     ensures work { HasWorkNumbers kept.new work }
     ensures others { ChangesOnlyWork kept.old kept.new }
@@ -135,8 +135,8 @@ pub fn slot_of(second: bool) -> u32
     u32::from(second)
 }
 
-// Returns the notes of a record, if its slot is one of the two.
-fn noted_in(kept: &DfuRecord) -> Option<Noted>
+// Returns the note on the active image in a record; None if its slot is neither of the two.
+fn note_in(kept: &DfuRecord) -> Option<Noted>
     ensures some { IfSome result (λ n. HasNoteNumbers kept.now n) }
     ensures none { IfNone result ((n : Note) → ¬ HasNoteNumbers kept.now n) }
 {
@@ -149,10 +149,10 @@ fn noted_in(kept: &DfuRecord) -> Option<Noted>
     })
 }
 
-// Returns the device for which a record stands, if the block is no longer than the transfer size.
+// Returns the device that a record represents; None if it represents none. Its block must have at most 4,096 bytes.
 fn asking_of(settings: Settings, kept: &DfuRecord) -> Option<Asking>
     requires { kept.now.length ≤ 4096 }
-    ensures some { IfSome result (λ a. (c : Given) → IsSetupOfConfig c settings.config settings.unit settings.sector
+    ensures some { IfSome result (λ a. (c : Given) → AreConfigParts c settings.config settings.unit settings.sector
         → IsRecordOf c kept.now a) }
     ensures none { IfNone result ((c : Given) (a : Device) → ¬ IsRecordOf c kept.now a) }
 {
@@ -160,7 +160,7 @@ fn asking_of(settings: Settings, kept: &DfuRecord) -> Option<Asking>
         return None;
     }
     let mode = mode_of(kept)?;
-    let noted = noted_in(kept)?;
+    let noted = note_in(kept)?;
     let work = work_of(kept)?;
     Some(Asking {
         config: settings.config,
@@ -175,7 +175,7 @@ fn asking_of(settings: Settings, kept: &DfuRecord) -> Option<Asking>
     })
 }
 
-/// Reads the device for which a record stands into `read`, or why there is none. `room` is the size of the memory of its block.
+/// Writes to `read` the device that record `kept` represents, or the reason why there is none. `room` is the size of the block memory.
 #[inline(never)]
 pub fn found(config: &DfuConfig, kept: &DfuRecord, room: usize, read: &mut Result<Asking, Refusal>)
     ensures ok { IfOk read.new (λ a. IsRecordOf config.now kept.now a) }
@@ -209,7 +209,7 @@ pub fn found(config: &DfuConfig, kept: &DfuRecord, room: usize, read: &mut Resul
 /// Writes `asking` into its record `kept`.
 #[inline(never)]
 pub fn keep(asking: &Asking, kept: &mut DfuRecord)
-    ensures { (c : Given) → IsSetupOfConfig c asking.now.config asking.now.unit asking.now.sector → IsRecordOf c kept.new asking.now }
+    ensures { (c : Given) → AreConfigParts c asking.now.config asking.now.unit asking.now.sector → IsRecordOf c kept.new asking.now }
 {
     set_mode(kept, asking.mode);
     set_work(kept, asking.work);

@@ -1,4 +1,4 @@
-//! Base of the library of the device for C: its configuration, its record, and the device or format for which they stand. The records and
+//! Base of the library of the device for C: its configuration, its record, and the device or format that they represent. The records and
 //! numbers that the other libraries for C share are here too.
 #![tactic(auto)]
 

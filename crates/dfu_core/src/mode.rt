@@ -1,12 +1,12 @@
-//! The mode of a record, by its numbers.
+//! Mode of a device, as the numbers of its record encode it.
 ghost use Rattle.std.specs.Prelude.{◌≡◌, IfSome, IfOk, IfErr, OnOk, IsTrue, Some, not};
 ghost use Rattle.dfu_wire.specs.Code.{code_byte};
 ghost use Rattle.dfu_device.specs.declared.device_state.DeviceState.{DeviceState as KeptMode};
 ghost use Rattle.dfu_core.specs.Config.{IsConfig};
-ghost use Rattle.dfu_core.specs.RecordMeaning.{IsSetupOfConfig};
+ghost use Rattle.dfu_core.specs.RecordMeaning.{AreConfigParts};
 ghost use Rattle.dfu_core.specs.Mode.{HasMode, HasModeNumbers, ChangesOnlyMode};
 ghost use Rattle.dfu_core.specs.Numbers.{refusal_number};
-ghost use Rattle.dfu_core.specs.Idle.{IsIdleRecord, RefusesRecord, RefusesSetup};
+ghost use Rattle.dfu_core.specs.Idle.{IsIdleRecord, RefusesConfigOrRecord, RefusesUnlessIdle};
 
 use crate::config::{DfuConfig, Settings, VERSION, settings_of};
 use crate::numbers::Refusal;
@@ -14,7 +14,7 @@ use crate::record::DfuRecord;
 use dfu_device::DeviceState;
 use dfu_wire::Code;
 
-// Returns the status code with the number.
+// Returns the status code with number `number`; None if no code has it.
 fn code_of(number: u16) -> Option<Code>
     ensures some { IfSome result (λ c. code_byte c ≡ number) }
     ensures only { (c : Code) → code_byte c ≡ number → result ≡ Some c }
@@ -37,7 +37,7 @@ pub(crate) fn mode_of(kept: &DfuRecord) -> Option<DeviceState>
     if kept.version != VERSION {
         return None;
     }
-    // Each number is as a download keeps it.
+    // The names are those of a download. Other modes keep other values in these fields.
     let (written, passed, number) = (kept.first, kept.second, kept.number);
     let mode = match kept.mode {
         0 => DeviceState::AppIdle,
@@ -84,11 +84,11 @@ pub fn has_mode(kept: &DfuRecord) -> bool
 
 /// Returns the settings of the configuration and the mode of a record, if the configuration is allowed and the record has a mode.
 pub fn mode_in(config: &DfuConfig, kept: &DfuRecord) -> Result<(Settings, DeviceState), Refusal>
-    ensures set_up { IfOk result (λ r. IsSetupOfConfig config.now r.0.config r.0.unit r.0.sector) }
+    ensures set_up { IfOk result (λ r. AreConfigParts config.now r.0.config r.0.unit r.0.sector) }
     ensures only { IfOk result (λ r. (x : KeptMode) → HasMode kept.now x → r.1 ≡ x) }
     ensures mode { IfOk result (λ r. HasMode kept.now r.1) }
     ensures config { OnOk result (IsConfig config.now) }
-    ensures err { IfErr result (λ e. RefusesRecord config.now kept.now (refusal_number e)) }
+    ensures err { IfErr result (λ e. RefusesConfigOrRecord config.now kept.now (refusal_number e)) }
 {
     let Some(settings) = settings_of(config) else {
         return Err(Refusal::NoConfig);
@@ -102,9 +102,9 @@ pub fn mode_in(config: &DfuConfig, kept: &DfuRecord) -> Result<(Settings, Device
 /// Returns the settings and the mode as `mode_in`, if no writes are due either.
 pub fn idle_mode(config: &DfuConfig, kept: &DfuRecord) -> Result<(Settings, DeviceState), Refusal>
     ensures idle { OnOk result (IsIdleRecord config.now kept.now) }
-    ensures err { IfErr result (λ e. RefusesSetup config.now kept.now (refusal_number e)) }
+    ensures err { IfErr result (λ e. RefusesUnlessIdle config.now kept.now (refusal_number e)) }
     ensures only { IfOk result (λ r. (x : KeptMode) → HasMode kept.now x → r.1 ≡ x) }
-    ensures set_up { IfOk result (λ r. IsSetupOfConfig config.now r.0.config r.0.unit r.0.sector) }
+    ensures set_up { IfOk result (λ r. AreConfigParts config.now r.0.config r.0.unit r.0.sector) }
 {
     let (settings, mode) = mode_in(config, kept)?;
     if kept.work != 0 {

@@ -11,10 +11,10 @@ pub enum Refusal {
     NoBlock,
     /// Writes of a device or of a format are due, and must come first.
     Asked,
-    /// At power on: the flash has no active image, or 2^32 bytes or more. Of a device: the header that it
+    /// At power-on: the flash has no active image, or 2^32 bytes or more. For a device: the header that it
     /// noted is not in an open slot of the flash.
     NoMedium,
-    /// The record is not that of a device that asks, or not as the last call left it on the flash.
+    /// The record represents no device, or the block's memory or the flash is not as the last call left it.
     NoDevice,
 }
 

@@ -42,7 +42,7 @@ pub struct DfuRecord {
     pub length: u16,
     /// The 16 bytes of the header of the active slot, as they were in the flash.
     pub header: [u8; 16],
-    /// Work that is due: 0 no writes, 1 a block, 2 an image is put in place, 3 a format.
+    /// Work that is due: 0 no writes, 1 those of a block, 2 those that put an image in place, 3 those of a format.
     pub work: u32,
     /// Place at which the spare slot begins; for a format the place at which the image goes on.
     pub spare: u32,

@@ -1,22 +1,22 @@
--- The length of a body against its request.
+-- Length of a body, compared with the length that its request gives.
 use Rattle.std.proofs.Common.{◌≡◌, ◌==◌, true, ℕ, List, length, if◌then◌else◌, sym, ◌∙◌}
 use Rattle.std.proofs.lemmas.Bool.{eqb-true}
 use Rattle.dfu_wire.specs.declared.setups.Setup.{Setup}
 use Rattle.dfu_wire.specs.declared.requests.Request.{Request as Asked}
 use Rattle.dfu_wire.specs.declared.requests.Request.TheVariants as asked
-use Rattle.dfu_wire.specs.Request.{SetupRequest}
+use Rattle.dfu_wire.specs.Request.{SetupAsksFor}
 use Rattle.dfu_device.specs.Decision.{HasBodyLength}
 use Rattle.dfu_device.specs.Rows.{is_served, body_length}
 
--- The body of a DNLOAD has the length that its request says.
-pub body_length_fits_request : (p : Setup) (q : Asked) (body : List ℕ) → SetupRequest p q → length body ≡ body_length p →
+-- A body as long as its setup gives has the length that its request gives.
+pub body_length_fits_request : (p : Setup) (q : Asked) (body : List ℕ) → SetupAsksFor p q → length body ≡ body_length p →
     HasBodyLength q body
 body_length_fits_request p (asked.Dnload block len) body asks fits =
     fits ∙ (λ i. if asks.0.kind i == 0x21 then p.length else 0) ∙ sym asks.2
 body_length_fits_request p q body asks fits = tt
 
--- The body of a request that goes by the table has the length that the request says.
-pub served_body_length_fits : (p : Setup) (q : Asked) (body : List ℕ) → SetupRequest p q → is_served p q body ≡ true → HasBodyLength q body
+-- The body of a request that the table serves has the length that the request gives.
+pub served_body_length_fits : (p : Setup) (q : Asked) (body : List ℕ) → SetupAsksFor p q → is_served p q body ≡ true → HasBodyLength q body
 served_body_length_fits p (asked.Dnload block len) body asks on =
     body_length_fits_request p (asked.Dnload block len) body asks (eqb-true (length body) (body_length p) on)
 served_body_length_fits p q body asks on = tt

@@ -1,4 +1,4 @@
--- Place of an image that was received and is not in place yet.
+-- Place of an image that was received and is not active yet.
 use Rattle.std.proofs.Common.{◌≡◌, ℕ, ◌+◌, ◌-◌, ◌*◌, ◌%◌, ◌≤◌, IsTrue, List, ◌++◌, length, take, drop, slice_range, Option, Some, None, refl, sym, ◌∙◌, ap, subst, arith, length-append}
 use Rattle.std.proofs.lemmas.Grind.{common_steps}
 use Rattle.std.proofs.lemmas.List.{take-take, take_at, length-take-le}
@@ -27,20 +27,20 @@ module _ (s : SlotsState) (store : IsStore s) where
   place = spare_at g s.medium.bytes
 
   -- The data of the spare slot ends within the medium.
-  pub end_there : place + slot_size s.medium.bytes ≤ length s.medium.bytes
-  end_there = spare_place_ends_within g s.medium.bytes (active_image_at_its_place store.has_image.active).sized
+  pub spare_data_ends_within : place + slot_size s.medium.bytes ≤ length s.medium.bytes
+  spare_data_ends_within = spare_place_ends_within g s.medium.bytes (active_image_at_its_place store.has_image.active).sized
 
-  -- Length of a slot's data: the slot without its gate and its header.
-  slot_data_length : length (spare_slot s).data_bytes ≡ slot_size s.medium.bytes - 2 * g
-  slot_data_length = data_length g s.medium.bytes place end_there (omega (arith, store.has_image.active.sized.room))
+  -- The data of the spare slot is as long as the slot without its gate and its header.
+  slot_data_fills_slot_rest : length (spare_slot s).data_bytes ≡ slot_size s.medium.bytes - 2 * g
+  slot_data_fills_slot_rest = data_length g s.medium.bytes place spare_data_ends_within (omega (arith, store.has_image.active.sized.room))
 
   -- The bytes put are those on the medium, followed by those held back.
-  pub put_bytes_on_medium_and_held : take s.put_end (spare_of s)
+  pub put_bytes_are_medium_and_held : take s.put_end (spare_of s)
       ≡ slice_range s.medium.bytes (place + 2 * g) (place + 2 * g + (s.put_end - length s.held)) ++ s.held
-  put_bytes_on_medium_and_held =
+  put_bytes_are_medium_and_held =
       let d = (spare_slot s).data_bytes in
       let k = held_data_place s in
-      let le : k ≤ length d = omega (arith, slot_data_length, store.puts.fits) in
+      let le : k ≤ length d = omega (arith, slot_data_fills_slot_rest, store.puts.fits) in
       let e : s.put_end ≡ k + length s.held = sym (held_bytes_end_at_put_end s store.puts) in
       let p = place + 2 * g in
       let count : k ≡ p + k - p = omega arith in
@@ -48,28 +48,28 @@ module _ (s : SlotsState) (store : IsStore s) where
       ∙ take_at (take k d ++ s.held) (drop (k + length s.held) d) (k + length s.held)
       (omega (arith, length-append (take k d) s.held, length-take-le k d le))
       ∙ ap (λ (l : List ℕ). l ++ s.held)
-      (take-take k (place + slot_size s.medium.bytes - p) (drop p s.medium.bytes) (omega (arith, le, slot_data_length))
+      (take-take k (place + slot_size s.medium.bytes - p) (drop p s.medium.bytes) (omega (arith, le, slot_data_fills_slot_rest))
       ∙ ap (λ (n : ℕ). take n (drop p s.medium.bytes)) count)
 
--- The first bytes of the spare slot, if a length is given.
+-- The first n bytes of the spare slot if a length n is given, else None.
 abbrev pub front_of : Option ℕ → List ℕ → Option (List ℕ)
 front_of (Some n) spare = Some (take n spare)
 front_of None spare = None
 
--- If a length is given, the store has put that many bytes, and they fit into its room.
+-- If a length n is given, n bytes were put in the store, and they fit in its room. True without a length.
 abbrev pub IsPutLength : Option ℕ → SlotsState → Type 0
 IsPutLength (Some n) s = (n ≡ s.put_end) × (n ≤ room_of s)
 IsPutLength None s = Unit {0}
 
--- The candidate of a mode's stage is the front of the spare slot, as long as the mode says.
-pub candidate_of_mode_stage : (m : DeviceState) (spare block : List ℕ) → candidate_in (stage_of m spare block)
+-- The candidate of a mode's stage is the front of the spare slot, with the candidate's length in that mode.
+pub stage_candidate_is_spare_front : (m : DeviceState) (spare block : List ℕ) → candidate_in (stage_of m spare block)
     ≡ front_of (candidate_length m) spare
-candidate_of_mode_stage (device_state.DownloadIdle written number) spare block = refl
-candidate_of_mode_stage (device_state.ManifestSync written) spare block = refl
-candidate_of_mode_stage (device_state.Manifest written passed) spare block = refl
-candidate_of_mode_stage m spare block = refl
+stage_candidate_is_spare_front (device_state.DownloadIdle written number) spare block = refl
+stage_candidate_is_spare_front (device_state.ManifestSync written) spare block = refl
+stage_candidate_is_spare_front (device_state.Manifest written passed) spare block = refl
+stage_candidate_is_spare_front m spare block = refl
 
--- The length of a mode's candidate is the number of bytes put in the store.
+-- The length of a mode's candidate, if it has one, is the number of bytes put in the store, and they fit in its room.
 pub candidate_length_was_put : (m : DeviceState) (b : ℕ) (s : SlotsState) → IsTrue (are_device_parts m b s) →
     IsPutLength (candidate_length m) s
 candidate_length_was_put (device_state.DownloadIdle written number) b s sound = (
@@ -83,7 +83,7 @@ candidate_length_was_put (device_state.ManifestSync written) b s sound = (sym (g
 candidate_length_was_put (device_state.Manifest written passed) b s sound = (sym (grind (arith, common_steps)), grind (arith, common_steps))
 candidate_length_was_put m b s sound = tt
 
--- An image of n bytes is the received one, if its whole units are at the front of the spare slot's data and the rest is held back.
+-- The candidate is the received image of n bytes, if its place is the spare slot's data and `stored` counts its whole units.
 pub candidate_is : (w : DeviceView) (m : DeviceState) (block : List ℕ) (c : Candidate) (n : ℕ)
     → w.stage ≡ stage_of m (spare_of w.slots) block
     → IsTrue (are_device_parts m (length block) w.slots) → IsStore w.slots → candidate_length m ≡ Some n
@@ -96,9 +96,9 @@ candidate_is w m block c n stage sound store len at stored =
     stored ∙ ap (λ (k : ℕ). k - k % unit_size s.medium.grain.unit) end ∙ ap (λ (k : ℕ). s.put_end - k) (sym store.puts.part) in
     record {
       taken = take n (spare_of s);
-      is = ap candidate_in stage ∙ candidate_of_mode_stage m (spare_of s) block ∙ ap (λ (o : Option ℕ). front_of o (spare_of s)) len;
+      is = ap candidate_in stage ∙ stage_candidate_is_spare_front m (spare_of s) block ∙ ap (λ (o : Option ℕ). front_of o (spare_of s)) len;
       place = omega (arith, at);
-      within = omega (arith, at, count, store.puts.fits, end_there s store, store.has_image.active.sized.room);
-      bytes = (λ i. slice_range s.medium.bytes (at i) (at i + count i) ++ s.held) ∙ sym (put_bytes_on_medium_and_held s store)
+      within = omega (arith, at, count, store.puts.fits, spare_data_ends_within s store, store.has_image.active.sized.room);
+      bytes = (λ i. slice_range s.medium.bytes (at i) (at i + count i) ++ s.held) ∙ sym (put_bytes_are_medium_and_held s store)
           ∙ ap (λ (k : ℕ). take k (spare_of s)) (sym end);
     }

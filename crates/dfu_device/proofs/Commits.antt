@@ -8,7 +8,7 @@ use Rattle.dfu_device.specs.Setting.{Setting}
 use Rattle.dfu_device.specs.declared.device_state.DeviceState.{DeviceState}
 use Rattle.dfu_device.specs.declared.device_state.DeviceState.TheVariants as device_state
 use Rattle.dfu_device.specs.Parts.{view_of_parts, stage_of, is_put, is_filled, are_device_parts}
-use Rattle.dfu_device.specs.Decision.{AcceptsNothing}
+use Rattle.dfu_device.specs.Decision.{IsModeAfterCommit}
 use Rattle.dfu_device.specs.Table.{commit_code}
 use Rattle.dfu_device.specs.Rows.{Committed, FailedCommit}
 use Rattle.dfu_device.proofs.Calls.{one_call_is_series}
@@ -20,14 +20,14 @@ pub record IsReadyToCommit (s : SlotsState) (n : ℕ) : Type 0 where
   pub room : n ≤ room_of s
   pub spare : n ≤ length (spare_of s)
 
--- The store of a device is shaped.
-pub shaped : (m : DeviceState) (b : ℕ) (s : SlotsState) → IsTrue (are_device_parts m b s) → is_shaped s ≡ true
-shaped m b s sound = grind (arith, common_steps)
+-- The store of a device has the shape of a slot store.
+pub device_store_is_shaped : (m : DeviceState) (b : ℕ) (s : SlotsState) → IsTrue (are_device_parts m b s) → is_shaped s ≡ true
+device_store_is_shaped m b s sound = grind (arith, common_steps)
 
--- A store that has the bytes of dfuMANIFEST-SYNC is ready for their commit.
-pub synced_store_ready_to_commit : (b n : ℕ) (s : SlotsState) → is_shaped s ≡ true →
+-- A store that has the bytes that dfuMANIFEST-SYNC needs is ready for their commit.
+pub synced_store_is_ready_to_commit : (b n : ℕ) (s : SlotsState) → is_shaped s ≡ true →
     IsTrue (is_filled (device_state.ManifestSync n) b s) → IsReadyToCommit s n
-synced_store_ready_to_commit b n s shape filled = record {
+synced_store_is_ready_to_commit b n s shape filled = record {
   begun = grind (arith, common_steps);
   end = grind (arith, common_steps);
   room = grind (arith, common_steps);
@@ -42,19 +42,19 @@ commit_is_one_call s now n ending fits d =
     (one_call_is_series s now (Commit n) ending d)
 
 -- The stage of a mode without bytes of a download does not depend on the spare slot.
-stage_without_bytes : (m : DeviceState) → AcceptsNothing m → (xs ys : List ℕ)
+stage_ignores_spare_slot : (m : DeviceState) → IsModeAfterCommit m → (xs ys : List ℕ)
     → stage_of m xs ys ≡ stage_of m [] []
-stage_without_bytes m three xs ys = elim three [ inl e ↦ rw e refl | inr other ↦ elim other [ inl e ↦ rw e refl | inr e ↦ rw e refl ] ]
+stage_ignores_spare_slot m three xs ys = elim three [ inl e ↦ rw e refl | inr other ↦ elim other [ inl e ↦ rw e refl | inr e ↦ rw e refl ] ]
 
--- A store with its shape is all that such a mode needs.
-shaped_store_conjunction : (s : SlotsState) → is_shaped s ≡ true → IsTrue (is_shaped s && true)
-shaped_store_conjunction s shape = grind (arith, common_steps)
+-- A mode without bytes of a download needs no more of a store than its shape.
+shape_suffices_for_empty_mode : (s : SlotsState) → is_shaped s ≡ true → IsTrue (is_shaped s && true)
+shape_suffices_for_empty_mode s shape = grind (arith, common_steps)
 
--- A mode without bytes of a download makes a device with each store.
-pub core_sound_with_nothing_accepted : (m : DeviceState) (b : ℕ) (s : SlotsState) → AcceptsNothing m
+-- A mode without bytes of a download and any store with its shape are parts of a device.
+pub empty_mode_is_device_part : (m : DeviceState) (b : ℕ) (s : SlotsState) → IsModeAfterCommit m
     → is_shaped s ≡ true → IsTrue (are_device_parts m b s)
-core_sound_with_nothing_accepted m b s three shape =
-    let sound : IsTrue (is_shaped s && true) = shaped_store_conjunction s shape in
+empty_mode_is_device_part m b s three shape =
+    let sound : IsTrue (is_shaped s && true) = shape_suffices_for_empty_mode s shape in
     elim three [
       | inl e ↦ subst (λ (k : DeviceState). IsTrue (are_device_parts k b s))
           (sym e) sound
@@ -65,17 +65,18 @@ core_sound_with_nothing_accepted m b s three shape =
       ]
     ]
 
--- If n bytes were put, at least one and within the room, they are all that is needed.
-put_bytes_within_room : (n : ℕ) (s : SlotsState) → 0 < n → n ≤ room_of s → is_shaped s ≡ true → is_put n s ≡ true
+-- If n bytes were put, at least one and within the room, the store has the bytes that a mode with n written bytes needs.
+put_bytes_suffice_for_mode : (n : ℕ) (s : SlotsState) → 0 < n → n ≤ room_of s → is_shaped s ≡ true → is_put n s ≡ true
     → IsTrue (is_shaped s && (nat_lt 0 n && (nat_le n (room_of s) && is_put n s)))
-put_bytes_within_room n s some room shape put = grind (arith, common_steps)
+put_bytes_suffice_for_mode n s some room shape put = grind (arith, common_steps)
 
 -- After a block was put, the mode with its bytes and the store are parts of a device.
-pub core_sound_after_put : (m : DeviceState) (b n number : ℕ) (s : SlotsState) → (m ≡ device_state.DownloadSyncWritten n number)
+pub written_mode_is_device_part : (m : DeviceState) (b n number : ℕ) (s : SlotsState) → (m ≡ device_state.DownloadSyncWritten n number)
     ⊎ (m ≡ device_state.DownloadIdle n number) → 0 < n → n ≤ room_of s → is_shaped s ≡ true → is_put n s ≡ true
     → IsTrue (are_device_parts m b s)
-core_sound_after_put m b n number s either some room shape put =
-    let sound : IsTrue (is_shaped s && (nat_lt 0 n && (nat_le n (room_of s) && is_put n s))) = put_bytes_within_room n s some room shape
+written_mode_is_device_part m b n number s either some room shape put =
+    let sound : IsTrue (is_shaped s && (nat_lt 0 n && (nat_le n (room_of s) && is_put n s))) =
+    put_bytes_suffice_for_mode n s some room shape
     put in
     elim either [
       | inl e ↦ subst (λ (k : DeviceState). IsTrue (are_device_parts k b s)) (sym e) sound
@@ -83,7 +84,7 @@ core_sound_after_put m b n number s either some room shape put =
           (λ (k : DeviceState). IsTrue (are_device_parts k b s)) (sym e) sound
     ]
 
--- A block of b bytes that is not written has bytes, and has room after the n bytes that are written.
+-- An unwritten block of b bytes is not empty, and has room after the n bytes that are written.
 pub record HasRoomForBlock (s : SlotsState) (n b : ℕ) : Type 0 where
   pub some : 0 < b
   pub room : n + b ≤ room_of s
@@ -92,26 +93,26 @@ pub record HasRoomForBlock (s : SlotsState) (n b : ℕ) : Type 0 where
 pub block_room : (n b number : ℕ) (s : SlotsState) → IsTrue (is_filled (device_state.DownloadSync n number) b s) → HasRoomForBlock s n b
 block_room n b number s filled = record { some = grind (arith, common_steps); room = grind (arith, common_steps) }
 
--- A commit that worked makes the bytes taken the image, as the table says.
-pub committed : (config : Setting) (s now : SlotsState) (next : DeviceState) (block : List ℕ) (n : ℕ) → IsReadyToCommit s n
+-- A commit that worked has the effects that the table demands: the bytes taken are the image.
+pub worked_commit_fits_table : (config : Setting) (s now : SlotsState) (next : DeviceState) (block : List ℕ) (n : ℕ) → IsReadyToCommit s n
     → CallEnding s (Commit n) AllWorked now → image_of now ≡ take n (spare_of s) → room_of now ≡ room_of s
-    → AcceptsNothing next
+    → IsModeAfterCommit next
     → Committed (take n (spare_of s)) config s (stage_of next [] []) (view_of_parts config now next block)
-committed config s now next block n ready d image room three = record {
+worked_commit_fits_table config s now next block n ready d image room three = record {
   config_is = refl;
   room = room;
-  stage_is = stage_without_bytes next three (spare_of now) block;
+  stage_is = stage_ignores_spare_slot next three (spare_of now) block;
   calls = commit_is_one_call s now n AllWorked ready.spare d;
   image = image;
 }
 
--- A commit that failed leaves the old image or the bytes taken, as the table says.
-pub commit_fault_is_failed_commit : (fault : WriteFault) (config : Setting) (s now : SlotsState) (block : List ℕ) (n : ℕ) →
+-- A commit that failed has the effects that the table demands: the image is the old one or the bytes taken.
+pub commit_fault_fits_table : (fault : WriteFault) (config : Setting) (s now : SlotsState) (block : List ℕ) (n : ℕ) →
     IsReadyToCommit s n
     → CallEnding s (Commit n) (BrokenBy fault) now
     → (image_of now ≡ image_of s) ⊎ (image_of now ≡ take n (spare_of s)) → room_of now ≡ room_of s
     → FailedCommit fault (take n (spare_of s)) config s (view_of_parts config now (device_state.Error (commit_code fault)) block)
-commit_fault_is_failed_commit fault config s now block n ready d image room = record {
+commit_fault_fits_table fault config s now block n ready d image room = record {
   config_is = refl;
   room = room;
   stage_is = refl;

@@ -10,24 +10,24 @@ use Rattle.dfu_device.specs.Stage.{Stage, InAppDetach, InManifestSync, InManifes
 use Rattle.dfu_device.specs.Table.{reset_stage, objection_code, refuse_stage, Plan, Sure, Writes, Commits, time_plan}
 use Rattle.dfu_device.specs.DeviceView.{DeviceView, profile}
 use Rattle.dfu_device.specs.Rows.{request_for_table, asked_length, Done, is_served, setup_plan, handled_by_reading, Transfer, Passing, BusReset, RefusingClose, Refusing, PowerOn}
-use Rattle.dfu_device.specs.Cases.{either_way}
+use Rattle.dfu_device.specs.Cases.{holds_in_both_branches}
 use Rattle.dfu_device.specs.Errors.{IsMediumError, MediumFailed, MediumErrorsHaveCause}
 use Rattle.dfu_device.specs.RowForms.{EndsInNoMediumError}
-use Rattle.dfu_device.proofs.Leads.{row_leads, time_leads}
+use Rattle.dfu_device.proofs.FaithfulPlans.{row_is_faithful, time_row_is_faithful}
 
--- If a plan ends in an error of the medium, the error was there, or the medium failed.
-medium_error_has_failure : (p : Plan) (len : ℕ) (w : DeviceView) (a : Answer) (out : List ℕ) (w' : DeviceView) →
+-- If a plan ends in an error of the medium, it began in one, or the medium failed.
+medium_error_had_cause : (p : Plan) (len : ℕ) (w : DeviceView) (a : Answer) (out : List ℕ) (w' : DeviceView) →
     EndsInNoMediumError w.stage p
     → Done p len w a out w'
     → IsMediumError w'.stage → IsMediumError w.stage ⊎ MediumFailed w w'
-medium_error_has_failure (Sure reply stage) len w a out w' well (says, is) broken =
+medium_error_had_cause (Sure reply stage) len w a out w' well (says, is) broken =
     inl (well (subst IsMediumError (ap (λ (z : DeviceView). z.stage) is) broken))
-medium_error_has_failure (Writes before block reply stage bad) len w a out w' well (inl (says, h)) broken =
+medium_error_had_cause (Writes before block reply stage bad) len w a out w' well (inl (says, h)) broken =
     inl (well (subst IsMediumError h.stage_is broken))
-medium_error_has_failure (Writes before block reply stage bad) len w a out w' well (inr (fault, says, h)) broken = inr h.failed
-medium_error_has_failure (Commits taken reply stage bad) len w a out w' well (inl (says, h)) broken = inl (well (subst IsMediumError
+medium_error_had_cause (Writes before block reply stage bad) len w a out w' well (inr (fault, says, h)) broken = inr h.failed
+medium_error_had_cause (Commits taken reply stage bad) len w a out w' well (inl (says, h)) broken = inl (well (subst IsMediumError
     h.stage_is broken))
-medium_error_has_failure (Commits taken reply stage bad) len w a out w' well (inr (fault, says, h)) broken = inr h.failed
+medium_error_had_cause (Commits taken reply stage bad) len w a out w' well (inr (fault, says, h)) broken = inr h.failed
 
 -- A reset of the bus enters no error of the medium.
 reset_enters_no_medium_error : (st : Stage) → IsMediumError (reset_stage st) → ⊥
@@ -35,30 +35,31 @@ reset_enters_no_medium_error (InAppDetach timer passed) x = x
 reset_enters_no_medium_error st x = x
 
 -- The code of an objection is no error of the medium.
-objection_code_no_medium_error : (why : Objection) → IsMediumError (InError (objection_code why)) → ⊥
-objection_code_no_medium_error Target x = x
-objection_code_no_medium_error File x = x
+objection_is_no_medium_error : (why : Objection) → IsMediumError (InError (objection_code why)) → ⊥
+objection_is_no_medium_error Target x = x
+objection_is_no_medium_error File x = x
 
--- A refusal of an image enters no error of the medium.
+-- A stage after the refusal of an image is an error of the medium only if the stage before was one.
 refusal_enters_no_medium_error : (why : Objection) (st : Stage) → IsMediumError (refuse_stage why st) → IsMediumError st
-refusal_enters_no_medium_error why (InManifestSync taken) x = absurd (objection_code_no_medium_error why x)
-refusal_enters_no_medium_error why (InManifest taken passed) x = absurd (objection_code_no_medium_error why x)
+refusal_enters_no_medium_error why (InManifestSync taken) x = absurd (objection_is_no_medium_error why x)
+refusal_enters_no_medium_error why (InManifest taken passed) x = absurd (objection_is_no_medium_error why x)
 refusal_enters_no_medium_error why st x = x
 
--- An error code of the medium comes only if the medium failed.
+-- A row ends in an error of the medium only if it began in one or the medium failed.
 pub medium_errors_have_cause : MediumErrorsHaveCause
 medium_errors_have_cause w (Transfer setup body) a out w' (handled_by_reading p q reads asks done) broken =
-    medium_error_has_failure (setup_plan w p q body) (asked_length q) w a out w'
-    (either_way (EndsInNoMediumError w.stage) (is_served p q body) _ _
-    (row_leads (profile w) (image_of w.slots) w.stage (request_for_table q body)).1
+    medium_error_had_cause (setup_plan w p q body) (asked_length q) w a out w'
+    (holds_in_both_branches (EndsInNoMediumError w.stage) (is_served p q body) _ _
+    (row_is_faithful (profile w) (image_of w.slots) w.stage (request_for_table q body)).1
     (λ y. y)) done broken
 medium_errors_have_cause w (Passing ms) a out w' (is, none, row) broken =
-    medium_error_has_failure (time_plan (profile w) w.stage ms) 0 w answer.Ack [] w' (time_leads (profile w) (image_of w.slots) w.stage
+    medium_error_had_cause (time_plan (profile w) w.stage ms) 0 w answer.Ack [] w'
+    (time_row_is_faithful (profile w) (image_of w.slots) w.stage
     ms).1 row broken
 medium_errors_have_cause w BusReset a out w' (is, none, same) broken =
     absurd (reset_enters_no_medium_error w.stage (subst IsMediumError (ap (λ (z : DeviceView). z.stage) same) broken))
 medium_errors_have_cause w (RefusingClose setup why) a out w' (is, none, closes, same) broken =
-    absurd (objection_code_no_medium_error why (subst IsMediumError (ap (λ (z : DeviceView). z.stage) same) broken))
+    absurd (objection_is_no_medium_error why (subst IsMediumError (ap (λ (z : DeviceView). z.stage) same) broken))
 medium_errors_have_cause w (Refusing why) a out w' (is, none, same) broken =
     inl (refusal_enters_no_medium_error why w.stage (subst IsMediumError (ap (λ (z : DeviceView). z.stage) same) broken))
 medium_errors_have_cause w PowerOn a out w' (is, none, same) broken = absurd (subst IsMediumError (ap (λ (z : DeviceView). z.stage) same)

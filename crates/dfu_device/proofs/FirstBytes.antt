@@ -1,4 +1,4 @@
--- Request of the class that a setup is, by its first two bytes.
+-- Requests of the class, recognised by the first two bytes of a setup.
 use Rattle.std.specs.Prelude.{◌≡◌, ℕ, ◌==◌, ◌&&◌, Bool, true, false, List, slice_index}
 use Rattle.std.proofs.Common.{sym, ap, ◌∙◌}
 use Rattle.std.proofs.lemmas.Bool.{eqb-true, false≢true, and_parts}
@@ -6,15 +6,15 @@ use Rattle.dfu_wire.specs.declared.setups.Setup.{Setup}
 use Rattle.dfu_wire.specs.declared.requests.Request.{Request as Asked}
 use Rattle.dfu_wire.specs.declared.requests.Request.TheVariants as asked
 use Rattle.dfu_wire.specs.Setup.{IsSetup}
-use Rattle.dfu_wire.specs.Request.{IsClass, SetupRequest}
+use Rattle.dfu_wire.specs.Request.{IsClassRequestSetup, SetupAsksFor}
 use Rattle.dfu_device.specs.Rows.{is_served}
-use Rattle.dfu_device.proofs.Cases.{cases_of_bool}
+use Rattle.dfu_device.proofs.Cases.{bool_has_two_cases}
 
--- The setup begins with these two bytes, bmRequestType and bRequest.
+-- The setup begins with these two bytes: bmRequestType and bRequest.
 abbrev pub begins : ℕ → ℕ → List ℕ → Bool
 begins kind number setup = (slice_index setup 0 == kind) && (slice_index setup 1 == number)
 
--- The request is the one of the seven with that bmRequestType and bRequest.
+-- The request is the one of the seven with this bmRequestType and bRequest.
 abbrev pub is_request_with_first_bytes : ℕ → ℕ → Asked → Bool
 is_request_with_first_bytes kind number (asked.Detach timeout) = (0x21 == kind) && (0 == number)
 is_request_with_first_bytes kind number (asked.Dnload block len) = (0x21 == kind) && (1 == number)
@@ -27,14 +27,15 @@ is_request_with_first_bytes kind number asked.OtherClass = false
 is_request_with_first_bytes kind number asked.NotDfu = false
 
 module _ (kind number : ℕ) (p : Setup) (setup : List ℕ) (reads : IsSetup p setup) where
-  -- A setup of class request n begins with its two bytes.
-  class_begins_with_bytes : (k n : ℕ) → IsClass p k n → begins kind number setup ≡ (k == kind) && (n == number)
-  class_begins_with_bytes k n class = ap (λ (x : ℕ). (x == kind) && (slice_index setup 1 == number)) (sym reads.kind ∙ class.kind)
+  -- A setup of the class with bmRequestType k and bRequest n begins with the bytes `kind` and `number` exactly if k is `kind` and n is
+  -- `number`.
+  class_setup_begins_with_bytes : (k n : ℕ) → IsClassRequestSetup p k n → begins kind number setup ≡ (k == kind) && (n == number)
+  class_setup_begins_with_bytes k n class = ap (λ (x : ℕ). (x == kind) && (slice_index setup 1 == number)) (sym reads.kind ∙ class.kind)
       ∙ ap (λ (x : ℕ). (k == kind) && (x == number)) (sym reads.request ∙ class.request)
 
-  -- A setup for interface 0 that begins with the two bytes is that request of the class.
-  class_request_of_first_bytes : p.index ≡ 0 → begins kind number setup ≡ true → IsClass p kind number
-  class_request_of_first_bytes index starts =
+  -- A setup for interface 0 that begins with the two bytes is the request of the class that they encode.
+  first_bytes_give_class_request : p.index ≡ 0 → begins kind number setup ≡ true → IsClassRequestSetup p kind number
+  first_bytes_give_class_request index starts =
       let both : ((slice_index setup 0 == kind) ≡ true) × ((slice_index setup 1 == number) ≡ true) =
       and_parts (slice_index setup 0 == kind) (slice_index setup 1 == number) starts in
       record {
@@ -43,17 +44,17 @@ module _ (kind number : ℕ) (p : Setup) (setup : List ℕ) (reads : IsSetup p s
         index = index;
       }
 
-  -- A setup that goes by the table begins with the two bytes of its request, provided that no unnamed request of the class has them.
-  pub setup_begins_as_request : (q : Asked) (body : List ℕ) → (IsClass p kind number → SetupRequest p asked.OtherClass → ⊥) →
-      SetupRequest p q
+  -- A setup that the table serves begins with the two bytes of its request, provided that no unnamed request of the class has them.
+  pub setup_begins_as_request : (q : Asked) (body : List ℕ) → (IsClassRequestSetup p kind number → SetupAsksFor p asked.OtherClass → ⊥) →
+      SetupAsksFor p q
       → is_served p q body ≡ true → begins kind number setup ≡ is_request_with_first_bytes kind number q
-  setup_begins_as_request (asked.Detach timeout) body own asks on = class_begins_with_bytes 0x21 0 asks.0
-  setup_begins_as_request (asked.Dnload block len) body own asks on = class_begins_with_bytes 0x21 1 asks.0
-  setup_begins_as_request (asked.Upload block len) body own asks on = class_begins_with_bytes 0xa1 2 asks.0
-  setup_begins_as_request (asked.GetStatus len) body own asks on = class_begins_with_bytes 0xa1 3 asks.0
-  setup_begins_as_request asked.ClrStatus body own asks on = class_begins_with_bytes 0x21 4 asks.0
-  setup_begins_as_request (asked.GetState len) body own asks on = class_begins_with_bytes 0xa1 5 asks.0
-  setup_begins_as_request asked.Abort body own asks on = class_begins_with_bytes 0x21 6 asks.0
+  setup_begins_as_request (asked.Detach timeout) body own asks on = class_setup_begins_with_bytes 0x21 0 asks.0
+  setup_begins_as_request (asked.Dnload block len) body own asks on = class_setup_begins_with_bytes 0x21 1 asks.0
+  setup_begins_as_request (asked.Upload block len) body own asks on = class_setup_begins_with_bytes 0xa1 2 asks.0
+  setup_begins_as_request (asked.GetStatus len) body own asks on = class_setup_begins_with_bytes 0xa1 3 asks.0
+  setup_begins_as_request asked.ClrStatus body own asks on = class_setup_begins_with_bytes 0x21 4 asks.0
+  setup_begins_as_request (asked.GetState len) body own asks on = class_setup_begins_with_bytes 0xa1 5 asks.0
+  setup_begins_as_request asked.Abort body own asks on = class_setup_begins_with_bytes 0x21 6 asks.0
   setup_begins_as_request asked.OtherClass body own asks on =
-      cases_of_bool (begins kind number setup) (λ on. absurd (own (class_request_of_first_bytes asks.0.1 on) asks)) (λ off. off)
+      bool_has_two_cases (begins kind number setup) (λ on. absurd (own (first_bytes_give_class_request asks.0.1 on) asks)) (λ off. off)
   setup_begins_as_request asked.NotDfu body own asks on = absurd (false≢true on)

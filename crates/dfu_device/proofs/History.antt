@@ -1,11 +1,11 @@
--- Bytes that a history gathers: after one step more, after any number of steps, and no other bytes.
+-- Bytes that a history gathers: after one more step, after any number of steps, and their uniqueness.
 use Rattle.std.specs.Prelude.{◌≡◌, ℕ, Bool, true, false, List, [], ◌∷◌, ◌++◌}
 use Rattle.std.proofs.Common.{refl, sym, ap, ◌∙◌, subst}
 use Rattle.std.proofs.lemmas.List.{append_assoc, append-nil}
 use Rattle.std.proofs.lemmas.Bool.{false≢true}
 use Rattle.dfu_device.specs.DeviceView.{DeviceView}
 use Rattle.dfu_device.specs.History.{HistoryStep, IsTableRow, IsHistory, joined_parts, AllStepsInside, Gathered, from_start, since}
-use Rattle.dfu_device.proofs.Cases.{cases_of_bool}
+use Rattle.dfu_device.proofs.Cases.{bool_has_two_cases}
 
 -- The steps after the first one.
 abbrev pub behind : List HistoryStep → List HistoryStep
@@ -13,37 +13,37 @@ behind [] = []
 behind (s ∷ h) = h
 
 module _ (inside : HistoryStep → Bool) (part : HistoryStep → List ℕ) where
-  -- If all steps end inside, and a further step does, all of them do.
-  all_inside_with_step : (h : List HistoryStep) (s : HistoryStep) → AllStepsInside inside h → inside s ≡ true →
+  -- A history whose steps all end inside, extended by a step that ends inside, has only steps that end inside.
+  inside_step_keeps_all_inside : (h : List HistoryStep) (s : HistoryStep) → AllStepsInside inside h → inside s ≡ true →
       AllStepsInside inside (h ++ s ∷ [])
-  all_inside_with_step [] s all on = (on, tt)
-  all_inside_with_step (x ∷ h) s all on = (all.0, all_inside_with_step h s all.1 on)
+  inside_step_keeps_all_inside [] s all on = (on, tt)
+  inside_step_keeps_all_inside (x ∷ h) s all on = (all.0, inside_step_keeps_all_inside h s all.1 on)
 
-  -- The parts of steps with a further step are their parts, followed by its part.
-  joined_parts_with_step : (h : List HistoryStep) (s : HistoryStep) → joined_parts part (h ++ s ∷ []) ≡ joined_parts part h ++ part s
-  joined_parts_with_step [] s = append-nil (part s)
-  joined_parts_with_step (x ∷ h) s = ap (λ (l : List ℕ). part x ++ l) (joined_parts_with_step h s)
+  -- The joined parts of a history with a further step are those of the history, followed by the part of the step.
+  further_step_joins_its_part : (h : List HistoryStep) (s : HistoryStep) → joined_parts part (h ++ s ∷ []) ≡ joined_parts part h ++ part s
+  further_step_joins_its_part [] s = append-nil (part s)
+  further_step_joins_its_part (x ∷ h) s = ap (λ (l : List ℕ). part x ++ l) (further_step_joins_its_part h s)
       ∙ sym (append_assoc (part x) (joined_parts part h) (part s))
 
-  -- A history that goes on inside gathers the part of its further step.
+  -- A further step that ends inside adds its part to the bytes that a history gathers.
   inside_step_joins_gathered : (h : List HistoryStep) (s : HistoryStep) (t : List ℕ) → Gathered inside part h t → inside s ≡ true
       → Gathered inside part (h ++ s ∷ []) (t ++ part s)
-  inside_step_joins_gathered h s t (from_start all is) on = from_start (all_inside_with_step h s all on) (ap (λ (l : List ℕ). l
-      ++ part s) is ∙ sym (joined_parts_with_step h s))
+  inside_step_joins_gathered h s t (from_start all is) on = from_start (inside_step_keeps_all_inside h s all on) (ap (λ (l : List ℕ). l
+      ++ part s) is ∙ sym (further_step_joins_its_part h s))
   inside_step_joins_gathered h s t (since old last recent split off all is) on =
       since old last (recent ++ s ∷ []) (ap (λ (l : List HistoryStep). l ++ s ∷ []) split ∙ append_assoc old (last ∷ recent) (s ∷ [])) off
-      (all_inside_with_step recent s all on) (ap (λ (l : List ℕ). l ++ part s) is ∙ sym (joined_parts_with_step recent s))
+      (inside_step_keeps_all_inside recent s all on) (ap (λ (l : List ℕ). l ++ part s) is ∙ sym (further_step_joins_its_part recent s))
 
-  -- If one more step ends inside, the history gathers the step's part too; if the step ends outside, it gathers nothing.
+  -- If one more step ends inside, the history gathers the step's part too; if the step ends outside, the history gathers no bytes.
   pub one_more_step_gathers : (h : List HistoryStep) (s : HistoryStep) (t now : List ℕ) → Gathered inside part h t →
       (inside s ≡ true → now ≡ t ++ part s)
       → (inside s ≡ false → now ≡ []) → Gathered inside part (h ++ s ∷ []) now
   one_more_step_gathers h s t now gathered on off =
-      cases_of_bool (inside s)
+      bool_has_two_cases (inside s)
       (λ yes. subst (λ (l : List ℕ). Gathered inside part (h ++ s ∷ []) l) (sym (on yes)) (inside_step_joins_gathered h s t gathered yes))
       (λ no. since h s [] refl no tt (off no))
 
-  -- If each row gathers its part by what a device shows, a history gathers the parts of its steps.
+  -- If each row adds its part to the bytes `of` a device, a history adds the parts of its steps.
   pub history_gathers : (of : DeviceView → List ℕ)
       → ((h : List HistoryStep) (s : HistoryStep) → Gathered inside part h (of s.before) → IsTableRow s →
       Gathered inside part (h ++ s ∷ []) (of s.after))
@@ -57,33 +57,33 @@ module _ (inside : HistoryStep → Bool) (part : HistoryStep → List ℕ) where
       subst (λ (l : List HistoryStep). Gathered inside part l (of w')) (append_assoc g (s ∷ []) rest)
       (history_gathers of step (g ++ s ∷ []) rest s.after w' (step g s before row) more)
 
-  -- If all steps end inside, none ends outside.
-  no_outside_in_inside_steps : (old : List HistoryStep) (last : HistoryStep) (recent : List HistoryStep) → AllStepsInside inside (old
+  -- A history whose steps all end inside has no step that ends outside.
+  inside_steps_have_no_outside : (old : List HistoryStep) (last : HistoryStep) (recent : List HistoryStep) → AllStepsInside inside (old
       ++ last ∷ recent) →
       inside last ≡ false → ⊥
-  no_outside_in_inside_steps [] last recent all off = false≢true (sym off ∙ all.0)
-  no_outside_in_inside_steps (x ∷ old) last recent all off = no_outside_in_inside_steps old last recent all.1 off
+  inside_steps_have_no_outside [] last recent all off = false≢true (sym off ∙ all.0)
+  inside_steps_have_no_outside (x ∷ old) last recent all off = inside_steps_have_no_outside old last recent all.1 off
 
-  -- The steps after the last one that ends outside are fixed by the history.
-  recent_steps_unique : (old : List HistoryStep) (last : HistoryStep) (recent past : List HistoryStep) (end : HistoryStep) (late : List
+  -- The steps after the last step that ends outside are the same in any two splits of a history.
+  recent_steps_are_unique : (old : List HistoryStep) (last : HistoryStep) (recent past : List HistoryStep) (end : HistoryStep) (late : List
       HistoryStep)
       → old ++ last ∷ recent ≡ past ++ end ∷ late → inside last ≡ false → inside end ≡ false → AllStepsInside inside recent
       → AllStepsInside inside late
       → recent ≡ late
-  recent_steps_unique [] last recent [] end late e off out all every = ap behind e
-  recent_steps_unique [] last recent (y ∷ past) end late e off out all every =
-      absurd (no_outside_in_inside_steps past end late (subst (AllStepsInside inside) (ap behind e) all) out)
-  recent_steps_unique (x ∷ old) last recent [] end late e off out all every =
-      absurd (no_outside_in_inside_steps old last recent (subst (AllStepsInside inside) (sym (ap behind e)) every) off)
-  recent_steps_unique (x ∷ old) last recent (y ∷ past) end late e off out all every =
-      recent_steps_unique old last recent past end late (ap behind e) off out all every
+  recent_steps_are_unique [] last recent [] end late e off out all every = ap behind e
+  recent_steps_are_unique [] last recent (y ∷ past) end late e off out all every =
+      absurd (inside_steps_have_no_outside past end late (subst (AllStepsInside inside) (ap behind e) all) out)
+  recent_steps_are_unique (x ∷ old) last recent [] end late e off out all every =
+      absurd (inside_steps_have_no_outside old last recent (subst (AllStepsInside inside) (sym (ap behind e)) every) off)
+  recent_steps_are_unique (x ∷ old) last recent (y ∷ past) end late e off out all every =
+      recent_steps_are_unique old last recent past end late (ap behind e) off out all every
 
   -- A history gathers one list of bytes and no other.
-  pub gathered_bytes_unique : (h : List HistoryStep) (a b : List ℕ) → Gathered inside part h a → Gathered inside part h b → a ≡ b
-  gathered_bytes_unique h a b (from_start all is) (from_start every same) = is ∙ sym same
-  gathered_bytes_unique h a b (from_start all is) (since old last recent split off every same) =
-      absurd (no_outside_in_inside_steps old last recent (subst (AllStepsInside inside) split all) off)
-  gathered_bytes_unique h a b (since old last recent split off all is) (from_start every same) =
-      absurd (no_outside_in_inside_steps old last recent (subst (AllStepsInside inside) split every) off)
-  gathered_bytes_unique h a b (since old last recent split off all is) (since past end late parts out every same) =
-      is ∙ ap (joined_parts part) (recent_steps_unique old last recent past end late (sym split ∙ parts) off out all every) ∙ sym same
+  pub gathered_bytes_are_unique : (h : List HistoryStep) (a b : List ℕ) → Gathered inside part h a → Gathered inside part h b → a ≡ b
+  gathered_bytes_are_unique h a b (from_start all is) (from_start every same) = is ∙ sym same
+  gathered_bytes_are_unique h a b (from_start all is) (since old last recent split off every same) =
+      absurd (inside_steps_have_no_outside old last recent (subst (AllStepsInside inside) split all) off)
+  gathered_bytes_are_unique h a b (since old last recent split off all is) (from_start every same) =
+      absurd (inside_steps_have_no_outside old last recent (subst (AllStepsInside inside) split every) off)
+  gathered_bytes_are_unique h a b (since old last recent split off all is) (since past end late parts out every same) =
+      is ∙ ap (joined_parts part) (recent_steps_are_unique old last recent past end late (sym split ∙ parts) off out all every) ∙ sym same

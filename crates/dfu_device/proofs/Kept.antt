@@ -13,17 +13,16 @@ use Rattle.dfu_device.specs.Table.{Plan, Sure, Writes, Commits, plan, time_plan}
 use Rattle.dfu_device.specs.DeviceView.{DeviceView, profile, situation, written_bytes_in}
 use Rattle.dfu_device.specs.Rows.{request_for_table, asked_length, Done, is_served, setup_plan, handled_by_reading, Transfer, Passing, BusReset, RefusingClose, Refusing, PowerOn}
 use Rattle.dfu_device.specs.AcceptedBytes.{accepted_of}
-use Rattle.dfu_device.specs.Cases.{either_way}
+use Rattle.dfu_device.specs.Cases.{holds_in_both_branches}
 use Rattle.dfu_device.specs.RowForms.{CallsStoreFor}
-use Rattle.dfu_device.proofs.Leads.{row_leads, time_leads}
-use Rattle.dfu_device.specs.StoreUse.{StoreUse, RowsUseStore, ErrorRowsUseNothing}
+use Rattle.dfu_device.proofs.FaithfulPlans.{row_is_faithful, time_row_is_faithful}
+use Rattle.dfu_device.specs.StoreUse.{StoreUse, RowsUseStore, ErrorRowsKeepStore}
 
--- A list of calls that broke off has one fault.
-broken_fault_unique : {f g : WriteFault} → BrokenBy f ≡ BrokenBy g → f ≡ g
-broken_fault_unique q = cc
+-- Equal endings of broken calls have the same fault.
+broken_by_is_injective : {f g : WriteFault} → BrokenBy f ≡ BrokenBy g → f ≡ g
+broken_by_is_injective q = cc
 
--- Rows and the image.
-
+-- A plan that was carried out uses the slot store only for the bytes taken.
 done_plan_uses_store : (p : Plan) (len : ℕ) (w : DeviceView) (a : Answer) (out : List ℕ) (w' : DeviceView)
     → CallsStoreFor (written_bytes_in w.stage) (accepted_of (situation w)) p → Done p len w a out w' → StoreUse w w'
 done_plan_uses_store (Sure reply stage) len w a out w' only (says, is) = inl (inl (ap (λ (z : DeviceView). z.slots) is))
@@ -45,7 +44,7 @@ done_plan_uses_store (Writes before block reply stage bad) len w a out w' only (
   ending = BrokenBy fault;
   calls = h.calls;
   image = h.image;
-  failed = λ f e. rw (← broken_fault_unique e) h.stage_is;
+  failed = λ f e. rw (← broken_by_is_injective e) h.stage_is;
 }))
 done_plan_uses_store (Commits taken reply stage bad) len w a out w' only (inl (says, h)) = inr (inr (record {
   ending = AllWorked;
@@ -58,7 +57,7 @@ done_plan_uses_store (Commits taken reply stage bad) len w a out w' only (inr (f
   calls = subst (λ (x : List ℕ). CallsEnd w.slots (Commit (length x) ∷ []) (BrokenBy fault) w'.slots) only h.calls;
   image = λ e. absurd (cc);
   failed = λ f e. (
-    rw (← broken_fault_unique e) h.stage_is,
+    rw (← broken_by_is_injective e) h.stage_is,
     subst (λ (x : List ℕ). (image_of w'.slots ≡ image_of w.slots) ⊎ (image_of w'.slots ≡ x)) only h.image,
   );
 }))
@@ -66,53 +65,55 @@ done_plan_uses_store (Commits taken reply stage bad) len w a out w' only (inr (f
 -- The plan of a setup calls the slot store only for the bytes taken.
 setup_plan_calls_store_for : (w : DeviceView) (p : Setup) (q : Asked) (body : List ℕ)
     → CallsStoreFor (written_bytes_in w.stage) (accepted_of (situation w)) (setup_plan w p q body)
-setup_plan_calls_store_for w p q body = either_way (CallsStoreFor (written_bytes_in w.stage) (accepted_of (situation w))) (is_served p q
+setup_plan_calls_store_for w p q body =
+    holds_in_both_branches (CallsStoreFor (written_bytes_in w.stage) (accepted_of (situation w))) (is_served p q
     body) _ _
-    (row_leads (profile w) (image_of w.slots) w.stage (request_for_table q body)).0 tt
+    (row_is_faithful (profile w) (image_of w.slots) w.stage (request_for_table q body)).0 tt
 
 -- Each row uses the slot store for the bytes taken, or not at all; only a commit changes the image.
-pub image_kept : RowsUseStore
-image_kept w (Transfer setup body) a out w' (handled_by_reading p q reads asks done) =
+pub rows_use_store : RowsUseStore
+rows_use_store w (Transfer setup body) a out w' (handled_by_reading p q reads asks done) =
     done_plan_uses_store (setup_plan w p q body) (asked_length q) w a out w' (setup_plan_calls_store_for w p q body) done
-image_kept w (Passing ms) a out w' (is, none, row) =
-    done_plan_uses_store (time_plan (profile w) w.stage ms) 0 w answer.Ack [] w' (time_leads (profile w) (image_of w.slots) w.stage ms).0
+rows_use_store w (Passing ms) a out w' (is, none, row) =
+    done_plan_uses_store (time_plan (profile w) w.stage ms) 0 w answer.Ack [] w'
+    (time_row_is_faithful (profile w) (image_of w.slots) w.stage ms).0
     row
-image_kept w BusReset a out w' (is, none, same) = inl (inl (ap (λ (z : DeviceView). z.slots) same))
-image_kept w (RefusingClose setup why) a out w' (is, none, closes, same) = inl (inl (ap (λ (z : DeviceView). z.slots) same))
-image_kept w (Refusing why) a out w' (is, none, same) = inl (inl (ap (λ (z : DeviceView). z.slots) same))
-image_kept w PowerOn a out w' (is, none, same) = inl (inr (ap (λ (z : DeviceView). z.slots) same))
+rows_use_store w BusReset a out w' (is, none, same) = inl (inl (ap (λ (z : DeviceView). z.slots) same))
+rows_use_store w (RefusingClose setup why) a out w' (is, none, closes, same) = inl (inl (ap (λ (z : DeviceView). z.slots) same))
+rows_use_store w (Refusing why) a out w' (is, none, same) = inl (inl (ap (λ (z : DeviceView). z.slots) same))
+rows_use_store w PowerOn a out w' (is, none, same) = inl (inr (ap (λ (z : DeviceView). z.slots) same))
 
--- Plans that call nothing.
+-- Plans that call nothing of the slot store.
 
 -- The plan calls nothing of the slot store.
 abbrev pub CallsNoStore : Plan → Type 0
 CallsNoStore (Sure reply stage) = Unit {0}
 CallsNoStore p = ⊥
 
--- A plan that calls nothing keeps the slot store.
-plan_without_calls_keeps_slots : (p : Plan) (len : ℕ) (w : DeviceView) (a : Answer) (out : List ℕ) (w' : DeviceView) → CallsNoStore p →
+-- A plan that calls nothing leaves the slot store unchanged.
+storeless_plan_keeps_store : (p : Plan) (len : ℕ) (w : DeviceView) (a : Answer) (out : List ℕ) (w' : DeviceView) → CallsNoStore p →
     Done p len w a out w'
     → w'.slots ≡ w.slots
-plan_without_calls_keeps_slots (Sure reply stage) len w a out w' sure (says, is) = ap (λ (z : DeviceView). z.slots) is
-plan_without_calls_keeps_slots (Writes before block reply stage bad) len w a out w' sure done = absurd sure
-plan_without_calls_keeps_slots (Commits taken reply stage bad) len w a out w' sure done = absurd sure
+storeless_plan_keeps_store (Sure reply stage) len w a out w' sure (says, is) = ap (λ (z : DeviceView). z.slots) is
+storeless_plan_keeps_store (Writes before block reply stage bad) len w a out w' sure done = absurd sure
+storeless_plan_keeps_store (Commits taken reply stage bad) len w a out w' sure done = absurd sure
 
--- In dfuERROR the plan of each request calls nothing.
-error_stage_plan_calls_no_store : (c : Profile) (i : List ℕ) (code : Code) (r : Request) → CallsNoStore (plan c i (InError code) r)
-error_stage_plan_calls_no_store c i code ClrStatus = tt
-error_stage_plan_calls_no_store c i code GetStatus = tt
-error_stage_plan_calls_no_store c i code GetState = tt
-error_stage_plan_calls_no_store c i code r = tt
+-- In dfuERROR the plan of each request calls nothing of the slot store.
+error_plan_calls_no_store : (c : Profile) (i : List ℕ) (code : Code) (r : Request) → CallsNoStore (plan c i (InError code) r)
+error_plan_calls_no_store c i code ClrStatus = tt
+error_plan_calls_no_store c i code GetStatus = tt
+error_plan_calls_no_store c i code GetState = tt
+error_plan_calls_no_store c i code r = tt
 
--- In dfuERROR each row keeps the slot store.
-pub error_rows_keep_store : ErrorRowsUseNothing
+-- In dfuERROR each row leaves the slot store as it was, or opens it again on its medium.
+pub error_rows_keep_store : ErrorRowsKeepStore
 error_rows_keep_store code w (Transfer setup body) a out w' at (handled_by_reading p q reads asks done) =
-    inl (plan_without_calls_keeps_slots (setup_plan w p q body) (asked_length q) w a out w'
-    (either_way CallsNoStore (is_served p q body) _ _ (subst
+    inl (storeless_plan_keeps_store (setup_plan w p q body) (asked_length q) w a out w'
+    (holds_in_both_branches CallsNoStore (is_served p q body) _ _ (subst
     (λ (st : Stage). CallsNoStore (plan (profile w) (image_of w.slots) st (request_for_table q body)))
-    (sym at) (error_stage_plan_calls_no_store (profile w) (image_of w.slots) code (request_for_table q body))) tt) done)
+    (sym at) (error_plan_calls_no_store (profile w) (image_of w.slots) code (request_for_table q body))) tt) done)
 error_rows_keep_store code w (Passing ms) a out w' at (is, none, row) =
-    inl (plan_without_calls_keeps_slots (time_plan (profile w) w.stage ms) 0 w answer.Ack [] w'
+    inl (storeless_plan_keeps_store (time_plan (profile w) w.stage ms) 0 w answer.Ack [] w'
     (subst (λ (st : Stage). CallsNoStore (time_plan (profile w) st ms)) (sym at) tt) row)
 error_rows_keep_store code w BusReset a out w' at (is, none, same) = inl (ap (λ (z : DeviceView). z.slots) same)
 error_rows_keep_store code w (RefusingClose setup why) a out w' at (is, none, closes, same) = inl (ap (λ (z : DeviceView). z.slots) same)

@@ -2,12 +2,12 @@
 use Rattle.std.proofs.Common.{◌≡◌, ℕ, ◌+◌, ◌-◌, min, List, take, drop, length, slice_range, ap, ◌∙◌, arith}
 use Rattle.std.proofs.lemmas.List.{take_min, length-drop, length-take}
 
--- The n bytes from a place on are the next `len` bytes, as far as the image reaches.
+-- The next `len` bytes of an image from a place on are its n bytes there, if n is `len` or the bytes that are left, whichever is less.
 pub next_bytes : (i : List ℕ) (place n len : ℕ) → n ≡ min len (length i - place) → slice_range i place (place + n) ≡ take len (drop place i)
 next_bytes i place n len is =
     let e : (place + n) - place ≡ min len (length (drop place i)) = omega (arith, is, length-drop place i) in
     ap (λ (k : ℕ). take k (drop place i)) e ∙ take_min len (drop place i)
 
--- The number n of the next bytes is their length.
-pub next_piece_length : (i : List ℕ) (place n len : ℕ) → n ≡ min len (length i - place) → n ≡ length (take len (drop place i))
-next_piece_length i place n len is = omega (arith, is, length-drop place i, length-take len (drop place i))
+-- The number n of bytes in the next piece of an image is the length of the piece.
+pub count_is_piece_length : (i : List ℕ) (place n len : ℕ) → n ≡ min len (length i - place) → n ≡ length (take len (drop place i))
+count_is_piece_length i place n len is = omega (arith, is, length-drop place i, length-take len (drop place i))

@@ -5,7 +5,7 @@ use Rattle.dfu_wire.specs.declared.setups.Setup.{Setup}
 use Rattle.dfu_wire.specs.declared.requests.Request.{Request as Asked}
 use Rattle.dfu_wire.specs.declared.states.State.{State}
 use Rattle.dfu_wire.specs.Setup.{IsSetup}
-use Rattle.dfu_wire.specs.Request.{SetupRequest}
+use Rattle.dfu_wire.specs.Request.{SetupAsksFor}
 use Rattle.dfu_slots.specs.StoreView.{store_on, image_of}
 use Rattle.dfu_device.specs.declared.answer.Answer.{Answer}
 use Rattle.dfu_device.specs.declared.answer.Answer.TheVariants as answer
@@ -15,17 +15,17 @@ use Rattle.dfu_device.specs.Table.{Plan, plan, time_plan, reset_stage, objection
 use Rattle.dfu_device.specs.Outcome.{Luck, Outcome, plan_outcome}
 use Rattle.dfu_device.specs.DeviceView.{DeviceView, profile}
 use Rattle.dfu_device.specs.Rows.{request_for_table, asked_length, ReplyAnswer, is_served, Handles, handled_by_reading, Elapses, Cause, Transfer, Passing, BusReset, RefusingClose, Refusing, PowerOn, Row}
-use Rattle.dfu_device.specs.PlanOutcomes.{PlanOutcome, setups_have_outcomes, not_served, times_have_outcomes}
-use Rattle.dfu_device.specs.RowForms.{ReplyMatches, reply_of_plan, RowForm, row_form, time_plan_row_form, row_reply_matches_request}
+use Rattle.dfu_device.specs.PlanOutcomes.{PlanOutcome, setups_have_outcomes, not_served_is_stalled, times_have_outcomes}
+use Rattle.dfu_device.specs.RowForms.{ReplyMatches, reply_of_plan, RowForm, row_form, time_plan_has_form, row_reply_matches_request}
 use Rattle.dfu_device.specs.History.{HistoryStep, IsTableRow, IsHistory, Gathered, from_start}
 use Rattle.dfu_device.proofs.History.{one_more_step_gathers, history_gathers}
-use Rattle.dfu_device.proofs.Cases.{cases_of_bool}
+use Rattle.dfu_device.proofs.Cases.{bool_has_two_cases}
 
--- The reply to a setup that goes by the table is of the kind that its request has.
-pub reply_fits : (q : Asked) (body : List ℕ) (len : ℕ) (w : DeviceView) (a : Answer) (out : List ℕ) (w' : DeviceView)
+-- The reply to a setup that the table serves is of a kind that its request may have.
+pub served_reply_matches_request : (q : Asked) (body : List ℕ) (len : ℕ) (w : DeviceView) (a : Answer) (out : List ℕ) (w' : DeviceView)
     (x : PlanOutcome (plan (profile w) (image_of w.slots) w.stage (request_for_table q body)) len w a out w')
     → ReplyMatches (profile w).transfer x.reply (request_for_table q body)
-reply_fits q body len w a out w' x =
+served_reply_matches_request q body len w a out w' x =
     let p : Plan = plan (profile w) (image_of w.slots) w.stage (request_for_table q body) in
     subst (λ (o : Outcome). ReplyMatches (profile w).transfer o.reply (request_for_table q body)) x.same
     (reply_of_plan (λ (reply : Reply). ReplyMatches (profile w).transfer reply (request_for_table q body)) (image_of w.slots) p x.luck
@@ -36,33 +36,33 @@ reply_fits q body len w a out w' x =
 -- the bytes that a cause adds by its answer.
 module _ (inside : State → Bool) (held : List ℕ → Stage → List ℕ) (joined : List ℕ → Request → Reply → List ℕ)
     (own : Cause → Answer → List ℕ → List ℕ) where
-  -- Bytes that stay held in a state: all of them inside, and none outside.
+  -- Bytes that a device still holds in a state: all of them inside, none outside.
   abbrev left : State → List ℕ → List ℕ
   left state bytes = if inside state then bytes else []
 
-  -- Bytes that a device holds, by its image and its stage.
+  -- Bytes that a device holds in its stage.
   abbrev held_by : DeviceView → List ℕ
   held_by w = held (image_of w.slots) w.stage
 
-  -- The bytes held after an outcome are the bytes held before, joined with what its reply adds, as far as its state holds any.
+  -- The bytes held after an outcome are the bytes held before, joined with those that its reply adds, or none if its state is outside.
   abbrev JoinsHeldBytes : List ℕ → Request → Outcome → Type 0
   JoinsHeldBytes before r o = held o.after.image o.after.stage ≡ left (state_of o.after.stage) (joined before r o.reply)
 
   -- Facts from which the gathering of bytes by rows and histories follows.
   pub record GatheringFacts : Type 0 where
-    -- Each row, by its form, joins its bytes to the held ones.
+    -- A row of each form joins the bytes of its reply to the held bytes.
     pub form : (c : Profile) (i : List ℕ) (st : Stage) (r : Request) (p : Plan) → RowForm c i st r p → (luck : Luck)
         → JoinsHeldBytes (held i st) r (plan_outcome i p luck)
-    -- The reply to a setup joins the bytes that the setup adds by its answer.
+    -- The bytes that a reply adds are the bytes that its setup adds with the answer.
     pub answered : (p : Setup) (q : Asked) (setup body before : List ℕ) (most len : ℕ) (reply : Reply) (a : Answer) (out : List ℕ)
-        → IsSetup p setup → SetupRequest p q → is_served p q body ≡ true → ReplyMatches most reply (request_for_table q body)
+        → IsSetup p setup → SetupAsksFor p q → is_served p q body ≡ true → ReplyMatches most reply (request_for_table q body)
         → ReplyAnswer len reply a out
         → joined before (request_for_table q body) reply ≡ before ++ own (Transfer setup body) a out
     -- A stalled setup adds no bytes.
     pub stalled : (setup body out : List ℕ) → own (Transfer setup body) answer.Stall out ≡ []
     pub waits : (ms : ℕ) (before : List ℕ) (reply : Reply) (a : Answer) (out : List ℕ)
         → joined before OtherRequest reply ≡ before ++ own (Passing ms) a out
-    -- A stage that stays adds no bytes, and a reset leaves none.
+    -- A device that stays in its stage holds the same bytes; a reset of the bus leaves the bytes that the stage after it holds.
     pub stays : (i : List ℕ) (st : Stage) → held i st ≡ left (state_of st) (held i st ++ [])
     pub resets : (i bytes : List ℕ) (st : Stage) → held i (reset_stage st) ≡ left (state_of (reset_stage st)) bytes
     -- dfuERROR holds no bytes, and a refusal of an image adds none.
@@ -72,8 +72,9 @@ module _ (inside : State → Bool) (held : List ℕ → Stage → List ℕ) (joi
         → held i (refuse_stage why st) ≡ left (state_of (refuse_stage why st)) (held i st ++ own (Refusing why) a out)
 
   module _ (known : GatheringFacts) where
+    -- A row of a setup that the table serves adds the bytes of the setup and its answer to the held bytes.
     served : (p : Setup) (q : Asked) (setup body : List ℕ) (w : DeviceView) (a : Answer) (out : List ℕ) (w' : DeviceView) → IsSetup p setup
-        → SetupRequest p q → is_served p q body ≡ true → Handles setup body w a out w'
+        → SetupAsksFor p q → is_served p q body ≡ true → Handles setup body w a out w'
         → held_by w' ≡ left (state_of w'.stage) (held_by w ++ own (Transfer setup body) a out)
     served p q setup body w a out w' reads asks on h =
         let x : PlanOutcome (plan (profile w) (image_of w.slots) w.stage (request_for_table q body)) (asked_length q) w a out w' =
@@ -83,8 +84,9 @@ module _ (inside : State → Bool) (held : List ℕ → Stage → List ℕ) (joi
         (plan (profile w) (image_of w.slots) w.stage (request_for_table q body))
         (row_form (profile w) (image_of w.slots) w.stage (request_for_table q body)) x.luck)
         ∙ ap (left (state_of w'.stage)) (known.answered p q setup body (held_by w) (profile w).transfer (asked_length q) x.reply a out
-        reads asks on (reply_fits q body (asked_length q) w a out w' x) x.answers)
+        reads asks on (served_reply_matches_request q body (asked_length q) w a out w' x) x.answers)
 
+    -- A stalled setup that changes nothing adds no bytes to the held bytes.
     unserved : (setup body : List ℕ) (w : DeviceView) (a : Answer) (out : List ℕ) (w' : DeviceView) → (a ≡ answer.Stall) × (w' ≡ w)
         → held_by w' ≡ left (state_of w'.stage) (held_by w ++ own (Transfer setup body) a out)
     unserved setup body w a out w' (stall, same) =
@@ -92,22 +94,24 @@ module _ (inside : State → Bool) (held : List ℕ → Stage → List ℕ) (joi
         (known.stays (image_of w.slots) w.stage ∙ ap (λ (l : List ℕ). left (state_of w.stage) (held_by w ++ l))
         (sym (ap (λ (x : Answer). own (Transfer setup body) x out) stall ∙ known.stalled setup body out)))
 
+    -- A row of elapsed time adds the bytes of the time to the held bytes.
     waited : (ms : ℕ) (w : DeviceView) (a : Answer) (out : List ℕ) (w' : DeviceView) → Elapses ms w w'
         → held_by w' ≡ left (state_of w'.stage) (held_by w ++ own (Passing ms) a out)
     waited ms w a out w' row =
         let x : PlanOutcome (time_plan (profile w) w.stage ms) 0 w answer.Ack [] w' = times_have_outcomes ms w w' row in
         subst (JoinsHeldBytes (held_by w) OtherRequest) x.same
         (known.form (profile w) (image_of w.slots) w.stage OtherRequest (time_plan (profile w) w.stage ms)
-        (time_plan_row_form (profile w) (image_of w.slots) w.stage ms) x.luck)
+        (time_plan_has_form (profile w) (image_of w.slots) w.stage ms) x.luck)
         ∙ ap (left (state_of w'.stage)) (known.waits ms (held_by w) x.reply a out)
 
-    -- A row of any cause adds the bytes of its cause and answer.
+    -- A row adds the bytes of its cause and answer to the held bytes, of which none are left outside.
     pub row_adds_own_bytes : (w : DeviceView) (cause : Cause) (a : Answer) (out : List ℕ) (w' : DeviceView) → Row w cause a out w'
         → held_by w' ≡ left (state_of w'.stage) (held_by w ++ own cause a out)
     row_adds_own_bytes w (Transfer setup body) a out w' (handled_by_reading p q reads asks done) =
-        cases_of_bool (is_served p q body)
+        bool_has_two_cases (is_served p q body)
         (λ on. served p q setup body w a out w' reads asks on (handled_by_reading p q reads asks done))
-        (λ off. unserved setup body w a out w' (not_served p q setup body w a out w' reads asks off (handled_by_reading p q reads asks
+        (λ off. unserved setup body w a out w'
+        (not_served_is_stalled p q setup body w a out w' reads asks off (handled_by_reading p q reads asks
         done)))
     row_adds_own_bytes w (Passing ms) a out w' (is, none, row) = waited ms w a out w' row
     row_adds_own_bytes w BusReset a out w' (is, none, same) =
@@ -123,7 +127,7 @@ module _ (inside : State → Bool) (held : List ℕ → Stage → List ℕ) (joi
         subst (λ (z : DeviceView). held_by z ≡ left (state_of z.stage) (held_by w ++ own PowerOn a out)) (sym same)
         (known.resets (image_of (store_on w.slots.medium)) (held_by w ++ own PowerOn a out) InAppIdle)
 
-    -- A step ends in a state in which bytes are held.
+    -- The step ends in a state in which bytes are held.
     abbrev ends_inside : HistoryStep → Bool
     ends_inside s = inside (state_of s.after.stage)
 
@@ -131,7 +135,7 @@ module _ (inside : State → Bool) (held : List ℕ → Stage → List ℕ) (joi
     abbrev own_bytes_of_step : HistoryStep → List ℕ
     own_bytes_of_step s = own s.cause s.answer s.out
 
-    -- A history with one more step gathers what that step adds.
+    -- A history with one more step gathers the bytes that the step adds.
     pub step_adds_own_bytes : (h : List HistoryStep) (s : HistoryStep) → Gathered ends_inside own_bytes_of_step h (held_by s.before) →
         IsTableRow s
         → Gathered ends_inside own_bytes_of_step (h ++ s ∷ []) (held_by s.after)
@@ -141,14 +145,14 @@ module _ (inside : State → Bool) (held : List ℕ → Stage → List ℕ) (joi
         one_more_step_gathers ends_inside own_bytes_of_step h s (held_by s.before) (held_by s.after) gathered
         (λ on. now ∙ ap (λ (b : Bool). if b then both else []) on) (λ off. now ∙ ap (λ (b : Bool). if b then both else []) off)
 
-    -- A longer history gathers what its further steps add.
+    -- A history with further steps gathers the bytes that the steps add.
     pub history_adds_own_bytes : (g h : List HistoryStep) (w w' : DeviceView) → Gathered ends_inside own_bytes_of_step g (held_by w) →
         IsHistory w h w'
         → Gathered ends_inside own_bytes_of_step (g ++ h) (held_by w')
     history_adds_own_bytes g h w w' gathered run = history_gathers ends_inside own_bytes_of_step held_by step_adds_own_bytes g h w w'
         gathered run
 
-    -- A device that held no bytes at first holds what its history gathers.
-    pub history_from_start_adds : (h : List HistoryStep) (w w' : DeviceView) → held_by w ≡ [] → IsHistory w h w'
+    -- A device that held no bytes at first holds the bytes that its history gathers.
+    pub history_from_start_gathers : (h : List HistoryStep) (w w' : DeviceView) → held_by w ≡ [] → IsHistory w h w'
         → Gathered ends_inside own_bytes_of_step h (held_by w')
-    history_from_start_adds h w w' none run = history_adds_own_bytes [] h w w' (from_start tt none) run
+    history_from_start_gathers h w w' none run = history_adds_own_bytes [] h w w' (from_start tt none) run

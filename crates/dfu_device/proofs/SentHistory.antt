@@ -6,7 +6,7 @@ use Rattle.dfu_wire.specs.declared.setups.Setup.{Setup}
 use Rattle.dfu_wire.specs.declared.requests.Request.{Request as Asked}
 use Rattle.dfu_wire.specs.declared.requests.Request.TheVariants as asked
 use Rattle.dfu_wire.specs.Setup.{IsSetup}
-use Rattle.dfu_wire.specs.Request.{SetupRequest}
+use Rattle.dfu_wire.specs.Request.{SetupAsksFor}
 use Rattle.dfu_device.specs.declared.answer.Answer.{Answer}
 use Rattle.dfu_device.specs.declared.answer.Answer.TheVariants as answer
 use Rattle.dfu_device.specs.declared.objection.Objection.{Objection}
@@ -21,21 +21,22 @@ use Rattle.dfu_device.proofs.RowGathers.{GatheringFacts}
 
 -- Bytes that a setup sends.
 
--- A setup that goes by the table begins like an UPLOAD exactly if it asks for one.
-pub served_setup_is_upload : (p : Setup) (q : Asked) (setup body : List ℕ) → IsSetup p setup → SetupRequest p q → is_served p q body ≡ true
+-- A setup that the table serves begins with the first two bytes of an UPLOAD exactly if its request is an UPLOAD.
+pub served_setup_is_upload : (p : Setup) (q : Asked) (setup body : List ℕ) → IsSetup p setup → SetupAsksFor p q → is_served p q body ≡ true
     → is_upload setup ≡ is_request_with_first_bytes 0xa1 2 q
 served_setup_is_upload p q setup body reads asks on = setup_begins_as_request 0xa1 2 p setup reads q body
     (λ class other. other.1 (asked.Upload p.value p.length) (class, refl, refl)) asks on
 
--- A setup that is not an UPLOAD sends nothing.
+-- A setup that is not an UPLOAD sends no bytes of the image.
 other_setup_sends_no_piece : (setup body : List ℕ) (a : Answer) (out : List ℕ) → is_upload setup ≡ false →
     sent_piece (Transfer setup body) a out ≡ []
 other_setup_sends_no_piece setup body answer.Bytes out off = ap (λ (b : Bool). if b then out else []) off
 other_setup_sends_no_piece setup body a out off = refl
 
+-- A reply to a setup that the table serves sends the bytes that the setup sends with its answer.
 upload_answer_joins_piece : (p : Setup) (q : Asked) (setup body t : List ℕ) (most len : ℕ) (reply : Reply) (a : Answer) (out : List ℕ) →
     IsSetup p setup
-    → SetupRequest p q → is_served p q body ≡ true → ReplyMatches most reply (request_for_table q body) → ReplyAnswer len reply a out
+    → SetupAsksFor p q → is_served p q body ≡ true → ReplyMatches most reply (request_for_table q body) → ReplyAnswer len reply a out
     → t ++ piece_sent_by_reply (request_for_table q body) reply ≡ t ++ sent_piece (Transfer setup body) a out
 upload_answer_joins_piece p (asked.Upload block count) setup body t most len (Data bytes) a out reads asks on fits says =
     ap (λ (l : List ℕ). t ++ l) (sym (ap (λ (x : Answer). sent_piece (Transfer setup body) x out) says.0
@@ -46,24 +47,24 @@ upload_answer_joins_piece p (asked.Upload block count) setup body t most len rep
 upload_answer_joins_piece p q setup body t most len reply a out reads asks on fits says =
     ap (λ (l : List ℕ). t ++ l) (sym (other_setup_sends_no_piece setup body a out (served_setup_is_upload p q setup body reads asks on)))
 
--- Nothing counts as sent outside dfuUPLOAD-IDLE.
-sent_bytes_of_state : (i : List ℕ) (st : Stage) → sent_in i st ≡ sent_in_state (state_of st) (sent_in i st ++ [])
-sent_bytes_of_state i (InUploadIdle place number) = sym (append-nil (sent_in i (InUploadIdle place number)))
-sent_bytes_of_state i st = refl
+-- No bytes count as sent outside dfuUPLOAD-IDLE, and there all of them count.
+none_sent_outside_upload : (i : List ℕ) (st : Stage) → sent_in i st ≡ sent_in_state (state_of st) (sent_in i st ++ [])
+none_sent_outside_upload i (InUploadIdle place number) = sym (append-nil (sent_in i (InUploadIdle place number)))
+none_sent_outside_upload i st = refl
 
 -- After a reset of the bus no bytes count as sent.
 reset_leaves_sent_bytes : (i bytes : List ℕ) (st : Stage) → sent_in i (reset_stage st) ≡ sent_in_state (state_of (reset_stage st)) bytes
 reset_leaves_sent_bytes i bytes (InAppDetach timer passed) = refl
 reset_leaves_sent_bytes i bytes st = refl
 
--- A refusal of an image sends nothing.
+-- A refusal of an image sends no bytes.
 refusal_leaves_sent_bytes : (why : Objection) (i : List ℕ) (st : Stage) (a : Answer) (out : List ℕ)
     → sent_in i (refuse_stage why st) ≡ sent_in_state (state_of (refuse_stage why st)) (sent_in i st ++ sent_piece (Refusing why) a out)
 refusal_leaves_sent_bytes why i (InManifestSync taken) a out = refl
 refusal_leaves_sent_bytes why i (InManifest taken passed) a out = refl
-refusal_leaves_sent_bytes why i st a out = sent_bytes_of_state i st
+refusal_leaves_sent_bytes why i st a out = none_sent_outside_upload i st
 
--- Bytes sent before a reply, followed by those that the reply sends.
+-- The bytes sent before a reply, followed by those that the reply sends.
 abbrev pub joined : List ℕ → Request → Reply → List ℕ
 joined sent r reply = sent ++ piece_sent_by_reply r reply
 
@@ -74,7 +75,7 @@ gathering_of_sent_bytes = record {
   answered = upload_answer_joins_piece;
   stalled = λ setup body out. refl;
   waits = λ ms t reply a out. refl;
-  stays = sent_bytes_of_state;
+  stays = none_sent_outside_upload;
   resets = reset_leaves_sent_bytes;
   error_leaves_no_bytes = λ why i bytes. refl;
   refuses = refusal_leaves_sent_bytes;

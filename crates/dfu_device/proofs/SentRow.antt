@@ -10,7 +10,7 @@ use Rattle.dfu_device.specs.Outcome.{Luck, Outcome, plan_outcome}
 use Rattle.dfu_device.specs.Sent.{sent_in, sent_of, piece_sent_by_reply, sent_in_state, sent_after}
 use Rattle.dfu_device.specs.RowForms.{IsQuietReply, counted, quiet_plan_gives_quiet_reply, RowForm, quiet, takes, closes, sends, ends}
 
--- After a plan the sent bytes are those before, followed by the piece that the plan sends, at each luck of the medium.
+-- After a plan the bytes sent are those before, followed by the piece that the plan sends, for any luck of the medium.
 abbrev pub Sends : List ℕ → Stage → Request → Plan → Type 0
 Sends i st r p = (luck : Luck) → sent_of (plan_outcome i p luck).after ≡ sent_after (sent_in i st) r (plan_outcome i p luck)
 
@@ -33,25 +33,24 @@ row_form_sends_piece c i st r p (sends place size is small) luck =
     take-add place size i ∙ ap (λ (l : List ℕ). l ++ take size (drop place i)) (sym is)
 row_form_sends_piece c i st r p (ends place size is small short) luck = refl
 
--- The end of an upload.
-
+-- If fewer than `size` bytes could be taken from a list, the list has at most `size` bytes.
 short_prefix_is_whole : (l : List ℕ) (size : ℕ) → nat_lt (length (take size l)) size ≡ true → length l ≤ size
 short_prefix_is_whole l size short = omega (arith, length-take size l, ltb-true (length (take size l)) size short)
 
--- If the piece from a place on is shorter than asked for, the image ends with it.
+-- If the piece from a place on is shorter than asked for, the bytes before it, followed by the piece, are the image.
 short_piece_completes_image : (i : List ℕ) (place size : ℕ) → nat_lt (length (take size (drop place i))) size ≡ true
     → take place i ++ take size (drop place i) ≡ i
 short_piece_completes_image i place size short =
     ap (λ (l : List ℕ). take place i ++ l) (take_all size (drop place i) (short_prefix_is_whole (drop place i) size short))
     ∙ take-append-drop place i
 
--- If a piece is answered and dfuIDLE entered, the bytes sent before, followed by the piece, are the image.
-abbrev pub Completes : List ℕ → Stage → Outcome → Type 0
-Completes i st o = (bytes : List ℕ) → o.reply ≡ Data bytes → o.after.stage ≡ InDfuIdle → sent_in i st ++ bytes ≡ o.after.image
+-- If the outcome sends a piece and enters dfuIDLE, the bytes sent before, followed by the piece, are the image.
+abbrev pub OutcomeCompletesImage : List ℕ → Stage → Outcome → Type 0
+OutcomeCompletesImage i st o = (bytes : List ℕ) → o.reply ≡ Data bytes → o.after.stage ≡ InDfuIdle → sent_in i st ++ bytes ≡ o.after.image
 
 -- A row of each form that ends an upload completes the image.
 pub row_form_completes_upload : (c : Profile) (i : List ℕ) (st : Stage) (r : Request) (p : Plan) (luck : Luck) → RowForm c i st r p
-    → Completes i st (plan_outcome i p luck)
+    → OutcomeCompletesImage i st (plan_outcome i p luck)
 row_form_completes_upload c i st r p luck (quiet replies calls well counts) bytes is idle =
     absurd (subst (λ (reply : Reply). IsQuietReply reply r) is (quiet_plan_gives_quiet_reply c i r p luck replies))
 row_form_completes_upload c i st r p luck takes bytes is idle = absurd cc

@@ -6,7 +6,7 @@ use Rattle.dfu_wire.specs.declared.setups.Setup.{Setup}
 use Rattle.dfu_wire.specs.declared.requests.Request.{Request as Asked}
 use Rattle.dfu_wire.specs.declared.requests.Request.TheVariants as asked
 use Rattle.dfu_wire.specs.Setup.{IsSetup}
-use Rattle.dfu_wire.specs.Request.{SetupRequest}
+use Rattle.dfu_wire.specs.Request.{SetupAsksFor}
 use Rattle.dfu_slots.specs.StoreView.{image_of}
 use Rattle.dfu_device.specs.declared.answer.Answer.{Answer}
 use Rattle.dfu_device.specs.declared.answer.Answer.TheVariants as answer
@@ -17,15 +17,14 @@ use Rattle.dfu_device.specs.Outcome.{Outcome}
 use Rattle.dfu_device.specs.DeviceView.{DeviceView, profile, situation}
 use Rattle.dfu_device.specs.Rows.{request_for_table, asked_length, ReplyAnswer, is_served, Cause, Refusing, Transfer}
 use Rattle.dfu_device.specs.PlanOutcomes.{PlanOutcome, setups_have_outcomes, times_have_outcomes}
-use Rattle.dfu_device.specs.RowForms.{ReplyMatches, RowForm, row_form, time_plan_row_form}
-use Rattle.dfu_device.specs.AcceptedBytes.{accepted_in, accepted_of, is_downloading, accepted_with_dnload, accepted_in_state, accepted_after, is_dnload, acknowledged_bytes}
+use Rattle.dfu_device.specs.RowForms.{ReplyMatches, RowForm, row_form, time_plan_has_form}
+use Rattle.dfu_device.specs.AcceptedBytes.{accepted_in, accepted_of, is_downloading, accepted_after_reply, accepted_in_state, accepted_after, is_dnload, acknowledged_bytes}
 use Rattle.dfu_device.proofs.TakenRow.{row_form_accepts_body}
 use Rattle.dfu_device.proofs.FirstBytes.{is_request_with_first_bytes, setup_begins_as_request}
 use Rattle.dfu_device.proofs.RowGathers.{GatheringFacts}
 use Rattle.dfu_device.specs.AcceptedHistory.{RowAcceptedBody, SetupAcceptsBody, TimeAcceptsNothing}
 
--- The bytes taken by a row.
-
+-- A row with a form takes the body that it acknowledges.
 row_accepts_acknowledged_body : (p : Plan) (r : Request) (len : ℕ) (w : DeviceView) (a : Answer) (out : List ℕ) (w' : DeviceView)
     → RowForm (profile w) (image_of w.slots) w.stage r p → PlanOutcome p len w a out w' → RowAcceptedBody r len w a out w'
 row_accepts_acknowledged_body p r len w a out w' form x = record {
@@ -35,7 +34,7 @@ row_accepts_acknowledged_body p r len w a out w' form x = record {
       (row_form_accepts_body (profile w) (image_of w.slots) w.stage r p form x.luck);
 }
 
--- Each setup that goes by the table takes the body that it acknowledges.
+-- The row of each setup that the table serves takes the body that it acknowledges.
 pub setup_accepts_body : SetupAcceptsBody
 setup_accepts_body p q setup body w a out w' reads asks on h =
     row_accepts_acknowledged_body (plan (profile w) (image_of w.slots) w.stage (request_for_table q body)) (request_for_table q body)
@@ -43,15 +42,15 @@ setup_accepts_body p q setup body w a out w' reads asks on h =
     (row_form (profile w) (image_of w.slots) w.stage (request_for_table q body))
     (setups_have_outcomes p q setup body w a out w' reads asks on h)
 
--- A time takes no bytes.
+-- Time that passes takes no bytes.
 pub time_accepts_nothing : TimeAcceptsNothing
 time_accepts_nothing ms w w' row = row_accepts_acknowledged_body (time_plan (profile w) w.stage ms) OtherRequest 0 w answer.Ack [] w'
-    (time_plan_row_form (profile w) (image_of w.slots) w.stage ms) (times_have_outcomes ms w w' row)
+    (time_plan_has_form (profile w) (image_of w.slots) w.stage ms) (times_have_outcomes ms w w' row)
 
 -- Bytes that a setup adds.
 
--- A setup that goes by the table begins like a DNLOAD exactly if it asks for one.
-served_setup_is_dnload : (p : Setup) (q : Asked) (setup body : List ℕ) → IsSetup p setup → SetupRequest p q → is_served p q body ≡ true
+-- A setup that the table serves begins with the first two bytes of a DNLOAD exactly if its request is a DNLOAD.
+served_setup_is_dnload : (p : Setup) (q : Asked) (setup body : List ℕ) → IsSetup p setup → SetupAsksFor p q → is_served p q body ≡ true
     → is_dnload setup ≡ is_request_with_first_bytes 0x21 1 q
 served_setup_is_dnload p q setup body reads asks on = setup_begins_as_request 0x21 1 p setup reads q body
     (λ class other. other.1 (asked.Dnload p.value p.length) (class, refl, refl)) asks on
@@ -61,10 +60,11 @@ other_setup_adds_no_block : (setup body : List ℕ) (a : Answer) → is_dnload s
 other_setup_adds_no_block setup body answer.Ack off = ap (λ (b : Bool). if b then body else []) off
 other_setup_adds_no_block setup body a off = refl
 
+-- A reply to a setup that the table serves adds the body that the answer of the setup acknowledges.
 dnload_answer_joins_body : (p : Setup) (q : Asked) (setup body t : List ℕ) (most len : ℕ) (reply : Reply) (a : Answer) (out : List ℕ) →
     IsSetup p setup
-    → SetupRequest p q → is_served p q body ≡ true → ReplyMatches most reply (request_for_table q body) → ReplyAnswer len reply a out
-    → accepted_with_dnload t (request_for_table q body) reply ≡ t ++ acknowledged_bytes (Transfer setup body) a
+    → SetupAsksFor p q → is_served p q body ≡ true → ReplyMatches most reply (request_for_table q body) → ReplyAnswer len reply a out
+    → accepted_after_reply t (request_for_table q body) reply ≡ t ++ acknowledged_bytes (Transfer setup body) a
 dnload_answer_joins_body p (asked.Dnload block count) setup body t most len Ack a out reads asks on fits says =
     ap (λ (b : Bool). t ++ (if b then body else [])) (sym (served_setup_is_dnload p (asked.Dnload block count) setup body reads asks on))
     ∙ ap (λ (x : Answer). t ++ acknowledged_bytes (Transfer setup body) x) (sym says.0)
@@ -75,17 +75,17 @@ dnload_answer_joins_body p q setup body t most len reply a out reads asks on fit
     sym (append-nil t) ∙ ap (λ (l : List ℕ). t ++ l) (sym (other_setup_adds_no_block setup body a (served_setup_is_dnload p q setup body
     reads asks on)))
 
--- No bytes count as taken outside a download.
-accepted_bytes_of_state : (image : List ℕ) (st : Stage) → accepted_in image st ≡ accepted_in_state (state_of st) (accepted_in image st
+-- No bytes count as taken outside a download, and in one all of them count.
+none_taken_outside_download : (image : List ℕ) (st : Stage) → accepted_in image st ≡ accepted_in_state (state_of st) (accepted_in image st
     ++ [])
-accepted_bytes_of_state image (InDownloadSync before block number) = sym (append-nil (before ++ block))
-accepted_bytes_of_state image (InDownloadSyncWritten taken number) = sym (append-nil taken)
-accepted_bytes_of_state image (InDownloadBusy before block number passed) = sym (append-nil (before ++ block))
-accepted_bytes_of_state image (InDownloadIdle taken number) = sym (append-nil taken)
-accepted_bytes_of_state image (InManifestSync taken) = sym (append-nil taken)
-accepted_bytes_of_state image InManifestSyncComplete = sym (append-nil image)
-accepted_bytes_of_state image (InManifest taken passed) = sym (append-nil taken)
-accepted_bytes_of_state image st = refl
+none_taken_outside_download image (InDownloadSync before block number) = sym (append-nil (before ++ block))
+none_taken_outside_download image (InDownloadSyncWritten taken number) = sym (append-nil taken)
+none_taken_outside_download image (InDownloadBusy before block number passed) = sym (append-nil (before ++ block))
+none_taken_outside_download image (InDownloadIdle taken number) = sym (append-nil taken)
+none_taken_outside_download image (InManifestSync taken) = sym (append-nil taken)
+none_taken_outside_download image InManifestSyncComplete = sym (append-nil image)
+none_taken_outside_download image (InManifest taken passed) = sym (append-nil taken)
+none_taken_outside_download image st = refl
 
 -- After a reset of the bus no bytes count as taken.
 reset_leaves_accepted_bytes : (image bytes : List ℕ) (st : Stage) → accepted_in image (reset_stage st)
@@ -93,26 +93,26 @@ reset_leaves_accepted_bytes : (image bytes : List ℕ) (st : Stage) → accepted
 reset_leaves_accepted_bytes image bytes (InAppDetach timer passed) = refl
 reset_leaves_accepted_bytes image bytes st = refl
 
--- A refusal of an image takes nothing.
+-- A refusal of an image takes no bytes.
 refusal_leaves_accepted_bytes : (why : Objection) (image : List ℕ) (st : Stage) (a : Answer) (out : List ℕ)
     → accepted_in image (refuse_stage why st) ≡ accepted_in_state (state_of (refuse_stage why st))
     (accepted_in image st ++ acknowledged_bytes (Refusing why) a)
 refusal_leaves_accepted_bytes why image (InManifestSync taken) a out = refl
 refusal_leaves_accepted_bytes why image (InManifest taken passed) a out = refl
-refusal_leaves_accepted_bytes why image st a out = accepted_bytes_of_state image st
+refusal_leaves_accepted_bytes why image st a out = none_taken_outside_download image st
 
--- The body that an answer acknowledged. The bytes of an answer add none.
-abbrev pub block_by : Cause → Answer → List ℕ → List ℕ
-block_by cause a out = acknowledged_bytes cause a
+-- The body that an answer acknowledged; the bytes of the answer do not count.
+abbrev pub acknowledged_body_of : Cause → Answer → List ℕ → List ℕ
+acknowledged_body_of cause a out = acknowledged_bytes cause a
 
 -- Facts from which the laws of the taken bytes follow.
-pub gathering_of_accepted_bytes : GatheringFacts is_downloading accepted_in accepted_with_dnload block_by
+pub gathering_of_accepted_bytes : GatheringFacts is_downloading accepted_in accepted_after_reply acknowledged_body_of
 gathering_of_accepted_bytes = record {
   form = row_form_accepts_body;
   answered = dnload_answer_joins_body;
   stalled = λ setup body out. refl;
   waits = λ ms t reply a out. sym (append-nil t);
-  stays = accepted_bytes_of_state;
+  stays = none_taken_outside_download;
   resets = reset_leaves_accepted_bytes;
   error_leaves_no_bytes = λ why i bytes. refl;
   refuses = refusal_leaves_accepted_bytes;

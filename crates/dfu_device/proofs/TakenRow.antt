@@ -5,25 +5,25 @@ use Rattle.std.proofs.lemmas.List.{append-nil}
 use Rattle.dfu_device.specs.Stage.{Request, Dnload, Reply, Ack, Profile, Stage, state_of}
 use Rattle.dfu_device.specs.Table.{Plan}
 use Rattle.dfu_device.specs.Outcome.{Luck, plan_outcome}
-use Rattle.dfu_device.specs.AcceptedBytes.{accepted_in, accepted_of, accepted_with_dnload, accepted_in_state, accepted_after}
+use Rattle.dfu_device.specs.AcceptedBytes.{accepted_in, accepted_of, accepted_after_reply, accepted_in_state, accepted_after}
 use Rattle.dfu_device.specs.RowForms.{IsQuietReply, counted, quiet_plan_gives_quiet_reply, RowForm, quiet, takes, closes, sends, ends}
 
--- After a plan the taken bytes are those before, followed by the body that the plan acknowledges, at each luck of the medium.
-abbrev pub Keeps : List ℕ → Stage → Request → Plan → Type 0
-Keeps i st r p = (luck : Luck) → accepted_of (plan_outcome i p luck).after ≡ accepted_after (accepted_in i st) r (plan_outcome i p luck)
+-- After a plan the bytes taken are those before, followed by the body that the plan acknowledges, for any luck of the medium.
+abbrev pub TakesBody : List ℕ → Stage → Request → Plan → Type 0
+TakesBody i st r p = (luck : Luck) → accepted_of (plan_outcome i p luck).after ≡ accepted_after (accepted_in i st) r (plan_outcome i p luck)
 
--- A quiet reply adds nothing.
-quiet_reply_adds_nothing : (t : List ℕ) (r : Request) (reply : Reply) → IsQuietReply reply r → accepted_with_dnload t r reply ≡ t
-quiet_reply_adds_nothing t (Dnload number body) Ack still = absurd still
-quiet_reply_adds_nothing t (Dnload number body) reply still = refl
-quiet_reply_adds_nothing t r reply still = refl
+-- A quiet reply adds no bytes to those taken.
+quiet_reply_takes_nothing : (t : List ℕ) (r : Request) (reply : Reply) → IsQuietReply reply r → accepted_after_reply t r reply ≡ t
+quiet_reply_takes_nothing t (Dnload number body) Ack still = absurd still
+quiet_reply_takes_nothing t (Dnload number body) reply still = refl
+quiet_reply_takes_nothing t r reply still = refl
 
 -- A row of each form takes the body that it acknowledges.
-pub row_form_accepts_body : (c : Profile) (i : List ℕ) (st : Stage) (r : Request) (p : Plan) → RowForm c i st r p → Keeps i st r p
+pub row_form_accepts_body : (c : Profile) (i : List ℕ) (st : Stage) (r : Request) (p : Plan) → RowForm c i st r p → TakesBody i st r p
 row_form_accepts_body c i st r p (quiet replies calls well counts) luck =
     (counted i st p luck counts).0
     ∙ ap (accepted_in_state (state_of (plan_outcome i p luck).after.stage))
-    (sym (quiet_reply_adds_nothing (accepted_in i st) r (plan_outcome i p luck).reply (quiet_plan_gives_quiet_reply c i r p luck replies)))
+    (sym (quiet_reply_takes_nothing (accepted_in i st) r (plan_outcome i p luck).reply (quiet_plan_gives_quiet_reply c i r p luck replies)))
 row_form_accepts_body c i st r p takes luck = refl
 row_form_accepts_body c i st r p (closes {taken = taken}) luck = sym (append-nil taken)
 row_form_accepts_body c i st r p (sends place size is small) luck = refl

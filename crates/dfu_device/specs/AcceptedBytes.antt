@@ -1,4 +1,4 @@
--- The bytes taken, three ways: in a state, by a row, and by a whole history.
+-- The bytes that a download has taken: in a state, after a row, and after a whole history.
 use Rattle.std.specs.Prelude.{ℕ, ◌==◌, ◌&&◌, Bool, true, false, if◌then◌else◌, List, [], ◌++◌, slice_index}
 use Rattle.dfu_wire.specs.declared.states.State.{State}
 use Rattle.dfu_wire.specs.declared.states.State.TheVariants.{DownloadSync, DownloadBusy, DownloadIdle, ManifestSync, Manifest}
@@ -20,7 +20,7 @@ is_downloading ManifestSync = true
 is_downloading Manifest = true
 is_downloading state = false
 
--- Bytes taken so far, by the active image and the stage; once manifestation is complete they are the image.
+-- Bytes taken so far in a stage: in dfuMANIFEST-SYNC, complete, the active image, and outside a download none.
 abbrev pub accepted_in : List ℕ → Stage → List ℕ
 accepted_in image (InDownloadSync before block number) = before ++ block
 accepted_in image (InDownloadSyncWritten taken number) = taken
@@ -31,32 +31,32 @@ accepted_in image InManifestSyncComplete = image
 accepted_in image (InManifest taken passed) = taken
 accepted_in image stage = []
 
--- Bytes taken so far, by the situation.
+-- Bytes taken so far in a situation.
 abbrev pub accepted_of : Situation → List ℕ
 accepted_of s = accepted_in s.image s.stage
 
 -- The bytes taken by a row.
 
 -- Bytes taken after a reply: an acknowledged DNLOAD adds its body, and nothing else adds any.
-abbrev pub accepted_with_dnload : List ℕ → Request → Reply → List ℕ
-accepted_with_dnload taken (Dnload number body) Ack = taken ++ body
-accepted_with_dnload taken request reply = taken
+abbrev pub accepted_after_reply : List ℕ → Request → Reply → List ℕ
+accepted_after_reply taken (Dnload number body) Ack = taken ++ body
+accepted_after_reply taken request reply = taken
 
--- Bytes taken after a row: none, if it ends in a state outside a download.
+-- Bytes taken that still count in a state: all of them in a download, and none outside one.
 abbrev pub accepted_in_state : State → List ℕ → List ℕ
 accepted_in_state state taken = if is_downloading state then taken else []
 
--- Bytes taken after a row, by its request and its outcome.
+-- Bytes taken after a row with this request and outcome.
 abbrev pub accepted_after : List ℕ → Request → Outcome → List ℕ
-accepted_after taken request o = accepted_in_state (state_of o.after.stage) (accepted_with_dnload taken request o.reply)
+accepted_after taken request o = accepted_in_state (state_of o.after.stage) (accepted_after_reply taken request o.reply)
 
 -- The bytes taken by a history.
 
--- A setup is a DNLOAD by its first two bytes.
+-- The setup is a DNLOAD: bmRequestType is 21h and bRequest is 1.
 abbrev pub is_dnload : List ℕ → Bool
 is_dnload setup = (slice_index setup 0 == 0x21) && (slice_index setup 1 == 1)
 
--- The body of an acknowledged DNLOAD.
+-- The body of a DNLOAD that was acknowledged; no bytes for any other cause or answer.
 abbrev pub acknowledged_bytes : Cause → Answer → List ℕ
 acknowledged_bytes (Transfer setup body) answer.Ack = if is_dnload setup then body else []
 acknowledged_bytes cause a = []
@@ -65,10 +65,10 @@ acknowledged_bytes cause a = []
 abbrev pub ends_in_download : HistoryStep → Bool
 ends_in_download s = is_downloading (state_of s.after.stage)
 
--- The body that a step acknowledged.
+-- The body of the DNLOAD that a step acknowledged; no bytes for any other step.
 abbrev pub acknowledged_block : HistoryStep → List ℕ
 acknowledged_block s = acknowledged_bytes s.cause s.answer
 
--- The bytes taken by a history: the blocks acknowledged after the last step that ends with no download under way.
+-- The bytes taken by a history: the blocks acknowledged after the last step that ends outside a download.
 abbrev pub AcceptedBytes : List HistoryStep → List ℕ → Type 0
 AcceptedBytes h bytes = Gathered ends_in_download acknowledged_block h bytes

@@ -1,9 +1,9 @@
--- The laws of the bytes taken: a device has taken the bytes that its history took.
+-- The laws of the bytes taken: a device has taken the blocks that its history acknowledged.
 use Rattle.std.specs.Prelude.{◌≡◌, ℕ, true, List, [], ◌∷◌, ◌++◌}
 use Rattle.dfu_wire.specs.declared.setups.Setup.{Setup}
 use Rattle.dfu_wire.specs.declared.requests.Request.{Request as Asked}
 use Rattle.dfu_wire.specs.Setup.{IsSetup}
-use Rattle.dfu_wire.specs.Request.{SetupRequest}
+use Rattle.dfu_wire.specs.Request.{SetupAsksFor}
 use Rattle.dfu_device.specs.declared.answer.Answer.{Answer}
 use Rattle.dfu_device.specs.declared.answer.Answer.TheVariants as answer
 use Rattle.dfu_device.specs.Stage.{Request, OtherRequest, Reply, state_of}
@@ -12,22 +12,22 @@ use Rattle.dfu_device.specs.Rows.{request_for_table, asked_length, ReplyAnswer, 
 use Rattle.dfu_device.specs.History.{HistoryStep, IsTableRow, IsHistory}
 use Rattle.dfu_device.specs.AcceptedBytes.{accepted_of, accepted_in_state, accepted_after, acknowledged_bytes, AcceptedBytes}
 
--- A row took the body that it acknowledged: after it the bytes taken are those before, followed by the body, or none if the row ends
+-- A row took the body that it acknowledged: the bytes taken after it are those before, followed by the body, or none if the row ends
 -- outside a download.
 pub record RowAcceptedBody (r : Request) (len : ℕ) (w : DeviceView) (a : Answer) (out : List ℕ) (w' : DeviceView) : Type 0 where
   pub reply : Reply
   pub answers : ReplyAnswer len reply a out
   pub taken : accepted_of (situation w') ≡ accepted_after (accepted_of (situation w)) r (record { reply = reply; after = situation w' })
 
--- Each setup that goes by the table takes the body that it acknowledges.
+-- The row of each setup that the table serves takes the body that it acknowledges.
 abbrev pub SetupAcceptsBody : Type 0
 SetupAcceptsBody = (p : Setup) (q : Asked) (setup body : List ℕ) (w : DeviceView) (a : Answer) (out : List ℕ) (w' : DeviceView)
     → IsSetup p setup
-    → SetupRequest p q
+    → SetupAsksFor p q
     → is_served p q body ≡ true
     → Handles setup body w a out w' → RowAcceptedBody (request_for_table q body) (asked_length q) w a out w'
 
--- A time takes no bytes.
+-- Time that passes takes no bytes.
 abbrev pub TimeAcceptsNothing : Type 0
 TimeAcceptsNothing = (ms : ℕ) (w w' : DeviceView) → Elapses ms w w' → RowAcceptedBody OtherRequest 0 w answer.Ack [] w'
 
@@ -36,12 +36,12 @@ abbrev pub RowAcceptsBody : Type 0
 RowAcceptsBody = (w : DeviceView) (cause : Cause) (a : Answer) (out : List ℕ) (w' : DeviceView) → Row w cause a out w'
     → accepted_of (situation w') ≡ accepted_in_state (state_of w'.stage) (accepted_of (situation w) ++ acknowledged_bytes cause a)
 
--- If the bytes taken are those of a history, they are those of the history with one more step.
+-- If a device has taken the bytes of a history, it has taken those of the longer history after one more step.
 abbrev pub StepAcceptsBody : Type 0
 StepAcceptsBody = (h : List HistoryStep) (s : HistoryStep) → AcceptedBytes h (accepted_of (situation s.before)) → IsTableRow s
     → AcceptedBytes (h ++ s ∷ []) (accepted_of (situation s.after))
 
--- If the bytes taken are those of a history, they are those of any longer history that goes on from there.
+-- If a device has taken the bytes of a history, it has taken those of the longer history after any number of further steps.
 abbrev pub HistoryAcceptsBodies : Type 0
 HistoryAcceptsBodies = (g h : List HistoryStep) (w w' : DeviceView) → AcceptedBytes g (accepted_of (situation w)) → IsHistory w h w'
     → AcceptedBytes (g ++ h) (accepted_of (situation w'))

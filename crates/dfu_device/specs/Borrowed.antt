@@ -1,4 +1,4 @@
--- The room of a buffer for answers.
+-- Room that a buffer for answers needs.
 use Rattle.std.specs.Prelude.{ℕ, max}
 use Rattle.dfu_device.specs.Setting.{Setting}
 

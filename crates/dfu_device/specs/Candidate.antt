@@ -1,4 +1,4 @@
--- An image that was received and is not in place yet, which the program of a device may check where it is stored.
+-- An image that was received and is not active yet. The program of a device may check it in the spare slot.
 use Rattle.std.specs.Prelude.{◌≡◌, ℕ, ◌+◌, ◌≤◌, List, ◌++◌, length, slice_range, Option, Some, None}
 use Rattle.dfu_slots.specs.StoreView.{data_place}
 use Rattle.dfu_device.specs.declared.candidate.Candidate.{Candidate}
@@ -7,22 +7,23 @@ use Rattle.dfu_device.specs.declared.device_state.DeviceState.TheVariants as dev
 use Rattle.dfu_device.specs.Stage.{Stage, InDownloadIdle, InManifestSync, InManifest}
 use Rattle.dfu_device.specs.DeviceView.{DeviceView}
 
--- Bytes of the received image: all bytes taken, in dfuDNLOAD-IDLE, in dfuMANIFEST-SYNC before it is complete, and in dfuMANIFEST.
+-- Bytes of the received image: all bytes taken, in dfuDNLOAD-IDLE, in dfuMANIFEST-SYNC before it is complete, and in dfuMANIFEST; else
+-- None.
 abbrev pub candidate_in : Stage → Option (List ℕ)
 candidate_in (InDownloadIdle taken number) = Some taken
 candidate_in (InManifestSync taken) = Some taken
 candidate_in (InManifest taken passed) = Some taken
 candidate_in stage = None
 
--- Length of the received image, by the mode.
+-- Length of the received image in a mode; None in a mode without one.
 abbrev pub candidate_length : DeviceState → Option ℕ
 candidate_length (device_state.DownloadIdle written number) = Some written
 candidate_length (device_state.ManifestSync written) = Some written
 candidate_length (device_state.Manifest written passed) = Some written
 candidate_length m = None
 
--- The candidate is at its place: its bytes are those of the medium from there on, after the gate and the header of the spare slot, followed
--- by the bytes held back.
+-- The candidate is the received image: its bytes are those of the medium after the gate and the header of the spare slot, followed by the
+-- bytes held back.
 pub record IsCandidate (w : DeviceView) (c : Candidate) : Type 0 where
   pub taken : List ℕ
   pub is : candidate_in w.stage ≡ Some taken

@@ -1,4 +1,4 @@
--- Decision of the code on a row of the table, and the plan that the decision stands for.
+-- Decision of the code on a row of the table, and the plan that the decision means.
 use Rattle.std.specs.Prelude.{◌≡◌, ◌⊎◌, ℕ, ◌+◌, ◌≤◌, nat_lt, Bool, IsTrue, if◌then◌else◌, List, [], ◌++◌, length, take, drop}
 use Rattle.dfu_wire.specs.declared.requests.Request.{Request as Asked}
 use Rattle.dfu_wire.specs.declared.requests.Request.TheVariants as asked
@@ -12,30 +12,30 @@ use Rattle.dfu_device.specs.declared.device_state.DeviceState.{DeviceState}
 use Rattle.dfu_device.specs.declared.device_state.DeviceState.TheVariants as device_state
 use Rattle.dfu_device.specs.Stage.{Reply, Ack, StateOf, Data, Stall, Profile, Stage, InDfuIdle, InDownloadSyncWritten, InDownloadIdle, InUploadIdle, InError, state_of, status_of}
 use Rattle.dfu_device.specs.Table.{Plan, Sure, Writes, Commits, write_code, commit_code, plan, time_plan}
-use Rattle.dfu_device.specs.DeviceView.{profile_from}
+use Rattle.dfu_device.specs.DeviceView.{profile_of_values}
 use Rattle.dfu_device.specs.Parts.{stage_of, is_filled}
 use Rattle.dfu_device.specs.Rows.{request_for_table}
 
--- The profile of the table for the profile of the code.
-abbrev pub profile_in : ProfileRead → Profile
-profile_in p = profile_from p.functional p.least p.busy_ms p.manifest_ms p.pace p.capacity
+-- The profile that the table reads, from the `Profile` of the code.
+abbrev pub table_profile_of : ProfileRead → Profile
+table_profile_of p = profile_of_values p.functional p.least p.busy_ms p.manifest_ms p.pace p.capacity
 
--- Reply of a device in a stage, for a reply of the code.
-abbrev pub reply_in : Profile → Stage → ReplyRead → Reply
-reply_in c stage reply.Ack = Ack
-reply_in c stage reply.Status = status_of c stage
-reply_in c stage reply.State = StateOf (state_of stage)
-reply_in c stage reply.Stall = Stall
+-- Reply of the table for a reply of the code, with the status or the state of a stage.
+abbrev pub table_reply_of : Profile → Stage → ReplyRead → Reply
+table_reply_of c stage reply.Ack = Ack
+table_reply_of c stage reply.Status = status_of c stage
+table_reply_of c stage reply.State = StateOf (state_of stage)
+table_reply_of c stage reply.Stall = Stall
 
 -- The stage after a block was written. If it was `late`, because time passed, the host has to ask for the status once more.
 abbrev pub written_stage : (late : Bool) → (taken : List ℕ) → (number : ℕ) → Stage
 written_stage late taken number = if late then InDownloadSyncWritten taken number else InDownloadIdle taken number
 
--- The plan that a decision stands for, on a device with an image, with bytes in the spare slot and with a block that is not written, which
--- got a body.
+-- The plan that a decision means for a device with this image, these bytes in the spare slot and this unwritten block, after a request with
+-- this body.
 abbrev pub plan_of : Profile → (image spare block body : List ℕ) → Decision → Plan
 plan_of c image spare block body (decision.Sure r m) =
-    let stage = stage_of m spare block in Sure (reply_in c stage r) stage
+    let stage = stage_of m spare block in Sure (table_reply_of c stage r) stage
 plan_of c image spare block body (decision.Holds m) = Sure Ack (stage_of m spare body)
 plan_of c image spare block body (decision.Sends place size number) =
     let part = take size (drop place image) in
@@ -43,50 +43,54 @@ plan_of c image spare block body (decision.Sends place size number) =
 plan_of c image spare block body (decision.Writes r written number late) =
     let before = take written spare in
     let next = written_stage late (before ++ block) number in
-    Writes before block (reply_in c next r) next (λ fault. reply_in c (InError (write_code fault)) r)
+    Writes before block (table_reply_of c next r) next (λ fault. table_reply_of c (InError (write_code fault)) r)
 plan_of c image spare block body (decision.Commits r written m) =
     let next = stage_of m [] [] in
-    Commits (take written spare) (reply_in c next r) next (λ fault. reply_in c (InError (commit_code fault)) r)
+    Commits (take written spare) (table_reply_of c next r) next (λ fault. table_reply_of c (InError (commit_code fault)) r)
 
--- A decision without an answer but an acknowledgement.
-abbrev pub IsSilentDecision : Decision → Type 0
-IsSilentDecision (decision.Sure r m) = r ≡ reply.Ack
-IsSilentDecision (decision.Holds m) = Unit {0}
-IsSilentDecision (decision.Sends place size number) = ⊥
-IsSilentDecision (decision.Writes r written number late) = r ≡ reply.Ack
-IsSilentDecision (decision.Commits r written m) = r ≡ reply.Ack
+-- The decision replies with an acknowledgement, whatever the medium does. Time without an answer has this reply, too.
+abbrev pub IsAcknowledgingDecision : Decision → Type 0
+IsAcknowledgingDecision (decision.Sure r m) = r ≡ reply.Ack
+IsAcknowledgingDecision (decision.Holds m) = Unit {0}
+IsAcknowledgingDecision (decision.Sends place size number) = ⊥
+IsAcknowledgingDecision (decision.Writes r written number late) = r ≡ reply.Ack
+IsAcknowledgingDecision (decision.Commits r written m) = r ≡ reply.Ack
 
--- The bytes that count as written are in the spare slot.
+-- In dfuDNLOAD-IDLE the spare slot has all the bytes that count as written. True in every other mode.
 abbrev pub HasWrittenBytes : DeviceState → (spare : List ℕ) → Type 0
 HasWrittenBytes (device_state.DownloadIdle written number) spare = length (take written spare) ≡ written
 HasWrittenBytes m spare = Unit {0}
 
--- Facts on which the decision on a time depends: the spare slot has the bytes that count as written, and the block has n bytes.
+-- Facts that the decision on elapsed time needs: in dfuDNBUSY and dfuMANIFEST the spare slot has the bytes that count as written, and in
+-- dfuDNBUSY the block has n bytes. True in every other mode.
 abbrev pub HasTimeInputs : DeviceState → ℕ → (spare block : List ℕ) → Type 0
 HasTimeInputs (device_state.DownloadBusy written number passed) n spare block = (length (take written spare) ≡ written) × (length block ≡ n)
 HasTimeInputs (device_state.Manifest written passed) n spare block = length (take written spare) ≡ written
 HasTimeInputs m n spare block = Unit {0}
 
--- A body has the length that its request says.
+-- The body of a DNLOAD has wLength bytes. True of every other request.
 abbrev pub HasBodyLength : Asked → (body : List ℕ) → Type 0
 HasBodyLength (asked.Dnload block len) body = length body ≡ len
 HasBodyLength q body = Unit {0}
 
--- The decision on a request in a mode is the row of the request.
-abbrev pub DecisionIsRow : ProfileRead → DeviceState → Asked → Decision → Type 0
-DecisionIsRow p m q d = (image spare block body : List ℕ) → HasWrittenBytes m spare → HasBodyLength q body
-    → plan_of (profile_in p) image spare block body d ≡ plan (profile_in p) image (stage_of m spare block) (request_for_table q body)
+-- The decision on a request in a mode means the plan of the request's row, for each body of wLength bytes and each spare slot with the
+-- bytes that count as written.
+abbrev pub DecidesRequest : ProfileRead → DeviceState → Asked → Decision → Type 0
+DecidesRequest p m q d = (image spare block body : List ℕ) → HasWrittenBytes m spare → HasBodyLength q body
+    → plan_of (table_profile_of p) image spare block body d
+    ≡ plan (table_profile_of p) image (stage_of m spare block) (request_for_table q body)
 
--- The decision on `ms` milliseconds, in a mode with a block of n bytes, is their row.
+-- The decision on `ms` milliseconds, in a mode with a block of n bytes, means the plan of the time's row, if the facts of `HasTimeInputs`
+-- hold.
 abbrev pub DecidesTime : ProfileRead → DeviceState → (n ms : ℕ) → Decision → Type 0
 DecidesTime p m n ms d = (image spare block : List ℕ) → HasTimeInputs m n spare block
-    → plan_of (profile_in p) image spare block [] d ≡ time_plan (profile_in p) (stage_of m spare block) ms
+    → plan_of (table_profile_of p) image spare block [] d ≡ time_plan (table_profile_of p) (stage_of m spare block) ms
 
--- A mode without bytes of a download.
-abbrev pub AcceptsNothing : DeviceState → Type 0
-AcceptsNothing m = (m ≡ device_state.DfuIdle) ⊎ (m ≡ device_state.ManifestSyncComplete) ⊎ (m ≡ device_state.ManifestWaitReset)
+-- The mode after a commit: dfuIDLE, dfuMANIFEST-SYNC complete or dfuMANIFEST-WAIT-RESET. Each keeps no bytes of a download.
+abbrev pub IsModeAfterCommit : DeviceState → Type 0
+IsModeAfterCommit m = (m ≡ device_state.DfuIdle) ⊎ (m ≡ device_state.ManifestSyncComplete) ⊎ (m ≡ device_state.ManifestWaitReset)
 
--- A decision can be carried out, if blocks have at most `transfer` bytes, for a held block of `block` bytes and a body of `body` bytes.
+-- The decision can be carried out with a kept block of `block` bytes and a body of `body` bytes, if `transfer` is the transfer size.
 abbrev pub IsPossibleDecision : (transfer block body : ℕ) → SlotsState → Decision → Type 0
 IsPossibleDecision transfer block body s (decision.Sure r m) = IsTrue (is_filled m block s)
 IsPossibleDecision transfer block body s (decision.Holds m) = (body ≤ transfer) × IsTrue (is_filled m body s)
@@ -94,13 +98,13 @@ IsPossibleDecision transfer block body s (decision.Sends place size number) = Un
 IsPossibleDecision transfer block body s (decision.Writes r written number late) =
     IsTrue (is_filled (device_state.DownloadSync written number) block s)
 IsPossibleDecision transfer block body s (decision.Commits r written m) =
-    IsTrue (is_filled (device_state.ManifestSync written) block s) × AcceptsNothing m
+    IsTrue (is_filled (device_state.ManifestSync written) block s) × IsModeAfterCommit m
 
--- The decision in a mode can be carried out with a body of `body` bytes.
+-- The decision in a mode can be carried out with a body of `body` bytes, and with each kept block and store that fit the mode.
 abbrev pub AllowsDecision : ProfileRead → DeviceState → (body : ℕ) → Decision → Type 0
 AllowsDecision p m body d = (block : ℕ) (s : SlotsState) → room_of s ≡ p.capacity → IsTrue (is_filled m block s)
     → IsPossibleDecision p.functional.transfer block body s d
 
--- The decision on a request in a mode can be carried out with each body of the right length.
+-- The decision on a request in a mode can be carried out with each body of wLength bytes.
 abbrev pub AllowsRequest : ProfileRead → DeviceState → Asked → Decision → Type 0
 AllowsRequest p m q d = (body : List ℕ) → HasBodyLength q body → AllowsDecision p m (length body) d

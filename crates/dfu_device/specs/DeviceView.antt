@@ -14,13 +14,13 @@ pub record DeviceView : Type 0 where
   pub slots : SlotsState
   pub stage : Stage
 
--- A device that was just powered on: in appIDLE, with nothing put on its medium.
-abbrev pub powered_on : Setting → MediumState → DeviceView
-powered_on config m = record { config = config; slots = store_on m; stage = InAppIdle }
+-- A device that was just powered on: in appIDLE, with no bytes put in its spare slot.
+abbrev pub powered_on_device : Setting → MediumState → DeviceView
+powered_on_device config m = record { config = config; slots = store_on m; stage = InAppIdle }
 
--- The profile of a device with a functional descriptor, by its other settings and by its room for images.
-abbrev pub profile_from : Functional → (least busy manifest : ℕ) → Pace → (capacity : ℕ) → Profile
-profile_from f least busy manifest pace capacity = record {
+-- The profile of a device from its functional descriptor, its other settings and its room for images.
+abbrev pub profile_of_values : Functional → (least busy manifest : ℕ) → Pace → (capacity : ℕ) → Profile
+profile_of_values f least busy manifest pace capacity = record {
   can_download = f.can_download;
   can_upload = f.can_upload;
   tolerant = f.tolerant;
@@ -34,19 +34,19 @@ profile_from f least busy manifest pace capacity = record {
   capacity = capacity;
 }
 
--- The profile of a device by its setting and its room for images in bytes.
+-- The profile of a device from its setting and its room for images in bytes.
 abbrev pub profile_of : Setting → ℕ → Profile
-profile_of s room = profile_from s.functional s.least s.busy_ms s.manifest_ms s.pace room
+profile_of s room = profile_of_values s.functional s.least s.busy_ms s.manifest_ms s.pace room
 
--- The profile of a device, by its setting and its room.
+-- The profile of a device.
 abbrev pub profile : DeviceView → Profile
 profile w = profile_of w.config (room_of w.slots)
 
--- The active image of a device, and its stage.
+-- The situation of a device: its active image and its stage.
 abbrev pub situation : DeviceView → Situation
 situation w = record { image = image_of w.slots; stage = w.stage }
 
--- The bytes taken that are written and not yet put in place; none after manifestation.
+-- The bytes taken that are written to the spare slot and not yet put in place; none after manifestation.
 abbrev pub written_bytes_in : Stage → List ℕ
 written_bytes_in (InDownloadSync before block number) = before
 written_bytes_in (InDownloadSyncWritten taken number) = taken
@@ -57,5 +57,5 @@ written_bytes_in (InManifest taken passed) = taken
 written_bytes_in stage = []
 
 -- The written bytes are at the front of the spare slot's data.
-abbrev pub IsInSpareSlot : DeviceView → Type 0
-IsInSpareSlot w = take (length (written_bytes_in w.stage)) (spare_of w.slots) ≡ written_bytes_in w.stage
+abbrev pub HasWrittenBytesInSpare : DeviceView → Type 0
+HasWrittenBytesInSpare w = take (length (written_bytes_in w.stage)) (spare_of w.slots) ≡ written_bytes_in w.stage

@@ -7,7 +7,7 @@ use Rattle.dfu_device.specs.Stage.{Stage, InError}
 use Rattle.dfu_device.specs.DeviceView.{DeviceView}
 use Rattle.dfu_device.specs.Rows.{Cause, Row}
 
--- dfuERROR with errWRITE, errPROG or errVERIFY.
+-- The stage is dfuERROR with errWRITE, errPROG or errVERIFY.
 abbrev pub IsMediumError : Stage → Type 0
 IsMediumError (InError ErrWrite) = Unit {0}
 IsMediumError (InError ErrProg) = Unit {0}
@@ -18,7 +18,7 @@ IsMediumError stage = ⊥
 abbrev pub MediumFailed : DeviceView → DeviceView → Type 0
 MediumFailed w w' = CountRose w.slots.medium.failures w'.slots.medium.failures
 
--- errWRITE, errPROG and errVERIFY come only if the medium failed, and then stay.
+-- A row ends in dfuERROR with errWRITE, errPROG or errVERIFY only if it began there with one of them, or the medium failed during it.
 abbrev pub MediumErrorsHaveCause : Type 0
 MediumErrorsHaveCause = (w : DeviceView) (cause : Cause) (a : Answer) (out : List ℕ) (w' : DeviceView) → Row w cause a out w'
     → IsMediumError w'.stage

@@ -4,18 +4,19 @@ use Rattle.dfu_slots.specs.declared.fault.WriteFault.{WriteFault}
 use Rattle.dfu_device.specs.Stage.{Request, Reply, Profile, Stage, InAppIdle, InError}
 use Rattle.dfu_device.specs.Table.{Plan, Sure, Writes, Commits, write_code, commit_code, plan, time_plan, reset_stage}
 
--- The active image, and the stage.
+-- Situation of a device: its active image and its stage.
 pub record Situation : Type 0 where
   pub image : List ℕ
   pub stage : Stage
 
--- Luck of the medium. It worked; or a write had a fault, and the old image is active; or a write had a fault, and the new image is active.
+-- Luck of the medium: each write worked; or a write had a fault and the old image is active; or a write had a fault and the new image is
+-- active.
 pub data Luck : Type 0 where
   Works : Luck
   FailsOld : WriteFault → Luck
   FailsNew : WriteFault → Luck
 
--- Outcome: the answer, and the situation after it.
+-- Outcome of a row: the reply, and the situation after it.
 pub record Outcome : Type 0 where
   pub reply : Reply
   pub after : Situation
@@ -34,11 +35,11 @@ plan_outcome image (Commits taken reply stage bad) (FailsOld fault) =
 plan_outcome image (Commits taken reply stage bad) (FailsNew fault) =
     record { reply = bad fault; after = record { image = taken; stage = InError (commit_code fault) } }
 
--- Outcome of a request.
+-- Outcome of the row of a request in a situation, with this luck.
 abbrev pub handled : Profile → Situation → Request → Luck → Outcome
 handled c s request luck = plan_outcome s.image (plan c s.image s.stage request) luck
 
--- Situation after a time that passes.
+-- Situation after `ms` milliseconds passed, with this luck.
 abbrev pub situation_after_ms : Profile → Situation → ℕ → Luck → Situation
 situation_after_ms c s ms luck = (plan_outcome s.image (time_plan c s.stage ms) luck).after
 
@@ -46,6 +47,6 @@ situation_after_ms c s ms luck = (plan_outcome s.image (time_plan c s.stage ms) 
 abbrev pub after_reset : Situation → Situation
 after_reset s = record { image = s.image; stage = reset_stage s.stage }
 
--- Situation after power that goes and comes back.
+-- Situation after a power cycle.
 abbrev pub situation_after_power : Situation → Situation
 situation_after_power s = record { image = s.image; stage = InAppIdle }

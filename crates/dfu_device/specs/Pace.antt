@@ -1,4 +1,4 @@
--- Time of a device's flash for a block and for an image.
+-- Time that a device's flash takes for a block and for an image.
 use Rattle.std.specs.Prelude.{ℕ, ◌+◌, ◌-◌, ◌*◌, ◌/◌, ◌%◌, ◌^◌, ◌==◌, nat_le, min, if◌then◌else◌}
 use Rattle.dfu_slots.specs.declared.layout.Unit.TheVariants.{Byte}
 use Rattle.dfu_slots.specs.Units.{unit_size, whole_part}
@@ -15,22 +15,22 @@ sector_starts_from sector at count =
     let rest = if behind == 0 then 0 else sector - behind in
     if nat_le count rest then 0 else (count - rest - 1) / sector + 1
 
--- Milliseconds to erase that many sectors; 0 if the flash is overwritten in place.
+-- Milliseconds to erase `count` sectors; 0 if the flash is overwritten in place.
 abbrev pub erases_ms : Pace → ℕ → ℕ
 erases_ms p count = if p.sector == 0 then 0 else count * p.erase_ms
 
--- Milliseconds to program that many bytes, rounded up.
+-- Milliseconds to program `count` bytes, rounded up.
 abbrev pub programs_ms : Pace → ℕ → ℕ
 programs_ms p count = (count * p.program_ms + 255) / 256
 
 -- Milliseconds to write `count` bytes from `at` on in a slot's data, and `others` gates and headers, each of which is erased by itself and
--- counts as 256 bytes. `base` is added. A time over the most that fits in bwPollTimeout counts as that most.
+-- counts as 256 bytes. `base` is added. The sum is at most the largest number that fits in bwPollTimeout.
 abbrev pub writes_ms : Pace → (base at count others : ℕ) → ℕ
 writes_ms p base at count others =
     min (base + erases_ms p (sector_starts_from p.sector at count + others) + programs_ms p (count + 256 * others)) (2 ^ 24 - 1)
 
--- Milliseconds of a block of `block` bytes after `before` ones, at most 4,096: the units that the block makes whole are written, and before
--- the first block the gate is closed.
+-- Milliseconds to write a block of `block` bytes, at most 4,096, after `before` bytes: the units that the block completes are written, and
+-- the gate is closed before the first block.
 abbrev pub block_ms : Pace → (base before block : ℕ) → ℕ
 block_ms p base before block =
     let behind = before % unit_size p.unit in

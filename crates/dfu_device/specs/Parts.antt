@@ -1,4 +1,4 @@
--- The parts of a device beside its configuration: its slot store, its mode (`DeviceState`), and a block that is not written.
+-- The parts of a device: its slot store, its mode (`DeviceState`), and the block that is not written.
 use Rattle.std.specs.Prelude.{ℕ, ◌+◌, Bool, true, nat_le, nat_lt, ◌&&◌, ◌||◌, ◌==◌, List, take}
 use Rattle.dfu_slots.specs.StoreView.{SlotsState, spare_of, is_begun, room_of, is_shaped}
 use Rattle.dfu_device.specs.declared.device_state.DeviceState.{DeviceState}
@@ -32,8 +32,9 @@ view_of_parts config slots m block = record { config = config; slots = slots; st
 abbrev pub is_put : ℕ → SlotsState → Bool
 is_put written s = is_begun s && (s.put_end == written)
 
--- What a mode needs of the store. A block that is not written has bytes, and room after the written ones, which are in the spare slot. Once
--- all is written, there is at least one byte, within the room, and all of them are in the spare slot.
+-- The store has the bytes that a mode needs. An unwritten block is not empty and has room after the written bytes, which are in the spare
+-- slot. Once every block is written, at least one byte is in the spare slot, and all of them fit in the room. True in a mode without a
+-- download.
 abbrev pub is_filled : DeviceState → ℕ → SlotsState → Bool
 is_filled (device_state.DownloadSync written number) block s =
     nat_lt 0 block && (nat_le (written + block) (room_of s) && ((written == 0) || is_put written s))
@@ -45,11 +46,11 @@ is_filled (device_state.ManifestSync written) block s = nat_lt 0 written && (nat
 is_filled (device_state.Manifest written passed) block s = nat_lt 0 written && (nat_le written (room_of s) && is_put written s)
 is_filled m block s = true
 
--- The parts belong to one device, whose block has that many bytes.
+-- The mode and the store belong to one device whose block has `block` bytes.
 abbrev pub are_device_parts : DeviceState → ℕ → SlotsState → Bool
 are_device_parts m block s = is_shaped s && is_filled m block s
 
--- Milliseconds that a host must wait in a mode with a block of n bytes.
+-- Milliseconds that a host must wait in a mode with a block of n bytes; 0 in every mode but those of dfuDNBUSY and dfuMANIFEST.
 abbrev pub wait_ms_of_mode : Setting → DeviceState → (n : ℕ) → ℕ
 wait_ms_of_mode s (device_state.DownloadBusy written number passed) n = block_ms s.pace s.busy_ms written n
 wait_ms_of_mode s (device_state.Manifest written passed) n = image_ms s.pace s.manifest_ms written

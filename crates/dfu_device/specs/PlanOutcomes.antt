@@ -1,4 +1,4 @@
--- Laws by which a row of a device is the outcome of its plan, at some luck of the medium.
+-- Laws by which a row of a device leads to the outcome of its plan, for some luck of the medium.
 use Rattle.std.specs.Prelude.{◌≡◌, ℕ, ◌≤◌, true, false, List, [], ◌∷◌, length}
 use Rattle.std.proofs.Common.{refl, sym, ap, ◌∙◌, inl, inr, subst, arith}
 use Rattle.std.proofs.lemmas.List.{take_all}
@@ -8,9 +8,9 @@ use Rattle.dfu_wire.specs.declared.states.State.{State}
 use Rattle.dfu_wire.specs.declared.codes.Code.{Code}
 use Rattle.dfu_wire.specs.Setup.{IsSetup}
 use Rattle.dfu_wire.specs.Status.{IsStatus}
-use Rattle.dfu_wire.specs.Request.{SetupRequest}
-use Rattle.dfu_wire.specs.OneRequest.{setup_asks_once}
-use Rattle.dfu_wire.specs.OneValue.{setup_bytes_one_value}
+use Rattle.dfu_wire.specs.Request.{SetupAsksFor}
+use Rattle.dfu_wire.specs.OneRequest.{setup_asks_for_one_request}
+use Rattle.dfu_wire.specs.OneValue.{bytes_encode_one_setup}
 use Rattle.dfu_slots.specs.Medium.{CountRose}
 use Rattle.dfu_slots.specs.Medium.Fuse.{Whole}
 use Rattle.dfu_slots.specs.Unarmed.{whole_fuse_after_calls, whole_fuse_fails_no_call}
@@ -21,14 +21,14 @@ use Rattle.dfu_device.specs.Stage.{Reply, StatusOf, Stall, Stage}
 use Rattle.dfu_device.specs.Table.{Plan, Sure, Writes, Commits, plan, time_plan}
 use Rattle.dfu_device.specs.Outcome.{Luck, Works, FailsOld, FailsNew, Outcome, plan_outcome}
 use Rattle.dfu_device.specs.DeviceView.{DeviceView, profile_of, profile, situation}
-use Rattle.dfu_device.specs.Rows.{request_for_table, asked_length, ReplyAnswer, block_calls, Done, Elapses, is_served, setup_plan, Handles, handled_by_reading}
+use Rattle.dfu_device.specs.Rows.{request_for_table, asked_length, ReplyAnswer, block_calls, Done, Elapses, is_close, IsCloseSetup, is_served, setup_plan, Handles, handled_by_reading}
 
--- The luck fits the medium: it fails only if the count of failures rose.
+-- The luck fits the medium: a write had a fault only if the count of failures rose.
 abbrev pub IsLuckOfMedium : Luck → DeviceView → DeviceView → Type 0
 IsLuckOfMedium Works w w' = Unit {0}
 IsLuckOfMedium luck w w' = CountRose w.slots.medium.failures w'.slots.medium.failures
 
--- A plan led to its outcome at some luck. A medium with a whole fuse always works, and its fuse stays whole.
+-- A plan led to its outcome for some luck of the medium. If the fuse is whole, each write worked, and the fuse stays whole.
 pub record PlanOutcome (p : Plan) (len : ℕ) (w : DeviceView) (a : Answer) (out : List ℕ) (w' : DeviceView) : Type 0 where
   pub luck : Luck
   pub reply : Reply
@@ -39,14 +39,14 @@ pub record PlanOutcome (p : Plan) (len : ℕ) (w : DeviceView) (a : Answer) (out
   pub unarmed : w.slots.medium.fuse ≡ Whole → (luck ≡ Works) × (w'.slots.medium.fuse ≡ Whole)
 
 -- Devices with the same configuration and room have the same profile.
-profile_of_equal_config : (w w' : DeviceView) → w'.config ≡ w.config → room_of w'.slots ≡ room_of w.slots → profile w' ≡ profile w
-profile_of_equal_config w w' config room = λ k. profile_of (config k) (room k)
+equal_configs_have_equal_profile : (w w' : DeviceView) → w'.config ≡ w.config → room_of w'.slots ≡ room_of w.slots → profile w' ≡ profile w
+equal_configs_have_equal_profile w w' config room = λ k. profile_of (config k) (room k)
 
--- The outcome of a row by the device after it.
-outcome_of_view : (reply : Reply) (w' : DeviceView) (image : List ℕ) (stage : Stage) → image_of w'.slots ≡ image → w'.stage ≡ stage
+-- An outcome with the image and the stage of a device has the situation of that device.
+outcome_fits_device_view : (reply : Reply) (w' : DeviceView) (image : List ℕ) (stage : Stage) → image_of w'.slots ≡ image → w'.stage ≡ stage
     → ◌≡◌ {A = Outcome} (record { reply = reply; after = record { image = image; stage = stage } })
     (record { reply = reply; after = situation w' })
-outcome_of_view reply w' image stage i s = λ k. record { reply = reply; after = record { image = sym i k; stage = sym s k } }
+outcome_fits_device_view reply w' image stage i s = λ k. record { reply = reply; after = record { image = sym i k; stage = sym s k } }
 
 -- Each plan that was carried out led to its outcome.
 abbrev pub PlansHaveOutcomes : Type 0
@@ -67,27 +67,27 @@ came (Sure reply stage) len w a out w' (says, is) = record {
 came (Writes before block reply stage bad) len w a out w' (inl (says, h)) = record {
   luck = Works;
   reply = reply;
-  same = outcome_of_view reply w' (image_of w.slots) stage h.image h.stage_is;
+  same = outcome_fits_device_view reply w' (image_of w.slots) stage h.image h.stage_is;
   answers = says;
-  fixed = profile_of_equal_config w w' h.config_is h.room;
+  fixed = equal_configs_have_equal_profile w w' h.config_is h.room;
   is_luck_of_medium = tt;
   unarmed = λ e. (refl, whole_fuse_after_calls w.slots w'.slots (block_calls before block) e h.calls);
 }
 came (Writes before block reply stage bad) len w a out w' (inr (fault, says, h)) = record {
   luck = FailsOld fault;
   reply = bad fault;
-  same = outcome_of_view (bad fault) w' (image_of w.slots) _ h.image h.stage_is;
+  same = outcome_fits_device_view (bad fault) w' (image_of w.slots) _ h.image h.stage_is;
   answers = says;
-  fixed = profile_of_equal_config w w' h.config_is h.room;
+  fixed = equal_configs_have_equal_profile w w' h.config_is h.room;
   is_luck_of_medium = h.failed;
   unarmed = λ e. absurd (whole_fuse_fails_no_call fault w.slots w'.slots (block_calls before block) e h.calls);
 }
 came (Commits taken reply stage bad) len w a out w' (inl (says, h)) = record {
   luck = Works;
   reply = reply;
-  same = outcome_of_view reply w' taken stage h.image h.stage_is;
+  same = outcome_fits_device_view reply w' taken stage h.image h.stage_is;
   answers = says;
-  fixed = profile_of_equal_config w w' h.config_is h.room;
+  fixed = equal_configs_have_equal_profile w w' h.config_is h.room;
   is_luck_of_medium = tt;
   unarmed = λ e. (refl, whole_fuse_after_calls w.slots w'.slots (Commit (length taken) ∷ []) e h.calls);
 }
@@ -95,89 +95,97 @@ came (Commits taken reply stage bad) len w a out w' (inr (fault, says, h)) = eli
   | inl old ↦ record {
     luck = FailsOld fault;
     reply = bad fault;
-    same = outcome_of_view (bad fault) w' (image_of w.slots) _ old h.stage_is;
+    same = outcome_fits_device_view (bad fault) w' (image_of w.slots) _ old h.stage_is;
     answers = says;
-    fixed = profile_of_equal_config w w' h.config_is h.room;
+    fixed = equal_configs_have_equal_profile w w' h.config_is h.room;
     is_luck_of_medium = h.failed;
     unarmed = λ e. absurd (whole_fuse_fails_no_call fault w.slots w'.slots (Commit (length taken) ∷ []) e h.calls);
   }
   | inr new ↦ record {
     luck = FailsNew fault;
     reply = bad fault;
-    same = outcome_of_view (bad fault) w' taken _ new h.stage_is;
+    same = outcome_fits_device_view (bad fault) w' taken _ new h.stage_is;
     answers = says;
-    fixed = profile_of_equal_config w w' h.config_is h.room;
+    fixed = equal_configs_have_equal_profile w w' h.config_is h.room;
     is_luck_of_medium = h.failed;
     unarmed = λ e. absurd (whole_fuse_fails_no_call fault w.slots w'.slots (Commit (length taken) ∷ []) e h.calls);
   }
 ]
 
--- The row of a setup whose reading is known goes by that reading.
+-- If the reading of a setup is known, the row of the setup follows that reading.
 abbrev pub RowByReading : Type 0
 RowByReading = (p : Setup) (q : Asked) (setup body : List ℕ) (w : DeviceView) (a : Answer) (out : List ℕ) (w' : DeviceView) →
     IsSetup p setup
-    → SetupRequest p q
+    → SetupAsksFor p q
     → Handles setup body w a out w'
     → Done (setup_plan w p q body) (asked_length q) w a out w'
 
--- The row of a setup goes by the one reading that the setup has.
-pub row_of : RowByReading
-row_of p q setup body w a out w' reads asks (handled_by_reading p2 q2 reads2 asks2 done) =
-    let same : p2 ≡ p = setup_bytes_one_value p2 p setup reads2 reads in
-    let one : q2 ≡ q = setup_asks_once p q2 q (subst (λ (x : Setup). SetupRequest x q2) same asks2) asks in
+-- The row of a setup follows the known reading, because a setup has only one.
+pub row_follows_reading : RowByReading
+row_follows_reading p q setup body w a out w' reads asks (handled_by_reading p2 q2 reads2 asks2 done) =
+    let same : p2 ≡ p = bytes_encode_one_setup p2 p setup reads2 reads in
+    let one : q2 ≡ q = setup_asks_for_one_request p q2 q (subst (λ (x : Setup). SetupAsksFor x q2) same asks2) asks in
     subst (λ (y : Asked). Done (setup_plan w p y body) (asked_length y) w a out w') one
     (subst (λ (x : Setup). Done (setup_plan w x q2 body) (asked_length q2) w a out w') same done)
 
--- Each setup that goes by the table led to the outcome of its plan.
+-- The row of each setup that the table serves led to the outcome of its plan.
 abbrev pub SetupsHaveOutcomes : Type 0
 SetupsHaveOutcomes = (p : Setup) (q : Asked) (setup body : List ℕ) (w : DeviceView) (a : Answer) (out : List ℕ) (w' : DeviceView)
     → IsSetup p setup
-    → SetupRequest p q
+    → SetupAsksFor p q
     → is_served p q body ≡ true
     → Handles setup body w a out w' → PlanOutcome (plan (profile w) (image_of w.slots) w.stage (request_for_table q body))
     (asked_length q) w a out w'
 
--- Each setup that goes by the table came to its outcome.
+-- The row of each setup that the table serves led to the outcome of its plan.
 pub setups_have_outcomes : SetupsHaveOutcomes
 setups_have_outcomes p q setup body w a out w' reads asks on h =
-    let row = row_of p q setup body w a out w' reads asks h in
+    let row = row_follows_reading p q setup body w a out w' reads asks h in
     came (plan (profile w) (image_of w.slots) w.stage (request_for_table q body)) (asked_length q) w a out w' (rw on at row)
 
--- A setup that does not go by the table is stalled and changes nothing.
+-- A setup that the table does not serve is stalled and changes nothing.
 abbrev pub NotServedIsStalled : Type 0
 NotServedIsStalled = (p : Setup) (q : Asked) (setup body : List ℕ) (w : DeviceView) (a : Answer) (out : List ℕ) (w' : DeviceView) →
     IsSetup p setup
-    → SetupRequest p q
+    → SetupAsksFor p q
     → is_served p q body ≡ false
     → Handles setup body w a out w' → (a ≡ answer.Stall) × (w' ≡ w)
 
--- A setup that does not go by the table changes nothing.
-pub not_served : NotServedIsStalled
-not_served p q setup body w a out w' reads asks off h =
-    let row : Done (setup_plan w p q body) (asked_length q) w a out w' = row_of p q setup body w a out w' reads asks h in
+-- A setup that the table does not serve is stalled and changes nothing.
+pub not_served_is_stalled : NotServedIsStalled
+not_served_is_stalled p q setup body w a out w' reads asks off h =
+    let row : Done (setup_plan w p q body) (asked_length q) w a out w' = row_follows_reading p q setup body w a out w' reads asks h in
     stalled (rw off at row)
   where
     stalled : Done (Sure Stall w.stage) (asked_length q) w a out w' → (a ≡ answer.Stall) × (w' ≡ w)
     stalled x = (x.0.0, x.1)
 
--- Each time that passed led to the outcome of its plan.
+-- The row of each elapsed time led to the outcome of its plan.
 abbrev pub TimesHaveOutcomes : Type 0
 TimesHaveOutcomes = (ms : ℕ) (w w' : DeviceView) → Elapses ms w w' → PlanOutcome (time_plan (profile w) w.stage ms) 0 w answer.Ack [] w'
 
--- Each time that passed came to its outcome.
+-- The row of each elapsed time led to the outcome of its plan.
 pub times_have_outcomes : TimesHaveOutcomes
 times_have_outcomes ms w w' row = came (time_plan (profile w) w.stage ms) 0 w answer.Ack [] w' row
 
--- The six bytes of an answer to GETSTATUS are read back as the status.
+-- An answer to a GETSTATUS of at least six bytes decodes to the status that was sent.
 abbrev pub StatusReadBack : Type 0
 StatusReadBack = (len : ℕ) (code : Code) (poll : ℕ) (state : State) (a : Answer) (out : List ℕ) → 6 ≤ len
     → ReplyAnswer len (StatusOf code poll state) a out
     → (a ≡ answer.Bytes) × IsStatus (record { code = code; poll_ms = poll; state = state }) out
 
--- The six bytes of a status are read back as the status.
+-- The six bytes of an answered status decode to that status.
 pub status_read_back : StatusReadBack
 status_read_back len code poll state a out room (is, bytes, status, string, front) = (
   is,
   subst (λ (l : List ℕ). IsStatus (record { code = code; poll_ms = poll; state = state }) l)
       (sym (front ∙ take_all len bytes (omega (arith, room, status.length)))) status,
 )
+
+-- Every reading of a setup that closes a download is a DNLOAD with wLength 0.
+pub close_setup_asks_for_close : (setup : List ℕ) (p : Setup) (q : Asked) → IsSetup p setup → SetupAsksFor p q → IsCloseSetup setup →
+    is_close q ≡ true
+close_setup_asks_for_close setup p q reads asks (p2, q2, reads2, asks2, close) =
+    let same : p2 ≡ p = bytes_encode_one_setup p2 p setup reads2 reads in
+    subst (λ (r : Asked). is_close r ≡ true)
+    (setup_asks_for_one_request p q2 q (subst (λ (x : Setup). SetupAsksFor x q2) same asks2) asks) close

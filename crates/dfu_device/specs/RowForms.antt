@@ -1,5 +1,4 @@
--- The forms of a row: each row of the table has one of five. A proof about all rows goes by the forms, because states and requests are
--- many.
+-- The five forms of a row of the table. A proof about all rows handles the five forms, because the pairs of a state and a request are many.
 use Rattle.std.specs.Prelude.{◌≡◌, ℕ, ◌+◌, ◌==◌, ◌≤◌, nat_lt, nat_le, max, true, not, List, [], ◌∷◌, ◌++◌, length, take, drop}
 use Rattle.std.proofs.Common.{refl, arith}
 use Rattle.std.proofs.lemmas.Bool.{cond_both, ltb-false}
@@ -9,15 +8,15 @@ use Rattle.dfu_wire.specs.declared.codes.Code.TheVariants.{Address as ErrAddress
 use Rattle.dfu_slots.specs.declared.fault.WriteFault.{WriteFault}
 use Rattle.dfu_device.specs.Pace.{block_ms, image_ms}
 use Rattle.dfu_device.specs.Stage.{Request, Dnload, Upload, GetStatus, ClrStatus, GetState, OtherRequest, Reply, Ack, StatusOf, StateOf, Data, Stall, Profile, Stage, InAppDetach, InDfuIdle, InDownloadSync, InDownloadBusy, InDownloadIdle, InManifestSync, InManifestSyncComplete, InManifest, InManifestWaitReset, InUploadIdle, InError, state_of}
-use Rattle.dfu_device.specs.Table.{Plan, Sure, Writes, Commits, ack_plan, error_plan, has_no_bytes, block_plan, further_plan, upload_plan, plan, time_plan}
+use Rattle.dfu_device.specs.Table.{Plan, Sure, Writes, Commits, ack_plan, error_plan, has_no_bytes, block_plan, next_dnload_plan, upload_plan, plan, time_plan}
 use Rattle.dfu_device.specs.Outcome.{Situation, Luck, Works, FailsOld, FailsNew, plan_outcome}
 use Rattle.dfu_device.specs.DeviceView.{written_bytes_in}
 use Rattle.dfu_device.specs.AcceptedBytes.{accepted_in, accepted_of, accepted_in_state}
 use Rattle.dfu_device.specs.Sent.{sent_in, sent_of, sent_in_state}
 use Rattle.dfu_device.specs.Errors.{IsMediumError}
-use Rattle.dfu_device.specs.Cases.{either_way}
+use Rattle.dfu_device.specs.Cases.{holds_in_both_branches}
 
--- The replies of a plan.
+-- Replies that a plan may give.
 
 -- The property holds of each reply that a plan may give.
 abbrev pub HoldsForEachReply : (Reply → Type 0) → Plan → Type 0
@@ -25,7 +24,7 @@ HoldsForEachReply P (Sure reply stage) = P reply
 HoldsForEachReply P (Writes before block reply stage bad) = P reply × ((fault : WriteFault) → P (bad fault))
 HoldsForEachReply P (Commits taken reply stage bad) = P reply × ((fault : WriteFault) → P (bad fault))
 
--- A property of each reply that a plan may give holds of the reply that it gives, also if the medium fails.
+-- A property of each reply that a plan may give holds of the reply in its outcome, for any luck.
 pub reply_of_plan : (P : Reply → Type 0) (image : List ℕ) (p : Plan) (luck : Luck) → HoldsForEachReply P p
     → P (plan_outcome image p luck).reply
 reply_of_plan P image (Sure reply stage) luck each = each
@@ -36,7 +35,7 @@ reply_of_plan P image (Commits taken reply stage bad) Works each = each.0
 reply_of_plan P image (Commits taken reply stage bad) (FailsOld fault) each = each.1 fault
 reply_of_plan P image (Commits taken reply stage bad) (FailsNew fault) each = each.1 fault
 
--- A reply is of the kind that its request has, with at most `most` bytes of an image.
+-- The reply is of a kind that the request may have, with at most `most` bytes of an image.
 abbrev pub ReplyMatches : ℕ → Reply → Request → Type 0
 ReplyMatches most Stall r = Unit {0}
 ReplyMatches most Ack GetStatus = ⊥
@@ -48,155 +47,159 @@ ReplyMatches most (StateOf state) GetState = Unit {0}
 ReplyMatches most (Data bytes) (Upload number size) = length bytes ≤ most
 ReplyMatches most reply r = ⊥
 
--- A quiet reply takes no block and sends no piece.
+-- A quiet reply acknowledges no block and sends no piece of the image.
 abbrev pub IsQuietReply : Reply → Request → Type 0
 IsQuietReply (Data bytes) r = ⊥
 IsQuietReply Ack (Dnload number body) = ⊥
 IsQuietReply reply r = Unit {0}
 
--- A quiet reply of the kind that the request has.
+-- The reply is quiet, and of a kind that the request may have.
 abbrev pub QuietReplyMatches : ℕ → Request → Reply → Type 0
 QuietReplyMatches most r reply = ReplyMatches most reply r × IsQuietReply reply r
 
--- If each reply that a plan may give is quiet, the reply that it gives is quiet.
+-- If each reply that a plan may give is quiet, the reply in its outcome is quiet.
 pub quiet_plan_gives_quiet_reply : (c : Profile) (image : List ℕ) (r : Request) (p : Plan) (luck : Luck)
     → HoldsForEachReply (QuietReplyMatches c.transfer r) p
     → IsQuietReply (plan_outcome image p luck).reply r
 quiet_plan_gives_quiet_reply c image r p luck each = (reply_of_plan (QuietReplyMatches c.transfer r) image p luck each).1
 
--- Effects of a plan.
+-- Effects of a plan on the slot store and the stage.
 
--- A plan calls the slot store only for the bytes taken: it writes the last block after those written, or commits the bytes.
+-- A plan calls the slot store only for the bytes taken: it writes the last block after the written bytes, or commits the bytes taken.
 abbrev pub CallsStoreFor : (written taken : List ℕ) → Plan → Type 0
 CallsStoreFor w x (Sure reply stage) = Unit {0}
 CallsStoreFor w x (Writes before block reply stage bad) = (before ≡ w) × (before ++ block ≡ x)
 CallsStoreFor w x (Commits taken reply stage bad) = taken ≡ x
 
--- If the medium works, a plan enters no error of the medium, but may stay in one.
+-- If the medium works, a plan ends in an error of the medium only if it began in one.
 abbrev pub EndsInNoMediumError : Stage → Plan → Type 0
 EndsInNoMediumError st p = IsMediumError (plan_outcome [] p Works).after.stage → IsMediumError st
 
--- The situation has taken and sent the bytes of an image and a stage, or none if its state has none.
-abbrev pub CountsBytesOf : List ℕ → Stage → Situation → Type 0
-CountsBytesOf image st s =
+-- The situation has taken the bytes that were taken with an image and a stage, or none if its state is outside a download; and it has sent
+-- the bytes that were sent, or none if its state is outside an upload.
+abbrev pub KeepsTransferredBytes : List ℕ → Stage → Situation → Type 0
+KeepsTransferredBytes image st s =
     (accepted_of s ≡ accepted_in_state (state_of s.stage) (accepted_in image st))
     × (sent_of s ≡ sent_in_state (state_of s.stage) (sent_in image st))
 
--- If a plan leaves the taken and sent bytes alone when the medium works, it does so when the medium fails.
-pub counted : (image : List ℕ) (st : Stage) (p : Plan) (luck : Luck) → CountsBytesOf image st (plan_outcome image p Works).after
-    → CountsBytesOf image st (plan_outcome image p luck).after
+-- If a plan keeps the taken and sent bytes when the medium works, it keeps them with any luck of the medium.
+pub counted : (image : List ℕ) (st : Stage) (p : Plan) (luck : Luck) → KeepsTransferredBytes image st (plan_outcome image p Works).after
+    → KeepsTransferredBytes image st (plan_outcome image p luck).after
 counted image st (Sure reply stage) luck on = on
 counted image st (Writes before block reply stage bad) Works on = on
 counted image st (Commits taken reply stage bad) Works on = on
 counted image st p luck on = (refl, refl)
 
--- The forms.
+-- Forms of a row.
 
--- Form that a row of the table can have, by its state, its request and its plan.
+-- Form of a row of the table with this stage, request and plan.
 pub data RowForm (c : Profile) (image : List ℕ) : Stage → Request → Plan → Type 0 where
   -- A quiet row takes no block and sends no piece; it may write the last block, or commit the bytes taken.
   quiet : {st : Stage} {r : Request} {p : Plan} → HoldsForEachReply (QuietReplyMatches c.transfer r) p
       → CallsStoreFor (written_bytes_in st) (accepted_in image st) p → EndsInNoMediumError st p
-      → CountsBytesOf image st (plan_outcome image p Works).after
+      → KeepsTransferredBytes image st (plan_outcome image p Works).after
       → RowForm c image st r p
-  -- A row takes a block after the bytes taken before.
+  -- The row takes a block after the bytes taken before.
   takes : {st : Stage} {body : List ℕ} {number next : ℕ}
       → RowForm c image st (Dnload number body) (ack_plan (InDownloadSync (accepted_in image st) body next))
-  -- The host closes the download.
+  -- The row closes the download, for a DNLOAD of no bytes.
   closes : {taken : List ℕ} {number k : ℕ} → RowForm c image (InDownloadIdle taken number) (Dnload k []) (ack_plan (InManifestSync taken))
-  -- A row sends a piece of the size that was asked for.
+  -- The row sends the next bytes of the image, as many as were asked for or as there are, and enters dfuUPLOAD-IDLE.
   sends : {st : Stage} (place : ℕ) {next number : ℕ} (size : ℕ) → sent_in image st ≡ take place image → size ≤ c.transfer
       → RowForm c image st (Upload number size) (Sure (Data (take size (drop place image))) (InUploadIdle (place + size) next))
-  -- A row sends the last piece, which is shorter.
+  -- The row sends the last piece, which is shorter than was asked for.
   ends : {st : Stage} (place : ℕ) {number : ℕ} (size : ℕ) → sent_in image st ≡ take place image → size ≤ c.transfer
       → nat_lt (length (take size (drop place image))) size ≡ true
       → RowForm c image st (Upload number size) (Sure (Data (take size (drop place image))) InDfuIdle)
 
--- Each row has a form.
-
-error_plan_row_form : (c : Profile) (image : List ℕ) (st : Stage) (r : Request) (code : Code) → (IsMediumError (InError code) → ⊥)
+-- The plan of an error has a form, unless its code reports a failure of the medium.
+error_plan_has_form : (c : Profile) (image : List ℕ) (st : Stage) (r : Request) (code : Code) → (IsMediumError (InError code) → ⊥)
     → RowForm c image st r (error_plan code)
-error_plan_row_form c image st r code own = quiet (tt, tt) tt (λ y. absurd (own y)) (refl, refl)
+error_plan_has_form c image st r code own = quiet (tt, tt) tt (λ y. absurd (own y)) (refl, refl)
 
 -- The plan of a block has a form.
-block_plan_row_form : (c : Profile) (image : List ℕ) (st : Stage) (expected number : ℕ) (body : List ℕ)
+block_plan_has_form : (c : Profile) (image : List ℕ) (st : Stage) (expected number : ℕ) (body : List ℕ)
     → RowForm c image st (Dnload number body) (block_plan c (accepted_in image st) expected number body)
-block_plan_row_form c image st expected number body =
+block_plan_has_form c image st expected number body =
     let P : Plan → Type 0 = RowForm c image st (Dnload number body) in
-    either_way P (nat_lt c.transfer (length body)) _ _ (error_plan_row_form c image st _ ErrStalledPkt (λ y. y))
-    (either_way P (not (number == expected)) _ _ (error_plan_row_form c image st _ ErrAddress (λ y. y))
-    (either_way P (nat_lt c.capacity (length (accepted_in image st) + length body)) _ _ (error_plan_row_form c image st _ ErrAddress (λ y.
+    holds_in_both_branches P (nat_lt c.transfer (length body)) _ _ (error_plan_has_form c image st _ ErrStalledPkt (λ y. y))
+    (holds_in_both_branches P (not (number == expected)) _ _ (error_plan_has_form c image st _ ErrAddress (λ y. y))
+    (holds_in_both_branches P (nat_lt c.capacity (length (accepted_in image st) + length body)) _ _
+    (error_plan_has_form c image st _ ErrAddress (λ y.
     y)) takes))
 
--- The plan of a further DNLOAD has a form.
-further_plan_row_form : (c : Profile) (image taken : List ℕ) (expected number : ℕ) (body : List ℕ)
-    → RowForm c image (InDownloadIdle taken expected) (Dnload number body) (further_plan c taken expected number body)
-further_plan_row_form c image taken expected number [] =
-    either_way (RowForm c image (InDownloadIdle taken expected) (Dnload number [])) (nat_le c.least (length taken)) _ _ closes
-    (error_plan_row_form c image _ _ ErrNotDone (λ y. y))
-further_plan_row_form c image taken expected number (b ∷ bs) = block_plan_row_form c image (InDownloadIdle taken expected) expected number
+-- The plan of a DNLOAD in dfuDNLOAD-IDLE has a form.
+next_dnload_plan_has_form : (c : Profile) (image taken : List ℕ) (expected number : ℕ) (body : List ℕ)
+    → RowForm c image (InDownloadIdle taken expected) (Dnload number body) (next_dnload_plan c taken expected number body)
+next_dnload_plan_has_form c image taken expected number [] =
+    holds_in_both_branches (RowForm c image (InDownloadIdle taken expected) (Dnload number [])) (nat_le c.least (length taken)) _ _ closes
+    (error_plan_has_form c image _ _ ErrNotDone (λ y. y))
+next_dnload_plan_has_form c image taken expected number (b ∷ bs) =
+    block_plan_has_form c image (InDownloadIdle taken expected) expected number
     (b ∷ bs)
 
 -- The plan of an UPLOAD has a form.
-upload_plan_row_form : (c : Profile) (image : List ℕ) (st : Stage) (place expected number size : ℕ) → sent_in image st ≡ take place image
+upload_plan_has_form : (c : Profile) (image : List ℕ) (st : Stage) (place expected number size : ℕ) → sent_in image st ≡ take place image
     → RowForm c image st (Upload number size) (upload_plan c image place expected number size)
-upload_plan_row_form c image st place expected number size is =
+upload_plan_has_form c image st place expected number size is =
     let P : Plan → Type 0 = RowForm c image st (Upload number size) in
-    either_way P (size == 0) _ _ (error_plan_row_form c image st _ ErrStalledPkt (λ y. y))
-    (cond_both (nat_lt c.transfer size) _ _ P (λ large. error_plan_row_form c image st _ ErrStalledPkt (λ y. y)) (λ small.
-    either_way P (not (number == expected)) _ _ (error_plan_row_form c image st _ ErrAddress (λ y. y))
+    holds_in_both_branches P (size == 0) _ _ (error_plan_has_form c image st _ ErrStalledPkt (λ y. y))
+    (cond_both (nat_lt c.transfer size) _ _ P (λ large. error_plan_has_form c image st _ ErrStalledPkt (λ y. y)) (λ small.
+    holds_in_both_branches P (not (number == expected)) _ _ (error_plan_has_form c image st _ ErrAddress (λ y. y))
     (cond_both (nat_lt (length (take size (drop place image))) size) _ _ P
     (λ short. ends place size is (ltb-false c.transfer size small) short) (λ full. sends place size is (ltb-false c.transfer size small)))))
 
--- Each row has a form. A row that is not named here takes, sends and calls nothing. GETSTATE is named although it is such a row, so that
--- the last line is checked for each request.
+-- Each row has a form. Rows that no line names take no block, send no piece and call nothing. GETSTATE is such a row, but it is named so
+-- that the last line is checked for each request.
 pub row_form : (c : Profile) (image : List ℕ) (st : Stage) (r : Request) → RowForm c image st r (plan c image st r)
 row_form c image InDfuIdle (Dnload number body) =
     let P : Plan → Type 0 = RowForm c image InDfuIdle (Dnload number body) in
-    either_way P (not c.can_download) _ _ (error_plan_row_form c image _ _ ErrStalledPkt (λ y. y))
-    (either_way P (has_no_bytes body) _ _ (error_plan_row_form c image _ _ ErrStalledPkt (λ y. y)) (block_plan_row_form c image InDfuIdle 0
+    holds_in_both_branches P (not c.can_download) _ _ (error_plan_has_form c image _ _ ErrStalledPkt (λ y. y))
+    (holds_in_both_branches P (has_no_bytes body) _ _ (error_plan_has_form c image _ _ ErrStalledPkt (λ y. y))
+    (block_plan_has_form c image InDfuIdle 0
     number body))
-row_form c image InDfuIdle (Upload number size) = either_way (RowForm c image InDfuIdle (Upload number size)) c.can_upload _ _
-    (upload_plan_row_form c image InDfuIdle 0 0 number size refl) (error_plan_row_form c image _ _ ErrStalledPkt (λ y. y))
+row_form c image InDfuIdle (Upload number size) = holds_in_both_branches (RowForm c image InDfuIdle (Upload number size)) c.can_upload _ _
+    (upload_plan_has_form c image InDfuIdle 0 0 number size refl) (error_plan_has_form c image _ _ ErrStalledPkt (λ y. y))
 row_form c image (InDownloadSync before block number) GetStatus =
-    either_way (RowForm c image (InDownloadSync before block number) GetStatus) (c.busy == 0) _ _
+    holds_in_both_branches (RowForm c image (InDownloadSync before block number) GetStatus) (c.busy == 0) _ _
     (quiet ((tt, tt), λ fault. (tt, tt)) (refl, refl) (λ y. absurd y) (refl, refl)) (quiet (tt, tt) tt (λ y. absurd y) (refl, refl))
-row_form c image (InDownloadIdle taken number) (Dnload k body) = further_plan_row_form c image taken number k body
+row_form c image (InDownloadIdle taken number) (Dnload k body) = next_dnload_plan_has_form c image taken number k body
 row_form c image (InManifestSync taken) GetStatus =
-    either_way (RowForm c image (InManifestSync taken) GetStatus) (c.manifest == 0) _ _
+    holds_in_both_branches (RowForm c image (InManifestSync taken) GetStatus) (c.manifest == 0) _ _
     (quiet ((tt, tt), λ fault. (tt, tt)) refl (λ y. absurd y) (refl, refl)) (quiet (tt, tt) tt (λ y. absurd y) (refl, refl))
-row_form c image (InUploadIdle place number) (Upload k size) = upload_plan_row_form c image (InUploadIdle place number) place number k size
+row_form c image (InUploadIdle place number) (Upload k size) = upload_plan_has_form c image (InUploadIdle place number) place number k size
     refl
 row_form c image (InError code) ClrStatus = quiet (tt, tt) tt (λ y. absurd y) (refl, refl)
 row_form c image (InError code) r = quiet (tt, tt) tt (λ y. y) (refl, refl)
 row_form c image st GetState = quiet (tt, tt) tt (λ y. absurd y) (refl, refl)
 row_form c image st r = quiet (tt, tt) tt (λ y. absurd y) (refl, refl)
 
--- Each row of a time is quiet.
-pub time_plan_row_form : (c : Profile) (image : List ℕ) (st : Stage) (ms : ℕ) → RowForm c image st OtherRequest (time_plan c st ms)
-time_plan_row_form c image (InAppDetach timer passed) ms =
+-- Each row of elapsed time has a form.
+pub time_plan_has_form : (c : Profile) (image : List ℕ) (st : Stage) (ms : ℕ) → RowForm c image st OtherRequest (time_plan c st ms)
+time_plan_has_form c image (InAppDetach timer passed) ms =
     let P : Plan → Type 0 = RowForm c image (InAppDetach timer passed) OtherRequest in
-    either_way P (ms == 0) _ _ (quiet (tt, tt) tt (λ y. absurd y) (refl, refl))
-    (either_way P c.will_detach _ _ (quiet (tt, tt) tt (λ y. absurd y) (refl, refl))
-    (either_way P (nat_le (max 1 timer) (passed + ms)) _ _ (quiet (tt, tt) tt (λ y. absurd y) (refl, refl))
+    holds_in_both_branches P (ms == 0) _ _ (quiet (tt, tt) tt (λ y. absurd y) (refl, refl))
+    (holds_in_both_branches P c.will_detach _ _ (quiet (tt, tt) tt (λ y. absurd y) (refl, refl))
+    (holds_in_both_branches P (nat_le (max 1 timer) (passed + ms)) _ _ (quiet (tt, tt) tt (λ y. absurd y) (refl, refl))
     (quiet (tt, tt) tt (λ y. absurd y) (refl, refl))))
-time_plan_row_form c image (InDownloadBusy before block number passed) ms =
+time_plan_has_form c image (InDownloadBusy before block number passed) ms =
     let P : Plan → Type 0 = RowForm c image (InDownloadBusy before block number passed) OtherRequest in
-    either_way P (ms == 0) _ _ (quiet (tt, tt) tt (λ y. absurd y) (refl, refl))
-    (either_way P (nat_le (block_ms c.pace c.busy (length before) (length block)) (passed + ms)) _ _ (quiet ((tt, tt), λ fault. (tt, tt)) (refl, refl) (λ y. absurd y) (refl, refl))
+    holds_in_both_branches P (ms == 0) _ _ (quiet (tt, tt) tt (λ y. absurd y) (refl, refl))
+    (holds_in_both_branches P (nat_le (block_ms c.pace c.busy (length before) (length block)) (passed + ms)) _ _ (quiet ((tt, tt), λ fault. (tt, tt)) (refl, refl) (λ y. absurd y) (refl, refl))
     (quiet (tt, tt) tt (λ y. absurd y) (refl, refl)))
-time_plan_row_form c image (InManifest taken passed) ms =
+time_plan_has_form c image (InManifest taken passed) ms =
     let P : Plan → Type 0 = RowForm c image (InManifest taken passed) OtherRequest in
-    either_way P (ms == 0) _ _ (quiet (tt, tt) tt (λ y. absurd y) (refl, refl))
-    (either_way P (nat_le (image_ms c.pace c.manifest (length taken)) (passed + ms)) _ _
-    (either_way (λ (next : Stage). P (Commits taken Ack next (λ fault. Ack))) c.tolerant InManifestSyncComplete InManifestWaitReset
+    holds_in_both_branches P (ms == 0) _ _ (quiet (tt, tt) tt (λ y. absurd y) (refl, refl))
+    (holds_in_both_branches P (nat_le (image_ms c.pace c.manifest (length taken)) (passed + ms)) _ _
+    (holds_in_both_branches
+    (λ (next : Stage). P (Commits taken Ack next (λ fault. Ack))) c.tolerant InManifestSyncComplete InManifestWaitReset
     (quiet ((tt, tt), λ fault. (tt, tt)) refl (λ y. absurd y) (refl, refl))
     (quiet ((tt, tt), λ fault. (tt, tt)) refl (λ y. absurd y) (refl, refl)))
     (quiet (tt, tt) tt (λ y. absurd y) (refl, refl)))
-time_plan_row_form c image (InError code) ms = quiet (tt, tt) tt (λ y. y) (refl, refl)
-time_plan_row_form c image st ms = quiet (tt, tt) tt (λ y. absurd y) (refl, refl)
+time_plan_has_form c image (InError code) ms = quiet (tt, tt) tt (λ y. y) (refl, refl)
+time_plan_has_form c image st ms = quiet (tt, tt) tt (λ y. absurd y) (refl, refl)
 
--- Each reply of a row is of the kind of its request.
+-- Each reply that a plan with a form may give is of a kind that its request may have.
 pub row_reply_matches_request : (c : Profile) (image : List ℕ) (st : Stage) (r : Request) (p : Plan) → RowForm c image st r p
     → HoldsForEachReply (λ reply. ReplyMatches c.transfer reply r) p
 row_reply_matches_request c image st r p (quiet replies calls well counts) = each p replies

@@ -1,10 +1,10 @@
--- The rows of a device: its answer in bytes, the device after it, and the calls of the slot store.
+-- Rows of a device: the answer in bytes, the calls of the slot store, and the device after the row.
 use Rattle.std.specs.Prelude.{◌≡◌, ◌⊎◌, ℕ, ◌==◌, List, [], ◌∷◌, length, take, Bool, true, false, if◌then◌else◌, slice_index}
 use Rattle.dfu_wire.specs.declared.setups.Setup.{Setup}
 use Rattle.dfu_wire.specs.declared.requests.Request.{Request as Asked}
 use Rattle.dfu_wire.specs.declared.requests.Request.TheVariants as asked
 use Rattle.dfu_wire.specs.Setup.{IsSetup}
-use Rattle.dfu_wire.specs.Request.{SetupRequest}
+use Rattle.dfu_wire.specs.Request.{SetupAsksFor}
 use Rattle.dfu_wire.specs.Status.{IsStatus}
 use Rattle.dfu_wire.specs.State.{state_byte}
 use Rattle.dfu_slots.specs.declared.fault.WriteFault.{WriteFault}
@@ -18,9 +18,10 @@ use Rattle.dfu_device.specs.Table.{Plan, Sure, Writes, Commits, write_code, comm
 use Rattle.dfu_device.specs.Setting.{Setting}
 use Rattle.dfu_device.specs.DeviceView.{DeviceView, profile}
 
--- Answers in bytes.
+-- Bytes of an answer.
 
--- Answer to a reply, if `len` bytes were asked for: the first `len` of the six bytes of a status, or of the one byte of a state.
+-- The answer and its bytes are those of a reply to a request for `len` bytes: the first `len` of the six bytes of a status, or of the one
+-- byte of a state; of a piece of the image all bytes.
 abbrev pub ReplyAnswer : ℕ → Reply → Answer → List ℕ → Type 0
 ReplyAnswer len Ack a out = (a ≡ answer.Ack) × (out ≡ [])
 ReplyAnswer len Stall a out = (a ≡ answer.Stall) × (out ≡ [])
@@ -70,7 +71,8 @@ pub record FailedCommit (fault : WriteFault) (taken : List ℕ) (config : Settin
   pub image : (image_of w'.slots ≡ image_of s) ⊎ (image_of w'.slots ≡ taken)
   pub failed : CountRose s.medium.failures w'.slots.medium.failures
 
--- A plan was carried out: without a call of the slot store, or with the calls of a block or of a commit.
+-- A plan was carried out: without a call of the slot store, or with the calls of a block or of a commit, which worked or of which a write
+-- had a fault.
 abbrev pub Done : Plan → ℕ → DeviceView → Answer → List ℕ → DeviceView → Type 0
 Done (Sure reply stage) len w a out w' = ReplyAnswer len reply a out × (w' ≡ record w { stage = stage })
 Done (Writes before block reply stage bad) len w a out w' =
@@ -80,7 +82,7 @@ Done (Commits taken reply stage bad) len w a out w' =
     (ReplyAnswer len reply a out × Committed taken w.config w.slots stage w')
     ⊎ ((fault : WriteFault) × ReplyAnswer len (bad fault) a out × FailedCommit fault taken w.config w.slots w')
 
--- The three rules before the table.
+-- Rules by which a setup reaches the table.
 
 -- A request of the wire with its body, as the table reads it.
 abbrev pub request_for_table : Asked → List ℕ → Request
@@ -94,35 +96,35 @@ request_for_table asked.Abort body = Abort
 request_for_table asked.OtherClass body = OtherRequest
 request_for_table asked.NotDfu body = OtherRequest
 
--- Bytes of a status or of a state that are asked for: wLength.
+-- Number of bytes of a status or a state that a request asks for: wLength; 0 for any other request.
 abbrev pub asked_length : Asked → ℕ
 asked_length (asked.GetStatus len) = len
 asked_length (asked.GetState len) = len
 asked_length q = 0
 
--- Bytes of the body of a setup: wLength if the host sends, and none if it reads.
+-- Number of bytes in the body of a setup: wLength if bmRequestType is 21h, so that the host sends, else 0.
 abbrev pub body_length : Setup → ℕ
 body_length p = if p.kind == 0x21 then p.length else 0
 
--- A request of the class with a fitting body goes by the table.
+-- The table serves the request: it is one of the class, and its body has the length that the setup gives.
 abbrev pub is_served : Setup → Asked → List ℕ → Bool
 is_served p asked.NotDfu body = false
 is_served p q body = length body == body_length p
 
--- The plan of a setup: a setup that does not go by the table is stalled and changes nothing.
+-- The plan of a setup: that of its row if the table serves it, else a stall that changes nothing.
 abbrev pub setup_plan : DeviceView → Setup → Asked → List ℕ → Plan
 setup_plan w p q body =
     if is_served p q body then plan (profile w) (image_of w.slots) w.stage (request_for_table q body) else Sure Stall w.stage
 
--- The rows.
+-- Rows of the device table.
 
--- The row of a setup with its body, by a reading of its eight bytes.
+-- The row of a setup with its body, for the request that its eight bytes encode.
 pub data Handles (setup body : List ℕ) (w : DeviceView) (a : Answer) (out : List ℕ) (w' : DeviceView) : Type 0 where
-  handled_by_reading : (p : Setup) (q : Asked) → IsSetup p setup → SetupRequest p q →
+  handled_by_reading : (p : Setup) (q : Asked) → IsSetup p setup → SetupAsksFor p q →
       Done (setup_plan w p q body) (asked_length q) w a out w'
       → Handles setup body w a out w'
 
--- The row of that many milliseconds.
+-- The row of an elapsed time of `ms` milliseconds.
 abbrev pub Elapses : ℕ → DeviceView → DeviceView → Type 0
 Elapses ms w w' = Done (time_plan (profile w) w.stage ms) 0 w answer.Ack [] w'
 
@@ -133,14 +135,14 @@ is_close q = false
 
 -- The eight bytes are the setup of a request that closes a download: a DNLOAD with wLength 0.
 abbrev pub IsCloseSetup : List ℕ → Type 0
-IsCloseSetup setup = (p : Setup) × (q : Asked) × IsSetup p setup × SetupRequest p q × (is_close q ≡ true)
+IsCloseSetup setup = (p : Setup) × (q : Asked) × IsSetup p setup × SetupAsksFor p q × (is_close q ≡ true)
 
 -- The setup closes the download of the device.
 abbrev pub ClosesDownload : List ℕ → DeviceView → Type 0
 ClosesDownload setup w = IsCloseSetup setup × (may_close w.config.least w.stage ≡ true)
 
--- Cause of a row: a setup with its body, milliseconds, a reset of the bus, a refusal of the image that a setup closes, a refusal of the
--- closed image, or power that goes and comes back.
+-- Cause of a row: a setup with its body, milliseconds that passed, a reset of the bus, a refusal of the image that a setup closes, a
+-- refusal of the closed image, or a power cycle.
 pub data Cause : Type 0 where
   Transfer : (setup body : List ℕ) → Cause
   Passing : (ms : ℕ) → Cause
@@ -149,8 +151,8 @@ pub data Cause : Type 0 where
   Refusing : (why : Objection) → Cause
   PowerOn : Cause
 
--- A row of the device table leads from a device, by a cause, to an answer and a device. Only a setup is answered; where nothing is
--- answered, Ack is written. A program that refuses an image writes nothing, and a loss of power leaves the medium as it is.
+-- A row of the device table: a cause leads from a device to an answer and the device afterwards. Only a setup is answered; a cause without
+-- an answer has Ack here. A program that refuses an image writes nothing, and a power cycle leaves the medium unchanged.
 abbrev pub Row : DeviceView → Cause → Answer → List ℕ → DeviceView → Type 0
 Row w (Transfer setup body) a out w' = Handles setup body w a out w'
 Row w (Passing ms) a out w' = (a ≡ answer.Ack) × (out ≡ []) × Elapses ms w w'

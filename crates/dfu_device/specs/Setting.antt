@@ -1,4 +1,4 @@
--- Settings of a device, and the ones that are refused.
+-- Settings of a device, and the faults for which settings are refused.
 use Rattle.std.specs.Prelude.{◌≡◌, ◌⊎◌, ℕ, ◌≤◌, ◌<◌, ◌^◌, false}
 use Rattle.dfu_wire.specs.declared.functionals.Functional.{Functional}
 use Rattle.dfu_wire.specs.declared.ids.Ids.{Ids}
@@ -16,9 +16,9 @@ pub record Setting : Type 0 where
   pub manifest_ms : ℕ
   pub pace : Pace
 
--- The setting with the values in this order.
-abbrev pub setting_of_values : Ids → Functional → (least busy_ms manifest_ms : ℕ) → Pace → Setting
-setting_of_values ids functional least busy_ms manifest_ms pace =
+-- The setting with these values.
+abbrev pub setting_of : Ids → Functional → (least busy_ms manifest_ms : ℕ) → Pace → Setting
+setting_of ids functional least busy_ms manifest_ms pace =
     record { ids = ids; functional = functional; least = least; busy_ms = busy_ms; manifest_ms = manifest_ms; pace = pace }
 
 -- The transfer size is 1 to 4,096 bytes.
@@ -37,18 +37,18 @@ pub record HasLeastLength (s : Setting) : Type 0 where
   pub some : 1 ≤ s.least
   pub most : s.least ≤ 2 ^ 24
 
--- A device can have this setting.
+-- The setting is allowed for a device.
 pub record IsAllowedSetting (s : Setting) : Type 0 where
   pub transfer : HasTransferSize s
   pub poll : HasPollTimes s
   pub least : HasLeastLength s
 
 -- The first fault of a setting, in the order transfer size, poll times, fewest bytes.
-abbrev pub FirstFault : ConfigFault → Setting → Type 0
-FirstFault fault.BadTransfer s = (s.functional.transfer ≡ 0) ⊎ (4096 < s.functional.transfer)
-FirstFault fault.BadPoll s =
+abbrev pub IsFirstFault : ConfigFault → Setting → Type 0
+IsFirstFault fault.BadTransfer s = (s.functional.transfer ≡ 0) ⊎ (4096 < s.functional.transfer)
+IsFirstFault fault.BadPoll s =
     HasTransferSize s × ((2 ^ 24 ≤ s.busy_ms) ⊎ (2 ^ 24 ≤ s.manifest_ms) ⊎ ((s.functional.tolerant ≡ false) × (s.manifest_ms ≡ 0)))
-FirstFault fault.BadLeast s = HasTransferSize s × HasPollTimes s × ((s.least ≡ 0) ⊎ (2 ^ 24 < s.least))
+IsFirstFault fault.BadLeast s = HasTransferSize s × HasPollTimes s × ((s.least ≡ 0) ⊎ (2 ^ 24 < s.least))
 
 -- The functional descriptor with version 0110h, that of this standard.
 abbrev pub functional_of_this_version : Functional → Functional

@@ -1,9 +1,9 @@
--- Decision on a setup with its body: the three rules before the table, then the table.
+-- Decision on a setup with its body: its row if the table serves it, else a stall.
 use Rattle.std.specs.Prelude.{◌≡◌, ℕ, List, if◌then◌else◌}
 use Rattle.dfu_wire.specs.declared.setups.Setup.{Setup}
 use Rattle.dfu_wire.specs.declared.requests.Request.{Request as Asked}
 use Rattle.dfu_wire.specs.Setup.{IsSetup}
-use Rattle.dfu_wire.specs.Request.{SetupRequest}
+use Rattle.dfu_wire.specs.Request.{SetupAsksFor}
 use Rattle.dfu_device.specs.declared.config.Profile.{Profile as ProfileRead}
 use Rattle.dfu_device.specs.declared.decision.Decision.{Decision}
 use Rattle.dfu_device.specs.declared.device_state.DeviceState.{DeviceState}
@@ -11,16 +11,16 @@ use Rattle.dfu_device.specs.Stage.{Stall}
 use Rattle.dfu_device.specs.Table.{Sure, plan}
 use Rattle.dfu_device.specs.Parts.{stage_of}
 use Rattle.dfu_device.specs.Rows.{request_for_table, asked_length, is_served}
-use Rattle.dfu_device.specs.Decision.{profile_in, plan_of, HasWrittenBytes}
+use Rattle.dfu_device.specs.Decision.{table_profile_of, plan_of, HasWrittenBytes}
 
--- The decision on a setup with its body in a mode is its row, by the reading of its eight bytes; `asked` is how many bytes of a status or a
--- state the setup asks for.
+-- The decision on a setup with its body in a mode means the plan of the request that its eight bytes encode, if the table serves it, else a
+-- stall that changes nothing. `asked` is the number of bytes of a status or a state that the setup asks for.
 pub record DecidesSetup (p : ProfileRead) (m : DeviceState) (setup body : List ℕ) (d : Decision) (asked : ℕ) : Type 0 where
   pub read : Setup
   pub request : Asked
   pub fields : IsSetup read setup
-  pub asks : SetupRequest read request
+  pub asks : SetupAsksFor read request
   pub asked_is_request_length : asked ≡ asked_length request
-  pub row : (image spare block : List ℕ) → HasWrittenBytes m spare → plan_of (profile_in p) image spare block body d
-      ≡ (if is_served read request body then plan (profile_in p) image (stage_of m spare block) (request_for_table request body)
+  pub row : (image spare block : List ℕ) → HasWrittenBytes m spare → plan_of (table_profile_of p) image spare block body d
+      ≡ (if is_served read request body then plan (table_profile_of p) image (stage_of m spare block) (request_for_table request body)
       else Sure Stall (stage_of m spare block))

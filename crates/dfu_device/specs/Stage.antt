@@ -1,4 +1,4 @@
--- The words of the device table: the requests of a host, the replies of a device, and the stages with what each keeps (USB DFU 1.1,
+-- Types of the device table: the requests of a host, the replies of a device, and the stages with the values that each keeps (USB DFU 1.1,
 -- sections 3 and 6.1.2).
 use Rattle.std.specs.Prelude.{ℕ, Bool, List, length}
 use Rattle.dfu_wire.specs.declared.states.State.{State}
@@ -44,8 +44,8 @@ pub record Profile : Type 0 where
   pub transfer : ℕ
   -- The fewest bytes of an image.
   pub least : ℕ
-  -- Time of each block and each image beside the erases and programs of the flash; with 0 what is due is written before a status is
-  -- answered.
+  -- Time of each block and each image beside the erases and programs of the flash; with 0 a block or an image is written before its status
+  -- is answered.
   pub busy : ℕ
   pub manifest : ℕ
   -- Time of an erase and of a program.
@@ -53,24 +53,24 @@ pub record Profile : Type 0 where
   -- The most bytes of an image.
   pub capacity : ℕ
 
--- A state with what it keeps and nothing else, so that entering a state forgets what the state does not keep. `number` is the number of the
--- next block, `passed` the milliseconds that passed in the state.
+-- A state with the values that it keeps and no others, so that a device which enters a state forgets all other values. `number` is the
+-- number of the next block, `passed` the milliseconds that passed in the state.
 pub data Stage : Type 0 where
   InAppIdle : Stage  -- appIDLE: the application runs
-  InAppDetach : (timer passed : ℕ) → Stage  -- appDETACH: it got DETACH; its timer
-  InDfuIdle : Stage  -- dfuIDLE: nothing is taken
-  InDownloadSync : (before block : List ℕ) (number : ℕ) → Stage  -- dfuDNLOAD-SYNC: a block that is not written, after these bytes
+  InAppDetach : (timer passed : ℕ) → Stage  -- appDETACH: the device got DETACH; `timer` in milliseconds
+  InDfuIdle : Stage  -- dfuIDLE: no bytes are taken
+  InDownloadSync : (before block : List ℕ) (number : ℕ) → Stage  -- dfuDNLOAD-SYNC: `before` is written, `block` is not
   InDownloadSyncWritten : (taken : List ℕ) (number : ℕ) → Stage  -- dfuDNLOAD-SYNC: all bytes taken are put in the slot store
   InDownloadBusy : (before block : List ℕ) (number passed : ℕ) → Stage  -- dfuDNBUSY: the block is being written
   InDownloadIdle : (taken : List ℕ) (number : ℕ) → Stage  -- dfuDNLOAD-IDLE: ready for the next block
   InManifestSync : (taken : List ℕ) → Stage  -- dfuMANIFEST-SYNC, not complete: the host closed the download
   InManifestSyncComplete : Stage  -- dfuMANIFEST-SYNC, complete: the bytes taken are the active image
-  InManifest : (taken : List ℕ) (passed : ℕ) → Stage  -- dfuMANIFEST: they are being put in place
+  InManifest : (taken : List ℕ) (passed : ℕ) → Stage  -- dfuMANIFEST: the bytes taken are being put in place
   InManifestWaitReset : Stage  -- dfuMANIFEST-WAIT-RESET
-  InUploadIdle : (place number : ℕ) → Stage  -- dfuUPLOAD-IDLE: so many bytes of the image were sent
+  InUploadIdle : (place number : ℕ) → Stage  -- dfuUPLOAD-IDLE: `place` bytes of the image were sent
   InError : Code → Stage  -- dfuERROR, with its code
 
--- The state of the standard that a stage is.
+-- The state of the standard to which a stage belongs.
 abbrev pub state_of : Stage → State
 state_of InAppIdle = AppIdle
 state_of (InAppDetach timer passed) = AppDetach

@@ -10,8 +10,8 @@ use Rattle.dfu_device.specs.DeviceView.{DeviceView, situation, written_bytes_in}
 use Rattle.dfu_device.specs.Rows.{block_calls, Cause, Row}
 use Rattle.dfu_device.specs.AcceptedBytes.{accepted_of}
 
--- The last block was written after the bytes before it, which are all written. The image stays, and if a write had a fault the code tells
--- it.
+-- The last block was written after the bytes before it, which were already written. The image stays, and the status code reports a fault
+-- of a write.
 pub record WroteLastBlock (w w' : DeviceView) : Type 0 where
   pub before : List ℕ
   pub block : List ℕ
@@ -22,9 +22,9 @@ pub record WroteLastBlock (w w' : DeviceView) : Type 0 where
   pub image : image_of w'.slots ≡ image_of w.slots
   pub failed : (fault : WriteFault) → ending ≡ BrokenBy fault → w'.stage ≡ InError (write_code fault)
 
--- The bytes taken were committed and are the image; if a write had a fault the code reports it, and the image is the old
--- one or the bytes taken.
-pub record PutInPlace (w w' : DeviceView) : Type 0 where
+-- The bytes taken were committed: if all writes worked they are the image, and if a write had a fault the status code reports it, and the
+-- image is the old one or the bytes taken.
+pub record CommittedBytesTaken (w w' : DeviceView) : Type 0 where
   pub ending : Ending
   pub calls : CallsEnd w.slots (Commit (length (accepted_of (situation w))) ∷ []) ending w'.slots
   pub image : ending ≡ AllWorked → image_of w'.slots ≡ accepted_of (situation w)
@@ -32,18 +32,19 @@ pub record PutInPlace (w w' : DeviceView) : Type 0 where
       × ((image_of w'.slots ≡ image_of w.slots) ⊎ (image_of w'.slots ≡ accepted_of (situation w)))
 
 -- The slot store stays as it was, or was opened again on its medium.
-abbrev pub StaysStored : DeviceView → DeviceView → Type 0
-StaysStored w w' = (w'.slots ≡ w.slots) ⊎ (w'.slots ≡ store_on w.slots.medium)
+abbrev pub StoreStaysOrReopens : DeviceView → DeviceView → Type 0
+StoreStaysOrReopens w w' = (w'.slots ≡ w.slots) ⊎ (w'.slots ≡ store_on w.slots.medium)
 
--- Use of the slot store by a row: no call, so that the image stays; or a write of the last block taken; or a commit of the bytes taken.
+-- Use of the slot store by a row: no call, or a new opening on its medium, so that the image stays; or a write of the last block taken; or
+-- a commit of the bytes taken.
 abbrev pub StoreUse : DeviceView → DeviceView → Type 0
-StoreUse w w' = StaysStored w w' ⊎ WroteLastBlock w w' ⊎ PutInPlace w w'
+StoreUse w w' = StoreStaysOrReopens w w' ⊎ WroteLastBlock w w' ⊎ CommittedBytesTaken w w'
 
 -- Each row calls the slot store for the bytes taken or not at all, and only a commit of them changes the image.
 abbrev pub RowsUseStore : Type 0
 RowsUseStore = (w : DeviceView) (cause : Cause) (a : Answer) (out : List ℕ) (w' : DeviceView) → Row w cause a out w' → StoreUse w w'
 
--- In dfuERROR no row calls the slot store, so the image stays.
-abbrev pub ErrorRowsUseNothing : Type 0
-ErrorRowsUseNothing = (code : Code) (w : DeviceView) (cause : Cause) (a : Answer) (out : List ℕ) (w' : DeviceView) → w.stage ≡ InError code
-    → Row w cause a out w' → StaysStored w w'
+-- In dfuERROR each row leaves the slot store as it was, or opens it again on its medium, so the image stays.
+abbrev pub ErrorRowsKeepStore : Type 0
+ErrorRowsKeepStore = (code : Code) (w : DeviceView) (cause : Cause) (a : Answer) (out : List ℕ) (w' : DeviceView) → w.stage ≡ InError code
+    → Row w cause a out w' → StoreStaysOrReopens w w'

@@ -1,5 +1,5 @@
 -- The device table: the state table of USB DFU 1.1, appendix A, as this device has it, row by row.
--- A star marks a rule that may be read otherwise in the appendix; docs/PROFILE.md, "Where we choose", has the other reading of each.
+-- A star marks a rule for which the appendix allows another reading; docs/PROFILE.md, "Where we choose", has the other reading of each.
 use Rattle.std.specs.Prelude.{ℕ, ◌+◌, ◌%◌, ◌==◌, nat_lt, nat_le, min, max, Bool, true, false, not, if◌then◌else◌, List, [], ◌∷◌, ◌++◌, length, take, drop}
 use Rattle.dfu_wire.specs.declared.codes.Code.{Code}
 use Rattle.dfu_wire.specs.declared.codes.Code.TheVariants.{Target as ErrTarget, File as ErrFile, Write as ErrWrite, Prog as ErrProg, Verify as ErrVerify, Address as ErrAddress, NotDone as ErrNotDone, StalledPkt as ErrStalledPkt}
@@ -10,24 +10,24 @@ use Rattle.dfu_device.specs.declared.objection.Objection.TheVariants.{Target, Fi
 use Rattle.dfu_device.specs.Pace.{block_ms, image_ms}
 use Rattle.dfu_device.specs.Stage.{Request, Detach, Dnload, Upload, GetStatus, ClrStatus, GetState, Abort, Reply, Ack, StateOf, Data, Stall, Profile, Stage, InAppIdle, InAppDetach, InDfuIdle, InDownloadSync, InDownloadSyncWritten, InDownloadBusy, InDownloadIdle, InManifestSync, InManifestSyncComplete, InManifest, InManifestWaitReset, InUploadIdle, InError, state_of, status_of}
 
--- Plan of a row. Only the medium is left open: if it works, the first reply and stage come; if a write has a fault, the last reply and
--- dfuERROR.
+-- Plan of a row. Only the medium's luck is left open: if each write works, the device gives the first reply and enters the stage; after a
+-- fault it gives the last reply and enters dfuERROR.
 pub data Plan : Type 0 where
   -- Answers, enters a stage, and calls nothing of the slot store.
   Sure : Reply → Stage → Plan
-  -- Writes a block after the bytes taken before. If that fails the device enters dfuERROR with errWRITE, or with errVERIFY if the bytes are
-  -- not there.
+  -- Writes a block after the bytes taken before. If a write fails the device enters dfuERROR with errWRITE, or with errVERIFY if other
+  -- bytes are read back.
   Writes : (before block : List ℕ) → Reply → Stage → (WriteFault → Reply) → Plan
-  -- Makes the bytes taken the active image. If that fails the device enters dfuERROR with errPROG, or with errVERIFY if a write is not
-  -- there.
+  -- Makes the bytes taken the active image. If a write fails the device enters dfuERROR with errPROG, or with errVERIFY if other bytes are
+  -- read back.
   Commits : (taken : List ℕ) → Reply → Stage → (WriteFault → Reply) → Plan
 
--- The code of a block's fault: a write failed, or its bytes were not there when they were read back.
+-- The code of a fault in a block's write: errWRITE if a write failed, errVERIFY if other bytes were read back.
 abbrev pub write_code : WriteFault → Code
 write_code Failed = ErrWrite
 write_code NotVerified = ErrVerify
 
--- The code of a commit's fault: a write failed, or its bytes were not there when they were read back.
+-- The code of a fault in a commit's write: errPROG if a write failed, errVERIFY if other bytes were read back.
 abbrev pub commit_code : WriteFault → Code
 commit_code Failed = ErrProg
 commit_code NotVerified = ErrVerify
@@ -63,8 +63,8 @@ abbrev pub state_plan : Stage → Plan
 state_plan stage = Sure (StateOf (state_of stage)) stage
 
 -- The block number after another one: numbers have 16 bits, so 0 comes after 65,535.
-abbrev pub next_number : ℕ → ℕ
-next_number n = (n + 1) % 65536
+abbrev pub number_after : ℕ → ℕ
+number_after n = (n + 1) % 65536
 
 -- The body is empty, as with wLength 0.
 abbrev pub has_no_bytes : List ℕ → Bool
@@ -77,7 +77,7 @@ block_plan c before expected number body =
     if nat_lt c.transfer (length body) then error_plan ErrStalledPkt
     else if not (number == expected) then error_plan ErrAddress
     else if nat_lt c.capacity (length before + length body) then error_plan ErrAddress
-    else ack_plan (InDownloadSync before body (next_number expected))
+    else ack_plan (InDownloadSync before body (number_after expected))
 
 -- DNLOAD in dfuIDLE: the first block has number 0.
 abbrev pub first_plan : Profile → ℕ → List ℕ → Plan
@@ -87,15 +87,15 @@ first_plan c number body =
     else block_plan c [] 0 number body
 
 -- DNLOAD in dfuDNLOAD-IDLE: a DNLOAD with wLength 0 closes the download, if the image is long enough. *The number of the closing DNLOAD is
--- not looked at.
-abbrev pub further_plan : Profile → List ℕ → ℕ → ℕ → List ℕ → Plan
-further_plan c taken expected number body =
+-- not checked.
+abbrev pub next_dnload_plan : Profile → List ℕ → ℕ → ℕ → List ℕ → Plan
+next_dnload_plan c taken expected number body =
     if has_no_bytes body
     then if nat_le c.least (length taken) then ack_plan (InManifestSync taken) else error_plan ErrNotDone
     else block_plan c taken expected number body
 
--- UPLOAD: the errors in their order, else the next bytes of the image. Fewer than were asked for are the last ones.
--- *Also if the first answer is a short one, in dfuIDLE.
+-- UPLOAD: the errors in their order, else the next bytes of the image. An answer with fewer bytes than were asked for is the last.
+-- *A short first answer, in dfuIDLE, is the last too.
 abbrev pub upload_plan : Profile → List ℕ → ℕ → ℕ → ℕ → ℕ → Plan
 upload_plan c image place expected number size =
     if size == 0 then error_plan ErrStalledPkt
@@ -103,20 +103,20 @@ upload_plan c image place expected number size =
     else if not (number == expected) then error_plan ErrAddress
     else let part = take size (drop place image) in
     if nat_lt (length part) size then Sure (Data part) InDfuIdle
-    else Sure (Data part) (InUploadIdle (place + size) (next_number expected))
+    else Sure (Data part) (InUploadIdle (place + size) (number_after expected))
 
--- The rows by state and request; `image` is the active one.
+-- The rows by state and request; `image` is the active image.
 abbrev pub plan : Profile → List ℕ → Stage → Request → Plan
 -- appIDLE. The timer of appDETACH is the smaller of the host's timeout and the device's.
 plan c image InAppIdle (Detach timeout) = ack_plan (InAppDetach (min c.detach_ms timeout) 0)
 plan c image InAppIdle GetStatus = status_plan c InAppIdle
 plan c image InAppIdle GetState = state_plan InAppIdle
 plan c image InAppIdle _ = stall_plan InAppIdle
--- appDETACH. Any other request, a second DETACH too, goes back to the application.
+-- appDETACH. Any other request, a second DETACH too, is stalled and leads back to the application.
 plan c image (InAppDetach timer passed) GetStatus = status_plan c (InAppDetach timer passed)
 plan c image (InAppDetach timer passed) GetState = state_plan (InAppDetach timer passed)
 plan c image (InAppDetach timer passed) _ = stall_plan InAppIdle
--- dfuIDLE. A device that cannot download or upload takes DNLOAD or UPLOAD as any other request.
+-- dfuIDLE. A device that cannot download or upload treats DNLOAD or UPLOAD as any other request.
 plan c image InDfuIdle (Dnload number body) = first_plan c number body
 plan c image InDfuIdle (Upload number size) = if c.can_upload then upload_plan c image 0 0 number size else error_plan ErrStalledPkt
 plan c image InDfuIdle Abort = ack_plan InDfuIdle
@@ -135,8 +135,8 @@ plan c image (InDownloadSyncWritten taken number) GetState = state_plan (InDownl
 plan c image (InDownloadSyncWritten taken number) _ = error_plan ErrStalledPkt
 -- dfuDNBUSY. Any request of the class is an error, GETSTATUS too, and the block is not written.*
 plan c image (InDownloadBusy before block number passed) _ = error_plan ErrStalledPkt
--- dfuDNLOAD-IDLE.
-plan c image (InDownloadIdle taken number) (Dnload k body) = further_plan c taken number k body
+-- dfuDNLOAD-IDLE. DNLOAD brings the next block or closes the download, and ABORT ends it.
+plan c image (InDownloadIdle taken number) (Dnload k body) = next_dnload_plan c taken number k body
 plan c image (InDownloadIdle taken number) Abort = ack_plan InDfuIdle
 plan c image (InDownloadIdle taken number) GetStatus = status_plan c (InDownloadIdle taken number)
 plan c image (InDownloadIdle taken number) GetState = state_plan (InDownloadIdle taken number)
@@ -155,34 +155,34 @@ plan c image InManifestSyncComplete _ = error_plan ErrStalledPkt
 plan c image (InManifest taken passed) _ = error_plan ErrStalledPkt
 -- dfuMANIFEST-WAIT-RESET. Any request of the class is stalled, and the device stays.*
 plan c image InManifestWaitReset _ = stall_plan InManifestWaitReset
--- dfuUPLOAD-IDLE.
+-- dfuUPLOAD-IDLE. UPLOAD asks for the next bytes of the image, and ABORT ends the upload.
 plan c image (InUploadIdle place number) (Upload k size) = upload_plan c image place number k size
 plan c image (InUploadIdle place number) Abort = ack_plan InDfuIdle
 plan c image (InUploadIdle place number) GetStatus = status_plan c (InUploadIdle place number)
 plan c image (InUploadIdle place number) GetState = state_plan (InUploadIdle place number)
 plan c image (InUploadIdle place number) _ = error_plan ErrStalledPkt
--- dfuERROR.
+-- dfuERROR. CLRSTATUS leads to dfuIDLE. Other requests but GETSTATUS and GETSTATE are stalled, and the device stays.
 plan c image (InError code) ClrStatus = ack_plan InDfuIdle
 plan c image (InError code) GetStatus = status_plan c (InError code)
 plan c image (InError code) GetState = state_plan (InError code)
 plan c image (InError code) _ = stall_plan (InError code)
 
--- The rows of a time that passes, by state: at most one change, and the rest of the time is dropped.
--- Nothing is answered, which is written as Ack; in the other states nothing comes of it.
+-- The rows of time that passes, by state: at most one change, and the rest of the time is dropped. Time has no answer, which is written as
+-- Ack. In states not named here it changes nothing.
 abbrev pub time_plan : Profile → Stage → ℕ → Plan
--- appDETACH. A device with bitWillDetach detaches at the first passing of at least 1 ms.* A timer of 0 counts as 1.
+-- appDETACH. A device with bitWillDetach detaches once at least 1 ms passes.* A timer of 0 counts as 1.
 time_plan c (InAppDetach timer passed) ms =
     if ms == 0 then ack_plan (InAppDetach timer passed)
     else if c.will_detach then ack_plan InDfuIdle
     else if nat_le (max 1 timer) (passed + ms) then ack_plan InAppIdle
     else ack_plan (InAppDetach timer (passed + ms))
--- dfuDNBUSY.
+-- dfuDNBUSY. The block is written once its time has passed.
 time_plan c (InDownloadBusy before block number passed) ms =
     if ms == 0 then ack_plan (InDownloadBusy before block number passed)
     else if nat_le (block_ms c.pace c.busy (length before) (length block)) (passed + ms)
     then Writes before block Ack (InDownloadSyncWritten (before ++ block) number) (λ fault. Ack)
     else ack_plan (InDownloadBusy before block number (passed + ms))
--- dfuMANIFEST. A device that is not tolerant of manifestation waits for a reset.
+-- dfuMANIFEST. The image is put in place once its time has passed. A device that is not tolerant of manifestation then waits for a reset.
 time_plan c (InManifest taken passed) ms =
     if ms == 0 then ack_plan (InManifest taken passed)
     else if nat_le (image_ms c.pace c.manifest (length taken)) (passed + ms)
@@ -195,7 +195,7 @@ abbrev pub reset_stage : Stage → Stage
 reset_stage (InAppDetach timer passed) = InDfuIdle
 reset_stage stage = InAppIdle
 
--- The code with which a device refuses an image for an objection.
+-- The code with which a device refuses an image for an objection: errTARGET or errFILE.
 abbrev pub objection_code : Objection → Code
 objection_code Target = ErrTarget
 objection_code File = ErrFile

@@ -33,11 +33,11 @@ pub enum Answer {
 pub(crate) enum PendingAnswer {
     /// The request is acknowledged.
     Ack,
-    /// The status.
+    /// The request is answered with the status.
     Status { asked: u16 },
-    /// The state.
+    /// The request is answered with the state.
     State { asked: u16 },
-    /// The bytes of the active image from `place` on.
+    /// The request is answered with the bytes of the active image from `place` on.
     Piece { place: u32, asked: u16 },
     /// The request is stalled.
     Stall,

@@ -2,9 +2,9 @@
 
 ghost use Rattle.std.specs.Prelude.{◌≡◌, ◌≤◌, ◌<◌, ◌^◌, IfOk, IfErr};
 ghost use Rattle.dfu_device.specs.Pace.{no_pace};
-ghost use Rattle.dfu_device.specs.Setting.{IsAllowedSetting, FirstFault, functional_of_this_version};
+ghost use Rattle.dfu_device.specs.Setting.{IsAllowedSetting, IsFirstFault, functional_of_this_version};
 ghost use Rattle.dfu_device.specs.DeviceView.{profile_of};
-ghost use Rattle.dfu_device.specs.Decision.{profile_in};
+ghost use Rattle.dfu_device.specs.Decision.{table_profile_of};
 
 use dfu_slots::Unit;
 use dfu_wire::{Functional, Ids};
@@ -12,8 +12,8 @@ use std::fmt;
 use std::marker::Model;
 use thiserror::Error;
 
-/// Times of the flash of a device, and the steps in which it is written. With it a status says the time of its own block or image: of the
-/// erases and programs that are due, beside `busy_ms` or `manifest_ms`.
+/// Pace of a device's flash: the times of an erase and of a program, and the sizes in which the flash is written and erased. With a pace a
+/// status has the time of its own block or image: `busy_ms` or `manifest_ms`, and the time of the erases and programs that are due.
 #[derive(Clone, Copy, Drop)]
 pub struct Pace {
     /// Milliseconds to erase a sector.
@@ -57,13 +57,13 @@ pub struct Config {
 }
 
 impl Model for Config {
-    ghost use Rattle.dfu_device.specs.Setting.{Setting, setting_of_values, IsAllowedSetting};
+    ghost use Rattle.dfu_device.specs.Setting.{Setting, setting_of, IsAllowedSetting};
 
     ghost Value = { Setting };
 
-    ghost view = { λ c. setting_of_values c.ids c.functional c.least c.busy_ms c.manifest_ms c.pace };
+    ghost view = { λ c. setting_of c.ids c.functional c.least c.busy_ms c.manifest_ms c.pace };
 
-    ghost invariant = { λ c. IsAllowedSetting (setting_of_values c.ids c.functional c.least c.busy_ms c.manifest_ms c.pace) };
+    ghost invariant = { λ c. IsAllowedSetting (setting_of c.ids c.functional c.least c.busy_ms c.manifest_ms c.pace) };
 
     ghost inverse = { λ s. record {
       ids = s.ids;
@@ -138,7 +138,7 @@ impl Config {
           pace = no_pace;
         }) }
         ensures allowed { IfOk result (λ c. IsAllowedSetting c) }
-        ensures err { IfErr result (λ e. FirstFault e (record {
+        ensures err { IfErr result (λ e. IsFirstFault e (record {
           ids = ids;
           functional = functional;
           least = least;
@@ -172,7 +172,7 @@ impl Config {
         })
     }
 
-    /// Returns the settings with the times of the flash by `pace`.
+    /// Returns the settings with `pace` as the pace of the flash.
     pub fn with_pace(self, pace: Pace) -> Config
         ensures { result ≡ record self { pace = pace } }
     {
@@ -224,16 +224,16 @@ impl Config {
         self.manifest_ms
     }
 
-    /// Returns the times of the device's flash.
+    /// Returns the pace of the device's flash.
     pub(crate) fn pace(&self) -> Pace
         ensures { result ≡ self.now.pace }
     {
         self.pace
     }
 
-    /// Returns the profile that the table reads of a device with the settings and with room for images of `capacity` bytes.
+    /// Returns the profile that the table reads, for a device with the settings and with room for images of `capacity` bytes.
     pub fn profile(&self, capacity: u64) -> Profile
-        ensures profile { profile_in result ≡ profile_of self.now capacity }
+        ensures profile { table_profile_of result ≡ profile_of self.now capacity }
         ensures capacity { result.capacity ≡ capacity }
         ensures transfer { result.functional.transfer ≡ self.now.functional.transfer }
     {

@@ -7,9 +7,9 @@ use crate::device_state::DeviceState;
 pub enum Reply {
     /// The request is acknowledged.
     Ack,
-    /// The status.
+    /// The request is answered with the status.
     Status,
-    /// The state.
+    /// The request is answered with the state.
     State,
     /// The request is stalled.
     Stall,
@@ -23,13 +23,13 @@ pub enum Decision {
     Sure {
         /// Answer of the device.
         reply: Reply,
-        /// The mode.
+        /// The mode that the device enters.
         mode: DeviceState,
     },
     /// The body of the request becomes the block that is not written; the device enters `mode`, and acknowledges
     /// the request.
     Holds {
-        /// The mode.
+        /// The mode that the device enters.
         mode: DeviceState,
     },
     /// The next bytes of the active image are sent. If they are fewer than `size`, they are the last and the device
@@ -42,7 +42,7 @@ pub enum Decision {
         /// The next part's number.
         number: u16,
     },
-    /// The block is written. The device enters dfuDNLOAD-IDLE then, or dfuDNLOAD-SYNC if the time was `late`.
+    /// The block is written. The device then enters dfuDNLOAD-IDLE, or dfuDNLOAD-SYNC if `late` is true.
     Writes {
         /// Answer of the device.
         reply: Reply,
@@ -50,7 +50,7 @@ pub enum Decision {
         written: u32,
         /// The next block's number.
         number: u16,
-        /// Time passed, so that the host has to ask for the status once more.
+        /// True if time passed, so that the host must ask for the status once more.
         late: bool,
     },
     /// The bytes taken become the active image, and the device enters a mode.
@@ -59,7 +59,7 @@ pub enum Decision {
         reply: Reply,
         /// Number of the bytes taken.
         written: u32,
-        /// The mode.
+        /// The mode that the device enters.
         mode: DeviceState,
     },
 }

@@ -1,4 +1,4 @@
-//! The core of a device.
+//! Core of a device: its parts, and how a decision changes them.
 
 ghost use Rattle.std.specs.Prelude.{◌≡◌, ◌<◌, ◌≤◌, ◌+◌, length, take, drop, nat_lt, ℕ, List, [], IsTrue, if◌then◌else◌};
 ghost use Rattle.dfu_slots.specs.StoreView.{image_of, spare_of, room_of};
@@ -7,7 +7,7 @@ ghost use Rattle.dfu_device.specs.DeviceView.{DeviceView, profile};
 ghost use Rattle.dfu_device.specs.Parts.{are_device_parts};
 ghost use Rattle.dfu_device.specs.Rows.{Elapses};
 ghost use Rattle.dfu_device.specs.Borrowed.{answer_room};
-ghost use Rattle.dfu_device.specs.Decision.{profile_in, plan_of, IsPossibleDecision, IsSilentDecision};
+ghost use Rattle.dfu_device.specs.Decision.{table_profile_of, plan_of, IsPossibleDecision, IsAcknowledgingDecision};
 ghost use Rattle.dfu_device.specs.inside.PendingAnswer.{AnswersPending, CarriedOutPending, HandledPending};
 
 use crate::answer::{PendingAnswer, pending_answer_of};
@@ -20,7 +20,7 @@ use crate::{Answer, Config};
 use arrayvec::ArrayVec;
 use dfu_slots::{Medium, Slots};
 
-// Replaces the bytes of the block.
+// Makes `bytes` the bytes of the block.
 fn hold(block: &mut ArrayVec<u8, 4096>, bytes: &[u8])
     requires { length bytes.now ≤ 4096 }
     ensures { block.new.items ≡ bytes.now }
@@ -58,14 +58,14 @@ impl<M: Medium> DeviceCore<M> {
 
     /// Returns the settings that the table reads.
     fn profile(&self) -> Profile
-        ensures profile { profile_in result ≡ profile (view_of_core self.now) }
+        ensures profile { table_profile_of result ≡ profile (view_of_core self.now) }
         ensures capacity { result.capacity ≡ room_of self.now.slots }
         ensures transfer { result.functional.transfer ≡ self.now.config.functional.transfer }
     {
         self.config.profile(u64::from(self.slots.capacity()))
     }
 
-    /// Returns the answer to `setup` with its `body`: the three rules before the table, then the table.
+    /// Returns the answer to `setup` with its `body`: that of its row if the table serves it, else a stall.
     pub(crate) fn pending_answer(&mut self, setup: &[u8; 8], body: &[u8]) -> PendingAnswer
         ensures row { HandledPending setup.now body.now (view_of_core self.old) result (view_of_core self.new) }
         ensures fits { (a : Answer) (sent : List ℕ) → AnswersPending result (view_of_core self.new) a sent
@@ -82,7 +82,7 @@ impl<M: Medium> DeviceCore<M> {
         ensures row { let w = view_of_core self.old in let spare = spare_of w.slots in
             CarriedOutPending (plan_of (profile w) (image_of w.slots) spare self.old.block.items body.now decision) asked w result
             (view_of_core self.new) }
-        ensures silent { IsSilentDecision decision → result ≡ PendingAnswer.Ack }
+        ensures silent { IsAcknowledgingDecision decision → result ≡ PendingAnswer.Ack }
     {
         match decision {
             Decision::Sure { reply, mode } => {

@@ -7,7 +7,7 @@ ghost use Rattle.dfu_slots.specs.Changes.{fault_of, ending_of};
 ghost use Rattle.dfu_device.specs.Table.{write_code, commit_code};
 ghost use Rattle.dfu_device.specs.Parts.{is_put, is_filled, stage_of};
 ghost use Rattle.dfu_device.specs.Rows.{WroteBlock, FailedBlock, Committed, FailedCommit, block_calls};
-ghost use Rattle.dfu_device.specs.Decision.{written_stage, AcceptsNothing};
+ghost use Rattle.dfu_device.specs.Decision.{written_stage, IsModeAfterCommit};
 ghost use Rattle.dfu_device.specs.inside.View.{view_of_core};
 
 use crate::device_core::DeviceCore;
@@ -52,11 +52,10 @@ impl<M: Medium> DeviceCore<M> {
         }
     }
 
-    /// Makes the bytes taken the active image, and goes on to the next state. Returns the fault if a write
-    /// had one.
+    /// Makes the bytes taken the active image, and enters `next`. Returns the fault if a write had one.
     pub(crate) fn commit_taken(&mut self, written: u32, next: DeviceState) -> Result<(), WriteFault>
         requires taken { IsTrue (is_filled (DeviceState.ManifestSync written) (length self.old.block.items) self.old.slots) }
-        requires next { AcceptsNothing next }
+        requires next { IsModeAfterCommit next }
         ensures done { OnOk result (Committed (take written (spare_of self.old.slots)) self.old.config self.old.slots
             (stage_of next [] []) (view_of_core self.new)) }
         ensures failed { IfErr result (λ fault. FailedCommit fault (take written (spare_of self.old.slots)) self.old.config self.old.slots
@@ -108,7 +107,7 @@ fn commit_code(fault: WriteFault) -> Code
     }
 }
 
-/// Writes a block after the bytes written, the first one after a `begin`.
+/// Writes a block after the `written` bytes; calls `begin` before the first block.
 fn put_block<M: Medium>(slots: &mut Slots<M>, written: u32, block: &[u8]) -> Result<(), PutFault>
     requires put { (written ≡ 0) ⊎ (is_put written slots.old ≡ true) }
     requires shape { is_shaped slots.old ≡ true }

@@ -1,4 +1,4 @@
-//! Fit of a mode with what was put in a slot store.
+//! Check that a mode fits the bytes that were put in a slot store.
 
 ghost use Rattle.std.specs.Prelude.{◌≡◌, ◌^◌, ◌<◌, ◌+◌, ◌==◌, ◌&&◌, ◌||◌, nat_lt, nat_le};
 ghost use Rattle.dfu_slots.specs.StoreView.{SlotsState, room_of, is_begun};
@@ -17,21 +17,21 @@ pub struct PutSoFar {
     pub end: u32,
 }
 
-// Returns whether exactly `written` bytes were put in the closed spare.
+// Returns whether exactly `written` bytes were put in the closed spare slot.
 fn is_put(seen: PutSoFar, written: u32) -> bool
     ensures { result ≡ (seen.begun && (seen.end == written)) }
 {
     seen.begun && seen.end == written
 }
 
-// Returns whether all bytes taken are written, at least one.
+// Returns whether exactly `written` bytes were put in the closed spare slot, at least one, and fit in the room.
 fn is_written(seen: PutSoFar, written: u32) -> bool
     ensures { result ≡ (nat_lt 0 written && (nat_le written seen.room && (seen.begun && (seen.end == written)))) }
 {
     0 < written && written <= seen.room && is_put(seen, written)
 }
 
-// Returns whether a block of `block` bytes has room after the bytes that are written.
+// Returns whether a block of `block` bytes is not empty, has room after the `written` bytes, and these, if any, were put.
 fn is_next(seen: PutSoFar, written: u32, block: usize) -> bool
     requires { block < 2 ^ 32 }
     ensures { result ≡ (nat_lt 0 block && (nat_le (written + block) seen.room && ((written == 0) || (seen.begun && (seen.end == written))))) }
@@ -41,7 +41,7 @@ fn is_next(seen: PutSoFar, written: u32, block: usize) -> bool
         && (written == 0 || is_put(seen, written))
 }
 
-/// Returns whether a mode, with a block of `block` bytes that is not written, fits what was put in the slot store.
+/// Returns whether a mode, with a block of `block` bytes that is not written, fits the bytes that were put in the slot store.
 pub fn is_filled(seen: PutSoFar, mode: DeviceState, block: usize) -> bool
     requires { block < 2 ^ 32 }
     ensures { (s : SlotsState) → seen.room ≡ room_of s → seen.begun ≡ is_begun s → seen.end ≡ s.put_end →

@@ -6,22 +6,22 @@ ghost use Rattle.dfu_device.specs.AcceptedHistory.{SetupAcceptsBody, TimeAccepts
 ghost use Rattle.dfu_device.specs.SentHistory.{RowSendsPiece, StepSendsPiece, HistorySendsPieces, SentBytesUnique};
 ghost use Rattle.dfu_device.specs.Uploaded.{UploadIsImage, UploadsAreImages};
 ghost use Rattle.dfu_device.specs.ReportLaws.{StatusReportMatches, StateReportMatches};
-ghost use Rattle.dfu_device.specs.StoreUse.{RowsUseStore, ErrorRowsUseNothing};
+ghost use Rattle.dfu_device.specs.StoreUse.{RowsUseStore, ErrorRowsKeepStore};
 ghost use Rattle.dfu_device.specs.Errors.{MediumErrorsHaveCause};
 
-/// Each row leads to the outcome of its plan, at some luck of the medium. A setup whose reading is known goes by that reading; one that
-/// does not go by the table is stalled and changes nothing. If six bytes are asked for, the answer to GETSTATUS is read back as the status.
+/// Each row leads to the outcome of its plan, for some luck of the medium. The row of a setup follows its only reading; a setup that the
+/// table does not serve is stalled and changes nothing. An answer to a GETSTATUS of at least six bytes decodes to the status.
 pub fn rows_come_to_outcomes()
     ensures plan { PlansHaveOutcomes }
-    ensures row_of { RowByReading }
+    ensures row_follows_reading { RowByReading }
     ensures asked { SetupsHaveOutcomes }
-    ensures not_served { NotServedIsStalled }
+    ensures not_served_is_stalled { NotServedIsStalled }
     ensures time { TimesHaveOutcomes }
     ensures status { StatusReadBack }
 {}
 
-/// The bytes taken: a row takes the body that it acknowledges, and a device has taken what its
-/// history says, one row or many. A history says it of no other bytes.
+/// The bytes taken: a row takes the body that it acknowledges, and a device has taken the bytes of
+/// its history, after one row or many. A history takes one list of bytes and no other.
 pub fn rows_take()
     ensures asked { SetupAcceptsBody }
     ensures time { TimeAcceptsNothing }
@@ -32,9 +32,9 @@ pub fn rows_take()
     ensures one { AcceptedBytesUnique }
 {}
 
-/// The bytes sent: a row sends the bytes with which it answers an UPLOAD, and a device has sent what
-/// its history says, which says it of no other bytes. At the end of an upload the pieces, joined, are
-/// the active image.
+/// The bytes sent: a row sends the bytes with which it answers an UPLOAD, and a device has sent the
+/// bytes of its history, which sends one list of bytes and no other. At the end of an upload the
+/// pieces, joined, are the active image.
 pub fn rows_send()
     ensures row { RowSendsPiece }
     ensures step { StepSendsPiece }
@@ -44,17 +44,17 @@ pub fn rows_send()
     ensures one { SentBytesUnique }
 {}
 
-/// An answered status is that of the state that the device enters, and so is an answered state.
+/// An answer to GETSTATUS or GETSTATE reports the state that the device enters.
 pub fn rows_tell()
     ensures status { StatusReportMatches }
     ensures state { StateReportMatches }
 {}
 
 /// A row calls nothing of the slot store, or writes the last block taken after the bytes written, or
-/// commits the bytes taken. Only such a commit changes the image, and in dfuERROR it stays. errWRITE,
+/// commits the bytes taken. Only a commit changes the image, and no row in dfuERROR does. errWRITE,
 /// errPROG and errVERIFY come only if the medium failed.
 pub fn rows_keep()
     ensures image { RowsUseStore }
-    ensures error { ErrorRowsUseNothing }
+    ensures error { ErrorRowsKeepStore }
     ensures errors { MediumErrorsHaveCause }
 {}

@@ -1,5 +1,5 @@
 //! The device's side of USB device firmware upgrade (USB DFU 1.1): a machine that answers every
-//! setup with every body, takes no memory, and never fails. Each of its steps is a row of the
+//! setup with every body, allocates no memory, and never fails. Each of its steps is a row of the
 //! device table, `specs/Table.antt`.
 #![tactic(auto)]
 

@@ -2,9 +2,9 @@
 
 ghost use Rattle.std.specs.Prelude.{◌≡◌, ◌⊎◌, ◌<◌, true, ℕ, List, [], length, take};
 ghost use Rattle.dfu_slots.specs.StoreView.{SlotsState, room_of};
-ghost use Rattle.dfu_device.specs.Table.{block_plan, first_plan, further_plan, upload_plan};
+ghost use Rattle.dfu_device.specs.Table.{block_plan, first_plan, next_dnload_plan, upload_plan};
 ghost use Rattle.dfu_device.specs.Parts.{is_put};
-ghost use Rattle.dfu_device.specs.Decision.{profile_in, plan_of, AllowsDecision, IsPossibleDecision};
+ghost use Rattle.dfu_device.specs.Decision.{table_profile_of, plan_of, AllowsDecision, IsPossibleDecision};
 
 use crate::config::Profile;
 use crate::decision::{Decision, Reply};
@@ -58,12 +58,12 @@ pub(crate) fn tell(mode: DeviceState) -> Decision
     }
 }
 
-/// Decides on a DNLOAD with wBlockNum `number` and wLength `size`, over 0, after `written` bytes, with `expected` as the number that is
-/// due: the errors in their order, else the block is kept and counts as taken, not as written.
+/// Decides on a DNLOAD with wBlockNum `number` and wLength `size`, over 0, after `written` bytes; `expected` is the next block's number.
+/// Checks the errors in their order, else the block is kept and counts as taken, not as written.
 fn block(profile: &Profile, written: u32, expected: u16, number: u16, size: u16) -> Decision
     ensures row { (image spare block body : List ℕ) → length (take written spare) ≡ written → length body ≡ size
-        → plan_of (profile_in profile.now) image spare block body result
-        ≡ block_plan (profile_in profile.now) (take written spare) expected number body }
+        → plan_of (table_profile_of profile.now) image spare block body result
+        ≡ block_plan (table_profile_of profile.now) (take written spare) expected number body }
     ensures possible { (block : ℕ) (s : SlotsState) → room_of s ≡ profile.now.capacity → 0 < size
         → (written ≡ 0) ⊎ (is_put written s ≡ true) → IsPossibleDecision profile.now.functional.transfer block size s result }
 {
@@ -87,7 +87,7 @@ fn block(profile: &Profile, written: u32, expected: u16, number: u16, size: u16)
 /// Decides on a DNLOAD with wBlockNum `number` and wLength `size` in dfuIDLE: the first block has number 0.
 pub(crate) fn first(profile: &Profile, number: u16, size: u16) -> Decision
     ensures row { (image spare block body : List ℕ) → length body ≡ size
-        → plan_of (profile_in profile.now) image spare block body result ≡ first_plan (profile_in profile.now) number body }
+        → plan_of (table_profile_of profile.now) image spare block body result ≡ first_plan (table_profile_of profile.now) number body }
     ensures possible { AllowsDecision profile.now DeviceState.DfuIdle size result }
 {
     if !profile.functional.can_download || size == 0 {
@@ -106,8 +106,8 @@ pub(crate) fn further(
     size: u16,
 ) -> Decision
     ensures row { (image spare block body : List ℕ) → length (take written spare) ≡ written → length body ≡ size
-        → plan_of (profile_in profile.now) image spare block body result
-        ≡ further_plan (profile_in profile.now) (take written spare) expected number body }
+        → plan_of (table_profile_of profile.now) image spare block body result
+        ≡ next_dnload_plan (table_profile_of profile.now) (take written spare) expected number body }
     ensures possible { AllowsDecision profile.now (DeviceState.DownloadIdle written expected) size result }
 {
     if size > 0 {
@@ -119,8 +119,8 @@ pub(crate) fn further(
     ack(DeviceState::ManifestSync { written })
 }
 
-/// Decides on an UPLOAD with wBlockNum `number` and wLength `size`, after `place` bytes, with `expected` as the number that is due: the
-/// errors in their order, else the next bytes of the image.
+/// Decides on an UPLOAD with wBlockNum `number` and wLength `size`, after `place` bytes; `expected` is the next part's number. Checks the
+/// errors in their order, else sends the next bytes of the image.
 pub(crate) fn upload(
     profile: &Profile,
     place: u32,
@@ -128,8 +128,8 @@ pub(crate) fn upload(
     number: u16,
     size: u16,
 ) -> Decision
-    ensures row { (image spare block body : List ℕ) → plan_of (profile_in profile.now) image spare block body result
-        ≡ upload_plan (profile_in profile.now) image place expected number size }
+    ensures row { (image spare block body : List ℕ) → plan_of (table_profile_of profile.now) image spare block body result
+        ≡ upload_plan (table_profile_of profile.now) image place expected number size }
     ensures possible { (block body : ℕ) (s : SlotsState) → IsPossibleDecision profile.now.functional.transfer block body s result }
 {
     if size == 0 || size > profile.functional.transfer {

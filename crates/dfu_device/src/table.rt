@@ -1,11 +1,11 @@
-//! The device table as a value: what a request comes to, by the mode of a device and its fixed settings only (USB DFU 1.1,
+//! The device table as a function: the decision on a request, from the mode of a device and its fixed settings alone (USB DFU 1.1,
 //! appendix A). Nothing is carried out here. `specs/Table.antt` has the same rows in the same words. Before them come the rules by
-//! which a setup goes by the table.
+//! which a setup reaches the table.
 
 ghost use Rattle.std.specs.Prelude.{◌≡◌, ◌==◌, length};
 ghost use Rattle.dfu_device.specs.Rows.{body_length, asked_length, is_served};
 ghost use Rattle.dfu_device.specs.SetupDecision.{DecidesSetup};
-ghost use Rattle.dfu_device.specs.Decision.{DecisionIsRow, AllowsDecision, AllowsRequest};
+ghost use Rattle.dfu_device.specs.Decision.{DecidesRequest, AllowsDecision, AllowsRequest};
 
 use crate::config::Profile;
 use crate::decision::{Decision, Reply};
@@ -13,7 +13,7 @@ use crate::device_state::DeviceState;
 use crate::plans::{ack, error, first, further, report, stall, tell, upload};
 use dfu_wire::{Code, Request, Setup};
 
-// Returns the bytes of a status or of a state that a request asks for: wLength.
+// Returns the number of bytes of a status or a state that a request asks for: wLength; 0 for any other request.
 fn asked_length(request: Request) -> u16
     ensures { result ≡ asked_length request }
 {
@@ -23,7 +23,7 @@ fn asked_length(request: Request) -> u16
     }
 }
 
-// Returns whether a body fits its setup: wLength bytes if the host sends, and none if it reads.
+// Returns whether a body fits its setup: wLength bytes if bmRequestType is 21h, so that the host sends, else none.
 fn goes_with(setup: &Setup, body: &[u8]) -> bool
     ensures { result ≡ (length body.now == body_length setup.now) }
 {
@@ -35,7 +35,7 @@ fn goes_with(setup: &Setup, body: &[u8]) -> bool
     body.len() == len
 }
 
-// Returns whether a request goes by the table: a request of the class, whose body fits its setup.
+// Returns whether the table serves a request: one of the class, whose body fits its setup.
 fn is_served(setup: &Setup, request: Request, body: &[u8]) -> bool
     ensures { result ≡ is_served setup.now request body.now }
 {
@@ -47,7 +47,7 @@ fn is_served(setup: &Setup, request: Request, body: &[u8]) -> bool
 
 // appIDLE. The timer of appDETACH is the smaller of the host's timeout and the device's.
 fn in_app_idle(profile: &Profile, request: Request) -> Decision
-    ensures row { DecisionIsRow profile.now DeviceState.AppIdle request result }
+    ensures row { DecidesRequest profile.now DeviceState.AppIdle request result }
     ensures possible { AllowsRequest profile.now DeviceState.AppIdle request result }
 {
     match request {
@@ -61,9 +61,9 @@ fn in_app_idle(profile: &Profile, request: Request) -> Decision
     }
 }
 
-// appDETACH. Any other request, a second DETACH too, goes back to the application.
+// appDETACH. Any other request, a second DETACH too, is stalled and leads back to the application.
 fn in_app_detach(timer: u32, passed: u32, request: Request) -> Decision
-    ensures row { (p : Profile) → DecisionIsRow p (DeviceState.AppDetach timer passed) request result }
+    ensures row { (p : Profile) → DecidesRequest p (DeviceState.AppDetach timer passed) request result }
     ensures possible { (p : Profile) → AllowsRequest p (DeviceState.AppDetach timer passed) request result }
 {
     match request {
@@ -73,9 +73,9 @@ fn in_app_detach(timer: u32, passed: u32, request: Request) -> Decision
     }
 }
 
-// dfuIDLE. A device that can't download or upload takes DNLOAD or UPLOAD as any other request.
+// dfuIDLE. A device that can't download or upload treats DNLOAD or UPLOAD as any other request.
 fn in_dfu_idle(profile: &Profile, request: Request) -> Decision
-    ensures row { DecisionIsRow profile.now DeviceState.DfuIdle request result }
+    ensures row { DecidesRequest profile.now DeviceState.DfuIdle request result }
     ensures possible { AllowsRequest profile.now DeviceState.DfuIdle request result }
 {
     match request {
@@ -92,7 +92,7 @@ fn in_dfu_idle(profile: &Profile, request: Request) -> Decision
 
 // dfuDNLOAD-SYNC, block not written. With a busy time of 0 the block is written now.
 fn in_download_sync(profile: &Profile, written: u32, number: u16, request: Request) -> Decision
-    ensures row { DecisionIsRow profile.now (DeviceState.DownloadSync written number) request result }
+    ensures row { DecidesRequest profile.now (DeviceState.DownloadSync written number) request result }
     ensures possible { AllowsRequest profile.now (DeviceState.DownloadSync written number) request result }
 {
     match request {
@@ -112,9 +112,9 @@ fn in_download_sync(profile: &Profile, written: u32, number: u16, request: Reque
     }
 }
 
-// dfuDNLOAD-SYNC, block written.
+// dfuDNLOAD-SYNC, block written. GETSTATUS leads to dfuDNLOAD-IDLE.
 fn in_download_sync_written(written: u32, number: u16, request: Request) -> Decision
-    ensures row { (p : Profile) → DecisionIsRow p (DeviceState.DownloadSyncWritten written number) request result }
+    ensures row { (p : Profile) → DecidesRequest p (DeviceState.DownloadSyncWritten written number) request result }
     ensures possible { (p : Profile) → AllowsRequest p (DeviceState.DownloadSyncWritten written number) request result }
 {
     match request {
@@ -124,9 +124,9 @@ fn in_download_sync_written(written: u32, number: u16, request: Request) -> Deci
     }
 }
 
-// dfuDNLOAD-IDLE
+// dfuDNLOAD-IDLE. DNLOAD brings the next block or closes the download, and ABORT ends it.
 fn in_download_idle(profile: &Profile, written: u32, number: u16, request: Request) -> Decision
-    ensures row { DecisionIsRow profile.now (DeviceState.DownloadIdle written number) request result }
+    ensures row { DecidesRequest profile.now (DeviceState.DownloadIdle written number) request result }
     ensures possible { AllowsRequest profile.now (DeviceState.DownloadIdle written number) request result }
 {
     match request {
@@ -140,7 +140,7 @@ fn in_download_idle(profile: &Profile, written: u32, number: u16, request: Reque
 
 // dfuMANIFEST-SYNC, not complete. With a manifestation time of 0 the image is put in place now.
 fn in_manifest_sync(profile: &Profile, written: u32, request: Request) -> Decision
-    ensures row { DecisionIsRow profile.now (DeviceState.ManifestSync written) request result }
+    ensures row { DecidesRequest profile.now (DeviceState.ManifestSync written) request result }
     ensures possible { AllowsRequest profile.now (DeviceState.ManifestSync written) request result }
 {
     match request {
@@ -155,9 +155,9 @@ fn in_manifest_sync(profile: &Profile, written: u32, request: Request) -> Decisi
     }
 }
 
-// dfuMANIFEST-SYNC, complete
+// dfuMANIFEST-SYNC, complete. GETSTATUS leads to dfuIDLE.
 fn in_manifest_sync_complete(request: Request) -> Decision
-    ensures row { (p : Profile) → DecisionIsRow p DeviceState.ManifestSyncComplete request result }
+    ensures row { (p : Profile) → DecidesRequest p DeviceState.ManifestSyncComplete request result }
     ensures possible { (p : Profile) → AllowsRequest p DeviceState.ManifestSyncComplete request result }
 {
     match request {
@@ -167,9 +167,9 @@ fn in_manifest_sync_complete(request: Request) -> Decision
     }
 }
 
-// dfuUPLOAD-IDLE
+// dfuUPLOAD-IDLE. UPLOAD asks for the next bytes of the image, and ABORT ends the upload.
 fn in_upload_idle(profile: &Profile, place: u32, number: u16, request: Request) -> Decision
-    ensures row { DecisionIsRow profile.now (DeviceState.UploadIdle place number) request result }
+    ensures row { DecidesRequest profile.now (DeviceState.UploadIdle place number) request result }
     ensures possible { AllowsRequest profile.now (DeviceState.UploadIdle place number) request result }
 {
     match request {
@@ -181,9 +181,9 @@ fn in_upload_idle(profile: &Profile, place: u32, number: u16, request: Request) 
     }
 }
 
-// dfuERROR
+// dfuERROR. CLRSTATUS leads to dfuIDLE. Other requests but GETSTATUS and GETSTATE are stalled, and the device stays.
 fn in_error(code: Code, request: Request) -> Decision
-    ensures row { (p : Profile) → DecisionIsRow p (DeviceState.Error code) request result }
+    ensures row { (p : Profile) → DecidesRequest p (DeviceState.Error code) request result }
     ensures possible { (p : Profile) → AllowsRequest p (DeviceState.Error code) request result }
 {
     match request {
@@ -200,7 +200,7 @@ fn in_error(code: Code, request: Request) -> Decision
 /// stalled, and the device stays.
 #[rattlefmt::skip]
 pub fn decide(profile: &Profile, mode: DeviceState, request: Request) -> Decision
-    ensures row { DecisionIsRow profile.now mode request result }
+    ensures row { DecidesRequest profile.now mode request result }
     ensures possible { AllowsRequest profile.now mode request result }
 {
     match mode {
@@ -221,8 +221,8 @@ pub fn decide(profile: &Profile, mode: DeviceState, request: Request) -> Decisio
 }
 
 /// Returns the decision on `setup` with its `body` in `mode`, and the number of bytes of a status or of a state that it asks for. A
-/// request that is not one of the class for interface 0, or whose body does not go with it, is stalled and changes nothing; any other one
-/// goes by the table (USB DFU 1.1, section 3 and appendix A).
+/// request that is not one of the class for interface 0, or whose body does not fit it, is stalled and changes nothing; any other
+/// request has its row of the table (USB DFU 1.1, section 3 and appendix A).
 pub fn asked_row(
     profile: &Profile,
     mode: DeviceState,

@@ -1,4 +1,4 @@
-//! The rows of time that passes, as values (USB DFU 1.1, appendix A): a time makes at most one change, and the rest of the time
+//! The rows of time that passes, as decisions (USB DFU 1.1, appendix A): a call makes at most one change, and the rest of its time
 //! is dropped. A block and an image take the time of the erases and programs that are due for them.
 
 ghost use Rattle.std.specs.Prelude.{◌≡◌, ◌+◌, ◌*◌, ◌^◌, ◌≤◌, ◌<◌, ℕ, List};
@@ -6,7 +6,7 @@ ghost use Rattle.dfu_device.specs.Pace.{sector_starts_from, erases_ms, programs_
 ghost use Rattle.dfu_device.specs.Stage.{poll_of_stage};
 ghost use Rattle.dfu_device.specs.Parts.{stage_of, wait_ms_of_mode};
 ghost use Rattle.dfu_device.specs.DeviceView.{profile_of};
-ghost use Rattle.dfu_device.specs.Decision.{IsSilentDecision, DecidesTime, AllowsDecision, HasTimeInputs};
+ghost use Rattle.dfu_device.specs.Decision.{IsAcknowledgingDecision, DecidesTime, AllowsDecision, HasTimeInputs};
 
 use crate::config::{Config, Pace, Profile};
 use crate::decision::{Decision, Reply};
@@ -27,7 +27,7 @@ fn edges(sector: u32, at: u32, count: u32) -> u32
     (count - rest - 1) / sector + 1
 }
 
-// Returns the time to erase the sectors that begin in `count` bytes from `at` on, and `others` more.
+// Returns the milliseconds to erase the sectors that begin in `count` bytes from `at` on, and `others` more; 0 without sectors.
 fn erases_ms(pace: Pace, at: u32, count: u32, others: u32) -> u32
     requires count { count ≤ 4352 }
     requires others { others ≤ 2 }
@@ -40,7 +40,7 @@ fn erases_ms(pace: Pace, at: u32, count: u32, others: u32) -> u32
     (edges(pace.sector, at, count) + others) * u32::from(pace.erase_ms)
 }
 
-// Returns the time to program `count` bytes.
+// Returns the milliseconds to program `count` bytes, rounded up.
 fn programs_ms(pace: Pace, count: u32) -> u32
     requires { count ≤ 4864 }
     ensures value { result ≡ programs_ms pace count }
@@ -49,8 +49,8 @@ fn programs_ms(pace: Pace, count: u32) -> u32
     (count * u32::from(pace.program_ms) + 255) / 256
 }
 
-// Returns the time to write `count` bytes from `at` on in a slot's data, and `others` gates and headers; at most what fits in
-// bwPollTimeout.
+// Returns the milliseconds to write `count` bytes from `at` on in a slot's data, and `others` gates and headers, with `base` added; at most
+// what fits in bwPollTimeout.
 fn writes_ms(pace: Pace, base: u32, at: u32, count: u32, others: u32) -> u32
     requires count { count ≤ 4352 }
     requires others { others ≤ 2 }
@@ -62,7 +62,7 @@ fn writes_ms(pace: Pace, base: u32, at: u32, count: u32, others: u32) -> u32
     base.saturating_add(erases + programs).min(0xff_ffff)
 }
 
-// Returns the time of a block of `block_len` bytes after `written` ones.
+// Returns the milliseconds to write a block of `block_len` bytes after `written` bytes, with `base` added.
 fn block_ms(pace: Pace, base: u32, written: u32, block_len: usize) -> u32
     ensures value { result ≡ block_ms pace base written block_len }
     ensures fits { result < 2 ^ 24 }
@@ -74,7 +74,7 @@ fn block_ms(pace: Pace, base: u32, written: u32, block_len: usize) -> u32
     writes_ms(pace, base, written - behind, all - all % unit, others)
 }
 
-// Returns the time to put an image of `written` bytes in place.
+// Returns the milliseconds to put an image of `written` bytes in place, with `base` added.
 fn image_ms(pace: Pace, base: u32, written: u32) -> u32
     ensures value { result ≡ image_ms pace base written }
     ensures fits { result < 2 ^ 24 }
@@ -107,7 +107,7 @@ pub fn poll_ms(config: &Config, mode: DeviceState, block_len: usize) -> u32
 fn in_app_detach(profile: &Profile, timer: u32, passed: u32, ms: u32) -> Decision
     ensures row { (n : ℕ) → DecidesTime profile.now (DeviceState.AppDetach timer passed) n ms result }
     ensures possible { AllowsDecision profile.now (DeviceState.AppDetach timer passed) 0 result }
-    ensures silent { IsSilentDecision result }
+    ensures silent { IsAcknowledgingDecision result }
 {
     let now = u64::from(passed) + u64::from(ms);
     if ms == 0 {
@@ -135,7 +135,7 @@ fn in_download_busy(
 ) -> Decision
     ensures row { DecidesTime profile.now (DeviceState.DownloadBusy written number passed) block_len ms result }
     ensures possible { AllowsDecision profile.now (DeviceState.DownloadBusy written number passed) 0 result }
-    ensures silent { IsSilentDecision result }
+    ensures silent { IsAcknowledgingDecision result }
 {
     let now = u64::from(passed) + u64::from(ms);
     let limit = block_ms(profile.pace, profile.busy_ms, written, block_len);
@@ -159,7 +159,7 @@ fn in_download_busy(
 fn in_manifest(profile: &Profile, written: u32, passed: u32, ms: u32) -> Decision
     ensures row { (n : ℕ) → DecidesTime profile.now (DeviceState.Manifest written passed) n ms result }
     ensures possible { AllowsDecision profile.now (DeviceState.Manifest written passed) 0 result }
-    ensures silent { IsSilentDecision result }
+    ensures silent { IsAcknowledgingDecision result }
 {
     let now = u64::from(passed) + u64::from(ms);
     let limit = image_ms(profile.pace, profile.manifest_ms, written);
@@ -181,12 +181,12 @@ fn in_manifest(profile: &Profile, written: u32, passed: u32, ms: u32) -> Decisio
     })
 }
 
-/// Returns the decision on `ms` milliseconds in a mode with a block of `block_len` bytes: their row of the table. In the other modes
-/// nothing comes of them.
+/// Returns the decision on `ms` milliseconds in a mode with a block of `block_len` bytes: their row of the table. Modes that count no time
+/// stay.
 pub fn decide_time(profile: &Profile, mode: DeviceState, block_len: usize, ms: u32) -> Decision
     ensures row { DecidesTime profile.now mode block_len ms result }
     ensures possible { AllowsDecision profile.now mode 0 result }
-    ensures silent { IsSilentDecision result }
+    ensures silent { IsAcknowledgingDecision result }
 {
     match mode {
         DeviceState::AppDetach { timer, passed } => in_app_detach(profile, timer, passed, ms),

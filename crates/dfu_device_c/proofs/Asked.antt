@@ -1,4 +1,4 @@
--- Records after a setup whose body is longer than a block.
+-- Records after a setup with a body that is longer than a block.
 use Rattle.std.proofs.Common.{◌≡◌, ℕ, List, [], refl}
 use Rattle.dfu_slots.specs.declared.layout.Unit.{Unit as WriteUnit}
 use Rattle.dfu_device.specs.declared.answer.Answer.TheVariants as answer
@@ -13,15 +13,15 @@ use Rattle.dfu_asks.specs.Lent.{LentDevice}
 use Rattle.dfu_asks.specs.Verdict.{IsBodyOf}
 use Rattle.dfu_core.specs.declared.config.DfuConfig.{DfuConfig}
 use Rattle.dfu_core.specs.declared.record.DfuRecord.{DfuRecord}
-use Rattle.dfu_core.specs.RecordMeaning.{IsSetupOfConfig, with_memory}
+use Rattle.dfu_core.specs.RecordMeaning.{AreConfigParts, with_memory}
 use Rattle.dfu_core.specs.Long.{RecordTakesTooLongRow}
 use Rattle.dfu_core.specs.Mode.{HasMode}
-use Rattle.dfu_device_c.proofs.Moved.{no_work_kept, moved_record_is_device}
+use Rattle.dfu_device_c.proofs.Moved.{zero_work_has_no_writes, moved_record_is_device}
 use Rattle.dfu_device_c.proofs.Told.{record_device_is_in_mode}
 
--- The record takes the row of a body that is too long, if its mode is the one to which that row leads.
+-- A record takes the row of a body that is too long, if it enters the mode to which that row leads.
 pub record_takes_too_long_row : (c : DfuConfig) (r r' : DfuRecord) {config : Setting} {unit : WriteUnit} {sector : Sector} (setup : List ℕ)
-    (m m' : DeviceState) → IsSetupOfConfig c config unit sector → ((x : DeviceState) → HasMode r x → m ≡ x) → r.work ≡ 0 → HasMode r' m'
+    (m m' : DeviceState) → AreConfigParts c config unit sector → ((x : DeviceState) → HasMode r x → m ≡ x) → r.work ≡ 0 → HasMode r' m'
     → r' ≡ record r { version = r'.version; mode = r'.mode; first = r'.first; second = r'.second; number = r'.number }
     → ((l : LentDevice) (flash : List ℕ) → IsDeviceIn config m l flash → IsDevice (record l { mode = m' }) flash
     × ((body : List ℕ) → IsBodyOf setup body → (u : UnseenState)
@@ -30,7 +30,7 @@ pub record_takes_too_long_row : (c : DfuConfig) (r r' : DfuRecord) {config : Set
 record_takes_too_long_row c r r' setup m m' set_up the_mode idle moved rest row a kept = (
   record a { mode = m' },
   moved_record_is_device c r r' m m' the_mode idle moved rest a kept,
-  no_work_kept r a.work idle kept.work,
+  zero_work_has_no_writes r a.work idle kept.work,
   refl,
   λ block flash device body body_is.
       let led = row (with_memory block a) flash (record_device_is_in_mode c r m set_up the_mode block flash a kept device) in (

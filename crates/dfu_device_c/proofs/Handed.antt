@@ -1,4 +1,4 @@
--- Steps that a program in C is handed, and those for which its device asks.
+-- Writes that a call hands out to a program in C match the writes for which its device asks.
 use Rattle.std.proofs.Common.{◌≡◌, ◌⊎◌, ◌==◌, ℕ, ℤ, pos, Bool, true, false, List, [], take, replicate, if◌then◌else◌, inl, inr, refl, sym, ◌∙◌, arith}
 use Rattle.dfu_asks.specs.declared.asking.Asking.{Asking}
 use Rattle.dfu_asks.specs.Steps.{Step}
@@ -13,32 +13,32 @@ use Rattle.dfu_core.specs.Writes.{ask_step, WriteHandedOut, RefusesPiece, device
 use Rattle.dfu_core.specs.Board.{CoreWrite, core_board}
 use Rattle.dfu_core.specs.Happens.{CoreEventOutcome}
 
--- The kind of a piece is 1, an erase, or 2, a program.
+-- The kind of a write is 1, an erase, or 2, a program.
 pub kind_is_erase_or_program : (erases : Bool) (k : ℕ) → k ≡ (if erases then 1 else 2) → (k ≡ 1) ⊎ (k ≡ 2)
 kind_is_erase_or_program true k e = inl e
 kind_is_erase_or_program false k e = inr e
 
--- A piece of kind 2 does not erase.
+-- A write of kind 2 does not erase.
 pub program_kind_does_not_erase : (erases : Bool) (k : ℕ) → k ≡ (if erases then 1 else 2) → k ≡ 2 → erases ≡ false
 program_kind_does_not_erase false k e is = refl
 program_kind_does_not_erase true k e is = absurd (omega (arith, e, is))
 
--- The step of a piece, by the flag of an erase.
+-- Step of a write of n bytes, by the flag that is true for an erase.
 abbrev pub step_by_flag : (erases : Bool) (at n : ℕ) (bytes : List ℕ) → Step
 step_by_flag erases at n bytes = record {
   erases = erases;
   write = record { at = at; bytes = if erases then replicate n 255 else take n bytes };
 }
 
--- The step of a piece, by its kind.
-abbrev pub step_by_number : (k at n : ℕ) (bytes : List ℕ) → Step
-step_by_number k at n bytes = step_by_flag (k == 1) at n bytes
+-- Step of a write of n bytes, by the number of its kind: an erase for 1, and a program for any other.
+abbrev pub step_by_kind : (k at n : ℕ) (bytes : List ℕ) → Step
+step_by_kind k at n bytes = step_by_flag (k == 1) at n bytes
 
--- The step by the kind is the step by the flag.
-pub step_by_number_is_by_flag : (erases : Bool) (k at n : ℕ) (bytes : List ℕ) → k ≡ (if erases then 1 else 2)
-    → step_by_number k at n bytes ≡ step_by_flag erases at n bytes
-step_by_number_is_by_flag true k at n bytes e = λ i. step_by_number (e i) at n bytes
-step_by_number_is_by_flag false k at n bytes e = λ i. step_by_number (e i) at n bytes
+-- The step by a write's kind equals the step by its flag, if the kind is 1 for an erase, else 2.
+pub step_by_kind_is_by_flag : (erases : Bool) (k at n : ℕ) (bytes : List ℕ) → k ≡ (if erases then 1 else 2)
+    → step_by_kind k at n bytes ≡ step_by_flag erases at n bytes
+step_by_kind_is_by_flag true k at n bytes e = λ i. step_by_kind (e i) at n bytes
+step_by_kind_is_by_flag false k at n bytes e = λ i. step_by_kind (e i) at n bytes
 
 refusal_number_is_not_zero : (e : Refusal) → refusal_number e ≡ pos 0 → ⊥
 refusal_number_is_not_zero refusal.NoConfig is = absurd (cc)
@@ -47,14 +47,14 @@ refusal_number_is_not_zero refusal.Asked is = absurd (cc)
 refusal_number_is_not_zero refusal.NoMedium is = absurd (cc)
 refusal_number_is_not_zero refusal.NoDevice is = absurd (cc)
 
--- A call that returns 0 is not refused.
+-- A call that returns 0 was not refused.
 pub zero_is_not_refused : (c : DfuConfig) (r : DfuRecord) (block : List ℕ) (Why : Asking → Type 0) (n : ℤ) → RefusesPiece c r block Why n
     → n ≡ pos 0 → ⊥
 zero_is_not_refused c r block Why n (device_is_not_found e is cause) zero = refusal_number_is_not_zero e (sym is ∙ zero)
 zero_is_not_refused c r block Why n (piece_is_refused a is config room kept why) zero = refusal_number_is_not_zero refusal.NoDevice (sym is
     ∙ zero)
 
--- A write that was handed out is a step of a board in C, if the flash changes in its range alone.
+-- A write that was handed out is a step of a board in C, if the flash changes only in the write's range.
 pub handed_write_is_step : (c : DfuConfig) (r : DfuRecord) (block flash : List ℕ) (Why : Asking → Type 0) (n : ℤ) (ask before : DfuAsk)
     → WriteHandedOut c r block flash n ask ⊎ (RefusesPiece c r block Why n × (ask ≡ before)) → n ≡ pos 0 → (now : List ℕ)
     → Torn flash (ask_step ask).write.at (ask_step ask).write.bytes now

@@ -1,4 +1,4 @@
--- Records of which only the mode changed: they stand for the same device in another mode.
+-- Records of which only the mode changed: each stands for the same device in another mode.
 use Rattle.std.proofs.Common.{◌≡◌, IsTrue, Option, Some, None, ℕ, List, [], length, refl, sym, ap, ◌∙◌, subst, arith}
 use Rattle.dfu_device.specs.declared.answer.Answer.{Answer}
 use Rattle.dfu_device.specs.declared.device_state.DeviceState.{DeviceState}
@@ -10,7 +10,7 @@ use Rattle.dfu_asks.specs.declared.pending_writes.SlotWrite.{SlotWrite}
 use Rattle.dfu_asks.specs.declared.pending_writes.SlotWrite.TheVariants as slot_write
 use Rattle.dfu_asks.specs.Lent.{LentDevice}
 use Rattle.dfu_asks.specs.Asks.{flash_store, device_in, IsDevice}
-use Rattle.dfu_asks.proofs.Refuses.{device_enters_mode}
+use Rattle.dfu_asks.proofs.Refuses.{filled_mode_may_be_entered}
 use Rattle.dfu_core.specs.declared.config.DfuConfig.{DfuConfig}
 use Rattle.dfu_core.specs.declared.record.DfuRecord.{DfuRecord}
 use Rattle.dfu_core.specs.Config.{config_setting}
@@ -18,10 +18,10 @@ use Rattle.dfu_core.specs.Mode.{HasMode}
 use Rattle.dfu_core.specs.RecordMeaning.{IsFlagNumber, HasJobNumbers, HasWorkNumbers, IsRecordOf, with_memory}
 use Rattle.dfu_core.specs.Refuse.{RecordTakesRow}
 
--- If `work` of a record is 0, no work is due.
-pub no_work_kept : (r : DfuRecord) (w : Option PendingWrites) → r.work ≡ 0 → HasWorkNumbers r w → w ≡ None
-no_work_kept r None is has = refl
-no_work_kept r (Some w) is has = absurd (no_job_has_number_zero r w.job is has.0)
+-- If `work` of a record is 0, its device has no writes to do.
+pub zero_work_has_no_writes : (r : DfuRecord) (w : Option PendingWrites) → r.work ≡ 0 → HasWorkNumbers r w → w ≡ None
+zero_work_has_no_writes r None is has = refl
+zero_work_has_no_writes r (Some w) is has = absurd (no_job_has_number_zero r w.job is has.0)
   where
     no_job_has_number_zero : (r : DfuRecord) (j : SlotWrite) → r.work ≡ 0 → HasJobNumbers r j → ⊥
     no_job_has_number_zero r (slot_write.Block spare close) is has = omega (arith, is, has.0)
@@ -35,11 +35,13 @@ module _ (c : DfuConfig) (r r' : DfuRecord) (m m' : DeviceState) (the_mode : (x 
       second = r'.second;
       number = r'.number;
     }) where
-  -- A record of which only the mode changed has the same work.
+  -- A record without writes due, of which only the version, the mode and its numbers changed, has the same work.
   moved_record_keeps_work : (a : Asking) → IsRecordOf c r a → HasWorkNumbers r' a.work
-  moved_record_keeps_work a kept = subst (λ (w : Option PendingWrites). HasWorkNumbers r' w) (sym (no_work_kept r a.work idle kept.work))
+  moved_record_keeps_work a kept =
+      subst (λ (w : Option PendingWrites). HasWorkNumbers r' w) (sym (zero_work_has_no_writes r a.work idle kept.work))
       (ap (λ (x : DfuRecord). x.work) rest ∙ idle)
 
+  -- Such a record stands for its device in the new mode.
   pub moved_record_is_device : (a : Asking) → IsRecordOf c r a → IsRecordOf c r' (record a { mode = m' })
   moved_record_is_device a kept = record {
     set_up = kept.set_up;
@@ -54,23 +56,24 @@ module _ (c : DfuConfig) (r r' : DfuRecord) (m m' : DeviceState) (the_mode : (x 
     work = moved_record_keeps_work a kept;
   }
 
-  -- The row of the cause, with the answer, leads to the new mode.
-  abbrev Leads : Cause → Answer → Type 0
-  Leads cause x = (l : LentDevice) (flash : List ℕ) → l.config ≡ config_setting c → m ≡ l.mode → IsDevice l flash
+  -- On each flash the row of the cause leads a device in the record's mode to the new mode, with this answer, and the slot store has the
+  -- bytes that the new mode needs.
+  abbrev RowLeadsToMode : Cause → Answer → Type 0
+  RowLeadsToMode cause x = (l : LentDevice) (flash : List ℕ) → l.config ≡ config_setting c → m ≡ l.mode → IsDevice l flash
       → IsTrue (is_filled m' (length l.block) (flash_store l flash))
       × Row (device_in l flash) cause x [] (device_in (record l { mode = m' }) flash)
 
   -- If the row of the cause leads to the new mode, the record takes that row.
-  pub record_takes_cause_row : (cause : Cause) (x : Answer) → Leads cause x → RecordTakesRow c r cause x r'
+  pub record_takes_cause_row : (cause : Cause) (x : Answer) → RowLeadsToMode cause x → RecordTakesRow c r cause x r'
   record_takes_cause_row cause x leads a kept = (
     record a { mode = m' },
     moved_record_is_device a kept,
-    no_work_kept r a.work idle kept.work,
+    zero_work_has_no_writes r a.work idle kept.work,
     refl,
     λ block flash device.
         let l : LentDevice = with_memory block a in
         let led = leads l flash kept.set_up.config_is (the_mode a.mode kept.mode) device in (
-          device_enters_mode l m' flash device led.0,
+          filled_mode_may_be_entered l m' flash device led.0,
           led.1,
         ),
   )

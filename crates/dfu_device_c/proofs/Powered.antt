@@ -20,12 +20,12 @@ use Rattle.dfu_core.specs.declared.config.DfuConfig.{DfuConfig}
 use Rattle.dfu_core.specs.declared.record.DfuRecord.{DfuRecord}
 use Rattle.dfu_core.specs.Config.{IsConfig}
 use Rattle.dfu_core.specs.Mode.{blank_record}
-use Rattle.dfu_core.specs.RecordMeaning.{HasNoteNumbers, IsSetupOfConfig}
+use Rattle.dfu_core.specs.RecordMeaning.{HasNoteNumbers, AreConfigParts}
 use Rattle.dfu_core.specs.Power.{PowerOutcome, RefusesPower}
 use Rattle.dfu_core.specs.Board.{CoreRestart, core_board}
 use Rattle.dfu_core.specs.Happens.{start_mode, CoreEventOutcome, IsCorePoweredOn}
 
--- The device of which a record is made at power on.
+-- The device at power-on, for which a new record is made.
 abbrev device_at_power_on : Setting → WriteUnit → Sector → DeviceState → Noted → Asking
 device_at_power_on config unit sector m noted = record {
   config = config;
@@ -41,13 +41,13 @@ device_at_power_on config unit sector m noted = record {
   few = omega arith;
 }
 
--- The blank record with the number of the mode and with what is noted stands for a device that got power.
-pub blank_record_is_powered_on : (c : DfuConfig) (flash : List ℕ) (config : Setting) (unit : WriteUnit) (sector : Sector) (noted : Noted)
+-- The blank record, with a mode and the noted slot and header, stands for a device that just got power.
+pub blank_record_powers_on : (c : DfuConfig) (flash : List ℕ) (config : Setting) (unit : WriteUnit) (sector : Sector) (noted : Noted)
     (r' : DfuRecord)
-    → IsConfig c → IsSetupOfConfig c config unit sector → IsNoteOfMedium noted (mapped_medium (grain_of unit sector) flash)
+    → IsConfig c → AreConfigParts c config unit sector → IsNoteOfMedium noted (mapped_medium (grain_of unit sector) flash)
     → HasImage (mapped_medium (grain_of unit sector) flash) → HasNoteNumbers r' noted
     → r' ≡ record blank_record { mode = 0; slot = r'.slot; header = r'.header } → PowerOutcome c device_state.AppIdle flash (pos 0) r'
-blank_record_is_powered_on c flash config unit sector noted r' allowed set_up is_noted image notes rest =
+blank_record_powers_on c flash config unit sector noted r' allowed set_up is_noted image notes rest =
     let m = mapped_medium (grain_of unit sector) flash in
     let store : IsStore (store_on m) = (medium_makes_fresh_store image refl refl).store in
     record {
@@ -75,7 +75,7 @@ blank_record_is_powered_on c flash config unit sector noted r' allowed set_up is
           (sym (ap (λ (x : DfuRecord). x.mode) rest));
     }
 
--- The record of a device that got power, with the number of dfuIDLE, stands for that device in dfuIDLE.
+-- The record of a device that just got power, with the number of dfuIDLE as its mode, stands for that device in dfuIDLE.
 pub powered_record_begins_in_dfu_idle : (c : DfuConfig) (flash : List ℕ) (r : DfuRecord) →
     PowerOutcome c device_state.AppIdle flash (pos 0) r
     → PowerOutcome c device_state.DfuIdle flash (pos 0) (record r { mode = 2 })
@@ -103,37 +103,36 @@ powered_record_begins_in_dfu_idle c flash r got = record {
   rest = ap (λ (x : DfuRecord). record x { mode = 2 }) got.rest;
 }
 
--- If a power-on returns 0, a device got power.
+-- If a power-on returns 0, the device got power.
 zero_means_power_on : (c : DfuConfig) (m : DeviceState) (flash : List ℕ) (n : ℤ) (r r' : DfuRecord) → n ≡ pos 0
     → PowerOutcome c m flash n r' ⊎ (RefusesPower c flash n × (r' ≡ r)) → PowerOutcome c m flash (pos 0) r'
-zero_means_power_on c m flash n r r' zero (inl blank_record_is_powered_on) = subst (λ (x : ℤ). PowerOutcome c m flash x r') zero
-    blank_record_is_powered_on
+zero_means_power_on c m flash n r r' zero (inl served) = subst (λ (x : ℤ). PowerOutcome c m flash x r') zero served
 zero_means_power_on c m flash n r r' zero (inr (inl (is, bad), same)) = absurd (cc)
 zero_means_power_on c m flash n r r' zero (inr (inr (is, config, none), same)) = absurd (cc)
 
--- A call gives power and returns n. If n is 0, the call is a step of a board in C, and the board just got power.
-pub record IsCoreRestartCall (c : DfuConfig) (powered_record_begins_in_dfu_idle : Bool) (flash : List ℕ) (n : ℤ) (r r' : DfuRecord) : Type
+-- A call powers a device on, or is refused, and returns n. If n is 0, the call is a step of a board in C, and the board just got power.
+pub record IsCoreRestartCall (c : DfuConfig) (in_dfu_mode : Bool) (flash : List ℕ) (n : ℤ) (r r' : DfuRecord) : Type
     0 where
-  pub outcome : PowerOutcome c (start_mode powered_record_begins_in_dfu_idle) flash n r' ⊎ (RefusesPower c flash n × (r' ≡ r))
+  pub outcome : PowerOutcome c (start_mode in_dfu_mode) flash n r' ⊎ (RefusesPower c flash n × (r' ≡ r))
   pub step : n ≡ pos 0 → (kept : DfuRecord) (before block : List ℕ)
-      → CoreEventOutcome (core_board c kept before flash) (CoreRestart powered_record_begins_in_dfu_idle) n [] (core_board c r' block flash)
+      → CoreEventOutcome (core_board c kept before flash) (CoreRestart in_dfu_mode) n [] (core_board c r' block flash)
   pub on : n ≡ pos 0 → (block : List ℕ) → IsCorePoweredOn (core_board c r' block flash)
 
--- A call that returns the number of a power-on is such a call.
-pub power_number_is_restart_call : (c : DfuConfig) (powered_record_begins_in_dfu_idle : Bool) (flash : List ℕ) (n m : ℤ) (r r' : DfuRecord)
+-- A call that returns the number of a power-on, or of its refusal, is an `IsCoreRestartCall`.
+pub power_number_is_restart_call : (c : DfuConfig) (in_dfu_mode : Bool) (flash : List ℕ) (n m : ℤ) (r r' : DfuRecord)
     → n ≡ m
-    → PowerOutcome c (start_mode powered_record_begins_in_dfu_idle) flash m r' ⊎ (RefusesPower c flash m × (r' ≡ r)) →
-    IsCoreRestartCall c powered_record_begins_in_dfu_idle flash n r r'
-power_number_is_restart_call c powered_record_begins_in_dfu_idle flash n m r r' same outcome =
-    let blank_record_is_powered_on : n ≡ pos 0 → PowerOutcome c (start_mode powered_record_begins_in_dfu_idle) flash (pos 0) r' =
-    λ zero. zero_means_power_on c (start_mode powered_record_begins_in_dfu_idle) flash m r r' (sym same ∙ zero) outcome in
+    → PowerOutcome c (start_mode in_dfu_mode) flash m r' ⊎ (RefusesPower c flash m × (r' ≡ r)) →
+    IsCoreRestartCall c in_dfu_mode flash n r r'
+power_number_is_restart_call c in_dfu_mode flash n m r r' same outcome =
+    let powered : n ≡ pos 0 → PowerOutcome c (start_mode in_dfu_mode) flash (pos 0) r' =
+    λ zero. zero_means_power_on c (start_mode in_dfu_mode) flash m r r' (sym same ∙ zero) outcome in
     record {
-      outcome = subst (λ (x : ℤ). PowerOutcome c (start_mode powered_record_begins_in_dfu_idle) flash x r' ⊎ (RefusesPower c flash x
+      outcome = subst (λ (x : ℤ). PowerOutcome c (start_mode in_dfu_mode) flash x r' ⊎ (RefusesPower c flash x
           × (r' ≡ r))) (sym same) outcome;
       step = λ zero kept before block. (
         record { config = refl; flash = refl },
-        subst (λ (x : ℤ). PowerOutcome c (start_mode powered_record_begins_in_dfu_idle) flash x r') (sym zero) (blank_record_is_powered_on
+        subst (λ (x : ℤ). PowerOutcome c (start_mode in_dfu_mode) flash x r') (sym zero) (powered
             zero),
       );
-      on = λ zero block. record { begins = powered_record_begins_in_dfu_idle; powers = blank_record_is_powered_on zero };
+      on = λ zero block. record { begins = in_dfu_mode; powers = powered zero };
     }

@@ -1,4 +1,4 @@
--- Devices of a record after a refusal of the program.
+-- Devices after their program refused an image.
 use Rattle.std.proofs.Common.{◌≡◌, ℕ, true, IsTrue, List, [], length, refl, sym, ap, ◌∙◌, subst}
 use Rattle.dfu_slots.specs.StoreView.{SlotsState, spare_of}
 use Rattle.dfu_device.specs.declared.answer.Answer.TheVariants as answer
@@ -8,7 +8,7 @@ use Rattle.dfu_device.specs.Parts.{stage_of, is_filled, are_device_parts}
 use Rattle.dfu_device.specs.Rows.{ClosesDownload, RefusingClose, Refusing, Row}
 use Rattle.dfu_device.specs.Stage.{InError}
 use Rattle.dfu_device.specs.Table.{objection_code, refuse_stage}
-use Rattle.dfu_device.proofs.Carried.{parts_filled_by_mode}
+use Rattle.dfu_device.proofs.Carried.{parts_have_mode_bytes}
 use Rattle.dfu_asks.specs.Lent.{LentDevice}
 use Rattle.dfu_asks.specs.Asks.{flash_store, device_in, IsDevice}
 use Rattle.dfu_core.specs.declared.config.DfuConfig.{DfuConfig}
@@ -16,19 +16,21 @@ use Rattle.dfu_core.specs.Config.{config_setting}
 
 module _ (c : DfuConfig) (m m' : DeviceState) (why : Objection) (l : LentDevice) (flash : List ℕ) (config : l.config ≡ config_setting c)
     (mode : m ≡ l.mode) (device : IsDevice l flash) where
+  -- Slot store of the device on the flash.
   abbrev s : SlotsState
   s = flash_store l flash
 
+  -- The mode and the slot store are parts of the device.
   sound : IsTrue (are_device_parts m (length l.block) s)
   sound = subst (λ (x : DeviceState). IsTrue (are_device_parts x (length l.block) s)) (sym mode) device.sound
 
-  -- A refusal of an image that was closed is the row of `refuse`.
+  -- The refusal of an image that was closed takes the row of `Refusing`, and the slot store has the bytes that the new mode needs.
   pub refused_image_takes_row : ((spare block : List ℕ) → stage_of m' spare block ≡ refuse_stage why (stage_of m spare block))
       → ((n : ℕ) (x : SlotsState) → is_filled m n x ≡ true → is_filled m' n x ≡ true)
       → IsTrue (is_filled m' (length l.block) s)
       × Row (device_in l flash) (Refusing why) answer.Ack [] (device_in (record l { mode = m' }) flash)
   refused_image_takes_row stage fills = (
-    fills (length l.block) s (parts_filled_by_mode m (length l.block) s sound),
+    fills (length l.block) s (parts_have_mode_bytes m (length l.block) s sound),
     (
       refl,
       refl,
@@ -37,7 +39,8 @@ module _ (c : DfuConfig) (m m' : DeviceState) (why : Objection) (l : LentDevice)
     ),
   )
 
-  -- A refusal of the image that the setup closes is the row of `refuse_close`.
+  -- The refusal of the image that a setup closes takes the row of `RefusingClose`, and the slot store has the bytes that the new mode
+  -- needs.
   pub refused_close_takes_row : (setup : List ℕ) → ClosesDownload setup (device_in l flash)
       → ((spare block : List ℕ) → stage_of m' spare block ≡ InError (objection_code why))
       → ((n : ℕ) (x : SlotsState) → is_filled m' n x ≡ true)

@@ -1,15 +1,15 @@
-//! Look at a flash that may never have been written, by which a program can tell a new board from a damaged one.
+//! Test if a flash was ever written, by which a program can tell a new board from a damaged one.
 ghost use Rattle.std.specs.Prelude.{◌⊎◌};
 ghost use Rattle.dfu_core.specs.Blank.{BlankResult, RefusesBlank};
 
-use crate::tells::told_number;
+use crate::tells::yes_no_number_of;
 use dfu_asks::Mapped;
 use dfu_core::{DfuConfig, settings_of};
 
-/// Returns 1 if `flash` reads as if it was never written: every byte of the gates and the headers of both slots is FFh, and then there is
-/// no active image. Returns 0 if a byte of them is not FFh.
+/// Returns 1 if `flash` was never written, as far as it shows: every byte of both slots' gates and headers is FFh, so there is no active
+/// image. Returns 0 if one of these bytes is not FFh.
 ///
-/// Refused with -2 if the configuration is not allowed; -3 if the flash has 2^32 bytes or more; -6 if two slots cannot have its size.
+/// Refused with -2 if the configuration is not allowed; -3 if the flash has 2^32 bytes or more; -6 if its size does not allow two slots.
 #[unsafe(no_mangle)]
 pub extern "C" fn dfu_core_is_blank(config: &DfuConfig, flash: &[u8]) -> i32
     ensures outcome { BlankResult config.now flash.now result ⊎ RefusesBlank config.now flash.now result }
@@ -22,7 +22,7 @@ pub extern "C" fn dfu_core_is_blank(config: &DfuConfig, flash: &[u8]) -> i32
         return -3;
     };
     match medium.is_blank() {
-        Some(said) => told_number(said),
+        Some(said) => yes_no_number_of(said),
         None => -6,
     }
 }

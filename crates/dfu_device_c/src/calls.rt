@@ -1,8 +1,8 @@
-//! The calls for a device that asks, as a program in C makes them: `include/dfu_core.h` says each for a reader of C.
+//! Calls for a device that asks for its writes, as a program in C makes them. `include/dfu_core.h` describes them.
 //!
 //! Every call is refused, in this order, with -12 if a format is due; -2 if the configuration is not allowed; -10 if the block's memory has
-//! less room than the transfer size and the unit together; -4 if the record is not that of a device; -12 if writes are due; -3 if the
-//! header that the record notes is not in an open slot of the flash; -4 if record or memory are not as the last call left them on the
+//! less room than the transfer size and the unit together; -4 if the record stands for no device; -12 if writes are due; -3 if the header
+//! that the record notes is not in an open slot of the flash; -4 if the record or the memory are not as the last call left them on this
 //! flash.
 ghost use Rattle.std.specs.Prelude.{◌≡◌, ◌⊎◌, ◌<◌, [], ℕ, List, pos, length, take};
 ghost use Rattle.dfu_slots.specs.Medium.{Torn};
@@ -12,7 +12,7 @@ ghost use Rattle.dfu_core.specs.Config.{config_setting, transfer_of};
 ghost use Rattle.dfu_core.specs.Happens.{CoreEventOutcome};
 ghost use Rattle.dfu_core.specs.RecordMeaning.{with_memory};
 ghost use Rattle.dfu_core.specs.Numbers.{NO_ROOM_NUMBER};
-ghost use Rattle.dfu_core.specs.Writes.{ask_step, WriteHandedOut, RefusesPiece, NoWriteHandedOut};
+ghost use Rattle.dfu_core.specs.Writes.{ask_step, WriteHandedOut, RefusesPiece, HasNoWriteToHandOut};
 
 use crate::tells::{NO_ROOM, kind_of, number_of, refused, room_for};
 use dfu_asks::{Reply, addressed};
@@ -36,10 +36,10 @@ macro_rules! reply {
     };
 }
 
-/// Answers a setup with its body, as `Asking::handle`: the number of bytes of the answer, which are at the front of `out`; -1 for a stall;
-/// or -11 if the writes of the request are due now.
+/// Answers a setup with its body, as `Asking::handle`. Returns the number of bytes of the answer, which are at the beginning of `out`; -1
+/// for a stall; or -11 if the request's writes are due now.
 ///
-/// Refused with -5 if `out` has less room than an answer may need; then as every call.
+/// Refused with -5 if `out` has less room than an answer may need; then like every call.
 #[unsafe(no_mangle)]
 pub extern "C" fn dfu_core_handle(
     config: &DfuConfig,
@@ -69,7 +69,7 @@ pub extern "C" fn dfu_core_handle(
     )
 }
 
-/// Lets `ms` milliseconds pass, as `Asking::elapse`. Returns 0; or -11 if writes are due now. Refused as every call.
+/// Lets `ms` milliseconds pass, as `Asking::elapse`. Returns 0; or -11 if writes are due now. Refused like every call.
 #[unsafe(no_mangle)]
 pub extern "C" fn dfu_core_elapse(
     config: &DfuConfig,
@@ -92,7 +92,7 @@ pub extern "C" fn dfu_core_elapse(
     )
 }
 
-/// Takes a reset of the bus, as `Asking::usb_reset`. Returns 0. Refused as every call.
+/// Takes a reset of the bus, as `Asking::usb_reset`. Returns 0. Refused like every call.
 #[unsafe(no_mangle)]
 pub extern "C" fn dfu_core_usb_reset(
     config: &DfuConfig,
@@ -114,11 +114,11 @@ pub extern "C" fn dfu_core_usb_reset(
     }
 }
 
-/// Takes the report that the write that `dfu_core_next` handed out was carried out, or that it failed if `failed` is not 0, as
-/// `Asking::took`. Returns -11 if the next write is due; or the answer of the call that asked for the writes. Of the block's memory only
-/// the bytes after the transfer size may change.
+/// Takes the report, as `Asking::took`, that the write from `dfu_core_next` was carried out, or, if `failed` is not 0, that it failed.
+/// Returns -11 if the next write is due; or the answer of the call that asked for the writes. Of the block's memory only the bytes after
+/// the transfer size may change.
 ///
-/// Refused with -5 if `out` has less room than 6 bytes; then as every call up to the first -4, and with -4 if no write is due.
+/// Refused with -5 if `out` has room for fewer than 6 bytes; then like every call up to the first -4, and with -4 if no write is due.
 #[unsafe(no_mangle)]
 pub extern "C" fn dfu_core_took(
     config: &DfuConfig,
@@ -147,10 +147,10 @@ pub extern "C" fn dfu_core_took(
     )
 }
 
-/// Hands out the next write, as `Asking::next`: 0, and `ask` has the write. Nothing else changes.
+/// Hands out the next write, as `Asking::next`. Returns 0, and `ask` has the write. Nothing else changes.
 ///
-/// Refused as every call up to the first -4; then with -4 if no write is due, the range of the write is not in the spare slot, the gate of
-/// that slot is open and no image is active, the write would erase less than a sector, or the flash has 2^32 bytes or more. If a call
+/// Refused like every call up to the first -4; then with -4 if no write is due, the range of the write is not in the spare slot, the gate
+/// of that slot is open and no image is active, the write would erase less than a sector, or the flash has 2^32 bytes or more. If a call
 /// returned -11 and the writes before this one are on the flash, only the last cause is possible.
 #[unsafe(no_mangle)]
 pub extern "C" fn dfu_core_next(
@@ -161,7 +161,7 @@ pub extern "C" fn dfu_core_next(
     ask: &mut DfuAsk,
 ) -> i32
     ensures outcome { WriteHandedOut config.now device.now block.now flash.now result ask.new
-        ⊎ (RefusesPiece config.now device.now block.now (λ a. NoWriteHandedOut (with_memory block.now a) flash.now) result
+        ⊎ (RefusesPiece config.now device.now block.now (λ a. HasNoWriteToHandOut (with_memory block.now a) flash.now) result
         × (ask.new ≡ ask.old)) }
     ensures step { result ≡ pos 0 → (now : List ℕ) → Torn flash.now (ask_step ask.new).write.at (ask_step ask.new).write.bytes now →
         CoreEventOutcome (core_board config.now device.now block.now flash.now) CoreWrite result []

@@ -6,8 +6,8 @@ ghost use Rattle.dfu_core.specs.Numbers.{NO_CONFIG_NUMBER};
 
 use dfu_core::{DfuConfig, VERSION, functional_of, settings_of};
 
-// Returns whether a configuration is allowed: its version is that of the library, `Config::new` takes its numbers, and a unit and sectors
-// have the sizes that it gives.
+// Returns true exactly if a configuration is allowed: it has the library's version, `Config::new` accepts its numbers, and its sizes are
+// those of a unit and of sectors.
 fn is_allowed(config: &DfuConfig) -> bool
     ensures yes { IsTrue result → IsConfig config.now }
     ensures no { IsTrue (not result) → ¬ IsConfig config.now }
@@ -18,7 +18,7 @@ fn is_allowed(config: &DfuConfig) -> bool
     }
 }
 
-/// Writes the functional descriptor, 9 bytes, to the front of `out`: 9. Bits 4 to 7 of bmAttributes are 0 (USB DFU 1.1, section 4.1.3).
+/// Writes the functional descriptor, 9 bytes, to `out`, and returns 9. Bits 4 to 7 of bmAttributes are 0 (USB DFU 1.1, section 4.1.3).
 /// Refused with -2 if the configuration is not allowed.
 #[unsafe(no_mangle)]
 pub extern "C" fn dfu_core_functional(config: &DfuConfig, out: &mut [u8; 9]) -> i32

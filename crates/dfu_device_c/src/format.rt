@@ -1,7 +1,7 @@
-//! A format that asks for its writes, as a program in C makes it: `include/dfu_core.h` says each call for a reader of C.
+//! Calls for a format that asks for its writes, as a program in C makes them. `include/dfu_core.h` describes them.
 ghost use Rattle.std.specs.Prelude.{◌≡◌, ◌⊎◌, ◌==◌, not, ℕ, List, length};
 ghost use Rattle.dfu_asks.specs.Formats.{FormatPending};
-ghost use Rattle.dfu_core.specs.Formats.{FormatStarted, FormatStartRefused, FormatWriteHandedOut, RefusesFormat, FormatPieceReport};
+ghost use Rattle.dfu_core.specs.Formats.{FormatStarted, FormatStartRefused, FormatWriteHandedOut, RefusesFormat, FormatReportOutcome};
 
 use crate::tells::{format_number, kind_of};
 use dfu_asks::{FormatProgress, Formatting};
@@ -10,10 +10,10 @@ use dfu_core::{
 };
 use dfu_slots::FormatFault;
 
-/// Begins a format that asks for its writes, as `Formatting::start`: -11, because its writes are due now.
+/// Begins a format that asks for its writes, as `Formatting::start`. Returns -11, because its writes are due now.
 ///
-/// Refused with -2 if the configuration is not allowed; -3 if the flash has 2^32 bytes or more; -6 if two slots cannot have its size; -7 if
-/// the image is too long.
+/// Refused with -2 if the configuration is not allowed; -3 if the flash has 2^32 bytes or more; -6 if its size does not allow two slots; -7
+/// if the image is too long.
 #[unsafe(no_mangle)]
 pub extern "C" fn dfu_core_format_start(
     config: &DfuConfig,
@@ -40,7 +40,7 @@ pub extern "C" fn dfu_core_format_start(
     }
 }
 
-/// Hands out the next write of a format, as `Formatting::next`: 0, and `ask` has the write. Nothing else changes.
+/// Hands out the next write of a format, as `Formatting::next`. Returns 0, and `ask` has the write. Nothing else changes.
 ///
 /// Refused with -2 if the configuration is not allowed; -4 if no write of a format is due.
 #[unsafe(no_mangle)]
@@ -68,11 +68,11 @@ pub extern "C" fn dfu_core_format_next(
     0
 }
 
-/// Takes the report that the write that `dfu_core_format_next` handed out was carried out, or that it failed if `failed` is not 0, as
-/// `Formatting::took`. Returns -11 if the next write is due; 0 if the image is the active one now; or -8 if the write failed or other
-/// bytes were read back.
+/// Takes the report, as `Formatting::took`, that the write from `dfu_core_format_next` was carried out, or, if `failed` is not 0, that it
+/// failed. Returns -11 if the next write is due; 0 if the image is the active one now; or -8 if the write failed or other bytes were read
+/// back.
 ///
-/// Refused as `dfu_core_format_next`.
+/// Refused like `dfu_core_format_next`.
 #[unsafe(no_mangle)]
 pub extern "C" fn dfu_core_format_took(
     config: &DfuConfig,
@@ -81,7 +81,7 @@ pub extern "C" fn dfu_core_format_took(
     image: &[u8],
     failed: u32,
 ) -> i32
-    ensures outcome { FormatPieceReport config.now device.old flash.now image.now (not (failed == 0)) result device.new
+    ensures outcome { FormatReportOutcome config.now device.old flash.now image.now (not (failed == 0)) result device.new
         ⊎ (RefusesFormat config.now device.old
         (λ f. (was before : List ℕ) → length before ≡ length flash.now → ¬ FormatPending f image.now was before) result
         × (device.new ≡ device.old)) }

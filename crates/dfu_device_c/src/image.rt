@@ -1,6 +1,6 @@
-//! Places of two images: the active one, which a program runs, and one that was taken and is not in place yet.
+//! Places of two images: the active image, which a program runs, and a downloaded image that is not installed yet.
 ghost use Rattle.std.specs.Prelude.{◌≡◌, ◌⊎◌};
-ghost use Rattle.dfu_core.specs.Candidate.{HasCandidate, HasNoCandidate, RefusesCandidate};
+ghost use Rattle.dfu_core.specs.Candidate.{CandidateResult, NoCandidateResult, RefusesCandidate};
 ghost use Rattle.dfu_core.specs.Power.{RefusesPower};
 ghost use Rattle.dfu_core.specs.Image.{ImageResult};
 
@@ -8,9 +8,9 @@ use crate::tells::refused;
 use dfu_asks::ImagePlace;
 use dfu_core::{DfuConfig, DfuPlace, DfuRecord, Refusal, found, settings_of};
 
-/// Finds the place of the active image in its flash: 0, and `place` has the place.
+/// Finds the place of the active image in its flash. Returns 0, and `place` has the place.
 ///
-/// Refused as `dfu_core_power_on`.
+/// Refused like `dfu_core_power_on`.
 #[unsafe(no_mangle)]
 pub extern "C" fn dfu_core_image(config: &DfuConfig, flash: &[u8], place: &mut DfuPlace) -> i32
     ensures outcome { ImageResult config.now flash.now result place.new
@@ -29,13 +29,13 @@ pub extern "C" fn dfu_core_image(config: &DfuConfig, flash: &[u8], place: &mut D
     }
 }
 
-// The most memory that a block needs, with the bytes that are held back.
+// Most memory that a block needs, with the bytes that are held back.
 const BLOCK_MEMORY: usize = 4096 + 256;
 
-/// Finds the place of the image that was taken, as `Device::candidate`: 0, and `place` has the place of its bytes in the flash. The last
-/// `held_length` bytes of the image are held back, after the transfer size in the memory of the block.
+/// Finds the place of the downloaded image, as `Device::candidate`. Returns 0, and `place` has the place of its bytes in the flash. The
+/// last `held_length` bytes of the image are held back, after the transfer size in the block's memory.
 ///
-/// Refused as `dfu_core_elapse` with the most memory that a block needs; then with -20 if no image was taken that may be refused.
+/// Refused like `dfu_core_elapse` with the most memory that a block needs; then with -20 without a downloaded image to refuse.
 #[unsafe(no_mangle)]
 pub extern "C" fn dfu_core_candidate(
     config: &DfuConfig,
@@ -43,8 +43,8 @@ pub extern "C" fn dfu_core_candidate(
     flash: &[u8],
     place: &mut DfuPlace,
 ) -> i32
-    ensures outcome { HasCandidate config.now device.now flash.now result place.new
-        ⊎ ((place.new ≡ place.old) × (HasNoCandidate config.now device.now flash.now result
+    ensures outcome { CandidateResult config.now device.now flash.now result place.new
+        ⊎ ((place.new ≡ place.old) × (NoCandidateResult config.now device.now flash.now result
         ⊎ RefusesCandidate config.now device.now flash.now result)) }
 {
     find!(asking, config, device, BLOCK_MEMORY);

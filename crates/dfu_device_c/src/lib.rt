@@ -2,7 +2,8 @@
 //! block, and the flash.
 #![tactic(auto)]
 
-// Finds the device for which a record stands, with the memory of its block; if there is none, the call returns the number of the refusal.
+// Finds the device for which a record stands, with a block's memory of `$room` bytes. If there is none, the call returns the number of the
+// refusal.
 macro_rules! find {
     ($asking:ident, $config:ident, $device:ident, $room:expr $(, $mutable:tt)?) => {
         let mut read = Err(Refusal::NoDevice);
@@ -14,7 +15,7 @@ macro_rules! find {
     };
 }
 
-// Writes a piece into the operation that is handed out, but for its bytes.
+// Writes the kind, place and length of a write into `ask`, without its bytes.
 macro_rules! hand_out {
     ($piece:ident, $ask:ident) => {
         $ask.kind = kind_of($piece.erases);

@@ -1,4 +1,4 @@
-//! Setups whose body is longer than a block may be.
+//! Setups with a body that is longer than a block.
 ghost use Rattle.std.specs.Prelude.{◌≡◌, ◌⊎◌, ◌≤◌, ℕ, List, [], length};
 ghost use Rattle.dfu_asks.specs.Addressed.{addressed_setup};
 ghost use Rattle.dfu_asks.specs.AfterLong.{IsLongerThanBlock};
@@ -8,14 +8,14 @@ ghost use Rattle.dfu_core.specs.Config.{config_setting, transfer_of};
 ghost use Rattle.dfu_core.specs.Happens.{CoreEventOutcome};
 ghost use Rattle.dfu_core.specs.Numbers.{STALL_NUMBER, NOT_LONG_NUMBER};
 ghost use Rattle.dfu_core.specs.Long.{RecordTakesTooLongRow};
-ghost use Rattle.dfu_core.specs.Idle.{IsIdleRecord, RefusesSetup};
+ghost use Rattle.dfu_core.specs.Idle.{IsIdleRecord, RefusesUnlessIdle};
 
 use dfu_asks::{addressed, mode_after_long};
 use dfu_core::{DfuConfig, DfuRecord, idle_mode, set_mode};
 
-/// Answers a setup as `dfu_core_handle` does with a body of wLength bytes, which are more than the transfer size: -1.
+/// Answers a setup as `dfu_core_handle` does with a body of wLength bytes, longer than the transfer size. Returns -1.
 ///
-/// Refused as `dfu_core_would_stall`; then with -9 if the setup does not announce a body that long.
+/// Refused like `dfu_core_would_stall`; then with -9 if the setup does not announce such a long body.
 #[unsafe(no_mangle)]
 pub extern "C" fn dfu_core_too_long(
     config: &DfuConfig,
@@ -27,7 +27,7 @@ pub extern "C" fn dfu_core_too_long(
         × RecordTakesTooLongRow config.now device.old own device.new)
         ⊎ ((device.new ≡ device.old) × (((result ≡ NOT_LONG_NUMBER) × IsIdleRecord config.now device.old
         × ¬ IsLongerThanBlock (config_setting config.now) own)
-        ⊎ RefusesSetup config.now device.old result)) }
+        ⊎ RefusesUnlessIdle config.now device.old result)) }
     ensures step { (block flash body : List ℕ) → transfer_of config.now ≤ length block →
         IsBodyOf (addressed_setup config.now.interface setup.now) body →
         CoreEventOutcome (core_board config.now device.old block flash) (CoreTooLong setup.now body) result []

@@ -1,4 +1,4 @@
-//! Devices that ask for their writes, and get power.
+//! Power-on of a device that asks for its writes.
 ghost use Rattle.std.specs.Prelude.{◌≡◌, ◌⊎◌, true, false, ℕ, List, [], pos};
 ghost use Rattle.dfu_device.specs.declared.device_state.DeviceState.TheVariants.{AppIdle, DfuIdle};
 ghost use Rattle.dfu_core.specs.Board.{CoreRestart, core_board};
@@ -8,7 +8,7 @@ ghost use Rattle.dfu_core.specs.Power.{PowerOutcome, RefusesPower};
 use dfu_asks::Noted;
 use dfu_core::{DfuConfig, DfuRecord, blank, settings_of, slot_of};
 
-// A device gets power, and is in the mode of `mode`, appIDLE or dfuIDLE: 0, or the number of the refusal.
+// Powers a device on in `mode`, 0 for appIDLE or 2 for dfuIDLE. Returns 0, or the number of the refusal, and then `device` is unchanged.
 fn start(config: &DfuConfig, device: &mut DfuRecord, flash: &[u8], mode: u32) -> i32
     ensures app { mode ≡ 0 → PowerOutcome config.now AppIdle flash.now result device.new
         ⊎ (RefusesPower config.now flash.now result × (device.new ≡ device.old)) }
@@ -46,7 +46,7 @@ pub extern "C" fn dfu_core_power_on(config: &DfuConfig, device: &mut DfuRecord, 
     start(config, device, flash, 0)
 }
 
-/// Powers `device` on and begins in dfuIDLE, as by `dfu_core_power_on`, a DETACH and a reset of the bus. Refused as `dfu_core_power_on`.
+/// Powers `device` on in dfuIDLE, as by `dfu_core_power_on`, a DETACH and a reset of the bus. Refused like `dfu_core_power_on`.
 #[unsafe(no_mangle)]
 pub extern "C" fn dfu_core_begin(config: &DfuConfig, device: &mut DfuRecord, flash: &[u8]) -> i32
     ensures outcome { PowerOutcome config.now DfuIdle flash.now result device.new

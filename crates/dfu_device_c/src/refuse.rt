@@ -1,4 +1,4 @@
-//! Calls by which the program refuses an image; they need only the record.
+//! Calls by which the program refuses an image. They need only the record.
 ghost use Rattle.std.specs.Prelude.{◌≡◌, ℕ, List, [], IfSome, IfNone};
 ghost use Rattle.dfu_asks.specs.Addressed.{addressed_setup};
 ghost use Rattle.dfu_core.specs.Board.{CoreRefuseClose, CoreRefuse, core_board};
@@ -9,7 +9,7 @@ use dfu_asks::{addressed, mode_closes};
 use dfu_core::{DfuConfig, DfuRecord, idle_mode, set_mode};
 use dfu_device::{DeviceState, Objection};
 
-// Returns the objection that a status stands for, if the status is errTARGET or errFILE.
+// Returns the objection that a status reports: errTARGET (1) or errFILE (2); None for any other status.
 fn objection_of(status: u32) -> Option<Objection>
     ensures some { IfSome result (λ why. (why ≡ objection_of_status status) × IsObjectionStatus status) }
     ensures none { IfNone result (¬ IsObjectionStatus status) }
@@ -21,9 +21,9 @@ fn objection_of(status: u32) -> Option<Objection>
     }
 }
 
-/// Refuses the image that was closed, as `Device::refuse`, with errTARGET (1) or errFILE (2): 0.
+/// Refuses the image that was closed, as `Device::refuse`, with errTARGET (1) or errFILE (2). Returns 0.
 ///
-/// Refused as `dfu_core_would_stall`; then with -14 if the status is another one.
+/// Refused like `dfu_core_would_stall`; then with -14 for any other status.
 #[unsafe(no_mangle)]
 pub extern "C" fn dfu_core_refuse(config: &DfuConfig, device: &mut DfuRecord, status: u32) -> i32
     ensures outcome { RefuseOutcome config.now device.old status result device.new }
@@ -41,9 +41,9 @@ pub extern "C" fn dfu_core_refuse(config: &DfuConfig, device: &mut DfuRecord, st
     0
 }
 
-/// Refuses the image that a setup closes, as `Device::refuse_close`, with errTARGET (1) or errFILE (2): -1.
+/// Refuses the image that a setup closes, as `Device::refuse_close`, with errTARGET (1) or errFILE (2). Returns -1.
 ///
-/// Refused as `dfu_core_refuse`; then with -13 if the setup closes no download.
+/// Refused like `dfu_core_refuse`; then with -13 if the setup closes no download.
 #[unsafe(no_mangle)]
 pub extern "C" fn dfu_core_refuse_close(
     config: &DfuConfig,

@@ -1,15 +1,15 @@
-//! The call that tells, before the body of a setup is there, if a device will stall the setup.
+//! Test if a device will stall a setup, before the setup's body is there.
 ghost use Rattle.std.specs.Prelude.{◌≡◌, ◌⊎◌, pos};
 ghost use Rattle.dfu_asks.specs.Addressed.{addressed_setup};
 ghost use Rattle.dfu_core.specs.Stalls.{StallResult};
-ghost use Rattle.dfu_core.specs.Idle.{IsIdleRecord, RefusesSetup};
+ghost use Rattle.dfu_core.specs.Idle.{IsIdleRecord, RefusesUnlessIdle};
 
-use crate::tells::told_number;
+use crate::tells::yes_no_number_of;
 use dfu_asks::{addressed, mode_stalls};
 use dfu_core::{DfuConfig, DfuRecord, idle_mode};
 
-/// Returns whether `dfu_core_handle` will stall a setup, whatever body of wLength bytes comes with it: 1 or 0. `size` is the size of the
-/// flash in bytes.
+/// Returns 1 if `dfu_core_handle` will stall a setup with every body of wLength bytes, 0 if with none. `size` is the size of the flash in
+/// bytes.
 ///
 /// Refused with -2 if the configuration is not allowed; -4 if the record has no mode; -12 if writes are due.
 #[unsafe(no_mangle)]
@@ -21,14 +21,14 @@ pub extern "C" fn dfu_core_would_stall(
 ) -> i32
     ensures outcome { (((result ≡ pos 0) ⊎ (result ≡ pos 1)) × IsIdleRecord config.now device.now
         × StallResult config.now device.now size (addressed_setup config.now.interface setup.now) result)
-        ⊎ RefusesSetup config.now device.now result }
+        ⊎ RefusesUnlessIdle config.now device.now result }
 {
     let (settings, mode) = match idle_mode(config, device) {
         Ok(found) => found,
         Err(refusal) => return refusal.number(),
     };
     let own = addressed(config.interface, setup);
-    told_number(mode_stalls(
+    yes_no_number_of(mode_stalls(
         &settings.config,
         settings.unit,
         settings.sector,

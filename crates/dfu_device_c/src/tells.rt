@@ -1,4 +1,4 @@
-//! Facts that a record alone shows: the state, the status code, and the time after which they change; and the numbers that calls return.
+//! State, status code and due time of a record's device, and the numbers that calls return.
 ghost use Rattle.std.specs.Prelude.{◌≡◌, ◌⊎◌, min, pos, List, ℕ, IfSome, IfNone, ◌≤◌, if◌then◌else◌};
 ghost use Rattle.dfu_wire.specs.Code.{code_byte};
 ghost use Rattle.dfu_wire.specs.State.{state_byte};
@@ -7,9 +7,9 @@ ghost use Rattle.dfu_device.specs.Parts.{stage_of};
 ghost use Rattle.dfu_device.specs.Stage.{state_of, code_of};
 ghost use Rattle.dfu_core.specs.Config.{IsConfig, config_setting};
 ghost use Rattle.dfu_core.specs.Due.{LONGEST_DUE, DueResult};
-ghost use Rattle.dfu_core.specs.Idle.{RefusesRecord};
+ghost use Rattle.dfu_core.specs.Idle.{RefusesConfigOrRecord};
 ghost use Rattle.dfu_core.specs.Mode.{HasMode};
-ghost use Rattle.dfu_core.specs.Numbers.{NO_DEVICE_NUMBER, answer_number, format_number, refusal_of, yes_no_number};
+ghost use Rattle.dfu_core.specs.Numbers.{NO_DEVICE_NUMBER, answer_number, format_number, core_refusal_of, yes_no_number};
 ghost use Rattle.dfu_device.specs.Borrowed.{answer_room};
 
 use dfu_asks::mode_due;
@@ -17,12 +17,12 @@ use dfu_core::{DfuConfig, DfuRecord, ERASE, PROGRAM, Refusal, has_mode, mode_in}
 use dfu_device::Answer;
 use dfu_slots::FormatFault;
 
-/// DFU_NO_ROOM.
+/// DFU_NO_ROOM: `out` is too short for the answer.
 pub(crate) const NO_ROOM: i32 = -5;
 
-/// Returns the refusal of a call in C for a refusal of dfu_asks.
+/// Returns the refusal of a call in C for a refusal by dfu_asks.
 pub(crate) fn refused(refusal: dfu_asks::Refusal) -> Refusal
-    ensures { result ≡ refusal_of refusal }
+    ensures { result ≡ core_refusal_of refusal }
 {
     match refusal {
         dfu_asks::Refusal::Asked => Refusal::Asked,
@@ -31,7 +31,7 @@ pub(crate) fn refused(refusal: dfu_asks::Refusal) -> Refusal
     }
 }
 
-/// Returns the number of `answer`: 0 for an acknowledgement, -1 for a stall, and else `count`, the number of its bytes.
+/// Returns the number of `answer`: 0 for an acknowledgement, -1 for a stall, else `count`, the number of its bytes.
 pub(crate) fn number_of(answer: Answer, count: usize) -> i32
     requires { count ≤ 65535 }
     ensures { result ≡ answer_number answer count }
@@ -43,7 +43,7 @@ pub(crate) fn number_of(answer: Answer, count: usize) -> i32
     }
 }
 
-/// Returns the number of `fault`, that of a format.
+/// Returns the number of `fault`, a fault of a format.
 pub(crate) fn format_number(fault: FormatFault) -> i32
     ensures { result ≡ format_number fault }
 {
@@ -54,21 +54,21 @@ pub(crate) fn format_number(fault: FormatFault) -> i32
     }
 }
 
-/// Returns the number of `said`: 1 for true and 0 for false.
-pub(crate) fn told_number(said: bool) -> i32
+/// Returns the number of `said`: 1 for true, 0 for false.
+pub(crate) fn yes_no_number_of(said: bool) -> i32
     ensures { result ≡ yes_no_number said }
 {
     if said { 1 } else { 0 }
 }
 
-/// Returns the number of bytes of `out` that an answer may need.
+/// Returns the number of bytes that an answer may need in `out`: the transfer size, or 6 if that is more.
 pub(crate) fn room_for(config: &DfuConfig) -> usize
     ensures { result ≡ answer_room (config_setting config.now) }
 {
     usize::from(config.transfer).max(6)
 }
 
-/// Returns the kind of a piece: 1 for an erase, 2 for a program.
+/// Returns the kind of a write: 1 for an erase, 2 for a program.
 pub(crate) fn kind_of(erases: bool) -> u32
     ensures { result ≡ (if erases then 1 else 2) }
 {
@@ -103,7 +103,7 @@ pub extern "C" fn dfu_core_state(device: &DfuRecord) -> i32
     }
 }
 
-/// Returns the status code of the device, bStatus: 0 to 15, and 0 in every state but dfuERROR; -4 if the record has no mode.
+/// Returns the status code of the device, bStatus: 0 to 15, and 0 in every state except dfuERROR; -4 if the record has no mode.
 #[unsafe(no_mangle)]
 pub extern "C" fn dfu_core_code(device: &DfuRecord) -> i32
     ensures code { (m : DeviceState) (spare block : List ℕ) → HasMode device.now m
@@ -120,7 +120,7 @@ pub extern "C" fn dfu_core_code(device: &DfuRecord) -> i32
     }
 }
 
-// Returns the number of a due time: the milliseconds; the largest number for as many or more; 0 if nothing is due.
+// Returns the number of a due time: its milliseconds, at most 2,147,483,647; 0 if no time is due.
 fn due_number(due: Option<u32>) -> i32
     ensures some { IfSome due (λ ms. result ≡ pos (min LONGEST_DUE ms)) }
     ensures none { IfNone due (result ≡ pos 0) }
@@ -132,12 +132,12 @@ fn due_number(due: Option<u32>) -> i32
 }
 
 /// Returns the number of milliseconds after which `dfu_core_elapse` changes the state: at least 1; or 0 if no time changes it.
-/// 2,147,483,647 stands for as many or more.
+/// Longer times give 2,147,483,647.
 ///
 /// Refused with -2 if the configuration is not allowed; -4 if the record has no mode.
 #[unsafe(no_mangle)]
 pub extern "C" fn dfu_core_due(config: &DfuConfig, device: &DfuRecord) -> i32
-    ensures outcome { (IsConfig config.now × DueResult config.now device.now result) ⊎ RefusesRecord config.now device.now result }
+    ensures outcome { (IsConfig config.now × DueResult config.now device.now result) ⊎ RefusesConfigOrRecord config.now device.now result }
 {
     let (settings, mode) = match mode_in(config, device) {
         Ok(found) => found,

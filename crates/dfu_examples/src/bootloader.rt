@@ -1,4 +1,4 @@
-//! A bootloader: it serves a USB stack until the application is to run, and returns the device with the image to start.
+//! A bootloader: it serves a USB stack, if it stays, until the application must run, and returns the device with the image to start.
 
 ghost use Rattle.std.specs.Prelude.{◌≡◌, ◌<◌, ◌↔◌, ℕ, length, take, drop, IfOk, IfErr, OnErr, IfSome, None, false};
 ghost use Rattle.dfu_wire.specs.declared.states.State.TheVariants.{AppIdle};
@@ -6,7 +6,7 @@ ghost use Rattle.dfu_slots.specs.Image.{HasImage};
 ghost use Rattle.dfu_slots.specs.StoreView.{image_of};
 ghost use Rattle.dfu_slots.specs.Changes.{FirstOpenFault};
 ghost use Rattle.dfu_device.specs.Stage.{state_of};
-ghost use Rattle.dfu_device.specs.DeviceView.{powered_on};
+ghost use Rattle.dfu_device.specs.DeviceView.{powered_on_device};
 ghost use Rattle.dfu_device.specs.Rows as rows;
 ghost use Rattle.dfu_device.specs.Rows.{Row};
 
@@ -23,13 +23,13 @@ const DETACH: [u8; 8] = [0x21, 0, 0, 0, 0, 0, 0, 0];
 pub enum Happened {
     /// The bus was reset.
     BusReset,
-    /// A control transfer came to the interface of this standard.
+    /// A control transfer came to the DFU interface.
     Transfer,
     /// This many milliseconds passed since the last tick.
     Tick(u32),
 }
 
-/// A control transfer: the setup, and the data stage of one to the device. A transfer from the device has no body.
+/// A control transfer: the setup, and the bytes of a data stage that goes to the device. Without such a data stage, the body is empty.
 #[derive(Drop)]
 pub struct Transfer {
     pub setup: [u8; 8],
@@ -38,8 +38,8 @@ pub struct Transfer {
 
 /// A USB device stack.
 pub trait UsbDevice {
-    /// Waits until something happens. A transfer that comes is put in `transfer`, with its whole data stage; a data
-    /// stage that is too long for it is cut short, and the transfer is stalled then.
+    /// Waits for the next event. A control transfer is stored in `transfer`, with its whole data stage; a data stage that doesn't fit is
+    /// cut short, and the transfer is then stalled.
     fn wait(&mut self, transfer: &mut Transfer) -> Happened;
 
     /// Acknowledges the status stage of the last transfer.
@@ -52,7 +52,7 @@ pub trait UsbDevice {
     fn stall(&mut self);
 }
 
-/// Result of a bootloader: the image that it starts, and the device.
+/// Result of a bootloader: the device, with the image to start, and the length of that image.
 #[derive(Drop)]
 pub struct Start<M: Medium> {
     /// The device, whose slot store has the image to start. `load` copies it out.
@@ -61,8 +61,8 @@ pub struct Start<M: Medium> {
     pub len: u32,
 }
 
-/// Passes what happened to a device, and returns its answer to a transfer. `setup` and `body` are read only for a
-/// transfer. For all else the answer is `Ack` and `out` is empty.
+/// Passes an event to a device, and returns the device's answer. `setup` and `body` are read only for a transfer. For any other event, the
+/// answer is `Ack`, and `out` is empty.
 pub fn tell<M: Medium>(
     device: &mut Device<M>,
     happened: Happened,
@@ -84,8 +84,7 @@ pub fn tell<M: Medium>(
     Answer::Ack
 }
 
-/// Takes a device into the upgrade, as a DETACH and a reset of the bus do, and serves a stack until the device is in
-/// appIDLE again.
+/// Passes a DETACH and a bus reset to a device, which start its upgrade, and serves a stack until the device is in appIDLE again.
 pub fn serve<M: Medium, U: UsbDevice>(device: &mut Device<M>, usb: &mut U)
     ensures { state_of device.new.stage ≡ AppIdle }
 {
@@ -116,17 +115,17 @@ pub fn serve<M: Medium, U: UsbDevice>(device: &mut Device<M>, usb: &mut U)
             return;
         }
     }
-    // No stack reports 2^64 - 1 events; if one did, the upgrade ends as by a power cut.
+    // No stack reports 2^64 - 1 events; if one did, the upgrade would end as at a power cut.
     device.restart();
 }
 
-/// Powers a device on. If `stays` is true, as for a button or a mark of the application, the call serves a stack
-/// until the application is to run.
+/// Powers a device on. If `stays` is true, for example because of a button or a mark of the application, the call serves a stack until the
+/// application must run; else it returns at once.
 ///
 /// # Errors
 ///
-/// The faults of `Device::power_on`, in its order: exactly if the medium has no active image. The medium comes back
-/// as it was, and nothing was served.
+/// The faults of `Device::power_on`, in its order, exactly if the medium has no active image. The medium is returned unchanged, and the
+/// stack isn't served.
 pub fn boot<M: Medium, U: UsbDevice>(
     config: Config,
     medium: M,
@@ -134,7 +133,7 @@ pub fn boot<M: Medium, U: UsbDevice>(
     stays: bool,
 ) -> Result<Start<M>, (OpenFault, M)>
     ensures state { IfOk result (λ start. state_of start.device.stage ≡ AppIdle) }
-    ensures at_once { IfOk result (λ start. stays ≡ false → start.device ≡ powered_on config (M.state medium)) }
+    ensures at_once { IfOk result (λ start. stays ≡ false → start.device ≡ powered_on_device config (M.state medium)) }
     ensures has_image { IfOk result (λ start. HasImage start.device.slots.medium) }
     ensures len { IfOk result (λ start. start.len ≡ length (image_of start.device.slots)) }
     ensures err { IfErr result (λ e. (e.1 ≡ medium) × FirstOpenFault e.0 (M.state medium)) }
@@ -142,14 +141,14 @@ pub fn boot<M: Medium, U: UsbDevice>(
 {
     let mut device = Device::power_on(config, medium)?;
     if !stays {
-        return Ok(hand_out(device));
+        return Ok(start_of_image(device));
     }
     serve(&mut device, usb);
-    Ok(hand_out(device))
+    Ok(start_of_image(device))
 }
 
-// The device, and the length of the image to start.
-fn hand_out<M: Medium>(device: Device<M>) -> Start<M>
+// Returns the device, and the length of the image to start.
+fn start_of_image<M: Medium>(device: Device<M>) -> Start<M>
     ensures device { result.device ≡ device }
     ensures has_image { HasImage device.slots.medium }
     ensures len { result.len ≡ length (image_of device.slots) }
@@ -158,8 +157,8 @@ fn hand_out<M: Medium>(device: Device<M>) -> Start<M>
     Start { device, len }
 }
 
-/// Copies the image to start to the front of `ram`, and returns its length in bytes. None, with nothing copied, if
-/// there is no room for it.
+/// Copies the image to start to the front of `ram`, and returns its length in bytes. Returns None, and copies nothing, if `ram` is shorter
+/// than the image.
 pub fn load<M: Medium>(device: &Device<M>, ram: &mut [u8]) -> Option<usize>
     ensures image { IfSome result (λ len. take len ram.new ≡ image_of device.now.slots) }
     ensures len { IfSome result (λ len. len ≡ length (image_of device.now.slots)) }

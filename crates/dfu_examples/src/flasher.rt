@@ -1,16 +1,16 @@
-//! A flashing tool: it does what a host asks for, until the session is over.
+//! A flashing tool: it performs the actions of a host, until the session is over.
 
 ghost use Rattle.std.specs.Prelude.{◌≡◌};
 ghost use Rattle.dfu_host.specs.Host.{Act};
-ghost use Rattle.dfu_host.specs.Budget.{remaining_inputs};
+ghost use Rattle.dfu_host.specs.Budget.{remaining_results};
 
 use dfu_host::{Action, Host, Report, Seen};
 
 /// A USB host stack, with the interface of a device open.
 pub trait UsbHost {
-    /// Makes a control transfer to the interface, and returns its result: `Ack`, `Stall`, or, if the setup's first byte
-    /// is A1h, the `Bytes` that came, at most as many as its last two bytes say; `Nothing` if the transfer failed or took
-    /// too long; `Restarted` if the device left the bus and came back in the meantime.
+    /// Makes a control transfer to the interface, and returns its result: `Ack`; `Stall`; if the setup's first byte is A1h, the `Bytes`
+    /// received, at most as many as the setup's last two bytes say; `Nothing` if the transfer failed or timed out; or `Restarted` if the
+    /// device left the bus and came back in the meantime.
     fn transfer(&mut self, setup: &[u8; 8], body: &[u8]) -> Seen<'_>;
 
     /// Waits for at least `ms` milliseconds.
@@ -23,7 +23,7 @@ pub trait UsbHost {
 /// Performs the session of `host` to its end, and returns the host's report.
 pub fn flash<U: UsbHost>(host: &mut Host<'_>, usb: &mut U) -> Report
     ensures report { Act host.new (Action.Done result) }
-    ensures over { remaining_inputs host.new ≡ 0 }
+    ensures over { remaining_results host.new ≡ 0 }
 {
     loop {
         match host.next() {

@@ -1,29 +1,28 @@
-//! A medium on a chip that is overwritten without erase, as an FRAM on SPI.
+//! A medium on a chip that is overwritten without erase, such as an FRAM on SPI.
 
 ghost use Rattle.std.specs.Prelude.{◌≡◌, ◌+◌, ◌≤◌, ℕ, List, length, slice_range};
-ghost use Rattle.dfu_slots.specs.Medium.{FrameOutside};
+ghost use Rattle.dfu_slots.specs.Medium.{ChangedWithin};
 
 use dfu_slots::{Failed, Medium, Unit};
 
-/// Reasons for which a driver's write failed. The store does the same for each.
+/// Faults of a driver's write. The store treats them alike.
 #[derive(Clone, Copy, Drop)]
 pub enum ChipFault {
     /// The chip is protected from writes.
     Protected,
-    /// The bytes didn't go over the bus.
+    /// The transfer on the bus failed.
     Bus,
 }
 
 /// A driver of a chip that is overwritten byte by byte, without erase.
 ///
-/// A driver has few duties: `read` returns the bytes in the chip, and a `write` leaves all bytes outside its range as
-/// they were, also if the power fails during it. The driver need not check that the bytes were written, since the store
-/// reads back what it wrote.
+/// A driver has few duties: `read` must return the bytes in the chip, and a `write` must leave all bytes outside its range unchanged, even
+/// if the power fails during it. The driver need not check that the bytes were written, because the store reads them back.
 pub trait Chip: Drop {
     /// The bytes in the chip.
     ghost cells: { Self → List ℕ };
 
-    /// Returns the bytes of the chip.
+    /// Returns the size of the chip in bytes.
     fn size(&self) -> u32
         ensures { result ≡ length (cells self.now) };
 
@@ -32,14 +31,14 @@ pub trait Chip: Drop {
         requires { at + length out.old ≤ length (cells self.now) }
         ensures { out.new ≡ slice_range (cells self.now) at (at + length out.old) };
 
-    /// Writes `bytes` over the bytes from `at` on. The range must lie within the size. With any answer, and any bytes in the range
-    /// afterwards, all other bytes and the size are as they were.
+    /// Writes `bytes` over the bytes from `at` on. The range must lie within the size. With any result, and any bytes in the range
+    /// afterwards, all other bytes and the size must be unchanged.
     fn write(&mut self, at: u32, bytes: &[u8]) -> Result<(), ChipFault>
         requires { at + length bytes.now ≤ length (cells self.old) }
-        ensures { FrameOutside at (at + length bytes.now) (cells self.old) (cells self.new) };
+        ensures { ChangedWithin at (at + length bytes.now) (cells self.old) (cells self.new) };
 }
 
-/// The medium of a chip.
+/// A medium on a chip.
 #[derive(Drop)]
 pub struct Fram<C: Chip> {
     pub chip: C,
@@ -52,8 +51,7 @@ impl<C: Chip> Medium for Fram<C> {
     ghost use Rattle.dfu_slots.specs.Medium.Fuse.{Unknown};
     ghost use Rattle.dfu_slots.specs.declared.layout.Unit.TheVariants.{Byte};
 
-    // Any write may fail or lie. A count of failures that is always at its last value leaves that open, so nothing
-    // needs to be counted.
+    // Any write may fail or lie. A count of failures that is always at its last value allows this, so nothing needs to be counted.
     ghost state = { λ m. record { bytes = C.cells m.chip; failures = 2 ^ 64 - 1; fuse = Unknown; grain = in_place_grain Byte; tag = [] } };
 
     fn len(&self) -> u32 {

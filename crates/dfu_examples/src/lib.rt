@@ -1,5 +1,5 @@
-//! Callers to copy: over a trait of a driver a medium on a chip or on flash, a bootloader and a flashing tool; over a medium an install
-//! and a restart; and a session over a link in memory.
+//! Callers to copy: a medium on a chip or on flash, a bootloader and a flashing tool, each over a trait for a driver; an install and a
+//! restart over any medium; and a session over a link in memory.
 #![tactic(auto)]
 
 mod bootloader;

@@ -2,26 +2,24 @@
 
 ghost use Rattle.std.specs.Prelude.{◌≡◌, ◌+◌, ◌%◌, ◌<◌, ◌≤◌, ℕ, List, length, slice_index, slice_range};
 ghost use Rattle.dfu_slots.specs.Units.{Grain, IsMultiple};
-ghost use Rattle.dfu_slots.specs.Medium.{FrameOutside};
+ghost use Rattle.dfu_slots.specs.Medium.{ChangedWithin};
 
 use crate::ChipFault;
 use dfu_slots::{Failed, Medium, Unit};
 
 /// A driver of NOR flash with sectors of one size.
 ///
-/// A driver has few duties: `read` returns the bytes in the flash, and neither a `program` nor an `erase` changes a byte
-/// outside its range, also if the power fails during it. The driver need not check that the bytes were written, since the
-/// store reads back what it wrote. The store erases each sector before it programs in it, and programs no unit twice between
-/// two erases.
+/// A driver has few duties: `read` must return the bytes in the flash, and neither a `program` nor an `erase` may change a byte outside its
+/// range, even if the power fails during it. The driver need not check that the bytes were written, because the store reads them back. The
+/// store erases each sector before it programs in it, and programs no unit twice between two erases.
 pub trait Flash: Drop {
     /// The bytes in the flash.
     ghost cells: { Self → List ℕ };
 
-    /// Sees a chip as its grain: the unit in which it is programmed, and the size of the sectors in which it
-    /// is erased.
+    /// The grain of the flash: the unit in which it is programmed, and the size of the sectors in which it is erased.
     ghost grain: { Self → Grain };
 
-    /// Returns the bytes of the flash.
+    /// Returns the size of the flash in bytes.
     fn size(&self) -> u32
         ensures { result ≡ length (cells self.now) };
 
@@ -29,7 +27,7 @@ pub trait Flash: Drop {
     fn unit(&self) -> Unit
         ensures { result ≡ (grain self.now).unit };
 
-    /// Returns the bytes of a sector. The store takes multiples of 256 up to 262,144.
+    /// Returns the size of a sector in bytes. The store takes multiples of 256 up to 262,144.
     fn sector(&self) -> u32
         ensures { result ≡ (grain self.now).sector };
 
@@ -38,28 +36,28 @@ pub trait Flash: Drop {
         requires { at + length out.old ≤ length (cells self.now) }
         ensures { out.new ≡ slice_range (cells self.now) at (at + length out.old) };
 
-    /// Programs whole units from `at` on. The range must lie within the size, and all its bytes are FFh, erased since they were
-    /// programmed. With any answer, and any bytes in the range afterwards, all other bytes, the size, the unit and the sector
-    /// are as they were.
+    /// Programs whole units from `at` on. The range must lie within the size, and, if the flash has sectors, each of its bytes must be FFh,
+    /// erased since it was programmed. With any result, and any bytes in the range afterwards, all other bytes, the size, the unit and the
+    /// sector must be unchanged.
     fn program(&mut self, at: u32, bytes: &[u8]) -> Result<(), ChipFault>
         requires within { at + length bytes.now ≤ length (cells self.old) }
         requires place { IsMultiple (grain self.old).unit at }
         requires whole { IsMultiple (grain self.old).unit (length bytes.now) }
         requires blank { 0 < (grain self.old).sector → (p : ℕ) → at ≤ p → p < at + length bytes.now →
             slice_index (cells self.old) p ≡ 255 }
-        ensures cells { FrameOutside at (at + length bytes.now) (cells self.old) (cells self.new) }
+        ensures cells { ChangedWithin at (at + length bytes.now) (cells self.old) (cells self.new) }
         ensures grain { grain self.new ≡ grain self.old };
 
-    /// Erases the sector that begins at `at`, which must lie within the size. With any answer, and any bytes in the sector
-    /// afterwards, all else is as it was.
+    /// Erases the sector that begins at `at`, which must lie within the size. With any result, and any bytes in the sector afterwards,
+    /// everything else must be unchanged.
     fn erase(&mut self, at: u32) -> Result<(), ChipFault>
         requires within { at + (grain self.old).sector ≤ length (cells self.old) }
         requires place { at % (grain self.old).sector ≡ 0 }
-        ensures cells { FrameOutside at (at + (grain self.old).sector) (cells self.old) (cells self.new) }
+        ensures cells { ChangedWithin at (at + (grain self.old).sector) (cells self.old) (cells self.new) }
         ensures grain { grain self.new ≡ grain self.old };
 }
 
-/// The medium of NOR flash.
+/// A medium on NOR flash.
 #[derive(Drop)]
 pub struct Nor<F: Flash> {
     pub flash: F,

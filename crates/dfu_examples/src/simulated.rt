@@ -1,4 +1,4 @@
-//! A session over a link in memory, whose events are a list.
+//! A list of events, played on a link in memory.
 
 ghost use Rattle.std.specs.Prelude.{◌≡◌, ℕ, List, IsTrue};
 ghost use Rattle.dfu_host.specs.declared.limits.Limits.{Limits};
@@ -12,8 +12,9 @@ use dfu_sim::{Event, World, run};
 use dfu_slots::Faulty;
 use std::alloc::Global;
 
-/// Plays a list of events, and returns true if all of them came. If the list is an offer and the passes of a clean run, verified or
-/// not, then the payload is the active image of a device in appIDLE, and the host reported that.
+/// Plays a list of events, and returns true if all of them were played. If these are an offer of a file that the device can install, and
+/// the passes of a clean run, with or without verification, the file's payload is then the active image of a device in appIDLE, and the
+/// host has reported that.
 pub fn installs<'f, M: Faulty>(
     world: &mut World<'f, M>,
     alloc: Global,

@@ -6,14 +6,14 @@ use Rattle.std.proofs.lemmas.List.Sums.{suffix_len-take_yes, suffix_len-take_no}
 use Rattle.dfu_formats.specs.images.Text.{is_blank_byte}
 use Rattle.dfu_formats.specs.images.Lines.{without_trailing_blanks}
 
--- `OnlyBlanksFollow bytes end`: every byte from `end` on is a blank of the end of `bytes`.
+-- All bytes from index `end` on are blanks: with the blanks right before `end`, they are the blanks at the end of `bytes`.
 abbrev pub OnlyBlanksFollow : (bytes : List ℕ) (end : ℕ) → Type 0
 OnlyBlanksFollow bytes end = suffix_len is_blank_byte bytes ≡ suffix_len is_blank_byte (take end bytes) + (length bytes - end)
 
--- If the bytes from `end` on are blanks, and the byte before `end` is one, the bytes from `end - 1` on are blanks.
-pub blanks_from_one_earlier : (bytes : List ℕ) (end : ℕ) → 0 < end → end ≤ length bytes → OnlyBlanksFollow bytes end
+-- If the bytes from `end` on are blanks, and the byte before `end` is a blank, the bytes from `end - 1` on are blanks.
+pub blanks_follow_one_earlier : (bytes : List ℕ) (end : ℕ) → 0 < end → end ≤ length bytes → OnlyBlanksFollow bytes end
     → is_blank_byte (slice_index_or bytes (end - 1) 0) ≡ true → OnlyBlanksFollow bytes (end - 1)
-blanks_from_one_earlier bytes end some within are is =
+blanks_follow_one_earlier bytes end some within are is =
     omega (arith, some, within, are, suffix_len-take_yes is_blank_byte bytes end 0 some within is)
 
 -- If the first `end` bytes end in no blank, and only blanks follow, they are `bytes` without its trailing blanks.
@@ -23,7 +23,7 @@ front_is_without_trailing_blanks : (bytes : List ℕ) (end : ℕ) → end ≤ le
 front_is_without_trailing_blanks bytes end within are none =
     ap (λ (n : ℕ). take n bytes) (omega (arith, within, are, none))
 
--- No bytes end in no blank: if `end` is 0, the bytes without trailing blanks are none.
+-- If all bytes are blanks, none are left without the trailing blanks.
 pub empty_front_has_no_blanks : (bytes : List ℕ) (end : ℕ) → end ≤ 0 → OnlyBlanksFollow bytes end → take end bytes
     ≡ without_trailing_blanks bytes
 empty_front_has_no_blanks bytes zero least are = front_is_without_trailing_blanks bytes 0 (omega (arith)) are refl
@@ -35,7 +35,7 @@ pub nonblank_last_ends_front : (bytes : List ℕ) (end : ℕ) → 0 < end → en
 nonblank_last_ends_front bytes end some within are is =
     front_is_without_trailing_blanks bytes end within are (suffix_len-take_no is_blank_byte bytes end 0 some within is)
 
--- Behind the last byte there is no byte that could be other than a blank.
-pub no_blank_follows_all_bytes : (bytes : List ℕ) → OnlyBlanksFollow bytes (length bytes)
-no_blank_follows_all_bytes bytes =
+-- Only blanks follow all bytes, because nothing follows them.
+pub only_blanks_follow_all_bytes : (bytes : List ℕ) → OnlyBlanksFollow bytes (length bytes)
+only_blanks_follow_all_bytes bytes =
     omega (arith, ap (λ (kept : List ℕ). suffix_len is_blank_byte kept) (take_all (length bytes) bytes (omega (arith))))

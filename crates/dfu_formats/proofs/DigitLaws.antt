@@ -4,26 +4,26 @@ use Rattle.std.proofs.Math.Nat.{pow-succ', pow-le-pow_right}
 use Rattle.std.proofs.lemmas.Bool.{lt-ltb, le-ltb}
 use Rattle.dfu_formats.specs.memory.Reading.{digit_value, digits_in, digits_number}
 
--- A digit at the front counts one more than the digits behind it.
-pub digit_count_with_first_digit : (base b : ℕ) (bs : List ℕ) → digit_value b < base → digits_in base (b ∷ bs) ≡ suc (digits_in base bs)
+-- A digit at the front adds one to the count of the digits after it.
+pub first_digit_adds_to_count : (base b : ℕ) (bs : List ℕ) → digit_value b < base → digits_in base (b ∷ bs) ≡ suc (digits_in base bs)
 unfolding digits_in
-digit_count_with_first_digit base b bs h = rw (lt-ltb (digit_value b) base h) refl
+first_digit_adds_to_count base b bs h = rw (lt-ltb (digit_value b) base h) refl
 
--- A byte that is no digit of the base ends the count of digits.
-pub no_digits_before_other_byte : (base b : ℕ) (bs : List ℕ) → base ≤ digit_value b → digits_in base (b ∷ bs) ≡ 0
+-- No digits are counted from a first byte on that is no digit of the base.
+pub other_byte_ends_digits : (base b : ℕ) (bs : List ℕ) → base ≤ digit_value b → digits_in base (b ∷ bs) ≡ 0
 unfolding digits_in
-no_digits_before_other_byte base b bs h = rw (le-ltb (digit_value b) base h) refl
+other_byte_ends_digits base b bs h = rw (le-ltb (digit_value b) base h) refl
 
 pub no_digits_of_no_bytes : (base : ℕ) → digits_in base [] ≡ 0
 unfolding digits_in
 no_digits_of_no_bytes base = refl
 
--- If byte `i` is a digit, the count of digits up to `i` and from there is the count up to `i + 1` and from there.
+-- If byte `i` is a digit, `i` plus the digits from `i` on is `i + 1` plus the digits from `i + 1` on.
 pub digit_count_moves_on : (base : ℕ) (xs : List ℕ) (i j : ℕ) → j ≡ suc i → i < length xs → digit_value (get_or xs i 0) < base →
     i + digits_in base (drop i xs) ≡ j + digits_in base (drop j xs)
 digit_count_moves_on base [] i j e h d = absurd (omega (arith, h))
 digit_count_moves_on base (x ∷ xs) zero j e h d =
-    let step = digit_count_with_first_digit base x xs d in
+    let step = first_digit_adds_to_count base x xs d in
     let there : drop j (x ∷ xs) ≡ xs = ap (λ (k : ℕ). drop k (x ∷ xs)) e in
     let same = ap (digits_in base) there in
     omega (arith, step, same, e)
@@ -34,11 +34,11 @@ digit_count_moves_on base (x ∷ xs) (suc i) j e h d =
     omega (arith, more, same, e)
 
 -- If byte `i` is no digit, no digits are counted from `i` on.
-pub no_digits_from_other_byte : (base : ℕ) (xs : List ℕ) (i : ℕ) → i < length xs → base ≤ digit_value (get_or xs i 0) →
+pub digits_end_at_other_byte : (base : ℕ) (xs : List ℕ) (i : ℕ) → i < length xs → base ≤ digit_value (get_or xs i 0) →
     digits_in base (drop i xs) ≡ 0
-no_digits_from_other_byte base [] i h d = absurd (omega (arith, h))
-no_digits_from_other_byte base (x ∷ xs) zero h d = no_digits_before_other_byte base x xs d
-no_digits_from_other_byte base (x ∷ xs) (suc i) h d = no_digits_from_other_byte base xs i (omega (arith, h)) d
+digits_end_at_other_byte base [] i h d = absurd (omega (arith, h))
+digits_end_at_other_byte base (x ∷ xs) zero h d = other_byte_ends_digits base x xs d
+digits_end_at_other_byte base (x ∷ xs) (suc i) h d = digits_end_at_other_byte base xs i (omega (arith, h)) d
 
 -- No digits are counted past the end.
 pub no_digits_past_end : (base : ℕ) (xs : List ℕ) (i : ℕ) → length xs ≤ i → digits_in base (drop i xs) ≡ 0
@@ -48,24 +48,26 @@ no_digits_past_end base (x ∷ xs) zero h = absurd (omega (arith, h))
 no_digits_past_end base (x ∷ xs) (suc i) h = no_digits_past_end base xs i (omega (arith, h))
 
 -- A further digit multiplies the number of the digits before it by the base, and adds its value.
-pub digits_number_with_next : (base n : ℕ) (xs : List ℕ) (i : ℕ) → i < length xs →
+pub next_digit_extends_number : (base n : ℕ) (xs : List ℕ) (i : ℕ) → i < length xs →
     digits_number base n (take (suc i) xs) ≡ base * digits_number base n (take i xs) + digit_value (get_or xs i 0)
 unfolding digits_number
-digits_number_with_next base n [] i h = absurd (omega (arith, h))
-digits_number_with_next base n (x ∷ xs) zero h = refl
-digits_number_with_next base n (x ∷ xs) (suc i) h = digits_number_with_next base (base * n + digit_value x) xs i (omega (arith, h))
+next_digit_extends_number base n [] i h = absurd (omega (arith, h))
+next_digit_extends_number base n (x ∷ xs) zero h = refl
+next_digit_extends_number base n (x ∷ xs) (suc i) h = next_digit_extends_number base (base * n + digit_value x) xs i (omega (arith, h))
 
-pub digits_number_at_next : (base n : ℕ) (xs : List ℕ) (i j : ℕ) → j ≡ suc i → i < length xs →
+-- A further digit, before place `j` right after `i`, multiplies the number by the base, and adds its value.
+pub digit_at_extends_number : (base n : ℕ) (xs : List ℕ) (i j : ℕ) → j ≡ suc i → i < length xs →
     digits_number base n (take j xs) ≡ base * digits_number base n (take i xs) + digit_value (get_or xs i 0)
-digits_number_at_next base n xs i j e h = ap (λ (k : ℕ). digits_number base n (take k xs)) e ∙ digits_number_with_next base n xs i h
+digit_at_extends_number base n xs i j e h = ap (λ (k : ℕ). digits_number base n (take k xs)) e ∙ next_digit_extends_number base n xs i h
 
-pub digits_number_of_none : (base n : ℕ) (xs : List ℕ) → digits_number base n (take 0 xs) ≡ n
+-- No digits leave the number as it is.
+pub no_digits_leave_number : (base n : ℕ) (xs : List ℕ) → digits_number base n (take 0 xs) ≡ n
 unfolding digits_number
-digits_number_of_none base n xs = refl
+no_digits_leave_number base n xs = refl
 
 -- The next power of 17 is 17 times the power before it.
-pub next_power_of_17 : (i j : ℕ) → j ≡ suc i → 17 ^ j ≡ 17 * 17 ^ i
-next_power_of_17 i j e = ap (λ (k : ℕ). 17 ^ k) e ∙ pow-succ' 17 i
+pub next_power_of_17_is_17_times : (i j : ℕ) → j ≡ suc i → 17 ^ j ≡ 17 * 17 ^ i
+next_power_of_17_is_17_times i j e = ap (λ (k : ℕ). 17 ^ k) e ∙ pow-succ' 17 i
 
 -- Powers of 17 rise with their exponents.
 pub powers_of_17_rise : (i j : ℕ) → i ≤ j → 17 ^ i ≤ 17 ^ j

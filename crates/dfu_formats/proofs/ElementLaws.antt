@@ -1,4 +1,4 @@
--- Elements of a DfuSe file: those that are read are spelled, and those that are spelled are read.
+-- Elements of a DfuSe file: bytes spell the elements that are read from them, and spelled elements are read back.
 use Rattle.std.proofs.Common.{◌≡◌, ℕ, zero, suc, ◌+◌, ◌^◌, ◌≤◌, eqb, ltb, List, [], ◌∷◌, ◌++◌, length, take, drop, Result, Ok, refl, sym, ap, ◌∙◌, subst, arith, length-append, length-take}
 use Rattle.std.proofs.lemmas.Bool.{ltb-false, le-ltb}
 use Rattle.std.proofs.lemmas.List.{take-append-drop, take_at, drop_at}
@@ -9,16 +9,16 @@ use Rattle.dfu_formats.specs.declared.dfuse.fault.FileFault.{FileFault}
 use Rattle.dfu_formats.specs.declared.dfuse.fault.FileFault.TheVariants.{ElementPastTheTarget, EmptyElement, AddressPastTheEnd}
 use Rattle.dfu_formats.specs.dfuse.Reading.{SplitElement, ◌>>=◌, number_at, front_element, element_before_others, elements_at}
 use Rattle.dfu_formats.specs.dfuse.Grammar.{four_bytes_of, spelled_elements, ElementInRange, ElementsInRange}
-use Rattle.dfu_formats.proofs.FileSteps.{bound_result_of_both_steps, passed_condition_is_false, false_condition_is_skipped, ok_values_equal, positive_number_is_not_zero, zero_test_false_means_positive}
-use Rattle.dfu_formats.proofs.FileFields.{number_bytes_at_place, number_at_fits_32_bits, number_at_of_four_bytes}
+use Rattle.dfu_formats.proofs.FileSteps.{ok_sequence_has_ok_steps, passed_condition_is_false, false_condition_is_skipped, ok_values_equal, positive_number_is_not_zero, zero_test_false_means_positive}
+use Rattle.dfu_formats.proofs.FileFields.{place_spells_number, number_at_fits_32_bits, number_at_is_read_back}
 
--- The bytes begin with the element of `s`, and the rest of `s` follows it.
+-- The bytes `b` are the element of `s`, which is in range, spelled, and then the rest of `s`, which are bytes.
 pub record BeginsWithElement (b : List ℕ) (s : SplitElement) : Type 0 where
   pub spelled : b ≡ four_bytes_of s.element.address ++ (four_bytes_of (length s.element.bytes) ++ (s.element.bytes ++ s.rest))
   pub fits : ElementInRange s.element
   pub bytes : AreBytes s.rest
 
--- An element that `front_element` splits off stands at the front of the bytes.
+-- The bytes begin with the element that `front_element` splits off them.
 pub read_element_is_spelled : (b : List ℕ) (s : SplitElement) → AreBytes b → front_element b ≡ Ok s → BeginsWithElement b s
 unfolding front_element
 read_element_is_spelled b s f h =
@@ -33,10 +33,10 @@ read_element_is_spelled b s f h =
     let content = take n (drop 8 b) in
     let has : length content ≡ n = length-take n (drop 8 b) ∙ omega (arith, room) in
     let d8 : drop 8 b ≡ content ++ drop n (drop 8 b) = sym (take-append-drop n (drop 8 b)) in
-    let d4 : drop 4 b ≡ four_bytes_of (length content) ++ drop 8 b = number_bytes_at_place 4 8 b f refl long
+    let d4 : drop 4 b ≡ four_bytes_of (length content) ++ drop 8 b = place_spells_number 4 8 b f refl long
     ∙ ap (λ (k : ℕ). four_bytes_of k ++ drop 8 b)
     (sym has) in
-    let d0 : b ≡ four_bytes_of a ++ drop 4 b = number_bytes_at_place 0 4 b f refl (omega (arith, long)) in
+    let d0 : b ≡ four_bytes_of a ++ drop 4 b = place_spells_number 0 4 b f refl (omega (arith, long)) in
     let whole = d0 ∙ ap (λ (z : List ℕ). four_bytes_of a ++ z) (d4 ∙ ap (λ (z : List ℕ). four_bytes_of (length content) ++ z) d8) in
     subst (λ (t : SplitElement). BeginsWithElement b t) (ok_values_equal _ s p3.1) (record {
       spelled = whole;
@@ -48,12 +48,13 @@ read_element_is_spelled b s f h =
       bytes = AreBytes-drop (drop 8 b) n (AreBytes-drop b 8 f);
     })
 
+-- Split elements of equal addresses, bytes and rests are equal.
 split_elements_equal : (a c : ℕ) (d e r s : List ℕ) → a ≡ c → d ≡ e → r ≡ s →
     ◌≡◌ {A = SplitElement} (record { element = record { address = a; bytes = d }; rest = r })
     (record { element = record { address = c; bytes = e }; rest = s })
 split_elements_equal a c d e r s h0 h1 h2 = cc
 
--- An element that is spelled before a rest is split off, and leaves the rest.
+-- `front_element` splits a spelled element, in range, off the bytes after it.
 pub spelled_element_is_read : (e : Piece) (rest : List ℕ) → ElementInRange e →
     front_element (four_bytes_of e.address ++ (four_bytes_of (length e.bytes) ++ (e.bytes ++ rest))) ≡ Ok
     (record { element = e; rest = rest })
@@ -61,9 +62,9 @@ unfolding front_element
 spelled_element_is_read e rest h =
     let n = length e.bytes in
     let b = four_bytes_of e.address ++ (four_bytes_of n ++ (e.bytes ++ rest)) in
-    let address : number_at 0 b ≡ e.address = number_at_of_four_bytes e.address 0 b (four_bytes_of n ++ (e.bytes ++ rest))
+    let address : number_at 0 b ≡ e.address = number_at_is_read_back e.address 0 b (four_bytes_of n ++ (e.bytes ++ rest))
     (omega (arith, h.some, h.within)) refl in
-    let size : number_at 4 b ≡ n = number_at_of_four_bytes n 4 b (e.bytes ++ rest) h.size_fits refl in
+    let size : number_at 4 b ≡ n = number_at_is_read_back n 4 b (e.bytes ++ rest) h.size_fits refl in
     let behind : drop 8 b ≡ e.bytes ++ rest = refl in
     let got : take (number_at 4 b) (drop 8 b) ≡ e.bytes = take_at e.bytes rest (number_at 4 b) (sym size) in
     let left : drop (number_at 4 b) (drop 8 b) ≡ rest = drop_at e.bytes rest (number_at 4 b) (sym size) in
@@ -87,22 +88,23 @@ pub record IsSpelledList {A : Type 0} (spelled_as : List A → List ℕ) (Fit : 
   pub number : length xs ≡ count
   pub fit : Fit xs
 
--- No bytes spell a list of no items.
+-- The empty list of bytes spells the empty list of items.
 pub no_bytes_spell_no_items : {A : Type 0} (spelled_as : List A → List ℕ) (Fit : List A → Type 0) (xs : List A) → [] ≡ spelled_as [] →
     Fit [] →
     ◌≡◌ {A = Result (List A) FileFault} (Ok []) (Ok xs) → IsSpelledList spelled_as Fit 0 [] xs
 no_bytes_spell_no_items spelled_as Fit xs spelled fit h =
     subst (λ zs. IsSpelledList spelled_as Fit 0 [] zs) (ok_values_equal [] xs h) (record { spelled = spelled; number = refl; fit = fit })
 
--- `b` spells these elements, `count` of them, and nothing else.
+-- `b` spells these elements, `count` of them, each in range, and nothing else.
 abbrev pub AreSpelledElements : ℕ → List ℕ → List Piece → Type 0
 AreSpelledElements count b es = IsSpelledList spelled_elements ElementsInRange count b es
 
-element_before_spelled_elements : (n : ℕ) (b : List ℕ) (s : SplitElement) (es : List Piece) → BeginsWithElement b s →
+-- A first element, and bytes after it that spell `n` elements, spell `n + 1` elements.
+first_element_joins_spelled : (n : ℕ) (b : List ℕ) (s : SplitElement) (es : List Piece) → BeginsWithElement b s →
     AreSpelledElements n s.rest es
     → AreSpelledElements (suc n) b (s.element ∷ es)
 unfolding spelled_elements ElementsInRange
-element_before_spelled_elements n b s es h r = record {
+first_element_joins_spelled n b s es h r = record {
   spelled =
       h.spelled ∙ ap (λ (z : List ℕ). four_bytes_of s.element.address ++
       (four_bytes_of (length s.element.bytes) ++ (s.element.bytes ++ z))) r.spelled;
@@ -110,22 +112,22 @@ element_before_spelled_elements n b s es h r = record {
   fit = (h.fits, r.fit);
 }
 
--- Elements that were read of bytes are spelled by the bytes.
+-- Bytes spell the elements that `elements_at` reads from them.
 pub read_elements_are_spelled : (count : ℕ) (b : List ℕ) (es : List Piece) → AreBytes b → elements_at count b ≡ Ok es →
     AreSpelledElements count b es
 unfolding elements_at spelled_elements ElementsInRange
 read_elements_are_spelled zero [] es f h = no_bytes_spell_no_items spelled_elements ElementsInRange es refl tt h
 read_elements_are_spelled zero (x ∷ b) es f h = cc
 read_elements_are_spelled (suc n) b es f h =
-    let p = bound_result_of_both_steps (front_element b) _ es h in
+    let p = ok_sequence_has_ok_steps (front_element b) _ es h in
     let s = p.0 in
     let begins = read_element_is_spelled b s f p.1 in
-    let q = bound_result_of_both_steps (elements_at n s.rest) _ es p.2 in
+    let q = ok_sequence_has_ok_steps (elements_at n s.rest) _ es p.2 in
     let more = read_elements_are_spelled n s.rest q.0 begins.bytes q.1 in
-    subst (λ (z : List Piece). AreSpelledElements (suc n) b z) (ok_values_equal _ es q.2) (element_before_spelled_elements n b s q.0 begins
+    subst (λ (z : List Piece). AreSpelledElements (suc n) b z) (ok_values_equal _ es q.2) (first_element_joins_spelled n b s q.0 begins
     more)
 
--- Elements that are spelled one after the other are read.
+-- `elements_at` reads back elements, in range, that are spelled one after the other.
 pub spelled_elements_are_read : (es : List Piece) → ElementsInRange es → elements_at (length es) (spelled_elements es) ≡ Ok es
 unfolding elements_at spelled_elements ElementsInRange
 spelled_elements_are_read [] h = refl

@@ -10,10 +10,10 @@ use Rattle.dfu_suffix.specs.Laws.{AreBytes}
 use Rattle.dfu_formats.specs.dfuse.Reading.{number_at}
 use Rattle.dfu_formats.specs.dfuse.Grammar.{four_bytes_of}
 
--- Bytes, of which there are six at least, are their first six and the others.
-pub first_six_bytes_apart : (b : List ℕ) → 6 ≤ length b →
+-- Six or more bytes are the first six and the bytes from index 6 on.
+pub six_bytes_precede_rest : (b : List ℕ) → 6 ≤ length b →
     b ≡ get_or b 0 0 ∷ get_or b 1 0 ∷ get_or b 2 0 ∷ get_or b 3 0 ∷ get_or b 4 0 ∷ get_or b 5 0 ∷ drop 6 b
-first_six_bytes_apart b long =
+six_bytes_precede_rest b long =
     let c0 : b ≡ get_or b 0 0 ∷ drop 1 b = drop-cons b 0 0 (omega (arith, long)) in
     let c1 : drop 1 b ≡ get_or b 1 0 ∷ drop 2 b = drop-cons b 1 0 (omega (arith, long)) in
     let c2 : drop 2 b ≡ get_or b 2 0 ∷ drop 3 b = drop-cons b 2 0 (omega (arith, long)) in
@@ -23,20 +23,20 @@ first_six_bytes_apart b long =
     cc
 
 -- If a test that compares four letters and asks for `more` is true, the bytes begin with the four letters, and `more` is true.
-pub four_letters_compared_equal : (b : List ℕ) (l0 l1 l2 l3 : ℕ) (more : Bool)
+pub true_test_finds_four_letters : (b : List ℕ) (l0 l1 l2 l3 : ℕ) (more : Bool)
     → (eqb (get_or b 0 0) l0 && (eqb (get_or b 1 0) l1 && (eqb (get_or b 2 0) l2 && (eqb (get_or b 3 0) l3 && more)))) ≡ true
     → (get_or b 0 0 ≡ l0) × (get_or b 1 0 ≡ l1) × (get_or b 2 0 ≡ l2) × (get_or b 3 0 ≡ l3) × (more ≡ true)
-four_letters_compared_equal b l0 l1 l2 l3 more h =
+true_test_finds_four_letters b l0 l1 l2 l3 more h =
     let s0 = and_parts (eqb (get_or b 0 0) l0) _ h in
     let s1 = and_parts (eqb (get_or b 1 0) l1) _ s0.1 in
     let s2 = and_parts (eqb (get_or b 2 0) l2) _ s1.1 in
     let s3 = and_parts (eqb (get_or b 3 0) l3) more s2.1 in
     (eqb-true _ _ s0.0, eqb-true _ _ s1.0, eqb-true _ _ s2.0, eqb-true _ _ s3.0, s3.1)
 
--- The bytes from `place` on are the four bytes of the number there, and then the bytes from `next` on.
-pub number_bytes_at_place : (place next : ℕ) (b : List ℕ) → AreBytes b → next ≡ place + 4 → next ≤ length b
+-- The bytes from `place` on are the four bytes of the number there, and then the bytes from `next` on, four places later.
+pub place_spells_number : (place next : ℕ) (b : List ℕ) → AreBytes b → next ≡ place + 4 → next ≤ length b
     → drop place b ≡ four_bytes_of (number_at place b) ++ drop next b
-number_bytes_at_place place next b f e h =
+place_spells_number place next b f e h =
     let xs = drop place b in
     let bytes = AreBytes-take 4 xs (AreBytes-drop b place f) in
     let long : length (take 4 xs) ≡ 4 = length-take 4 xs ∙ omega (arith, length-drop place b) in
@@ -50,6 +50,6 @@ number_at_fits_32_bits place b f =
     let g = AreBytes-take 4 (drop place b) (AreBytes-drop b place f) in
     omega (arith, g 0, g 1, g 2, g 3)
 
--- If the four bytes of `n` stand at `place`, the number there is `n`.
-pub number_at_of_four_bytes : (n place : ℕ) (b rest : List ℕ) → n < 2 ^ 32 → drop place b ≡ four_bytes_of n ++ rest → number_at place b ≡ n
-number_at_of_four_bytes n place b rest h e = ap (λ (t : List ℕ). from_le_bytes w32 (take 4 t)) e ∙ from_le_bytes-to_le_bytes_4 n h
+-- If the four bytes of `n` are at `place`, the number there is `n`.
+pub number_at_is_read_back : (n place : ℕ) (b rest : List ℕ) → n < 2 ^ 32 → drop place b ≡ four_bytes_of n ++ rest → number_at place b ≡ n
+number_at_is_read_back n place b rest h e = ap (λ (t : List ℕ). from_le_bytes w32 (take 4 t)) e ∙ from_le_bytes-to_le_bytes_4 n h

@@ -1,35 +1,35 @@
--- Steps of reading, one after the other.
+-- Sequences of steps of reading a DfuSe file.
 use Rattle.std.proofs.Common.{◌≡◌, ◌≢◌, ℕ, zero, suc, ◌-◌, ◌≤◌, Bool, true, false, cond, eqb, Result, Ok, Err, inl, inr, refl, arith}
 use Rattle.std.proofs.lemmas.Bool.Decides.{eqb_tells}
 use Rattle.dfu_formats.specs.declared.dfuse.fault.FileFault.{FileFault}
 use Rattle.dfu_formats.specs.dfuse.Reading.{◌>>=◌}
 
--- If two steps together give a value, the first step gave a value, and the second gave the result from it.
-pub bound_result_of_both_steps : {A B : Type 0} (r : Result A FileFault) (k : A → Result B FileFault) (x : B) → (r >>= k) ≡ Ok x →
+-- If two steps in sequence give a value, the first gave a value, from which the second gave the result.
+pub ok_sequence_has_ok_steps : {A B : Type 0} (r : Result A FileFault) (k : A → Result B FileFault) (x : B) → (r >>= k) ≡ Ok x →
     (y : A) × (r ≡ Ok y) × (k y ≡ Ok x)
-bound_result_of_both_steps (Ok y) k x h = (y, refl, h)
-bound_result_of_both_steps (Err fault) k x h = cc
+ok_sequence_has_ok_steps (Ok y) k x h = (y, refl, h)
+ok_sequence_has_ok_steps (Err fault) k x h = cc
 
--- If the first step has a fault, two steps together give no value.
+-- If the first step has a fault, two steps in sequence give no value.
 pub faulty_step_gives_no_value : {A B : Type 0} (r : Result A FileFault) (k : A → Result B FileFault) (fault : FileFault) (x : B) → r
     ≡ Err fault →
     (r >>= k) ≡ Ok x → ⊥
 faulty_step_gives_no_value (Ok y) k fault x is h = cc
 faulty_step_gives_no_value (Err other) k fault x is h = cc
 
--- A result without a fault shows that the condition before it was false.
+-- If a condition for a fault, and the steps after it, give a value, the condition is false, and the steps give the value.
 pub passed_condition_is_false : {A : Type 0} (t : Bool) (fault : FileFault) (r : Result A FileFault) (x : A) → cond t (Err fault) r ≡ Ok x →
     (t ≡ false) × (r ≡ Ok x)
 passed_condition_is_false true fault r x h = (cc, cc)
 passed_condition_is_false false fault r x h = (refl, h)
 
--- If a condition for a fault is false, the result is that of the steps after it.
+-- If the condition for a fault is false, the result is that of the steps after it.
 pub false_condition_is_skipped : {A : Type 0} (t : Bool) (fault : FileFault) (r s : Result A FileFault) → t ≡ false → r ≡ s →
     cond t (Err fault) r ≡ s
 false_condition_is_skipped true fault r s h e = cc
 false_condition_is_skipped false fault r s h e = e
 
--- If two answers without a fault are equal, their values are equal.
+-- If two results without a fault are equal, their values are equal.
 pub ok_values_equal : {A : Type 0} (x y : A) → ◌≡◌ {A = Result A FileFault} (Ok x) (Ok y) → x ≡ y
 ok_values_equal x y h = cc
 

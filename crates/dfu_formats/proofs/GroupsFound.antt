@@ -1,44 +1,46 @@
--- Groups of pages that were read of a map are spelled by its text.
+-- The text of a map spells the groups of pages that are read from it.
 use Rattle.std.proofs.Common.{◌≡◌, ◌≢◌, ℕ, ◌+◌, ◌*◌, ◌^◌, ◌≤◌, ◌&&◌, Bool, true, false, cond, eqb, ltb, leb, List, [], ◌∷◌, ◌++◌, refl, sym, ap, ◌∙◌, subst, arith, Some, Result, Ok, Err, append_assoc}
 use Rattle.std.proofs.lemmas.Bool.{eq-eqb, ltb-false, leb-true, and_parts}
 use Rattle.dfu_formats.specs.declared.memory.fault.MapFault.{MapFault}
 use Rattle.dfu_formats.specs.declared.memory.fault.MapFault.TheVariants.{BadCount, BadSize, BadType, PastTheEnd}
-use Rattle.dfu_formats.specs.memory.Reading.{NumberRead, LetterRead, Grouped, ◌>>=◌, map_value_or, nonzero_count, text_after_byte, map_number_at, count_at, unit_bytes, unit_at, size_at, access_of, access_at, range_of_pages, group_at}
+use Rattle.dfu_formats.specs.memory.Reading.{NumberRead, LetterRead, RangeRead, ◌>>=◌, value_or_map_fault, nonzero_count, text_after_byte, map_number_at, count_at, unit_bytes, unit_at, size_at, access_of, access_at, range_of_pages, group_at}
 use Rattle.dfu_formats.specs.memory.Grammar.{IsNumber, IsUnit, IsGroup}
 use Rattle.dfu_formats.proofs.NumbersRead.{NumberSpelled, read_number_is_spelled}
 use Rattle.dfu_formats.proofs.MapSteps.{both_steps_ok, value_or_fault_was_some, nonzero_count_is_positive, byte_taken_was_first}
 
--- The text spells a count, `*` and the rest: the digits of the count, at least 1.
+-- The text spells a count of at least 1, in one to five digits, `*`, and the rest.
 record CountSpelled (c : NumberRead) (text : List ℕ) : Type 0 where
   digits : List ℕ
   text_is : text ≡ digits ++ 42 ∷ c.rest
   number_is : IsNumber 10 5 c.value digits
   some : 1 ≤ c.value
 
--- The text spells a number other than 0, and then the rest.
+-- The text spells a number other than 0, in one to five digits, and then the rest.
 record PositiveNumberSpelled (fault : MapFault) (text : List ℕ) (n : NumberRead) : Type 0 where
   spelled : NumberSpelled 10 5 n text
   some : 1 ≤ n.value
 
+-- A text spells the number other than 0 that is read from it.
 number : (fault : MapFault) (text : List ℕ) (n : NumberRead)
-    → (map_value_or fault (map_number_at 10 5 text) >>= nonzero_count fault) ≡ Ok n →
+    → (value_or_map_fault fault (map_number_at 10 5 text) >>= nonzero_count fault) ≡ Ok n →
     PositiveNumberSpelled fault text n
 number fault text n h =
-    let s = both_steps_ok (map_value_or fault (map_number_at 10 5 text)) (nonzero_count fault) n h in
+    let s = both_steps_ok (value_or_map_fault fault (map_number_at 10 5 text)) (nonzero_count fault) n h in
     let k = nonzero_count_is_positive fault s.0 n s.2 in
     let e = value_or_fault_was_some fault (map_number_at 10 5 text) s.0 s.1 in record {
       spelled = read_number_is_spelled 10 5 n text (e ∙ ap Some k.0);
       some = subst (λ (m : NumberRead). 1 ≤ m.value) k.0 k.1;
     }
 
+-- A text spells the count that `count_at` reads from it.
 read_count_is_spelled : (c : NumberRead) (text : List ℕ) → count_at text ≡ Ok c → CountSpelled c text
 unfolding count_at
 read_count_is_spelled c text h =
-    let s = both_steps_ok (map_value_or BadCount (map_number_at 10 5 text) >>= nonzero_count BadCount)
-    (λ (n : NumberRead). map_value_or BadCount (text_after_byte 42 n.rest) >>= λ (rest : List ℕ). Ok
+    let s = both_steps_ok (value_or_map_fault BadCount (map_number_at 10 5 text) >>= nonzero_count BadCount)
+    (λ (n : NumberRead). value_or_map_fault BadCount (text_after_byte 42 n.rest) >>= λ (rest : List ℕ). Ok
     (record { value = n.value; rest = rest })) c h in
     let n = number BadCount text s.0 s.1 in
-    let t = both_steps_ok (map_value_or BadCount (text_after_byte 42 (s.0).rest))
+    let t = both_steps_ok (value_or_map_fault BadCount (text_after_byte 42 (s.0).rest))
     (λ (rest : List ℕ). Ok (record { value = (s.0).value; rest = rest })) c s.2 in
     let star = byte_taken_was_first 42 (s.0).rest t.0 (value_or_fault_was_some BadCount (text_after_byte 42 (s.0).rest) t.0 t.1) in
     let same : ◌≡◌ {A = NumberRead} (record { value = (s.0).value; rest = t.0 }) c = cc in
@@ -50,7 +52,7 @@ read_count_is_spelled c text h =
       some = subst (λ (v : ℕ). 1 ≤ v) value n.some;
     }
 
--- A unit, or no unit, precedes the rest, and multiplies the value by its bytes.
+-- The text spells a unit or none, and then the rest. The value is `value` times the bytes of the unit.
 record UnitSpelled (value : ℕ) (s : NumberRead) (text : List ℕ) : Type 0 where
   times : ℕ
   unit : List ℕ
@@ -59,6 +61,7 @@ record UnitSpelled (value : ℕ) (s : NumberRead) (text : List ℕ) : Type 0 whe
   value_is : s.value ≡ times * value
   some : 1 ≤ times
 
+-- A text spells the unit that is read from it, by the test whether its first byte is one.
 unit_spelled_by_test : (value b : ℕ) (bs : List ℕ) (t : Bool) → eqb (unit_bytes b) 0 ≡ t →
     UnitSpelled value (cond t (record { value = value; rest = b ∷ bs }) (record { value = unit_bytes b * value; rest = bs })) (b ∷ bs)
 unit_spelled_by_test value b bs true e = record {
@@ -74,12 +77,13 @@ unit_spelled_by_test value b bs false e =
     let other : unit_bytes b ≢ 0 = λ z. let yes = eq-eqb (unit_bytes b) 0 z in cc in
     record { times = unit_bytes b; unit = b ∷ []; text_is = refl; unit_is = (refl, other); value_is = refl; some = omega (arith, other) }
 
+-- A text spells the unit, or none, that `unit_at` takes off it.
 read_unit_is_spelled : (value : ℕ) (text : List ℕ) → UnitSpelled value (unit_at value text) text
 unfolding unit_at
 read_unit_is_spelled value [] = record { times = 1; unit = []; text_is = refl; unit_is = refl; value_is = omega arith; some = omega arith }
 read_unit_is_spelled value (b ∷ bs) = unit_spelled_by_test value b bs (eqb (unit_bytes b) 0) refl
 
--- The text spells a size: digits, a unit, and the rest.
+-- The text spells a size of at least 1: one to five digits, a unit or none, and the rest.
 record SizeSpelled (s : NumberRead) (text : List ℕ) : Type 0 where
   digits : List ℕ
   unit : List ℕ
@@ -94,10 +98,11 @@ record SizeSpelled (s : NumberRead) (text : List ℕ) : Type 0 where
 product_of_positives_positive : (a b : ℕ) → 1 ≤ a → 1 ≤ b → 1 ≤ a * b
 product_of_positives_positive a b h k = grind arith
 
+-- A text spells the size that `size_at` reads from it.
 read_size_is_spelled : (s : NumberRead) (text : List ℕ) → size_at text ≡ Ok s → SizeSpelled s text
 unfolding size_at
 read_size_is_spelled s text h =
-    let t = both_steps_ok (map_value_or BadSize (map_number_at 10 5 text) >>= nonzero_count BadSize)
+    let t = both_steps_ok (value_or_map_fault BadSize (map_number_at 10 5 text) >>= nonzero_count BadSize)
     (λ (n : NumberRead). Ok (unit_at n.value n.rest)) s h in
     let n = number BadSize text t.0 t.1 in
     let same : unit_at (t.0).value (t.0).rest ≡ s = cc in
@@ -114,7 +119,7 @@ read_size_is_spelled s text h =
       some = omega (arith, u.value_is, product_of_positives_positive u.times (t.0).value u.some n.some);
     }
 
--- The text begins with a letter from a to g, which says the access to pages.
+-- The text begins with a letter from a to g for the access to pages.
 record AccessLetterSpelled (a : LetterRead) (text : List ℕ) : Type 0 where
   letter : ℕ
   text_is : text ≡ letter ∷ a.rest
@@ -122,6 +127,7 @@ record AccessLetterSpelled (a : LetterRead) (text : List ℕ) : Type 0 where
   to_g : letter ≤ 103
   access_is : a.access ≡ access_of letter
 
+-- A text begins with the letter for the access that is read from it, by the test of that letter.
 access_letter_by_test : (b : ℕ) (bs : List ℕ) (a : LetterRead) (t : Bool) → (leb 97 b && leb b 103) ≡ t →
     ◌≡◌ {A = Result LetterRead MapFault} (cond t (Ok (record { access = access_of b; rest = bs })) (Err BadType)) (Ok a) →
     AccessLetterSpelled a (b ∷ bs)
@@ -136,38 +142,42 @@ access_letter_by_test b bs a true e h =
     }
 access_letter_by_test b bs a false e h = cc
 
+-- A text begins with the letter for the access that `access_at` reads from it.
 read_access_is_spelled : (a : LetterRead) (text : List ℕ) → access_at text ≡ Ok a → AccessLetterSpelled a text
 unfolding access_at
 read_access_is_spelled a [] h = cc
 read_access_is_spelled a (b ∷ bs) h = access_letter_by_test b bs a (leb 97 b && leb b 103) refl h
 
-page_range_by_end_test : (start count size : ℕ) (a : LetterRead) (g : Grouped) (t : Bool) → ltb (2 ^ 32) (start + count * size) ≡ t →
-    ◌≡◌ {A = Result Grouped MapFault} (cond t (Err PastTheEnd)
+-- A range without a fault ends within the addresses of 32 bits, by the test of its end.
+page_range_by_end_test : (start count size : ℕ) (a : LetterRead) (g : RangeRead) (t : Bool) → ltb (2 ^ 32) (start + count * size) ≡ t →
+    ◌≡◌ {A = Result RangeRead MapFault} (cond t (Err PastTheEnd)
     (Ok (record { pages = record { start = start; size = size; count = count; access = a.access }; rest = a.rest }))) (Ok g) →
-    (start + count * size ≤ 2 ^ 32) × ◌≡◌ {A = Grouped} (record { pages = record { start = start; size = size; count = count; access = a.access }; rest = a.rest }) g
+    (start + count * size ≤ 2 ^ 32) × ◌≡◌ {A = RangeRead} (record { pages = record { start = start; size = size; count = count; access = a.access }; rest = a.rest }) g
 page_range_by_end_test start count size a g true e h = cc
 page_range_by_end_test start count size a g false e h = (ltb-false (2 ^ 32) (start + count * size) e, cc)
 
-checked_page_range_fits : (start count size : ℕ) (a : LetterRead) (g : Grouped) → range_of_pages start count size a ≡ Ok g →
-    (start + count * size ≤ 2 ^ 32) × ◌≡◌ {A = Grouped} (record { pages = record { start = start; size = size; count = count; access = a.access }; rest = a.rest }) g
+-- A range that `range_of_pages` returns ends within the addresses of 32 bits, and is the one of its start, count, size and access.
+checked_page_range_fits : (start count size : ℕ) (a : LetterRead) (g : RangeRead) → range_of_pages start count size a ≡ Ok g →
+    (start + count * size ≤ 2 ^ 32) × ◌≡◌ {A = RangeRead} (record { pages = record { start = start; size = size; count = count; access = a.access }; rest = a.rest }) g
 checked_page_range_fits start count size a g h = page_range_by_end_test start count size a g (ltb (2 ^ 32) (start + count * size)) refl h
 
--- The text begins with the text of a group of pages, before the rest.
-pub record GroupSpelled (start : ℕ) (g : Grouped) (text : List ℕ) : Type 0 where
+-- The text spells a group of pages, and then the rest.
+pub record GroupSpelled (start : ℕ) (g : RangeRead) (text : List ℕ) : Type 0 where
   pub group : List ℕ
   pub text_is : text ≡ group ++ g.rest
   pub group_is : IsGroup start g.pages group
 
--- A count, `*`, a size, a unit and a letter together are the text of a group.
+-- The text of a count, `*`, a size, a unit, a letter and the rest is the text of a group, and then the rest.
 group_parts_are_text : (cs ss us : List ℕ) (letter : ℕ) (rest : List ℕ) →
     cs ++ 42 ∷ (ss ++ (us ++ letter ∷ rest)) ≡ (cs ++ 42 ∷ (ss ++ (us ++ letter ∷ []))) ++ rest
 group_parts_are_text cs ss us letter rest = sym (simp append_assoc)
 
-group_of_spelled_parts : (start : ℕ) (text : List ℕ) (c s : NumberRead) (a : LetterRead) → CountSpelled c text → SizeSpelled s c.rest →
+-- A spelled count, size and letter are a spelled group, if its pages end within the addresses of 32 bits.
+spelled_parts_make_group : (start : ℕ) (text : List ℕ) (c s : NumberRead) (a : LetterRead) → CountSpelled c text → SizeSpelled s c.rest →
     AccessLetterSpelled a s.rest →
     start + c.value * s.value ≤ 2 ^ 32 →
     GroupSpelled start (record { pages = record { start = start; size = s.value; count = c.value; access = a.access }; rest = a.rest }) text
-group_of_spelled_parts start text c s a cs ss ls ends = record {
+spelled_parts_make_group start text c s a cs ss ls ends = record {
   group = cs.digits ++ 42 ∷ (ss.digits ++ (ss.unit ++ ls.letter ∷ []));
   text_is = cs.text_is ∙ (ap (λ (xs : List ℕ). cs.digits ++ 42 ∷ xs) (ss.text_is ∙ ap (λ (xs : List ℕ). ss.digits ++ (ss.unit ++ xs)) ls.text_is)
       ∙ group_parts_are_text cs.digits ss.digits ss.unit ls.letter a.rest);
@@ -191,7 +201,8 @@ group_of_spelled_parts start text c s a cs ss ls ends = record {
   };
 }
 
-pub read_group_is_spelled : (start : ℕ) (g : Grouped) (text : List ℕ) → group_at start text ≡ Ok g → GroupSpelled start g text
+-- A text spells the group that `group_at` reads from it.
+pub read_group_is_spelled : (start : ℕ) (g : RangeRead) (text : List ℕ) → group_at start text ≡ Ok g → GroupSpelled start g text
 unfolding group_at
 read_group_is_spelled start g text h =
     let c = both_steps_ok (count_at text) (λ (n : NumberRead). size_at n.rest >>= λ (s : NumberRead). access_at s.rest >>=
@@ -200,6 +211,6 @@ read_group_is_spelled start g text h =
     let s = both_steps_ok (size_at (c.0).rest) (λ (s : NumberRead). access_at s.rest >>= range_of_pages start (c.0).value s.value) g c.2 in
     let a = both_steps_ok (access_at (s.0).rest) (range_of_pages start (c.0).value (s.0).value) g s.2 in
     let r = checked_page_range_fits start (c.0).value (s.0).value a.0 g a.2 in
-    subst (λ (g : Grouped). GroupSpelled start g text) r.1
-    (group_of_spelled_parts start text c.0 s.0 a.0 (read_count_is_spelled c.0 text c.1) (read_size_is_spelled s.0 (c.0).rest s.1)
+    subst (λ (g : RangeRead). GroupSpelled start g text) r.1
+    (spelled_parts_make_group start text c.0 s.0 a.0 (read_count_is_spelled c.0 text c.1) (read_size_is_spelled s.0 (c.0).rest s.1)
     (read_access_is_spelled a.0 (s.0).rest a.1) r.0)

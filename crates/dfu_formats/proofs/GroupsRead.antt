@@ -1,38 +1,41 @@
--- Groups of pages that a text spells are read.
+-- `group_at` reads the groups of pages that a text spells.
 use Rattle.std.proofs.Common.{◌≡◌, ◌≢◌, ℕ, zero, suc, ◌+◌, ◌*◌, ◌^◌, ◌≤◌, leb, List, [], ◌∷◌, ◌++◌, refl, sym, ap, ◌∙◌, arith, Some, Ok, append_assoc}
 use Rattle.std.proofs.lemmas.Bool.{eq-eqb, le-ltb, ne_eqb, and_from, le-leb}
 use Rattle.std.proofs.lemmas.Bool.Decides.{nat_tests}
 use Rattle.dfu_formats.specs.declared.memory.pages.Access.{Access}
 use Rattle.dfu_formats.specs.declared.memory.pages.Pages.{Pages}
 use Rattle.dfu_formats.specs.memory.Ranges.{IsRange}
-use Rattle.dfu_formats.specs.memory.Reading.{NumberRead, Grouped, text_after_byte, count_at, unit_bytes, unit_at, size_at, access_of, access_at, range_of_pages, group_at, digit_value}
+use Rattle.dfu_formats.specs.memory.Reading.{NumberRead, RangeRead, text_after_byte, count_at, unit_bytes, unit_at, size_at, access_of, access_at, range_of_pages, group_at, digit_value}
 use Rattle.dfu_formats.specs.memory.Grammar.{IsNumber, IsUnit, IsGroup}
-use Rattle.dfu_formats.proofs.NumbersRead.{NoDigitFirst, other_byte_is_no_digit_first, spelled_number_is_read}
+use Rattle.dfu_formats.proofs.NumbersRead.{HasNoDigitFirst, other_byte_has_no_digit_first, spelled_number_is_read}
 
--- ---- what is spelled is read
+-- ---- reading of the parts of a group
 
 equal_numbers_read : (v w : ℕ) (r : List ℕ) → v ≡ w → ◌≡◌ {A = NumberRead} (record { value = v; rest = r }) (record { value = w; rest = r })
 equal_numbers_read v w r h = cc
 
-pub text_after_its_byte : (b : ℕ) (rest : List ℕ) → text_after_byte b (b ∷ rest) ≡ Some rest
+-- A text that begins with the byte gives the text after it.
+pub first_byte_is_taken : (b : ℕ) (rest : List ℕ) → text_after_byte b (b ∷ rest) ≡ Some rest
 unfolding text_after_byte
-text_after_its_byte b rest = rw (eq-eqb b b refl) refl
+first_byte_is_taken b rest = rw (eq-eqb b b refl) refl
 
+-- `count_at` reads a spelled count of at least 1 before `*`.
 spelled_count_is_read : (n : ℕ) (ds rest : List ℕ) → IsNumber 10 5 n ds → 1 ≤ n →
     count_at (ds ++ 42 ∷ rest) ≡ Ok (record { value = n; rest = rest })
 unfolding count_at
 spelled_count_is_read n ds rest h some =
     rw (
-      spelled_number_is_read 10 5 n ds (42 ∷ rest) h (other_byte_is_no_digit_first 10 42 rest (omega arith)),
+      spelled_number_is_read 10 5 n ds (42 ∷ rest) h (other_byte_has_no_digit_first 10 42 rest (omega arith)),
       ne_eqb n 0 (λ z. omega
           (arith, z, some)),
-      text_after_its_byte 42 rest,
+      first_byte_is_taken 42 rest,
     ) refl
 
--- A letter from a to g is no unit of size.
+-- A byte from the letter a on is no unit of size.
 letter_is_no_unit : (letter : ℕ) → 97 ≤ letter → unit_bytes letter ≡ 0
 letter_is_no_unit letter h = grind (arith, nat_tests)
 
+-- `unit_at` multiplies by a spelled unit before a letter, or by 1 without a unit.
 spelled_unit_is_read : (times value : ℕ) (unit : List ℕ) (letter : ℕ) (rest : List ℕ) → IsUnit times unit → 97 ≤ letter →
     unit_at value (unit ++ letter ∷ rest) ≡ record { value = times * value; rest = letter ∷ rest }
 unfolding unit_at
@@ -48,29 +51,33 @@ letter_is_no_decimal_digit b h = grind (arith, nat_tests)
 unit_is_no_decimal_digit : (b : ℕ) → unit_bytes b ≢ 0 → 10 ≤ digit_value b
 unit_is_no_decimal_digit b h = grind (arith, nat_tests)
 
-no_digit_after_unit : (times : ℕ) (unit : List ℕ) (letter : ℕ) (rest : List ℕ) → IsUnit times unit → 97 ≤ letter →
-    NoDigitFirst 10 (unit ++ letter ∷ rest)
-no_digit_after_unit times [] letter rest h a = other_byte_is_no_digit_first 10 letter rest (letter_is_no_decimal_digit letter a)
-no_digit_after_unit times (b ∷ []) letter rest h a = other_byte_is_no_digit_first 10 b (letter ∷ rest) (unit_is_no_decimal_digit b h.1)
-no_digit_after_unit times (a ∷ b ∷ bs) letter rest h c = absurd h
+-- A unit and a letter, or the letter without a unit, begin with no decimal digit.
+unit_has_no_digit_first : (times : ℕ) (unit : List ℕ) (letter : ℕ) (rest : List ℕ) → IsUnit times unit → 97 ≤ letter →
+    HasNoDigitFirst 10 (unit ++ letter ∷ rest)
+unit_has_no_digit_first times [] letter rest h a = other_byte_has_no_digit_first 10 letter rest (letter_is_no_decimal_digit letter a)
+unit_has_no_digit_first times (b ∷ []) letter rest h a = other_byte_has_no_digit_first 10 b (letter ∷ rest) (unit_is_no_decimal_digit b h.1)
+unit_has_no_digit_first times (a ∷ b ∷ bs) letter rest h c = absurd h
 
+-- `size_at` reads a spelled size of at least 1, with its unit or none, before a letter.
 spelled_size_is_read : (n times : ℕ) (ds unit : List ℕ) (letter : ℕ) (rest : List ℕ) → IsNumber 10 5 n ds → IsUnit times unit → 1 ≤ n →
     97 ≤ letter →
     size_at (ds ++ (unit ++ letter ∷ rest)) ≡ Ok (record { value = times * n; rest = letter ∷ rest })
 unfolding size_at
 spelled_size_is_read n times ds unit letter rest h u some a =
     rw (
-      spelled_number_is_read 10 5 n ds (unit ++ letter ∷ rest) h (no_digit_after_unit times unit letter rest u a),
+      spelled_number_is_read 10 5 n ds (unit ++ letter ∷ rest) h (unit_has_no_digit_first times unit letter rest u a),
       ne_eqb n 0 (λ z. omega
           (arith, z, some)),
     )
     (ap Ok (spelled_unit_is_read times n unit letter rest u a))
 
+-- `access_at` reads a letter from a to g.
 spelled_access_is_read : (letter : ℕ) (rest : List ℕ) → 97 ≤ letter → letter ≤ 103 → access_at (letter ∷ rest)
     ≡ Ok (record { access = access_of letter; rest = rest })
 unfolding access_at
 spelled_access_is_read letter rest h k = rw (and_from (leb 97 letter) (leb letter 103) (le-leb 97 letter h) (le-leb letter 103 k)) refl
 
+-- The number of a size that is at least 1 is at least 1.
 size_has_positive_number : (size times number : ℕ) → size ≡ times * number → 1 ≤ size → 1 ≤ number
 size_has_positive_number size times zero e h = absurd (omega (arith, e, h))
 size_has_positive_number size times (suc n) e h = omega arith
@@ -85,9 +92,10 @@ page_ranges_equal p start size count access a b c d =
     ∙ ap (λ (v : Access). let q : Pages = record { start = p.start; size = p.size; count = p.count; access = v } in q) (sym d)))
 
 grouped_ranges_equal : (p q : Pages) (rest : List ℕ) → p ≡ q →
-    ◌≡◌ {A = Grouped} (record { pages = p; rest = rest }) (record { pages = q; rest = rest })
+    ◌≡◌ {A = RangeRead} (record { pages = p; rest = rest }) (record { pages = q; rest = rest })
 grouped_ranges_equal p q rest e = cc
 
+-- `range_of_pages` returns a sound range, from its start, count, size and letter.
 sound_page_range_is_read : (start size : ℕ) (p : Pages) (letter : ℕ) (rest : List ℕ) → p.start ≡ start → p.size ≡ size → p.access
     ≡ access_of letter → IsRange p →
     range_of_pages start p.count size (record { access = access_of letter; rest = rest }) ≡ Ok (record { pages = p; rest = rest })
@@ -96,7 +104,7 @@ sound_page_range_is_read start size p letter rest s z a sound =
     rw (le-ltb (2 ^ 32) (start + p.count * size) (omega (arith, sound.ends, s, times)))
     (ap Ok (grouped_ranges_equal _ _ rest (page_ranges_equal p start size p.count (access_of letter) s z refl a)))
 
--- A group of pages that is spelled before a rest is read.
+-- `group_at` reads a spelled group of pages, and returns the text after it too.
 pub spelled_group_is_read : (start : ℕ) (p : Pages) (group rest : List ℕ) → IsGroup start p group → group_at start (group ++ rest)
     ≡ Ok (record { pages = p; rest = rest })
 unfolding group_at

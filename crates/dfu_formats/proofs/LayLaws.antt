@@ -4,14 +4,16 @@ use Rattle.std.proofs.lemmas.List.{append-nil}
 use Rattle.dfu_formats.specs.declared.images.laying.LayFault.{LayFault}
 use Rattle.dfu_formats.specs.declared.images.laying.LayFault.TheVariants as fault
 use Rattle.dfu_formats.specs.images.Elements.{Piece, end_of_piece, AreApart}
-use Rattle.dfu_formats.specs.images.Laying.{filled_part, bytes_in_front, part_before_others, laid_bytes, lowest_address, FailsToLay}
+use Rattle.dfu_formats.specs.images.Laying.{filled_part, bytes_in_front, part_before_others, laid_bytes, lowest_address, IsLayFault}
 
--- `bytes` and what the pieces in `left` add to them make `whole`.
+-- The pieces in `left`, laid from address `end` on after `bytes`, make `whole`, which may be a fault; and they share no address, from `end`
+-- on.
 pub record LaidRestMakesWhole (whole : Result (List ℕ) LayFault) (fill : Option ℕ) (bytes : List ℕ) (end : ℕ) (left : List Piece) : Type 0
   where
     pub so_far : bytes_in_front bytes (laid_bytes fill (length bytes) end left) ≡ whole
     pub apart : AreApart end left
 
+-- Before the first piece no bytes are laid, and all pieces are left.
 pub nothing_laid_makes_whole : (fill : Option ℕ) (end : ℕ) (all : List Piece) → AreApart end all →
     LaidRestMakesWhole (laid_bytes fill 0 end all) fill [] end all
 nothing_laid_makes_whole fill end all h = record { so_far = first (laid_bytes fill 0 end all); apart = h }
@@ -20,11 +22,13 @@ nothing_laid_makes_whole fill end all h = record { so_far = first (laid_bytes fi
     first (Ok bytes) = refl
     first (Err fault) = refl
 
-first_piece_apart_from_rest : (end : ℕ) (p : Piece) (ps : List Piece) → AreApart end (p ∷ ps) → (end ≤ p.address)
+-- If pieces are apart from `end` on, the first begins there or after it, and the others are apart from its end on.
+first_piece_and_rest_are_apart : (end : ℕ) (p : Piece) (ps : List Piece) → AreApart end (p ∷ ps) → (end ≤ p.address)
     × AreApart (end_of_piece p) ps
 unfolding AreApart
-first_piece_apart_from_rest end p ps h = h
+first_piece_and_rest_are_apart end p ps h = h
 
+-- The bytes of pieces are the part of the first, and then the bytes of the others, laid after it.
 laid_bytes_of_first_piece : (fill : Option ℕ) (count end : ℕ) (p : Piece) (ps : List Piece) →
     laid_bytes fill count end (p ∷ ps) ≡ part_before_others (filled_part fill count end p)
     (λ (front : List ℕ). laid_bytes fill (count + length front) (end_of_piece p) ps)
@@ -35,34 +39,38 @@ laid_bytes_of_none : (fill : Option ℕ) (count end : ℕ) → laid_bytes fill c
 unfolding laid_bytes
 laid_bytes_of_none fill count end = refl
 
+-- The next piece begins at `end` or after it.
 pub next_piece_not_before_end : (whole : Result (List ℕ) LayFault) (fill : Option ℕ) (bytes : List ℕ) (end : ℕ) (p : Piece) (ps left : List
     Piece) →
     left ≡ p ∷ ps → LaidRestMakesWhole whole fill bytes end left → end ≤ p.address
-next_piece_not_before_end whole fill bytes end p ps left e w = (first_piece_apart_from_rest end p ps (subst (AreApart end) e w.apart)).0
+next_piece_not_before_end whole fill bytes end p ps left e w = (first_piece_and_rest_are_apart end p ps (subst (AreApart end) e w.apart)).0
 
-part_fault_is_followed_fault : (fault : LayFault) (bytes : List ℕ) (r : Result (List ℕ) LayFault) (f : List ℕ → Result (List ℕ) LayFault) →
-    FailsToLay fault (bytes_in_front bytes r) → FailsToLay fault (bytes_in_front bytes (part_before_others r f))
-part_fault_is_followed_fault fault.NoMemory bytes r f h = tt
-part_fault_is_followed_fault fault bytes (Ok front) f h = cc
-part_fault_is_followed_fault fault bytes (Err other) f h = h
+-- A fault of a part stays the fault if more parts follow it.
+first_part_fault_stays : (fault : LayFault) (bytes : List ℕ) (r : Result (List ℕ) LayFault) (f : List ℕ → Result (List ℕ) LayFault) →
+    IsLayFault fault (bytes_in_front bytes r) → IsLayFault fault (bytes_in_front bytes (part_before_others r f))
+first_part_fault_stays fault.NoMemory bytes r f h = tt
+first_part_fault_stays fault bytes (Ok front) f h = cc
+first_part_fault_stays fault bytes (Err other) f h = h
 
+-- A fault of the next piece is the fault of the whole.
 pub part_fault_is_laying_fault : (fault : LayFault) (whole : Result (List ℕ) LayFault) (fill : Option ℕ) (bytes : List ℕ) (end : ℕ) (p :
     Piece) (ps left : List Piece) →
     left ≡ p ∷ ps → LaidRestMakesWhole whole fill bytes end left →
-    FailsToLay fault (bytes_in_front bytes (filled_part fill (length bytes) end p)) →
-    FailsToLay fault whole
+    IsLayFault fault (bytes_in_front bytes (filled_part fill (length bytes) end p)) →
+    IsLayFault fault whole
 part_fault_is_laying_fault fault whole fill bytes end p ps left e w h =
-    let f = part_fault_is_followed_fault fault bytes (filled_part fill (length bytes) end p)
+    let f = first_part_fault_stays fault bytes (filled_part fill (length bytes) end p)
     (λ (front : List ℕ). laid_bytes fill (length bytes + length front) (end_of_piece p) ps) h in
-    subst (FailsToLay fault) (sym (ap (bytes_in_front bytes)
+    subst (IsLayFault fault) (sym (ap (bytes_in_front bytes)
     (ap (laid_bytes fill (length bytes) end) e ∙ laid_bytes_of_first_piece fill (length bytes) end p ps)) ∙ w.so_far) f
 
-laid_front_goes_on : (fill : Option ℕ) (end : ℕ) (ps : List Piece) (bytes more : List ℕ) (r : Result (List ℕ) LayFault)
+-- Bytes followed by a part and more are the bytes with the part, followed by more.
+laid_front_takes_part : (fill : Option ℕ) (end : ℕ) (ps : List Piece) (bytes more : List ℕ) (r : Result (List ℕ) LayFault)
     → bytes_in_front bytes r ≡ Ok more →
     bytes_in_front bytes (part_before_others r (λ (front : List ℕ). laid_bytes fill (length bytes + length front) end ps))
     ≡ bytes_in_front more (laid_bytes fill (length more) end ps)
-laid_front_goes_on fill end ps bytes more (Err fault) h = cc
-laid_front_goes_on fill end ps bytes more (Ok front) h =
+laid_front_takes_part fill end ps bytes more (Err fault) h = cc
+laid_front_takes_part fill end ps bytes more (Ok front) h =
     let same : bytes ++ front ≡ more = cc in
     bytes_in_front_join bytes front (laid_bytes fill (length bytes + length front) end ps)
     ∙ (ap (λ (k : ℕ). bytes_in_front (bytes ++ front) (laid_bytes fill k end ps)) (sym (length-append bytes front))
@@ -73,17 +81,19 @@ laid_front_goes_on fill end ps bytes more (Ok front) h =
     bytes_in_front_join xs ys (Ok zs) = ap Ok (sym (append_assoc xs ys zs))
     bytes_in_front_join xs ys (Err fault) = refl
 
+-- Once the next piece is laid, the pieces after it, laid from its end on, make the whole.
 pub laid_part_makes_whole : (whole : Result (List ℕ) LayFault) (fill : Option ℕ) (bytes more : List ℕ) (end : ℕ) (p : Piece) (ps left :
     List Piece) →
     left ≡ p ∷ ps → LaidRestMakesWhole whole fill bytes end left → bytes_in_front bytes (filled_part fill (length bytes) end p) ≡ Ok more →
     LaidRestMakesWhole whole fill more (end_of_piece p) ps
 laid_part_makes_whole whole fill bytes more end p ps left e w h = record {
-  so_far = sym (laid_front_goes_on fill (end_of_piece p) ps bytes more (filled_part fill (length bytes) end p) h)
+  so_far = sym (laid_front_takes_part fill (end_of_piece p) ps bytes more (filled_part fill (length bytes) end p) h)
       ∙ (sym (ap (bytes_in_front bytes) (ap (laid_bytes fill (length bytes) end) e
       ∙ laid_bytes_of_first_piece fill (length bytes) end p ps)) ∙ w.so_far);
-  apart = (first_piece_apart_from_rest end p ps (subst (AreApart end) e w.apart)).1;
+  apart = (first_piece_and_rest_are_apart end p ps (subst (AreApart end) e w.apart)).1;
 }
 
+-- Once no piece is left, the bytes are the whole.
 pub all_laid_is_whole : (whole : Result (List ℕ) LayFault) (fill : Option ℕ) (bytes : List ℕ) (end : ℕ) (left : List Piece) →
     left ≡ [] → LaidRestMakesWhole whole fill bytes end left → whole ≡ Ok bytes
 all_laid_is_whole whole fill bytes end left e w =
@@ -97,6 +107,7 @@ unfolding AreApart
 apart_from_lowest_address [] end e h = tt
 apart_from_lowest_address (p ∷ ps) end e h = (omega (arith, e), h.1)
 
+-- The pieces from index `i` on are piece `i` and the pieces from the next index on.
 pub drop_from_next_piece : (ps : List Piece) (i j : ℕ) (d : Piece) → j ≡ suc i → i < length ps → drop i ps ≡ get_or ps i d ∷ drop j ps
 drop_from_next_piece [] i j d e h = absurd (omega (arith, h))
 drop_from_next_piece (p ∷ ps) zero j d e h = ap (λ (k : ℕ). p ∷ drop k (p ∷ ps)) (sym e)

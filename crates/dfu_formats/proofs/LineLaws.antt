@@ -19,28 +19,30 @@ pub other_byte_joins_line : (b : ℕ) (bs : List ℕ) → eqb b 10 ≡ false →
 unfolding lines
 other_byte_joins_line b bs e = rw e refl
 
+-- The first line feed of a text that begins with one is at index 0.
 line_feed_place_is_first : (b : ℕ) (bs : List ℕ) → eqb b 10 ≡ true → position_or_len is_line_feed (b ∷ bs) ≡ 0
 line_feed_place_is_first b bs e = rw e refl
 
+-- Another byte in front moves the first line feed by one place.
 line_feed_place_after_byte : (b : ℕ) (bs : List ℕ) → eqb b 10 ≡ false → position_or_len is_line_feed (b ∷ bs)
     ≡ 1 + position_or_len is_line_feed bs
 line_feed_place_after_byte b bs e = rw e refl
 
--- The first line ends at the first line feed, and the text behind that has the other lines.
-first_line_up_to_feed : (text : List ℕ) (n : ℕ) → position_or_len is_line_feed text ≡ n → n < length text
+-- The first line ends at the first line feed, and the text after that has the other lines.
+first_line_ends_at_feed : (text : List ℕ) (n : ℕ) → position_or_len is_line_feed text ≡ n → n < length text
     → lines text ≡ take n text ∷ lines (drop (suc n) text)
-first_line_up_to_feed [] n e h = absurd (omega (arith, h))
-first_line_up_to_feed (b ∷ bs) zero e h =
+first_line_ends_at_feed [] n e h = absurd (omega (arith, h))
+first_line_ends_at_feed (b ∷ bs) zero e h =
     let by : (t : Bool) → eqb b 10 ≡ t → lines (b ∷ bs) ≡ [] ∷ lines bs =
     λ t. elim t as (λ t. eqb b 10 ≡ t → lines (b ∷ bs) ≡ [] ∷ lines bs) [
       | true ↦ λ q. line_feed_ends_line b bs q
       | false ↦ λ q. absurd (omega (arith, line_feed_place_after_byte b bs q, e))
     ] in by (eqb b 10) refl
-first_line_up_to_feed (b ∷ bs) (suc n) e h =
+first_line_ends_at_feed (b ∷ bs) (suc n) e h =
     let by : (t : Bool) → eqb b 10 ≡ t → lines (b ∷ bs) ≡ (b ∷ take n bs) ∷ lines (drop (suc n) bs) =
     λ t. elim t as (λ t. eqb b 10 ≡ t → lines (b ∷ bs) ≡ (b ∷ take n bs) ∷ lines (drop (suc n) bs)) [
       | true ↦ λ q. absurd (omega (arith, line_feed_place_is_first b bs q, e))
-      | false ↦ λ q. other_byte_joins_line b bs q ∙ ap (byte_before_lines b) (first_line_up_to_feed bs n (omega (
+      | false ↦ λ q. other_byte_joins_line b bs q ∙ ap (byte_before_lines b) (first_line_ends_at_feed bs n (omega (
         arith,
         line_feed_place_after_byte b bs q,
         e,
@@ -65,21 +67,21 @@ none_means_test_false : (t : Bool) (k : ℕ) → cond t (Some k) None ≡ None �
 none_means_test_false true k h = cc
 none_means_test_false false k h = refl
 
--- The text up to its first line feed is the first line, and the text behind that has the other lines.
-pub lines_at_first_feed : (text : List ℕ) (n j : ℕ) → j ≡ suc n → position is_line_feed text ≡ Some n → lines text
+-- The text up to its first line feed is the first line, and the text after that has the other lines.
+pub first_feed_splits_lines : (text : List ℕ) (n j : ℕ) → j ≡ suc n → position is_line_feed text ≡ Some n → lines text
     ≡ take n text ∷ lines (drop j text)
-lines_at_first_feed text n j e h =
+first_feed_splits_lines text n j e h =
     let s = cond_some (ltb (position_or_len is_line_feed text) (length text)) (position_or_len is_line_feed text) n h in
     let within = ltb-true (position_or_len is_line_feed text) (length text) s.0 in
-    first_line_up_to_feed text n s.1 (omega (arith, within, s.1)) ∙ ap (λ (k : ℕ). take n text ∷ lines (drop k text)) (sym e)
+    first_line_ends_at_feed text n s.1 (omega (arith, within, s.1)) ∙ ap (λ (k : ℕ). take n text ∷ lines (drop k text)) (sym e)
 
--- A text that has no line feed is the last line.
-pub lines_of_last_line : (text : List ℕ) → position is_line_feed text ≡ None → lines text ≡ text ∷ []
-lines_of_last_line text h =
+-- A text that has no line feed is one line.
+pub no_feed_leaves_one_line : (text : List ℕ) → position is_line_feed text ≡ None → lines text ≡ text ∷ []
+no_feed_leaves_one_line text h =
     text_without_feed_is_line text (ltb-false (position_or_len is_line_feed text) (length text)
     (none_means_test_false (ltb (position_or_len is_line_feed text) (length text)) (position_or_len is_line_feed text) h))
 
--- A text has a first line.
+-- If a line is taken off the lines, with or without lines after it, it is the first of them.
 pub lines_have_first_line : {A : Type 0} (o : Option A) (f : A → List (List ℕ)) (all : List (List ℕ)) (line : List ℕ) →
     MatchOption o (all ≡ line ∷ []) (λ rest. all ≡ line ∷ f rest) → (more : List (List ℕ)) × (all ≡ line ∷ more)
 lines_have_first_line None f all line h = ([], h)

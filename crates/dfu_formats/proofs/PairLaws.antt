@@ -4,14 +4,10 @@ use Rattle.std.proofs.lemmas.List.{append-nil, drop_all}
 use Rattle.std.proofs.lemmas.Bool.{lt-ltb, le-ltb, and_from, and_left, and_right}
 use Rattle.dfu_formats.specs.images.Digits.{hex_value, byte_before_pairs, bytes_of_pairs}
 
--- Bytes before the bytes that digits spell, if the digits spell any.
+-- Puts bytes in front of the bytes that digits spell, if they spell any.
 abbrev pub bytes_before_spelled : List ℕ → Option (List ℕ) → Option (List ℕ)
 bytes_before_spelled front None = None
 bytes_before_spelled front (Some bytes) = Some (front ++ bytes)
-
-pub nothing_before_spelled : (spelled : Option (List ℕ)) → bytes_before_spelled [] spelled ≡ spelled
-nothing_before_spelled None = refl
-nothing_before_spelled (Some bytes) = refl
 
 no_digits_spell_no_bytes : bytes_of_pairs [] ≡ Some []
 unfolding bytes_of_pairs
@@ -28,19 +24,22 @@ unfolding bytes_of_pairs
 two_digits_spell_byte a b bs h k = rw (and_from (ltb (hex_value a) 16) (ltb (hex_value b) 16) (lt-ltb (hex_value a) 16 h) (lt-ltb
     (hex_value b) 16 k)) refl
 
--- A pair with a byte that is no hexadecimal digit spells nothing.
+-- If the first byte of a pair is no hexadecimal digit, the pair and those after it spell no bytes.
 pair_needs_high_digit : (a b : ℕ) (bs : List ℕ) → 16 ≤ hex_value a → bytes_of_pairs (a ∷ b ∷ bs) ≡ None
 unfolding bytes_of_pairs
 pair_needs_high_digit a b bs h = rw (and_left (ltb (hex_value a) 16) (ltb (hex_value b) 16) (le-ltb (hex_value a) 16 h)) refl
 
+-- If the second byte of a pair is no hexadecimal digit, the pair and those after it spell no bytes.
 pair_needs_low_digit : (a b : ℕ) (bs : List ℕ) → 16 ≤ hex_value b → bytes_of_pairs (a ∷ b ∷ bs) ≡ None
 unfolding bytes_of_pairs
 pair_needs_low_digit a b bs h = rw (and_right (ltb (hex_value a) 16) (ltb (hex_value b) 16) (le-ltb (hex_value b) 16 h)) refl
 
+-- From the last index on there is one byte.
 drop_before_last_byte : (xs : List ℕ) (i : ℕ) → i + 1 ≡ length xs → drop i xs ≡ get_or xs i 0 ∷ []
 drop_before_last_byte xs i h = drop-cons xs i 0 (omega (arith, h))
     ∙ ap (λ (ys : List ℕ). get_or xs i 0 ∷ ys) (drop_all (suc i) xs (omega (arith, h)))
 
+-- The bytes from index `i` on are the two bytes there, and then the others.
 drop_before_next_pair : (xs : List ℕ) (i j k : ℕ) → j ≡ suc i → k ≡ suc j → j < length xs → drop i xs
     ≡ get_or xs i 0 ∷ get_or xs j 0 ∷ drop k xs
 drop_before_next_pair xs i j k e f h =
@@ -48,33 +47,35 @@ drop_before_next_pair xs i j k e f h =
     (ap (λ (n : ℕ). drop n xs) (sym e) ∙ drop-cons xs j 0 h ∙ ap (λ (n : ℕ). get_or xs j 0 ∷ drop n xs) (sym f))
 
 -- Once all digits are read, the bytes so far are all bytes.
-pub pairs_read_to_end : (xs front : List ℕ) (i : ℕ) → length xs ≤ i → bytes_before_spelled front (bytes_of_pairs (drop i xs))
+pub read_pairs_are_all_bytes : (xs front : List ℕ) (i : ℕ) → length xs ≤ i → bytes_before_spelled front (bytes_of_pairs (drop i xs))
     ≡ bytes_of_pairs xs
     → bytes_of_pairs xs ≡ Some front
-pairs_read_to_end xs front i h so_far =
+read_pairs_are_all_bytes xs front i h so_far =
     sym so_far ∙ ap (bytes_before_spelled front) (ap bytes_of_pairs (drop_all i xs h) ∙ no_digits_spell_no_bytes)
     ∙ ap Some (append-nil front)
 
--- If one digit is left over, the digits spell no bytes.
-pub odd_digit_left_over : (xs front : List ℕ) (i : ℕ) → i + 1 ≡ length xs → bytes_before_spelled front (bytes_of_pairs (drop i xs))
+-- If a single digit remains at the end, the digits spell no bytes.
+pub odd_digit_is_fault : (xs front : List ℕ) (i : ℕ) → i + 1 ≡ length xs → bytes_before_spelled front (bytes_of_pairs (drop i xs))
     ≡ bytes_of_pairs xs
     → bytes_of_pairs xs ≡ None
-odd_digit_left_over xs front i h so_far =
+odd_digit_is_fault xs front i h so_far =
     sym so_far ∙ ap (bytes_before_spelled front) (ap bytes_of_pairs (drop_before_last_byte xs i h) ∙ one_digit_is_no_byte (get_or xs i 0))
 
--- If a byte of the next pair is no hexadecimal digit, the digits spell no bytes.
-pub high_digit_missing : (xs front : List ℕ) (i j k : ℕ) → j ≡ suc i → k ≡ suc j → j < length xs → 16 ≤ hex_value (get_or xs i 0) →
+-- If the first byte of the next pair is no hexadecimal digit, the digits spell no bytes.
+pub high_digit_is_needed : (xs front : List ℕ) (i j k : ℕ) → j ≡ suc i → k ≡ suc j → j < length xs → 16 ≤ hex_value (get_or xs i 0) →
     bytes_before_spelled front (bytes_of_pairs (drop i xs)) ≡ bytes_of_pairs xs → bytes_of_pairs xs ≡ None
-high_digit_missing xs front i j k e f h d so_far =
+high_digit_is_needed xs front i j k e f h d so_far =
     sym so_far ∙ ap (bytes_before_spelled front) (ap bytes_of_pairs (drop_before_next_pair xs i j k e f h)
     ∙ pair_needs_high_digit (get_or xs i 0) (get_or xs j 0) (drop k xs) d)
 
-pub low_digit_missing : (xs front : List ℕ) (i j k : ℕ) → j ≡ suc i → k ≡ suc j → j < length xs → 16 ≤ hex_value (get_or xs j 0) →
+-- If the second byte of the next pair is no hexadecimal digit, the digits spell no bytes.
+pub low_digit_is_needed : (xs front : List ℕ) (i j k : ℕ) → j ≡ suc i → k ≡ suc j → j < length xs → 16 ≤ hex_value (get_or xs j 0) →
     bytes_before_spelled front (bytes_of_pairs (drop i xs)) ≡ bytes_of_pairs xs → bytes_of_pairs xs ≡ None
-low_digit_missing xs front i j k e f h d so_far =
+low_digit_is_needed xs front i j k e f h d so_far =
     sym so_far ∙ ap (bytes_before_spelled front) (ap bytes_of_pairs (drop_before_next_pair xs i j k e f h)
     ∙ pair_needs_low_digit (get_or xs i 0) (get_or xs j 0) (drop k xs) d)
 
+-- A byte in front of the spelled bytes may be moved to the end of the bytes before it.
 byte_moves_to_front : (front : List ℕ) (b : ℕ) (spelled : Option (List ℕ)) → bytes_before_spelled front (byte_before_pairs b spelled)
     ≡ bytes_before_spelled (front ++ b ∷ []) spelled
 byte_moves_to_front front b None = refl

@@ -1,26 +1,28 @@
--- Place of an element among others, of which no two share an address.
+-- Places of elements by address, and elements that share no address.
 use Rattle.std.proofs.Common.{◌≡◌, ℕ, zero, suc, ◌+◌, ◌<◌, ◌≤◌, Bool, true, false, cond, ltb, List, [], ◌∷◌, length, drop, get_or, refl, sym, ap, ◌∙◌, arith, Some, None}
 use Rattle.std.proofs.lemmas.Bool.{ltb-false, lt-ltb, le-ltb}
 use Rattle.dfu_formats.specs.images.Elements.{Piece, end_of_piece, element_place, shared_address, AreApart}
 
-element_place_after_first : (a : ℕ) (p : Piece) (ps : List Piece) → p.address ≤ a → element_place a (p ∷ ps) ≡ suc (element_place a ps)
+-- A first element that begins at the address or before it adds one to the place among the others.
+earlier_element_adds_to_place : (a : ℕ) (p : Piece) (ps : List Piece) → p.address ≤ a → element_place a (p ∷ ps) ≡ suc (element_place a ps)
 unfolding element_place
-element_place_after_first a p ps h = rw (le-ltb a p.address h) refl
+earlier_element_adds_to_place a p ps h = rw (le-ltb a p.address h) refl
 
-element_place_before_first : (a : ℕ) (p : Piece) (ps : List Piece) → a < p.address → element_place a (p ∷ ps) ≡ 0
+-- If the first element begins after the address, the place is 0.
+later_element_ends_place : (a : ℕ) (p : Piece) (ps : List Piece) → a < p.address → element_place a (p ∷ ps) ≡ 0
 unfolding element_place
-element_place_before_first a p ps h = rw (lt-ltb a p.address h) refl
+later_element_ends_place a p ps h = rw (lt-ltb a p.address h) refl
 
 element_place_of_none : (a : ℕ) → element_place a [] ≡ 0
 unfolding element_place
 element_place_of_none a = refl
 
--- An element that begins at the address or before it is counted.
+-- If element `i` begins at the address or before it, `i` plus the place among those from `i` on is the same sum for the next index.
 pub element_place_at_next : (a : ℕ) (ps : List Piece) (i j : ℕ) (d : Piece) → j ≡ suc i → i < length ps → (get_or ps i d).address ≤ a →
     i + element_place a (drop i ps) ≡ j + element_place a (drop j ps)
 element_place_at_next a [] i j d e h l = absurd (omega (arith, h))
 element_place_at_next a (p ∷ ps) zero j d e h l =
-    let step = element_place_after_first a p ps l in
+    let step = earlier_element_adds_to_place a p ps l in
     let there : drop j (p ∷ ps) ≡ ps = ap (λ (k : ℕ). drop k (p ∷ ps)) e in
     let same = ap (element_place a) there in
     omega (arith, step, same, e)
@@ -30,20 +32,21 @@ element_place_at_next a (p ∷ ps) (suc i) j d e h l =
     let same = ap (element_place a) there in
     omega (arith, more, same, e)
 
--- An element that begins after the address ends the count.
+-- If element `i` begins after the address, the place among those from `i` on is 0.
 pub element_place_ends_here : (a : ℕ) (ps : List Piece) (i : ℕ) (d : Piece) → i < length ps → a < (get_or ps i d).address →
     element_place a (drop i ps) ≡ 0
 element_place_ends_here a [] i d h l = absurd (omega (arith, h))
-element_place_ends_here a (p ∷ ps) zero d h l = element_place_before_first a p ps l
+element_place_ends_here a (p ∷ ps) zero d h l = later_element_ends_place a p ps l
 element_place_ends_here a (p ∷ ps) (suc i) d h l = element_place_ends_here a ps i d (omega (arith, h)) l
 
--- Past the last element nothing is counted.
+-- The place among no elements, past the last one, is 0.
 pub element_place_past_end : (a : ℕ) (ps : List Piece) (i : ℕ) → length ps ≤ i → element_place a (drop i ps) ≡ 0
 element_place_past_end a [] zero h = element_place_of_none a
 element_place_past_end a [] (suc i) h = element_place_of_none a
 element_place_past_end a (p ∷ ps) zero h = absurd (omega (arith, h))
 element_place_past_end a (p ∷ ps) (suc i) h = element_place_past_end a ps i (omega (arith, h))
 
+-- If no address is shared, by the test of the first element, it begins at `end` or after it, and none of the others is shared.
 apart_by_address_test : (end : ℕ) (p : Piece) (ps : List Piece) (t : Bool) → ltb p.address end ≡ t →
     cond t (Some p.address) (shared_address (end_of_piece p) ps) ≡ None →
     (end ≤ p.address) × (shared_address (end_of_piece p) ps ≡ None)
@@ -55,7 +58,7 @@ shared_address_of_first : (end : ℕ) (p : Piece) (ps : List Piece) →
 unfolding shared_address
 shared_address_of_first end p ps = refl
 
--- If no address is shared, each element begins at the end of the one before it or later.
+-- If no address is shared, each element begins at or after the end of the element in front of it.
 pub no_shared_address_means_apart : (end : ℕ) (ps : List Piece) → shared_address end ps ≡ None → AreApart end ps
 unfolding AreApart
 no_shared_address_means_apart end [] h = tt

@@ -1,55 +1,59 @@
--- Addresses that were read of a map are spelled by its text.
+-- The text of a map spells the addresses that are read from it.
 use Rattle.std.proofs.Common.{◌≡◌, ℕ, ◌&&◌, ◌||◌, ◌⊎◌, inl, inr, Bool, true, false, cond, eqb, List, [], ◌∷◌, ◌++◌, refl, sym, ap, ◌∙◌, subst, Option, Some, None, Result, Ok, Err, append_assoc}
 use Rattle.std.proofs.lemmas.Bool.{eqb-true, and_parts, or_cases}
 use Rattle.dfu_formats.specs.declared.memory.fault.MapFault.{MapFault}
 use Rattle.dfu_formats.specs.declared.memory.fault.MapFault.TheVariants.{BadAddress, Trailing}
-use Rattle.dfu_formats.specs.memory.Reading.{NumberRead, ◌>>=◌, map_value_or, text_after_byte, map_number_at, behind_prefix, address_at, place_as_option, next_range_place}
+use Rattle.dfu_formats.specs.memory.Reading.{NumberRead, ◌>>=◌, value_or_map_fault, text_after_byte, map_number_at, text_after_prefix, address_at, place_as_option, next_range_place}
 use Rattle.dfu_formats.specs.memory.Grammar.{IsNumber, IsPrefix, IsAddress}
 use Rattle.dfu_formats.proofs.NumbersRead.{read_number_is_spelled}
 use Rattle.dfu_formats.proofs.MapSteps.{both_steps_ok, value_or_fault_was_some, byte_taken_was_first}
 
--- A hexadecimal prefix, or none, precedes the rest.
+-- The text is a hexadecimal prefix or none, and then the rest.
 record HexPrefixSpelled (rest text : List ℕ) : Type 0 where
   prefix : List ℕ
   text_is : text ≡ prefix ++ rest
   prefix_is : IsPrefix prefix
 
-letter_x_of_either_case : (b : ℕ) → (eqb b 120 || eqb b 88) ≡ true → (b ≡ 120) ⊎ (b ≡ 88)
-letter_x_of_either_case b h = elim (or_cases (eqb b 120) (eqb b 88) h) [ inl e ↦ inl (eqb-true b 120 e) | inr e ↦ inr (eqb-true b 88 e) ]
+x_test_means_either_case : (b : ℕ) → (eqb b 120 || eqb b 88) ≡ true → (b ≡ 120) ⊎ (b ≡ 88)
+x_test_means_either_case b h = elim (or_cases (eqb b 120) (eqb b 88) h) [ inl e ↦ inl (eqb-true b 120 e) | inr e ↦ inr (eqb-true b 88 e) ]
 
+-- The text before the rest is a prefix or none, by the test of the first two bytes.
 hex_prefix_by_test : (a b : ℕ) (bs : List ℕ) (t : Bool) → (eqb a 48 && (eqb b 120 || eqb b 88)) ≡ t →
     HexPrefixSpelled (cond t bs (a ∷ b ∷ bs)) (a ∷ b ∷ bs)
 hex_prefix_by_test a b bs true e =
     let both = and_parts (eqb a 48) (eqb b 120 || eqb b 88) e in
-    record { prefix = a ∷ b ∷ []; text_is = refl; prefix_is = (eqb-true a 48 both.0, letter_x_of_either_case b both.1) }
+    record { prefix = a ∷ b ∷ []; text_is = refl; prefix_is = (eqb-true a 48 both.0, x_test_means_either_case b both.1) }
 hex_prefix_by_test a b bs false e = record { prefix = []; text_is = refl; prefix_is = tt }
 
-hex_prefix_precedes_rest : (text : List ℕ) → HexPrefixSpelled (behind_prefix text) text
-unfolding behind_prefix
+-- A text is a prefix or none, and then the text that `text_after_prefix` leaves.
+hex_prefix_precedes_rest : (text : List ℕ) → HexPrefixSpelled (text_after_prefix text) text
+unfolding text_after_prefix
 hex_prefix_precedes_rest [] = record { prefix = []; text_is = refl; prefix_is = tt }
 hex_prefix_precedes_rest (a ∷ []) = record { prefix = []; text_is = refl; prefix_is = tt }
 hex_prefix_precedes_rest (a ∷ b ∷ bs) = hex_prefix_by_test a b bs (eqb a 48 && (eqb b 120 || eqb b 88)) refl
 
--- The text spells an address, a stroke, and the rest.
+-- The text spells an address, `/`, and the rest.
 pub record AddressSpelled (n : NumberRead) (text : List ℕ) : Type 0 where
   pub address : List ℕ
   pub text_is : text ≡ address ++ 47 ∷ n.rest
   pub address_is : IsAddress n.value address
 
+-- A text spells the address that `address_at` reads from it.
 pub read_address_is_spelled : (n : NumberRead) (text : List ℕ) → address_at text ≡ Ok n → AddressSpelled n text
 unfolding address_at
 read_address_is_spelled n text h =
-    let s = both_steps_ok (map_value_or BadAddress (map_number_at 16 8 (behind_prefix text)))
-    (λ (m : NumberRead). map_value_or BadAddress (text_after_byte 47 m.rest) >>= λ (rest : List ℕ). Ok
+    let s = both_steps_ok (value_or_map_fault BadAddress (map_number_at 16 8 (text_after_prefix text)))
+    (λ (m : NumberRead). value_or_map_fault BadAddress (text_after_byte 47 m.rest) >>= λ (rest : List ℕ). Ok
     (record { value = m.value; rest = rest })) n h in
-    let t = both_steps_ok (map_value_or BadAddress (text_after_byte 47 (s.0).rest))
+    let t = both_steps_ok (value_or_map_fault BadAddress (text_after_byte 47 (s.0).rest))
     (λ (rest : List ℕ). Ok (record { value = (s.0).value; rest = rest })) n s.2 in
     let stroke = byte_taken_was_first 47 (s.0).rest t.0 (value_or_fault_was_some BadAddress (text_after_byte 47 (s.0).rest) t.0 t.1) in
     let same : ◌≡◌ {A = NumberRead} (record { value = (s.0).value; rest = t.0 }) n = cc in
     let value : (s.0).value ≡ n.value = ap (λ (m : NumberRead). m.value) same in
     let rest : t.0 ≡ n.rest = ap (λ (m : NumberRead). m.rest) same in
     let p = hex_prefix_precedes_rest text in
-    let d = read_number_is_spelled 16 8 s.0 (behind_prefix text) (value_or_fault_was_some BadAddress (map_number_at 16 8 (behind_prefix
+    let d = read_number_is_spelled 16 8 s.0 (text_after_prefix text)
+    (value_or_fault_was_some BadAddress (map_number_at 16 8 (text_after_prefix
     text)) s.0 s.1) in record {
       address = p.prefix ++ d.digits;
       text_is = p.text_is ∙ (ap (λ (xs : List ℕ). p.prefix ++ xs) (d.text_is ∙ ap (λ (xs : List ℕ). d.digits ++ xs) (stroke ∙ ap (λ (xs : List ℕ). 47 ∷ xs) rest))
@@ -63,7 +67,7 @@ read_address_is_spelled n text h =
       };
     }
 
--- What follows a range: nothing, `,`, or a stroke and an address; the option is the place of the next range.
+-- Text after a range that ends at `end`: nothing, for no next range; `,`, for one at `end`; or an address between two `/`, for one there.
 unfoldable pub LeadsToNextRange : (end : ℕ) → Option NumberRead → List ℕ → Type 0
 LeadsToNextRange end None text = text ≡ []
 LeadsToNextRange end (Some p) text = ((text ≡ 44 ∷ p.rest) × (p.value ≡ end)) ⊎ ((more : List ℕ) × (text ≡ 47 ∷ more)
@@ -84,24 +88,26 @@ next_range_after_comma end b bs (Some p) e h =
     let rest : bs ≡ p.rest = ap (λ (m : NumberRead). m.rest) same in
     inl (cc, sym (ap (λ (m : NumberRead). m.value) same))
 
-next_range_after_stroke : (end b : ℕ) (bs : List ℕ) (o : Option NumberRead) → b ≡ 47 → place_as_option (address_at bs) ≡ Ok o →
+next_range_after_slash : (end b : ℕ) (bs : List ℕ) (o : Option NumberRead) → b ≡ 47 → place_as_option (address_at bs) ≡ Ok o →
     LeadsToNextRange end o (b ∷ bs)
 unfolding LeadsToNextRange
-next_range_after_stroke end b bs None e h =
+next_range_after_slash end b bs None e h =
     let s = both_steps_ok (address_at bs) (λ (p : NumberRead). Ok (Some p)) None h in
     let wrong = s.2 in cc
-next_range_after_stroke end b bs (Some p) e h =
+next_range_after_slash end b bs (Some p) e h =
     let s = both_steps_ok (address_at bs) (λ (p : NumberRead). Ok (Some p)) (Some p) h in
     let same : s.0 ≡ p = cc in
     inr (bs, ap (λ (k : ℕ). k ∷ bs) e, read_address_is_spelled p bs (s.1 ∙ ap Ok same))
 
+-- The text leads to the place of the next range that is read, by the tests for `,` and `/`.
 next_range_by_tests : (end b : ℕ) (bs : List ℕ) (o : Option NumberRead) (t u : Bool) → eqb b 44 ≡ t → eqb b 47 ≡ u →
     cond t (Ok (Some (record { value = end; rest = bs }))) (cond u (place_as_option (address_at bs)) (Err Trailing)) ≡ Ok o →
     LeadsToNextRange end o (b ∷ bs)
 next_range_by_tests end b bs o true u e f h = next_range_after_comma end b bs o (eqb-true b 44 e) h
-next_range_by_tests end b bs o false true e f h = next_range_after_stroke end b bs o (eqb-true b 47 f) h
+next_range_by_tests end b bs o false true e f h = next_range_after_slash end b bs o (eqb-true b 47 f) h
 next_range_by_tests end b bs o false false e f h = cc
 
+-- A text leads to the place of the next range that is read from it.
 pub read_next_place_is_spelled : (end : ℕ) (o : Option NumberRead) (text : List ℕ) → next_range_place end text ≡ Ok o →
     LeadsToNextRange end o text
 unfolding next_range_place

@@ -6,19 +6,21 @@ use Rattle.dfu_formats.specs.declared.memory.fault.MapFault.TheVariants.{TooMany
 use Rattle.std.specs.List.{All}
 use Rattle.std.proofs.lemmas.List.Elements.{All-append}
 use Rattle.dfu_formats.specs.memory.Ranges.{IsRange, end_of_range}
-use Rattle.dfu_formats.specs.memory.Reading.{NumberRead, Grouped, ◌>>=◌, ranges_continued, group_at, next_range_place, ranges_at}
+use Rattle.dfu_formats.specs.memory.Reading.{NumberRead, RangeRead, ◌>>=◌, ranges_continued, group_at, next_range_place, ranges_at}
 use Rattle.dfu_formats.specs.inside.Listing.{ranges_joined}
 
--- The ranges that were read, and those of the text that is left, make `whole`.
+-- The ranges read so far, followed by those of the remaining text, 32 at most in all, are `whole`, which may be a fault.
 pub record RestMakesWholeRanges (whole : Result (List Pages) MapFault) (before : List Pages) (start : ℕ) (text : List ℕ) : Type 0 where
   pub most : ℕ
   pub room : length before + most ≡ 32
   pub rest : ranges_joined before (ranges_at most start text) ≡ whole
 
+-- Ranges with none in front of them stay as they are.
 no_ranges_joined : (r : Result (List Pages) MapFault) → ranges_joined [] r ≡ r
 no_ranges_joined (Ok more) = refl
 no_ranges_joined (Err fault) = refl
 
+-- Before the first range no ranges are read, and all are left.
 pub nothing_read_leaves_all_ranges : (start : ℕ) (text : List ℕ) → RestMakesWholeRanges (ranges_at 32 start text) [] start text
 nothing_read_leaves_all_ranges start text = record { most = 32; room = refl; rest = no_ranges_joined (ranges_at 32 start text) }
 
@@ -29,59 +31,64 @@ unfolding ranges_at
 group_fault_is_ranges_fault zero start text fault e = rw e refl
 group_fault_is_ranges_fault (suc n) start text fault e = rw e refl
 
+-- A fault of the next group is the fault of the whole.
 pub group_fault_is_whole_fault : (whole : Result (List Pages) MapFault) (before : List Pages) (start : ℕ) (text : List ℕ) (fault :
     MapFault) →
     RestMakesWholeRanges whole before start text → group_at start text ≡ Err fault → whole ≡ Err fault
 group_fault_is_whole_fault whole before start text fault g e = sym g.rest
     ∙ ap (ranges_joined before) (group_fault_is_ranges_fault g.most start text fault e)
 
-range_beyond_limit_is_fault : (start : ℕ) (text : List ℕ) (g : Grouped) → group_at start text ≡ Ok g → ranges_at 0 start text
+-- If no further range is allowed, one that is read is `TooManyRanges`.
+range_beyond_limit_is_fault : (start : ℕ) (text : List ℕ) (g : RangeRead) → group_at start text ≡ Ok g → ranges_at 0 start text
     ≡ Err TooManyRanges
 unfolding ranges_at
 range_beyond_limit_is_fault start text g e = rw e refl
 
+-- If the ranges read so far leave no room, a further one makes the whole `TooManyRanges`.
 no_room_for_range_is_fault : (most : ℕ) (whole : Result (List Pages) MapFault) (before : List Pages) (start : ℕ) (text : List ℕ) (g :
-    Grouped) →
+    RangeRead) →
     most ≡ 0 → ranges_joined before (ranges_at most start text) ≡ whole → group_at start text ≡ Ok g → whole ≡ Err TooManyRanges
 no_room_for_range_is_fault zero whole before start text g z w e = sym w
     ∙ ap (ranges_joined before) (range_beyond_limit_is_fault start text g e)
 no_room_for_range_is_fault (suc n) whole before start text g z w e = absurd (omega (arith, z))
 
--- A further range after 32 is refused as `TooManyRanges`.
-pub too_many_ranges_refused : (whole : Result (List Pages) MapFault) (before : List Pages) (start : ℕ) (text : List ℕ) (g : Grouped) →
+-- If a further range follows 32, the whole is the fault `TooManyRanges`.
+pub too_many_ranges_are_refused : (whole : Result (List Pages) MapFault) (before : List Pages) (start : ℕ) (text : List ℕ) (g : RangeRead) →
     RestMakesWholeRanges whole before start text → length before ≡ 32 → group_at start text ≡ Ok g → whole ≡ Err TooManyRanges
-too_many_ranges_refused whole before start text g w full e = no_room_for_range_is_fault w.most whole before start text g (omega (
+too_many_ranges_are_refused whole before start text g w full e = no_room_for_range_is_fault w.most whole before start text g (omega (
   arith,
   w.room,
   full,
 )) w.rest e
 
-next_place_fault_is_ranges_fault : (n start : ℕ) (text : List ℕ) (g : Grouped) (fault : MapFault) → group_at start text ≡ Ok g →
+next_place_fault_is_ranges_fault : (n start : ℕ) (text : List ℕ) (g : RangeRead) (fault : MapFault) → group_at start text ≡ Ok g →
     next_range_place (end_of_range g.pages) g.rest ≡ Err fault → ranges_at (suc n) start text ≡ Err fault
 unfolding ranges_at
 next_place_fault_is_ranges_fault n start text g fault e f = rw (e, f) refl
 
-range_without_next_is_last : (n start : ℕ) (text : List ℕ) (g : Grouped) → group_at start text ≡ Ok g →
+range_without_next_is_last : (n start : ℕ) (text : List ℕ) (g : RangeRead) → group_at start text ≡ Ok g →
     next_range_place (end_of_range g.pages) g.rest ≡ Ok None → ranges_at (suc n) start text ≡ Ok (g.pages ∷ [])
 unfolding ranges_at
 range_without_next_is_last n start text g e f = rw (e, f) refl
 
-ranges_before_next_place : (n start : ℕ) (text : List ℕ) (g : Grouped) (p : NumberRead) → group_at start text ≡ Ok g →
+ranges_before_next_place : (n start : ℕ) (text : List ℕ) (g : RangeRead) (p : NumberRead) → group_at start text ≡ Ok g →
     next_range_place (end_of_range g.pages) g.rest ≡ Ok (Some p) →
     ranges_at (suc n) start text ≡ ranges_continued g.pages (Some p) (λ (q : NumberRead). ranges_at n q.value q.rest)
 unfolding ranges_at
 ranges_before_next_place n start text g p e f = rw (e, f) refl
 
+-- If there is room, a fault in the text after a range is the fault of the whole.
 next_place_fault_by_room : (most : ℕ) (whole : Result (List Pages) MapFault) (before : List Pages) (start : ℕ) (text : List ℕ) (g :
-    Grouped) (fault : MapFault) →
+    RangeRead) (fault : MapFault) →
     1 ≤ most → ranges_joined before (ranges_at most start text) ≡ whole → group_at start text ≡ Ok g →
     next_range_place (end_of_range g.pages) g.rest ≡ Err fault → whole ≡ Err fault
 next_place_fault_by_room zero whole before start text g fault z w e f = absurd (omega (arith, z))
 next_place_fault_by_room (suc n) whole before start text g fault z w e f = sym w
     ∙ ap (ranges_joined before) (next_place_fault_is_ranges_fault n start text g fault e f)
 
--- A fault behind a range is the fault of all ranges.
-pub next_place_fault_is_whole_fault : (whole : Result (List Pages) MapFault) (before : List Pages) (start : ℕ) (text : List ℕ) (g : Grouped)
+-- A fault in the text after one of the first 32 ranges is the fault of all ranges.
+pub next_place_fault_is_whole_fault : (whole : Result (List Pages) MapFault) (before : List Pages) (start : ℕ) (text : List ℕ)
+    (g : RangeRead)
     (fault : MapFault) →
     RestMakesWholeRanges whole before start text → length before < 32 → group_at start text ≡ Ok g
     → next_range_place (end_of_range g.pages) g.rest ≡ Err fault →
@@ -89,15 +96,16 @@ pub next_place_fault_is_whole_fault : (whole : Result (List Pages) MapFault) (be
 next_place_fault_is_whole_fault whole before start text g fault w room e f =
     next_place_fault_by_room w.most whole before start text g fault (omega (arith, w.room, room)) w.rest e f
 
-last_range_by_room : (most : ℕ) (whole : Result (List Pages) MapFault) (before : List Pages) (start : ℕ) (text : List ℕ) (g : Grouped) →
+-- If there is room, and nothing follows a range, the whole is the ranges with it.
+last_range_by_room : (most : ℕ) (whole : Result (List Pages) MapFault) (before : List Pages) (start : ℕ) (text : List ℕ) (g : RangeRead) →
     1 ≤ most → ranges_joined before (ranges_at most start text) ≡ whole → group_at start text ≡ Ok g →
     next_range_place (end_of_range g.pages) g.rest ≡ Ok None → whole ≡ Ok (before ++ g.pages ∷ [])
 last_range_by_room zero whole before start text g z w e f = absurd (omega (arith, z))
 last_range_by_room (suc n) whole before start text g z w e f = sym w
     ∙ ap (ranges_joined before) (range_without_next_is_last n start text g e f)
 
--- If nothing follows a range, it is the last one, and all ranges are read.
-pub last_range_completes_whole : (whole : Result (List Pages) MapFault) (before : List Pages) (start : ℕ) (text : List ℕ) (g : Grouped) →
+-- If nothing follows one of the first 32 ranges, it is the last one, and all ranges are read.
+pub last_range_completes_whole : (whole : Result (List Pages) MapFault) (before : List Pages) (start : ℕ) (text : List ℕ) (g : RangeRead) →
     RestMakesWholeRanges whole before start text → length before < 32 → group_at start text ≡ Ok g
     → next_range_place (end_of_range g.pages) g.rest ≡ Ok None →
     whole ≡ Ok (before ++ g.pages ∷ [])
@@ -107,17 +115,19 @@ last_range_completes_whole whole before start text g w room e f = last_range_by_
   room,
 )) w.rest e f
 
-joined_ranges_move_over : (before : List Pages) (p : Pages) (r : Result (List Pages) MapFault) →
+-- A range between two lists of ranges may be joined to the list in front of it.
+joined_fronts_take_range : (before : List Pages) (p : Pages) (r : Result (List Pages) MapFault) →
     ranges_joined before (r >>= λ (ranges : List Pages). Ok (p ∷ ranges)) ≡ ranges_joined (before ++ p ∷ []) r
-joined_ranges_move_over before p (Ok more) = ap Ok (sym (append_assoc before (p ∷ []) more))
-joined_ranges_move_over before p (Err fault) = refl
+joined_fronts_take_range before p (Ok more) = ap Ok (sym (append_assoc before (p ∷ []) more))
+joined_fronts_take_range before p (Err fault) = refl
 
-joined_range_moves_over : (before : List Pages) (p : Pages) (place : NumberRead) (r : NumberRead → Result (List Pages) MapFault) →
+joined_front_takes_range : (before : List Pages) (p : Pages) (place : NumberRead) (r : NumberRead → Result (List Pages) MapFault) →
     ranges_joined before (ranges_continued p (Some place) r) ≡ ranges_joined (before ++ p ∷ []) (r place)
-joined_range_moves_over before p place r =
-    joined_ranges_move_over before p (r place)
+joined_front_takes_range before p place r =
+    joined_fronts_take_range before p (r place)
 
-further_range_by_room : (most : ℕ) (whole : Result (List Pages) MapFault) (before : List Pages) (start : ℕ) (text : List ℕ) (g : Grouped)
+-- If there is room, and a place follows a range, the range is added, and the ranges from that place on are left.
+further_range_by_room : (most : ℕ) (whole : Result (List Pages) MapFault) (before : List Pages) (start : ℕ) (text : List ℕ) (g : RangeRead)
     (place : NumberRead) →
     length before + most ≡ 32 → 1 ≤ most → ranges_joined before (ranges_at most start text) ≡ whole → group_at start text ≡ Ok g →
     next_range_place (end_of_range g.pages) g.rest ≡ Ok (Some place) → RestMakesWholeRanges whole (before
@@ -126,12 +136,12 @@ further_range_by_room zero whole before start text g place room z w e f = absurd
 further_range_by_room (suc n) whole before start text g place room z w e f = record {
   most = n;
   room = omega (arith, room, length-append before (g.pages ∷ []));
-  rest = sym (joined_range_moves_over before g.pages place (λ (q : NumberRead). ranges_at n q.value q.rest))
+  rest = sym (joined_front_takes_range before g.pages place (λ (q : NumberRead). ranges_at n q.value q.rest))
       ∙ (sym (ap (ranges_joined before) (ranges_before_next_place n start text g place e f)) ∙ w);
 }
 
--- If a place follows a range, the range is added, and reading goes on from the place.
-pub further_range_leaves_rest : (whole : Result (List Pages) MapFault) (before : List Pages) (start : ℕ) (text : List ℕ) (g : Grouped)
+-- If a place follows one of the first 32 ranges, the range is added, and the ranges from that place on are left.
+pub further_range_leaves_rest : (whole : Result (List Pages) MapFault) (before : List Pages) (start : ℕ) (text : List ℕ) (g : RangeRead)
     (place : NumberRead) →
     RestMakesWholeRanges whole before start text → length before < 32 → group_at start text ≡ Ok g →
     next_range_place (end_of_range g.pages) g.rest ≡ Ok (Some place) →
@@ -139,34 +149,35 @@ pub further_range_leaves_rest : (whole : Result (List Pages) MapFault) (before :
 further_range_leaves_rest whole before start text g place w room e f =
     further_range_by_room w.most whole before start text g place w.room (omega (arith, w.room, room)) w.rest e f
 
-single_range_sound : (p : Pages) → IsRange p → All IsRange (p ∷ [])
-single_range_sound p s zero d h = s
-single_range_sound p s (suc k) d h = absurd (omega (arith, h))
+single_range_is_sound : (p : Pages) → IsRange p → All IsRange (p ∷ [])
+single_range_is_sound p s zero d h = s
+single_range_is_sound p s (suc k) d h = absurd (omega (arith, h))
 
 -- Sound ranges and a further sound range are sound.
-pub sound_ranges_with_another : (before : List Pages) (p : Pages) → All IsRange before → IsRange p → All IsRange (before ++ p ∷ [])
-sound_ranges_with_another before p h s = All-append IsRange before (p ∷ []) h (single_range_sound p s)
+pub sound_ranges_take_another : (before : List Pages) (p : Pages) → All IsRange before → IsRange p → All IsRange (before ++ p ∷ [])
+sound_ranges_take_another before p h s = All-append IsRange before (p ∷ []) h (single_range_is_sound p s)
 
--- The place of the next range, if the parts of the group are known.
-pub next_place_by_parts : (g : Grouped) (q : Pages) (r : List ℕ) (end : ℕ) (n m : Result (Option NumberRead) MapFault) →
-    ◌≡◌ {A = Grouped} g (record { pages = q; rest = r }) → end ≡ end_of_range q → n ≡ next_range_place end r → n ≡ m →
+-- The place of the next range is the one by the end of the range and the text after it alone.
+pub next_place_depends_on_parts : (g : RangeRead) (q : Pages) (r : List ℕ) (end : ℕ) (n m : Result (Option NumberRead) MapFault) →
+    ◌≡◌ {A = RangeRead} g (record { pages = q; rest = r }) → end ≡ end_of_range q → n ≡ next_range_place end r → n ≡ m →
     next_range_place (end_of_range g.pages) g.rest ≡ m
-next_place_by_parts g q r end n m v e w i =
-    let pages : g.pages ≡ q = ap (λ (h : Grouped). h.pages) v in
-    let rest : g.rest ≡ r = ap (λ (h : Grouped). h.rest) v in
+next_place_depends_on_parts g q r end n m v e w i =
+    let pages : g.pages ≡ q = ap (λ (h : RangeRead). h.pages) v in
+    let rest : g.rest ≡ r = ap (λ (h : RangeRead). h.rest) v in
     ap (λ (p : Pages). next_range_place (end_of_range p) g.rest) pages
     ∙ (ap (next_range_place (end_of_range q)) rest ∙ (ap (λ (k : ℕ). next_range_place k r) (sym e) ∙ (sym w ∙ i)))
 
--- The ranges that were read, once the pages of the group are added.
-pub pushed_range_is_appended : (g : Grouped) (q : Pages) (r : List ℕ) (before after : List Pages) →
-    ◌≡◌ {A = Grouped} g (record { pages = q; rest = r }) → after ≡ before ++ q ∷ [] → before ++ g.pages ∷ [] ≡ after
-pushed_range_is_appended g q r before after v e = ap (λ (h : Grouped). before ++ h.pages ∷ []) v ∙ sym e
+-- If `q` is the range of a group, the ranges with `q` after them are the ranges with that of the group after them.
+pub pushed_range_is_appended : (g : RangeRead) (q : Pages) (r : List ℕ) (before after : List Pages) →
+    ◌≡◌ {A = RangeRead} g (record { pages = q; rest = r }) → after ≡ before ++ q ∷ [] → before ++ g.pages ∷ [] ≡ after
+pushed_range_is_appended g q r before after v e = ap (λ (h : RangeRead). before ++ h.pages ∷ []) v ∙ sym e
 
--- The rest of the reading at a place, if the parts of the place are known.
-pub rest_at_known_place : (whole : Result (List Pages) MapFault) (before after : List Pages) (place : NumberRead) (v : ℕ) (r : List ℕ) →
+-- The ranges left from a place on are those left from its value and its text on.
+pub rest_makes_whole_at_place : (whole : Result (List Pages) MapFault) (before after : List Pages) (place : NumberRead) (v : ℕ)
+    (r : List ℕ) →
     RestMakesWholeRanges whole before place.value place.rest → before ≡ after →
     ◌≡◌ {A = NumberRead} (record { value = v; rest = r }) place →
     RestMakesWholeRanges whole after v r
-rest_at_known_place whole before after place v r g e i =
+rest_makes_whole_at_place whole before after place v r g e i =
     subst (λ (s : NumberRead). RestMakesWholeRanges whole after s.value s.rest) (sym i)
     (subst (λ (b : List Pages). RestMakesWholeRanges whole b place.value place.rest) e g)

@@ -1,14 +1,14 @@
--- Lines, or parts of one size, are read one after the other.
+-- Reading of lines, or of parts of one size, one after the other.
 use Rattle.std.proofs.Common.{◌≡◌, ℕ, suc, take, drop, ◌+◌, true, false, List, [], ◌∷◌, refl, sym, ap, ◌∙◌, subst, Result, Ok, Err}
 use Rattle.dfu_formats.specs.declared.images.fault.ImageFault.{ImageFault}
 use Rattle.dfu_formats.specs.declared.images.fault.ImageFault.TheVariants as fault
-use Rattle.dfu_formats.specs.images.Reading.{◌>>=◌, parts_read, FailsToRead}
+use Rattle.dfu_formats.specs.images.Reading.{◌>>=◌, parts_read, IsReadFault}
 use Rattle.dfu_formats.specs.images.Lines.{State, bare_line, lines_read}
 
--- If the first step fails, both steps together fail.
+-- If the first of two steps in sequence fails with a fault, both fail with it.
 pub failed_step_fails_all : {A B : Type 0} (fault : ImageFault) (r : Result A ImageFault) (f : A → Result B ImageFault) →
-    FailsToRead fault r →
-    FailsToRead fault (r >>= f)
+    IsReadFault fault r →
+    IsReadFault fault (r >>= f)
 failed_step_fails_all fault.NoMemory r f h = tt
 failed_step_fails_all fault r f h = rw h refl
 
@@ -25,33 +25,36 @@ read_line_leaves_rest read at s t line kept more all whole e k h so_far =
     sym (ap (lines_read read at s) e ∙ (lines_read_of_first read at s line more
     ∙ ap (λ (r : Result State ImageFault). r >>= λ (t : State). lines_read read (at + 1) t more) (ap (read at s) (sym k) ∙ h))) ∙ so_far
 
--- A fault of the first line is the fault of the whole text.
+-- A fault of the next line is the fault of the whole text.
 pub line_fault_is_text_fault : (read : ℕ → State → List ℕ → Result State ImageFault) (fault : ImageFault) (at : ℕ) (s : State) (line kept :
     List ℕ) (more all : List (List ℕ)) (whole : Result State ImageFault) → all ≡ line ∷ more →
-    kept ≡ bare_line line → FailsToRead fault (read at s kept) → lines_read read at s all ≡ whole → FailsToRead fault whole
+    kept ≡ bare_line line → IsReadFault fault (read at s kept) → lines_read read at s all ≡ whole → IsReadFault fault whole
 line_fault_is_text_fault read fault at s line kept more all whole e k h so_far =
     let f = failed_step_fails_all fault (read at s (bare_line line)) (λ (t : State). lines_read read (at + 1) t more)
-    (subst (λ (kept : List ℕ). FailsToRead fault (read at s kept)) k h) in
-    subst (FailsToRead fault) (sym (lines_read_of_first read at s line more) ∙ (sym (ap (lines_read read at s) e) ∙ so_far)) f
+    (subst (λ (kept : List ℕ). IsReadFault fault (read at s kept)) k h) in
+    subst (IsReadFault fault) (sym (lines_read_of_first read at s line more) ∙ (sym (ap (lines_read read at s) e) ∙ so_far)) f
 
+-- With no line left, a state that is whole is the result.
 whole_text_ends : (read : ℕ → State → List ℕ → Result State ImageFault) (at : ℕ) (s : State) → s.is_whole ≡ true →
     lines_read read at s [] ≡ Ok s
 unfolding lines_read
 whole_text_ends read at s h = rw h refl
 
-text_without_end_record : (read : ℕ → State → List ℕ → Result State ImageFault) (at : ℕ) (s : State) → s.is_whole ≡ false →
+-- With no line left, a state that isn't whole gives `NoEnd`.
+text_needs_end_record : (read : ℕ → State → List ℕ → Result State ImageFault) (at : ℕ) (s : State) → s.is_whole ≡ false →
     lines_read read at s [] ≡ Err fault.NoEnd
 unfolding lines_read
-text_without_end_record read at s h = rw h refl
+text_needs_end_record read at s h = rw h refl
 
--- Behind the last line, the text is whole, or the fault is `NoEnd`.
-pub text_read_to_whole_end : (read : ℕ → State → List ℕ → Result State ImageFault) (at : ℕ) (s : State) (whole : Result State ImageFault)
+-- If the text is whole after its last line, the result is the state there.
+pub whole_end_gives_state : (read : ℕ → State → List ℕ → Result State ImageFault) (at : ℕ) (s : State) (whole : Result State ImageFault)
     → s.is_whole ≡ true → lines_read read at s [] ≡ whole → whole ≡ Ok s
-text_read_to_whole_end read at s whole h so_far = sym so_far ∙ whole_text_ends read at s h
+whole_end_gives_state read at s whole h so_far = sym so_far ∙ whole_text_ends read at s h
 
-pub text_read_without_end : (read : ℕ → State → List ℕ → Result State ImageFault) (at : ℕ) (s : State) (whole : Result State ImageFault) →
+-- If the text isn't whole after its last line, the result is `NoEnd`.
+pub missing_end_is_fault : (read : ℕ → State → List ℕ → Result State ImageFault) (at : ℕ) (s : State) (whole : Result State ImageFault) →
     s.is_whole ≡ false → lines_read read at s [] ≡ whole → whole ≡ Err fault.NoEnd
-text_read_without_end read at s whole h so_far = sym so_far ∙ text_without_end_record read at s h
+missing_end_is_fault read at s whole h so_far = sym so_far ∙ text_needs_end_record read at s h
 
 parts_read_of_next : {S : Type 0} (size : ℕ) (read : ℕ → S → List ℕ → Result S ImageFault) (n index : ℕ) (s : S) (bytes : List ℕ) →
     parts_read size read (suc n) index s bytes ≡ (read index s (take size bytes) >>= λ (t : S). parts_read size read n (index + 1) t (drop size bytes))
@@ -68,15 +71,15 @@ read_part_leaves_rest {S = S} size read left n index s t bytes part behind whole
     ∙ ap (λ (r : Result S ImageFault). r >>= λ (t : S). parts_read size read n (index + 1) t (drop size bytes)) (ap (read index s) (sym p) ∙ h)) in
     ap (parts_read size read n (index + 1) t) b ∙ (sym all ∙ so_far)
 
--- A fault of the first part is the fault of all parts.
+-- A fault of the next part is the fault of all parts.
 pub part_fault_is_file_fault : {S : Type 0} (size : ℕ) (read : ℕ → S → List ℕ →
     Result S ImageFault) (fault : ImageFault) (left n index : ℕ) (s : S)
-    (bytes part : List ℕ) (whole : Result S ImageFault) → left ≡ suc n → part ≡ take size bytes → FailsToRead fault (read index s part) →
-    parts_read size read left index s bytes ≡ whole → FailsToRead fault whole
+    (bytes part : List ℕ) (whole : Result S ImageFault) → left ≡ suc n → part ≡ take size bytes → IsReadFault fault (read index s part) →
+    parts_read size read left index s bytes ≡ whole → IsReadFault fault whole
 part_fault_is_file_fault {S = S} size read fault left n index s bytes part whole e p h so_far =
     let f = failed_step_fails_all fault (read index s (take size bytes)) (λ (t : S). parts_read size read n (index + 1) t (drop size bytes))
-    (subst (λ (part : List ℕ). FailsToRead fault (read index s part)) p h) in
-    subst (FailsToRead fault) (sym (parts_read_of_next size read n index s bytes)
+    (subst (λ (part : List ℕ). IsReadFault fault (read index s part)) p h) in
+    subst (IsReadFault fault) (sym (parts_read_of_next size read n index s bytes)
     ∙ (sym (ap (λ (k : ℕ). parts_read size read k index s bytes) e) ∙ so_far)) f
 
 no_parts_leave_state : {S : Type 0} (size : ℕ) (read : ℕ → S → List ℕ → Result S ImageFault) (index : ℕ) (s : S) (bytes : List ℕ) →
@@ -85,7 +88,7 @@ unfolding parts_read
 no_parts_leave_state size read index s bytes = refl
 
 -- Once no part is left, the state is the result.
-pub all_parts_read : {S : Type 0} (size : ℕ) (read : ℕ → S → List ℕ → Result S ImageFault) (left index : ℕ) (s : S) (bytes : List ℕ)
+pub last_state_is_result : {S : Type 0} (size : ℕ) (read : ℕ → S → List ℕ → Result S ImageFault) (left index : ℕ) (s : S) (bytes : List ℕ)
     (whole : Result S ImageFault) → left ≡ 0 → parts_read size read left index s bytes ≡ whole → whole ≡ Ok s
-all_parts_read size read left index s bytes whole e so_far =
+last_state_is_result size read left index s bytes whole e so_far =
     sym so_far ∙ (ap (λ (k : ℕ). parts_read size read k index s bytes) e ∙ no_parts_leave_state size read index s bytes)

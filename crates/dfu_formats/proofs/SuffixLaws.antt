@@ -1,4 +1,4 @@
--- A suffix of a DfuSe file that is read ends the bytes.
+-- Bytes end in the DfuSe suffix that is read from them.
 use Rattle.std.proofs.Common.{◌≡◌, ◌≢◌, ◌↔◌, ℕ, ◌^◌, ◌<◌, ◌≤◌, Bool, true, false, cond, List, ◌++◌, length, drop, Option, Some, None, Result, Ok, Err, refl, ap, subst}
 use Rattle.std.specs.Prelude.{find}
 use Rattle.std.proofs.lemmas.Bool.{eqb-true}
@@ -10,40 +10,41 @@ use Rattle.dfu_suffix.specs.declared.fault.SuffixFault.TheVariants as suffix
 use Rattle.dfu_suffix.proofs.OneReading.{IsSpelledFile}
 use Rattle.dfu_suffix.proofs.NoFault.{HasSuffixForm, IsIntact, extra_fits, extra_bytes_of, tail_field_fits_two_bytes, formed, no_crc_fault_means_intact, spelled}
 use Rattle.dfu_formats.specs.declared.dfuse.fault.FileFault.TheVariants.{BadCrc, NotDfuSe}
-use Rattle.dfu_formats.specs.dfuse.Reading.{Suffixed, suffixed_by, is_dfuse, suffix_refusal, suffix_with_checked_crc, suffix_by, suffix_at}
+use Rattle.dfu_formats.specs.dfuse.Reading.{PayloadAndIds, payload_and_ids_of, is_dfuse, suffix_refusal, suffix_with_checked_crc, suffix_by_fault, suffix_at}
 use Rattle.dfu_formats.specs.dfuse.Grammar.{SuffixedFile}
 use Rattle.dfu_formats.proofs.FileSteps.{ok_values_equal, passed_condition_is_false as passed_over}
 
--- ---- what was found
+-- ---- the fault that was found
 
 -- `is_dfuse` holds of the fault `DfuSe` alone.
-pub dfuse_test_names_fault : (f : SuffixFault) → is_dfuse f ≡ true → f ≡ suffix.DfuSe
-dfuse_test_names_fault suffix.DfuSe h = refl
-dfuse_test_names_fault suffix.TooLarge h = cc
-dfuse_test_names_fault suffix.TooShort h = cc
-dfuse_test_names_fault suffix.NoSignature h = cc
-dfuse_test_names_fault suffix.BadLength h = cc
-dfuse_test_names_fault suffix.BadCrc h = cc
-dfuse_test_names_fault suffix.AlreadySuffixed h = cc
-dfuse_test_names_fault suffix.NoMemory h = cc
-dfuse_test_names_fault suffix.Read h = cc
-dfuse_test_names_fault suffix.Write h = cc
+pub dfuse_test_means_dfuse_fault : (f : SuffixFault) → is_dfuse f ≡ true → f ≡ suffix.DfuSe
+dfuse_test_means_dfuse_fault suffix.DfuSe h = refl
+dfuse_test_means_dfuse_fault suffix.TooLarge h = cc
+dfuse_test_means_dfuse_fault suffix.TooShort h = cc
+dfuse_test_means_dfuse_fault suffix.NoSignature h = cc
+dfuse_test_means_dfuse_fault suffix.BadLength h = cc
+dfuse_test_means_dfuse_fault suffix.BadCrc h = cc
+dfuse_test_means_dfuse_fault suffix.AlreadySuffixed h = cc
+dfuse_test_means_dfuse_fault suffix.NoMemory h = cc
+dfuse_test_means_dfuse_fault suffix.Read h = cc
+dfuse_test_means_dfuse_fault suffix.Write h = cc
 
-asked_suffix_has_dfuse_fault : (t : Bool) (f : SuffixFault) (b : List ℕ) (s : Suffixed) →
+-- If a suffix was read, the test for `DfuSe` was true, and the suffix was read with its CRC.
+read_suffix_passed_test : (t : Bool) (f : SuffixFault) (b : List ℕ) (s : PayloadAndIds) →
     cond t (suffix_with_checked_crc b) (Err (suffix_refusal f)) ≡ Ok s →
     (t ≡ true) × (suffix_with_checked_crc b ≡ Ok s)
-asked_suffix_has_dfuse_fault true f b s h = (refl, h)
-asked_suffix_has_dfuse_fault false f b s h = cc
+read_suffix_passed_test true f b s h = (refl, h)
+read_suffix_passed_test false f b s h = cc
 
--- A suffix that was read has the fault `DfuSe` for its first, and a right CRC.
-read_suffix_has_dfuse_fault : (o : Option SuffixFault) (b : List ℕ) (s : Suffixed) → suffix_by o b ≡ Ok s →
-    (o ≡ Some suffix.DfuSe) × (has_fault b suffix.BadCrc ≡ false) × (suffixed_by b ≡ s)
-unfolding suffix_by
+-- If a suffix was read, the first fault is `DfuSe`, the CRC is right, and the parts are those of the last 16 bytes.
+read_suffix_has_dfuse_fault : (o : Option SuffixFault) (b : List ℕ) (s : PayloadAndIds) → suffix_by_fault o b ≡ Ok s →
+    (o ≡ Some suffix.DfuSe) × (has_fault b suffix.BadCrc ≡ false) × (payload_and_ids_of b ≡ s)
+unfolding suffix_by_fault
 read_suffix_has_dfuse_fault None b s h = cc
 read_suffix_has_dfuse_fault (Some f) b s h =
-    let p = asked_suffix_has_dfuse_fault (is_dfuse f) f b s h in
-    let q = passed_over (has_fault b suffix.BadCrc) BadCrc (Ok (suffixed_by b)) s p.1 in
-    (ap Some (dfuse_test_names_fault f p.0), q.0, ok_values_equal _ s q.1)
+    let p = read_suffix_passed_test (is_dfuse f) f b s h in
+    let q = passed_over (has_fault b suffix.BadCrc) BadCrc (Ok (payload_and_ids_of b)) s p.1 in
+    (ap Some (dfuse_test_means_dfuse_fault f p.0), q.0, ok_values_equal _ s q.1)
 
 -- If the fault `DfuSe` is found, a test for another fault before it was false.
 other_fault_was_not_found : (t : Bool) (x : SuffixFault) (o : Option SuffixFault) → x ≢ suffix.DfuSe → cond t (Some x) o
@@ -52,7 +53,7 @@ other_fault_was_not_found : (t : Bool) (x : SuffixFault) (o : Option SuffixFault
 other_fault_was_not_found true x o other h = absurd (other cc)
 other_fault_was_not_found false x o other h = (refl, h)
 
--- If the fault `DfuSe` is found, and not further on, the test for it was true.
+-- If the fault `DfuSe` is found, but not by a later test, the test for it was true.
 dfuse_found_by_test : (t : Bool) (o : Option SuffixFault) → o ≢ Some suffix.DfuSe → cond t (Some suffix.DfuSe) o ≡ Some suffix.DfuSe →
     t ≡ true
 dfuse_found_by_test true o none h = refl
@@ -62,11 +63,12 @@ crc_fault_is_not_dfuse : (t : Bool) → ◌≢◌ {A = Option SuffixFault} (cond
 crc_fault_is_not_dfuse true = λ e. cc
 crc_fault_is_not_dfuse false = λ e. cc
 
--- The bytes are formed like a file with a suffix, whose version is 011Ah.
+-- The bytes have the form of a suffix, and their bcdDFU is 011Ah.
 record HasDfuseSuffix (b : List ℕ) : Type 0 where
   pub formed : HasSuffixForm b
   pub version : little_number 2 (drop 6 (tail_of b)) ≡ 0x011A
 
+-- Bytes whose first fault is `DfuSe` have the form of a suffix, and bcdDFU 011Ah.
 dfuse_fault_has_suffix : (b : List ℕ) → find (has_fault b) fault_order ≡ Some suffix.DfuSe → HasDfuseSuffix b
 dfuse_fault_has_suffix b h =
     let p0 = other_fault_was_not_found (has_fault b suffix.TooLarge) suffix.TooLarge _ (λ e. cc) h in
@@ -79,11 +81,12 @@ dfuse_fault_has_suffix b h =
       version = eqb-true (little_number 2 (drop 6 (tail_of b))) 0x011A v;
     }
 
--- Bytes that are signed as DfuSe, and intact, end in a suffix.
-suffix_ends_bytes : (b : List ℕ) → AreBytes b → HasDfuseSuffix b → IsIntact b → SuffixedFile b (suffixed_by b)
+-- Bytes with the form of a suffix, bcdDFU 011Ah and the right CRC are a payload and a DfuSe suffix.
+suffix_ends_bytes : (b : List ℕ) → AreBytes b → HasDfuseSuffix b → IsIntact b → SuffixedFile b (payload_and_ids_of b)
 suffix_ends_bytes b f s right = record {
   extra = extra_bytes_of b;
-  spelled = subst (λ (dfu : ℕ). IsSpelledFile (suffixed_by b).payload (suffixed_by b).ids dfu (extra_bytes_of b) b) s.version (spelled b
+  spelled = subst (λ (dfu : ℕ). IsSpelledFile (payload_and_ids_of b).payload (payload_and_ids_of b).ids dfu (extra_bytes_of b) b) s.version
+      (spelled b
       s.formed right f);
   extra_fits = extra_fits b s.formed f;
   device_fits = tail_field_fits_two_bytes b 0 f;
@@ -103,23 +106,24 @@ pub read_file_has_no_fault : {T : Type 0} (r : Result T SuffixFault) (o : Option
 read_file_has_no_fault r None x h f = refl
 read_file_has_no_fault r (Some y) x h f = let other = (f y).1 refl in cc
 
--- A fault other than `DfuSe` is refused by its name.
-pub other_fault_refused_by_name : (f : SuffixFault) (b : List ℕ) → is_dfuse f ≡ false → suffix_by (Some f) b ≡ Err (suffix_refusal f)
-unfolding suffix_by
-other_fault_refused_by_name f b h = ap (λ (t : Bool). cond t (suffix_with_checked_crc b) (Err (suffix_refusal f))) h
+-- A file with a fault other than `DfuSe` is refused with `suffix_refusal` of that fault.
+pub other_fault_becomes_refusal : (f : SuffixFault) (b : List ℕ) → is_dfuse f ≡ false → suffix_by_fault (Some f) b ≡ Err (suffix_refusal f)
+unfolding suffix_by_fault
+other_fault_becomes_refusal f b h = ap (λ (t : Bool). cond t (suffix_with_checked_crc b) (Err (suffix_refusal f))) h
 
--- After the fault `DfuSe` the CRC decides.
-pub dfuse_fault_checks_crc : (f : SuffixFault) (b : List ℕ) → is_dfuse f ≡ true → suffix_by (Some f) b ≡ suffix_with_checked_crc b
-unfolding suffix_by
+-- A file with the fault `DfuSe` gives its payload and identifiers, or BadCrc, by its CRC.
+pub dfuse_fault_checks_crc : (f : SuffixFault) (b : List ℕ) → is_dfuse f ≡ true → suffix_by_fault (Some f) b ≡ suffix_with_checked_crc b
+unfolding suffix_by_fault
 dfuse_fault_checks_crc f b h = ap (λ (t : Bool). cond t (suffix_with_checked_crc b) (Err (suffix_refusal f))) h
 
 -- A file without a fault of dfu_suffix is of another version, and so no DfuSe file.
-pub no_fault_is_not_dfuse : (b : List ℕ) → suffix_by None b ≡ Err NotDfuSe
-unfolding suffix_by
+pub no_fault_is_not_dfuse : (b : List ℕ) → suffix_by_fault None b ≡ Err NotDfuSe
+unfolding suffix_by_fault
 no_fault_is_not_dfuse b = refl
 
--- A suffix that was read ends the bytes.
-pub read_suffix_is_spelled : (b : List ℕ) (s : Suffixed) → AreBytes b → suffix_at b ≡ Ok s → SuffixedFile b s
+-- Bytes end in the suffix that `suffix_at` reads from them.
+pub read_suffix_is_spelled : (b : List ℕ) (s : PayloadAndIds) → AreBytes b → suffix_at b ≡ Ok s → SuffixedFile b s
 read_suffix_is_spelled b s f h =
     let p = read_suffix_has_dfuse_fault (find (has_fault b) fault_order) b s h in
-    subst (λ (x : Suffixed). SuffixedFile b x) p.2 (suffix_ends_bytes b f (dfuse_fault_has_suffix b p.0) (no_crc_fault_means_intact b p.1))
+    subst (λ (x : PayloadAndIds). SuffixedFile b x) p.2
+    (suffix_ends_bytes b f (dfuse_fault_has_suffix b p.0) (no_crc_fault_means_intact b p.1))

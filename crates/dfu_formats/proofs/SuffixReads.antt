@@ -8,21 +8,23 @@ use Rattle.dfu_suffix.specs.declared.fault.SuffixFault.{SuffixFault}
 use Rattle.dfu_suffix.specs.declared.fault.SuffixFault.TheVariants as suffix
 use Rattle.dfu_suffix.proofs.OneReading.{parts_are_read}
 use Rattle.dfu_formats.specs.declared.dfuse.fault.FileFault.TheVariants.{BadCrc}
-use Rattle.dfu_formats.specs.dfuse.Reading.{Suffixed, suffixed_by, suffix_by, suffix_at}
+use Rattle.dfu_formats.specs.dfuse.Reading.{PayloadAndIds, payload_and_ids_of, suffix_by_fault, suffix_at}
 use Rattle.dfu_formats.specs.dfuse.Grammar.{SuffixedFile}
 
-dfuse_fault_reads_suffix : (o : Option SuffixFault) (b : List ℕ) (x : Suffixed) → o ≡ Some suffix.DfuSe → has_fault b suffix.BadCrc
-    ≡ false → suffixed_by b ≡ x →
-    suffix_by o b ≡ Ok x
-unfolding suffix_by
+-- With the fault `DfuSe` and the right CRC, the payload and the identifiers are read.
+dfuse_fault_reads_suffix : (o : Option SuffixFault) (b : List ℕ) (x : PayloadAndIds) → o ≡ Some suffix.DfuSe → has_fault b suffix.BadCrc
+    ≡ false → payload_and_ids_of b ≡ x →
+    suffix_by_fault o b ≡ Ok x
+unfolding suffix_by_fault
 dfuse_fault_reads_suffix o b x e crc is =
-    ap (λ (p : Option SuffixFault). suffix_by p b) e ∙ (cond-false (has_fault b suffix.BadCrc) (Err BadCrc) (Ok (suffixed_by b)) crc ∙ ap Ok is)
+    ap (λ (p : Option SuffixFault). suffix_by_fault p b) e ∙ (cond-false (has_fault b suffix.BadCrc) (Err BadCrc) (Ok (payload_and_ids_of b)) crc ∙ ap Ok is)
 
-abbrev suffixed_of_content : Content → Suffixed
-suffixed_of_content c = record { payload = c.payload; ids = c.ids }
+-- Payload and identifiers of a content.
+abbrev payload_and_ids_of_content : Content → PayloadAndIds
+payload_and_ids_of_content c = record { payload = c.payload; ids = c.ids }
 
 -- Each suffix of a DfuSe file is read.
-pub spelled_suffix_is_read : (b : List ℕ) (x : Suffixed) → SuffixedFile b x → suffix_at b ≡ Ok x
+pub spelled_suffix_is_read : (b : List ℕ) (x : PayloadAndIds) → SuffixedFile b x → suffix_at b ≡ Ok x
 spelled_suffix_is_read b x h =
     let r = parts_are_read x.payload x.ids 0x011A h.extra b h.spelled h.device_fits h.product_fits h.vendor_fits (omega arith) h.small in
     let other : has_fault b suffix.DfuSe ≡ true = eq-eqb (little_number 2 (drop 6 (tail_of b))) 0x011A r.version in
@@ -30,4 +32,4 @@ spelled_suffix_is_read b x h =
     cond-false (has_fault b suffix.TooLarge) _ _ r.small ∙ (cond-false (has_fault b suffix.TooShort) _ _ r.long
     ∙ (cond-false (has_fault b suffix.NoSignature) _ _ r.signed ∙ (cond-false (has_fault b suffix.BadLength) _ _ r.within
     ∙ cond-true (has_fault b suffix.DfuSe) (Some suffix.DfuSe) _ other))) in
-    dfuse_fault_reads_suffix (find (has_fault b) fault_order) b x first r.intact (ap suffixed_of_content r.content)
+    dfuse_fault_reads_suffix (find (has_fault b) fault_order) b x first r.intact (ap payload_and_ids_of_content r.content)

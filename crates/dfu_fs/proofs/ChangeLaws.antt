@@ -1,4 +1,4 @@
--- Other identifiers make another file of the grammar.
+-- A DFU file with changed identifiers is a DFU file again.
 use Rattle.std.proofs.Common.{◌≡◌, ℕ, ◌+◌, ◌-◌, ◌^◌, ◌<◌, ◌∙◌, List, ◌++◌, length, take, Err, sym, ap, subst, arith, length-append}
 use Rattle.std.proofs.lemmas.List.{append_assoc, take_at}
 use Rattle.std.specs.Int.{w32, to_le_bytes}
@@ -8,20 +8,20 @@ use Rattle.dfu_suffix.specs.declared.fault.SuffixFault.{SuffixFault}
 use Rattle.dfu_suffix.specs.declared.fault.SuffixFault.TheVariants as fault
 use Rattle.dfu_wire.specs.declared.ids.Ids.{Ids}
 use Rattle.dfu_fs.specs.declared.changing.Change.{Change}
-use Rattle.dfu_fs.specs.Changing.{ChangesFile, IsChanged, changed_ids, with_register, suffix_fields}
+use Rattle.dfu_fs.specs.Changing.{ChangesFile, IsChangedFile, changed_ids, with_check_sum, suffix_fields}
 
--- If the bytes have a first fault, changing them is refused by the fault.
-pub change_refused_by_fault : (change : Change) (old : List ℕ) (fault : SuffixFault) → First fault old → ChangesFile change old (Err fault)
-change_refused_by_fault change old fault.TooShort h = h
-change_refused_by_fault change old fault.NoSignature h = h
-change_refused_by_fault change old fault.BadLength h = h
-change_refused_by_fault change old fault.DfuSe h = h
-change_refused_by_fault change old fault.BadCrc h = h
-change_refused_by_fault change old fault.AlreadySuffixed h = h
-change_refused_by_fault change old fault.TooLarge h = h
-change_refused_by_fault change old fault.NoMemory h = tt
-change_refused_by_fault change old fault.Read h = h
-change_refused_by_fault change old fault.Write h = h
+-- If bytes have a first fault, this fault is a right result of each change of them.
+pub fault_refuses_change : (change : Change) (old : List ℕ) (fault : SuffixFault) → First fault old → ChangesFile change old (Err fault)
+fault_refuses_change change old fault.TooShort h = h
+fault_refuses_change change old fault.NoSignature h = h
+fault_refuses_change change old fault.BadLength h = h
+fault_refuses_change change old fault.DfuSe h = h
+fault_refuses_change change old fault.BadCrc h = h
+fault_refuses_change change old fault.AlreadySuffixed h = h
+fault_refuses_change change old fault.TooLarge h = h
+fault_refuses_change change old fault.NoMemory h = tt
+fault_refuses_change change old fault.Read h = h
+fault_refuses_change change old fault.Write h = h
 
 -- All but the last 16 bytes of a file are its payload and its extra bytes.
 front_is_payload_and_extra : (payload : List ℕ) (ids : Ids) (dfu : ℕ) (extra old : List ℕ) → IsFile payload ids dfu extra old →
@@ -35,11 +35,11 @@ front_is_payload_and_extra payload ids dfu extra old h =
     let same : length (payload ++ extra) ≡ length old - 16 = omega (arith, len) in
     (ap (take (length old - 16)) whole ∙ take_at (payload ++ extra) (f ++ c) (length old - 16) same, len)
 
--- If the fields and the register of a file are rewritten with other identifiers, the file is changed.
+-- Rewriting the fields and the register of a file with other identifiers gives the changed file.
 pub rewritten_file_is_changed : (change : Change) (payload extra old new front : List ℕ) (ids now : Ids) (dfu suffix : ℕ) →
     IsFile payload ids dfu extra old → suffix ≡ 16 + length extra → front ≡ take (length old - 16) old → now ≡ changed_ids change ids →
-    now.device < 2 ^ 16 → now.product < 2 ^ 16 → now.vendor < 2 ^ 16 → new ≡ with_register (front ++ suffix_fields now dfu suffix) →
-    IsChanged change old new
+    now.device < 2 ^ 16 → now.product < 2 ^ 16 → now.vendor < 2 ^ 16 → new ≡ with_check_sum (front ++ suffix_fields now dfu suffix) →
+    IsChangedFile change old new
 rewritten_file_is_changed change payload extra old new front ids now dfu suffix h is_suffix is_front is_now device product vendor is_new =
     let at = front_is_payload_and_extra payload ids dfu extra old h in
     let f = fields_before_crc now dfu extra in
@@ -48,7 +48,7 @@ rewritten_file_is_changed change payload extra old new front ids now dfu suffix 
     let before : front ++ suffix_fields now dfu suffix ≡ before_crc payload now dfu extra =
     ap (λ (x : List ℕ). x ++ suffix_fields now dfu suffix) front_at ∙ ap (λ (x : List ℕ). (payload ++ extra) ++ x) same
     ∙ append_assoc payload extra f in
-    let spelled : new ≡ with_register (before_crc payload now dfu extra) = is_new ∙ ap with_register before in
+    let spelled : new ≡ with_check_sum (before_crc payload now dfu extra) = is_new ∙ ap with_check_sum before in
     let c = to_le_bytes w32 (register (before_crc payload now dfu extra)) in
     let whole : new ≡ (payload ++ extra) ++ (f ++ c) =
     spelled ∙ ap (λ (x : List ℕ). x ++ c) (sym (append_assoc payload extra f)) ∙ append_assoc (payload ++ extra) f c in

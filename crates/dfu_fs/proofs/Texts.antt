@@ -1,13 +1,13 @@
--- A text to which each byte adds a text.
+-- Texts of the elements of a list, joined in order.
 use Rattle.std.proofs.Common.{◌≡◌, ◌∙◌, ◌+◌, ◌<◌, ◌++◌, ℕ, List, length, take, get_or, sym, ap}
 use Rattle.std.specs.List.{flat_map}
 use Rattle.std.proofs.lemmas.List.{flat_map_more, take_more}
 
--- A text with those of `n` elements, and then that of the next, has those of `n + 1`.
-pub text_with_next_element : {X : Type 0} (text : X → List ℕ) (xs : List X) (n : ℕ) (d : X) (start before after : List ℕ) → n < length xs
+-- A text with the texts of the first `n` elements has those of the first `n + 1` once the text of the next is added.
+pub next_element_extends_text : {X : Type 0} (text : X → List ℕ) (xs : List X) (n : ℕ) (d : X) (start before after : List ℕ) → n < length xs
     → before ≡ start ++ flat_map text (take n xs) → after ≡ before ++ text (get_or xs n d)
     → after ≡ start ++ flat_map text (take (n + 1) xs)
-text_with_next_element {X = X} text xs n d start before after below is more =
+next_element_extends_text {X = X} text xs n d start before after below is more =
     more ∙ ap (λ (t : List ℕ). t ++ text (get_or xs n d)) is
     ∙ flat_map_more text start (take n xs) (get_or xs n d)
     ∙ ap (λ (ys : List X). start ++ flat_map text ys) (sym (take_more xs n d below))

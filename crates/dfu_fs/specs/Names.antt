@@ -1,4 +1,4 @@
--- The texts of the words that each line of a form has, and of the keys of the objects.
+-- Texts of the words of printed lines, and of the keys of objects.
 use Rattle.std.specs.Prelude.{ℕ, List, codes}
 use Rattle.dfu_fs.specs.declared.json.name.Name.{Name}
 use Rattle.dfu_fs.specs.declared.json.name.Name.TheVariants as name

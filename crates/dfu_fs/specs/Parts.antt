@@ -1,4 +1,4 @@
--- The words of a line, and the members that its parts give.
+-- Words of a line, and the members that the parts of a form make of them.
 use Rattle.std.specs.Prelude.{ℕ, ◌+◌, ◌-◌, ◌==◌, ◌&&◌, ◌||◌, nat_eq, nat_le, Bool, not, List, [], ◌∷◌, ◌++◌, length, take, drop, slice_index, codes, Option, Some, None, if◌then◌else◌}
 use Rattle.std.specs.List.{list_all, position_or_len, starts_with}
 use Rattle.std.specs.Char.{is_ascii_digit}
@@ -11,45 +11,46 @@ use Rattle.dfu_fs.specs.declared.json.part.LinePart.TheVariants as part
 use Rattle.dfu_fs.specs.Names.{name_text}
 use Rattle.dfu_fs.specs.Quoted.{array_of_words, quoted_string}
 
--- Two steps, one after the other: there is no result if the first has none.
+-- Chain of two steps: the result of the second step for that of the first; None if either has none.
 infixl 10 ◌>>=◌
 abbrev pub ◌>>=◌ : {A B : Type 0} → Option A → (A → Option B) → Option B
 None >>= f = None
 (Some x) >>= f = f x
 
--- A byte separates words if it is 20h.
+-- A byte is a space, 20h, which separates words.
 abbrev pub is_space : ℕ → Bool
 is_space byte = byte == 32
 
--- The first word, and the words after it.
+-- The first word of a line, and the words after it; None if that word is empty, or the line ends with the space behind it.
 abbrev pub word_in : List ℕ → Option (List ℕ × List ℕ)
 word_in line =
     let n = position_or_len is_space line in
     if (n == 0) || (length line - n == 1) then None else Some (take n line, drop (n + 1) line)
 
--- The words behind the first one, if that ends here: at a space with a byte behind it, or at the end.
+-- The words behind the end of a word: no words if the line is empty, or those after the space at its front. None if it begins with another
+-- byte, or has nothing behind the space.
 unfoldable pub after_word : List ℕ → Option (List ℕ)
 after_word line =
     if length line == 0 then Some line
     else if not (slice_index line 0 == 32) || (length line == 1) then None
     else Some (drop 1 line)
 
--- The words behind the text, if the text ends where a word does.
+-- The words of a line after `text`; None if the line does not begin with `text`, or no word ends there.
 abbrev pub rest_after : List ℕ → (text : List ℕ) → Option (List ℕ)
 rest_after line text = if starts_with nat_eq line text then after_word (drop (length text) line) else None
 
--- Length of a list: up to ` events `, or to the end.
+-- Length of the list at the front of a line, up to ` events ` or to the end.
 unfoldable pub list_length : List ℕ → ℕ
 list_length [] = 0
 list_length (b ∷ bs) = if starts_with nat_eq (b ∷ bs) (codes " events ") then 0 else list_length bs + 1
 
--- A word is a number of JSON: digits, the first of which is 0 only if it is the only one.
-abbrev pub is_number : List ℕ → Bool
-is_number word = list_all is_ascii_digit word && (nat_le (length word) 1 || not (slice_index word 0 == 48))
+-- A word is a number of JSON, or empty: only digits, without a 0 in front of others.
+abbrev pub is_json_number : List ℕ → Bool
+is_json_number word = list_all is_ascii_digit word && (nat_le (length word) 1 || not (slice_index word 0 == 48))
 
--- The text so far and the value of a word, if the word is of the kind. An object within the object is not ended.
+-- The text `out` and the value of a word; None if the word is not of the kind. An inner object stays open.
 unfoldable pub with_value : WordKind → (out word : List ℕ) → Option (List ℕ)
-with_value Number out word = if is_number word then Some (out ++ word) else None
+with_value Number out word = if is_json_number word then Some (out ++ word) else None
 with_value Flag out word =
     if bytes_eq word (codes "yes") then Some (out ++ codes "true")
     else if bytes_eq word (codes "no") then Some (out ++ codes "false")
@@ -57,24 +58,25 @@ with_value Flag out word =
 with_value Word out word = Some (out ++ quoted_string word)
 with_value (Inner key) out word = Some (out ++ 123 ∷ [] ++ quoted_string (name_text key) ++ 58 ∷ [] ++ quoted_string word)
 
--- A comma parts a member from the one before it.
+-- Comma between the members so far and one more; empty if there are none so far.
 abbrev pub member_comma : List ℕ → List ℕ
 member_comma [] = []
 member_comma (b ∷ bs) = 44 ∷ []
 
--- The members so far, and the key of another one.
+-- The members `out`, and the key of one more, up to its colon.
 unfoldable pub with_key : List ℕ → Name → List ℕ
 with_key out key = out ++ member_comma out ++ quoted_string (name_text key) ++ 58 ∷ []
 
--- The members so far with a word as the value of this key, and the words after it.
+-- The members `out` with the first word of the line as the value of `key`, and the words after it; None if there is no such word of the
+-- kind.
 abbrev pub with_key_and_value : Name → WordKind → (out line : List ℕ) → Option (List ℕ × List ℕ)
 with_key_and_value key kind out line = word_in line >>= λ w. with_value kind (with_key out key) w.0 >>= λ now. Some (now, w.1)
 
--- The members so far with a list as the value of this key, and the words after it.
+-- The members `out` with the list at the front of the line as the value of `key`, and the words after it.
 abbrev pub with_list : Name → (out line : List ℕ) → Option (List ℕ × List ℕ)
 with_list key out line = Some (with_key out key ++ array_of_words (take (list_length line) line), drop (list_length line + 1) line)
 
--- The members so far with that of a part, and the words behind the part; nothing if the words are not those of the part.
+-- The members `out` with the member of a part, and the words after the part; None if the words at the front are not those of the part.
 unfoldable pub with_part : LinePart → (out line : List ℕ) → Option (List ℕ × List ℕ)
 with_part (part.Says key word) out line =
     rest_after line (name_text word) >>= λ r. Some (with_key out key ++ quoted_string (name_text word), r)

@@ -1,14 +1,14 @@
--- Reasons for which a suffix is wrong, in words.
+-- Reasons for refusing a suffix, in words.
 use Rattle.std.specs.Prelude.{ℕ, List, ◌++◌, codes}
 use Rattle.std.specs.Fmt.{decimal}
 use Rattle.dfu_output.specs.AnswerLines.{hex_padded}
 
--- Reason for which a check sum is wrong: both sums, in eight hexadecimal digits.
+-- Reason for a wrong check sum: both sums, in eight hexadecimal digits.
 unfoldable pub sums_why : ℕ → ℕ → List ℕ
 sums_why written found =
     codes "the check sum in the suffix is " ++ hex_padded 8 written ++ (codes ", and that of the bytes before it " ++ hex_padded 8 found)
 
--- Reason for which the length of a suffix is wrong: the length that it says, and the bytes of the file.
+-- Reason for a wrong length of a suffix: the length in the suffix, and the number of bytes of the file.
 unfoldable pub length_why : ℕ → ℕ → List ℕ
 length_why said count =
     codes "the suffix says that it has " ++ decimal said ++ (codes " bytes, at least 16 are wanted, and the file has " ++ decimal count)

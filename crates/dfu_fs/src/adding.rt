@@ -1,13 +1,13 @@
-//! `dfu add`: a suffix for a file.
+//! `dfu add`: adds a suffix to a file.
 
 use crate::gathering::{MAX_FILE, gather_fault, refused, refused_bytes, unread};
 use crate::given::{Given, Held, RecordingReader, open};
-use crate::reasons::{error_reason, file_reason, given_reason};
+use crate::reasons::{error_reason, file_reason, reader_reason};
 use crate::replacing::{Replacement, finish};
 use crate::temp_file::Owned;
 use dfu_formats::images::{Format, ImageFileFault, Looks, bad_place, image_of, look_at};
 use dfu_output::{
-    Exit, FormatChoice, Outcome, add_with_fault, fault_text, image_line, looks_like,
+    Exit, FormatChoice, Outcome, add_with_fault, fault_text, image_line, looks_like_hint,
     not_image_line, refused_line, why, why_not, write_out,
 };
 use dfu_suffix::{Findings, SuffixFault, gather, read};
@@ -16,12 +16,12 @@ use std::alloc::{AllocError, Global};
 use std::io::{self, Read};
 use std::rt::Files;
 
-/// Options by which FILE is taken, and the byte that fills the gaps of its image.
+/// Options of `dfu add`: the format in which FILE is read, and the byte that fills the gaps of its image.
 #[derive(Clone, Copy)]
 pub struct AddOptions {
-    /// `--format`.
+    /// Format of FILE, by `--format`.
     pub taken: FormatChoice,
-    /// `--fill`.
+    /// Byte for gaps, by `--fill`.
     pub fill: Option<u8>,
 }
 
@@ -33,20 +33,20 @@ struct Added<'w> {
     ids: Ids,
 }
 
-/// Returns a hint about `file` if it looks like one of a format, by `head`, its first bytes; else None.
+/// Returns a hint if `file` looks like one of a format, by its first bytes, `head`; None if it doesn't, or if there is no memory.
 fn hint(alloc: Global, file: &str, head: &[u8]) -> Option<String> {
     let Looks::Of(format) = look_at(head, b"").looks else {
         return None;
     };
-    match looks_like(alloc, format) {
+    match looks_like_hint(alloc, format) {
         Ok(why) => file_reason(alloc, file, &why),
         Err(_) => None,
     }
 }
 
-/// Adds a suffix to the bytes of a reader, and makes OUT only if that succeeded; then `behind` follows the line. The outcome has the reason
-/// of a fault.
-fn add_read<'w, R: Files + Print + AllocGlobal, S: Read + Drop>(
+/// Adds a suffix to the bytes of a reader, and makes OUT only if that succeeds; `behind` is then printed after the line. The outcome has
+/// the reason of a fault.
+fn add_from_reader<'w, R: Files + Print + AllocGlobal, S: Read + Drop>(
     rt: &'w R,
     added: Added<'w>,
     noting: &mut RecordingReader<S>,
@@ -64,7 +64,7 @@ where
     }
     let reason = match (fault, &made.error) {
         (Some(SuffixFault::Write), Some(error)) => error_reason(alloc, added.to, error),
-        (Some(fault), _) => given_reason(alloc, added.file, fault, noting, &Findings::new()),
+        (Some(fault), _) => reader_reason(alloc, added.file, fault, noting, &Findings::new()),
         (None, _) => None,
     };
     made.abandon();
@@ -80,8 +80,8 @@ where
     }
 }
 
-/// Writes `line`, by which `file` is refused, and returns the outcome, with the reason `why`.
-fn refuse_with<R: Print + AllocGlobal>(
+/// Writes `line`, which refuses `file`, and returns the outcome with the reason `why`.
+fn refuse_file<R: Print + AllocGlobal>(
     rt: &R,
     file: &str,
     line: Result<String, AllocError>,
@@ -100,7 +100,7 @@ fn refuse_with<R: Print + AllocGlobal>(
     }
 }
 
-/// Writes the line of `fault`, for which `file` of `format` makes no image, and returns the outcome, with its reason.
+/// Writes the line of `fault`, which keeps `file` of `format` from giving an image, and returns the outcome with its reason.
 fn refuse_image<R: Print + AllocGlobal>(
     rt: &R,
     file: &str,
@@ -113,10 +113,10 @@ fn refuse_image<R: Print + AllocGlobal>(
         _ => None,
     };
     let alloc = rt.alloc();
-    refuse_with(rt, file, refused_line(alloc, fault), why(alloc, fault, bad))
+    refuse_file(rt, file, refused_line(alloc, fault), why(alloc, fault, bad))
 }
 
-/// Adds a suffix to bytes that were read before.
+/// Adds a suffix to bytes in memory, and prints `behind` after the line.
 fn add_bytes<R: Files + Input + Print + AllocGlobal>(
     rt: &R,
     added: Added<'_>,
@@ -127,11 +127,11 @@ where
     R::File: Owned,
 {
     let given: Given<R::File, R::Reader> = Given::Bytes(Held::new(bytes));
-    add_read(rt, added, &mut RecordingReader::new(given), behind)
+    add_from_reader(rt, added, &mut RecordingReader::new(given), behind)
 }
 
-/// Adds a suffix to the image of bytes in a format.
-fn add_of<R: Files + Input + Print + AllocGlobal>(
+/// Adds a suffix to the image in `bytes`, a file of `format`; or refuses the file if it gives no image.
+fn add_image_of<R: Files + Input + Print + AllocGlobal>(
     rt: &R,
     added: Added<'_>,
     format: Format,
@@ -156,8 +156,8 @@ fn has_suffix(bytes: &[u8]) -> bool {
     matches!(read(bytes), Ok(_) | Err(SuffixFault::DfuSe))
 }
 
-/// Adds a suffix to the image of a file, of the format that is asked for or that the file looks like; or to the file as it is, if nothing
-/// speaks against a raw image. A file that has a suffix already is refused.
+/// Adds a suffix to the image in a file, of the format that an option names or that the file looks like; or to the file as it is, if
+/// nothing speaks against a raw image. A file that has a suffix already is refused.
 fn add_image<R: Files + Input + Print + AllocGlobal>(
     rt: &R,
     added: Added<'_>,
@@ -177,8 +177,8 @@ where
         _ => look_at(&bytes, added.file.as_bytes()).looks,
     };
     match looks {
-        Looks::Of(format) => add_of(rt, added, format, how.fill, &bytes),
-        Looks::Other(other) if !has_suffix(&bytes) => refuse_with(
+        Looks::Of(format) => add_image_of(rt, added, format, how.fill, &bytes),
+        Looks::Other(other) if !has_suffix(&bytes) => refuse_file(
             rt,
             added.file,
             not_image_line(alloc, other),
@@ -188,9 +188,9 @@ where
     }
 }
 
-/// Adds a suffix to a file, or to standard input if its name is `-`, and makes the other file only if that succeeded. For an image a second
-/// line gives its format and the address of its first byte. The outcome has the reason of a fault, or that a file looks like one of a
-/// format if no option said how to take it.
+/// Adds a suffix to a file, or to standard input if its name is `-`, and makes file `to` only if that succeeds. For an image, a second line
+/// gives its format and the address of its first byte. The outcome has the reason of a fault; or, without `--format`, a hint if the file
+/// looks like one of a format.
 pub fn add_file<R: Files + Input + Print + AllocGlobal>(
     rt: &R,
     file: &str,
@@ -209,9 +209,9 @@ where
     let mut noting = RecordingReader::new(reader);
     match how.taken {
         FormatChoice::Auto | FormatChoice::As(_) => add_image(rt, added, how, &mut noting),
-        FormatChoice::Raw => add_read(rt, added, &mut noting, ""),
+        FormatChoice::Raw => add_from_reader(rt, added, &mut noting, ""),
         FormatChoice::Unsaid => {
-            let answer = add_read(rt, added, &mut noting, "");
+            let answer = add_from_reader(rt, added, &mut noting, "");
             match answer.exit {
                 Exit::Done => Outcome {
                     exit: Exit::Done,

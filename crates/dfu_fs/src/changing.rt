@@ -1,24 +1,25 @@
-//! Other identifiers for a file.
+//! Change of the identifiers of a DFU file.
 
 ghost use Rattle.std.specs.Prelude.{◌≡◌, ◌++◌, ◌-◌, IfOk, length, take};
-ghost use Rattle.dfu_fs.specs.Changing.{ChangesFile, changed_ids, with_register, suffix_fields};
+ghost use Rattle.dfu_fs.specs.Changing.{ChangesFile, changed_ids, with_check_sum, suffix_fields};
 
 use dfu_suffix::{Crc, SuffixFault, read};
 use dfu_wire::Ids;
 use std::alloc::{AllocError, Global};
 
-/// Changes of the identifiers, each of them a new number or none.
+/// New identifiers; None keeps the old one.
 #[derive(Clone, Copy)]
 pub struct Change {
-    /// idVendor.
+    /// New idVendor.
     pub vendor: Option<u16>,
-    /// idProduct.
+    /// New idProduct.
     pub product: Option<u16>,
-    /// bcdDevice.
+    /// New bcdDevice.
     pub device: Option<u16>,
 }
 
-fn changed(change: &Change, ids: Ids) -> Ids
+/// Returns the identifiers after `change`: the new one if it is given, or else that of `ids`.
+fn new_ids(change: &Change, ids: Ids) -> Ids
     ensures { result ≡ changed_ids change.now ids }
 {
     Ids {
@@ -28,7 +29,7 @@ fn changed(change: &Change, ids: Ids) -> Ids
     }
 }
 
-/// Returns the bytes before the last 16, or none if there are fewer.
+/// Returns the bytes before the last 16; none if there are no more than 16.
 fn front_of(bytes: &[u8]) -> &[u8]
     ensures { result.now ≡ take (length bytes.now - 16) bytes.now }
 {
@@ -36,16 +37,16 @@ fn front_of(bytes: &[u8]) -> &[u8]
     front
 }
 
-/// Returns `front`, the fields of a suffix with `ids`, bcdDFU `dfu` and bLength `suffix` behind it, and then the check sum of both.
+/// Returns `front`, the fields of a suffix with `ids`, bcdDFU `dfu` and bLength `suffix`, and the check sum of both together.
 #[tactic(auto, using(std::proofs::lemmas::List::append_assoc))]
-fn rewritten(
+fn rewritten_file(
     alloc: Global,
     front: &[u8],
     ids: Ids,
     dfu: u16,
     suffix: u8,
 ) -> Result<Vec<u8>, AllocError>
-    ensures { IfOk result (λ v. v.items ≡ with_register (front.now ++ suffix_fields ids dfu suffix)) }
+    ensures { IfOk result (λ v. v.items ≡ with_check_sum (front.now ++ suffix_fields ids dfu suffix)) }
 {
     let mut text = Vec::with_capacity(alloc, front.len().saturating_add(16))?;
     text.extend_from_slice(front)?;
@@ -60,11 +61,11 @@ fn rewritten(
     Ok(text)
 }
 
-/// Returns the file `bytes` with the identifiers of `change` and the check sum that fits. The payload, bcdDFU and the extra bytes stay.
+/// Returns the file `bytes` with the identifiers of `change`, and with their check sum. The payload, bcdDFU and the extra bytes stay.
 ///
 /// # Errors
 ///
-/// The first fault of the bytes, as `read` of dfu_suffix has it; NoMemory if an allocation was refused.
+/// The first fault of the bytes, as `read` of dfu_suffix returns it; NoMemory if an allocation was refused.
 pub fn with_ids(alloc: Global, bytes: &[u8], change: &Change) -> Result<Vec<u8>, SuffixFault>
     ensures { ChangesFile change.now bytes.now result }
 {
@@ -72,8 +73,8 @@ pub fn with_ids(alloc: Global, bytes: &[u8], change: &Change) -> Result<Vec<u8>,
         Ok(file) => file,
         Err(fault) => return Err(fault),
     };
-    let ids = changed(change, file.ids());
-    match rewritten(alloc, front_of(bytes), ids, file.dfu(), file.suffix()) {
+    let ids = new_ids(change, file.ids());
+    match rewritten_file(alloc, front_of(bytes), ids, file.dfu(), file.suffix()) {
         Ok(text) => Ok(text),
         Err(_) => Err(SuffixFault::NoMemory),
     }

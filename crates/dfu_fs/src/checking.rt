@@ -1,16 +1,16 @@
-//! `dfu check`: a check of files.
+//! `dfu check`: checks files.
 
 use crate::JsonLines;
 use crate::given::RecordingReader;
-use crate::reasons::{error_reason, given_reason};
+use crate::reasons::{error_reason, reader_reason};
 use dfu_output::{Exit, Outcome, check_with_fault, fault_text, name_before, write_out};
 use dfu_suffix::{Findings, SuffixFault};
 use std::fs;
 use std::io::{self, Read};
 use std::rt::Files;
 
-/// Checks the bytes that `reader` gives, those of `file`, and says why they are refused if `explain` is set. The line is a JSON object if
-/// `json` is set.
+/// Checks the bytes of `reader`, which reads `file`. The outcome has the reason of a refusal if `explain` is set. The line is a JSON object
+/// if `json` is set.
 fn check_given<R: Print + AllocGlobal, S: Read + Drop>(
     rt: &R,
     file: &str,
@@ -24,14 +24,14 @@ fn check_given<R: Print + AllocGlobal, S: Read + Drop>(
     let mut findings = Findings::new();
     let (exit, fault) = check_with_fault(alloc, &mut noting, &mut out, &mut findings);
     let reason = match fault {
-        Some(fault) if explain => given_reason(alloc, file, fault, &noting, &findings),
+        Some(fault) if explain => reader_reason(alloc, file, fault, &noting, &findings),
         _ => None,
     };
     Outcome { exit, reason }
 }
 
-/// Checks a file, or standard input if the name is `-`. The two have a type each, because a value of both has the 8,192 bytes of standard
-/// input's buffer, which would be cleared and moved for a file too.
+/// Checks a file, or standard input if the name is `-`. Each has a type of its own, because a common type would include the 8,192 bytes of
+/// standard input's buffer, which would be cleared and moved for a file too.
 fn check_file<R: Files + Input + Print + AllocGlobal>(
     rt: &R,
     file: &str,
@@ -70,9 +70,9 @@ fn check_named<R: Files + Input + Print + AllocGlobal>(
     }
 }
 
-/// Checks files, or standard input if a name is `-`, and says why each is refused if that is wanted. If there is more than one file, each
-/// line begins with its name. If `json` is set, each line is a JSON object with the name as its member `file`. The exit is the worst of the
-/// files.
+/// Checks files, or standard input if a name is `-`. The outcome has the reason of each refusal if `explain` is set. If `json` is set, each
+/// line is a JSON object with the name as its member `file`; if not, and there is more than one file, each line begins with its name. The
+/// exit is the worst of the files.
 pub fn check_files<R: Files + Input + Print + AllocGlobal>(
     rt: &R,
     files: &[String],

@@ -1,4 +1,4 @@
-//! Place to which OUT leads: the file that is to be made or replaced.
+//! Lookup of OUT: the file that is to be made or replaced, at the end of its symbolic links.
 
 use dfu_suffix::check;
 use std::alloc::{AllocError, Global};
@@ -7,17 +7,17 @@ use std::io::{self, ErrorKind};
 use std::os::unix::fs::MetadataExt;
 use std::rt::Files;
 
-/// Largest number of symbolic links that are followed, as by Linux.
+/// Largest number of symbolic links that are followed, as in Linux.
 const MAX_LINKS: u32 = 40;
 
-/// Largest number of looks at OUT while somebody else replaces it.
+/// Largest number of lookups of OUT while somebody else replaces it.
 const MAX_LOOKS: u32 = 10;
 
-/// The name of a file, which is no link, and what stands there.
+/// Name that is no symbolic link, and the file of this name.
 #[derive(Drop)]
 pub(crate) struct Destination {
     pub name: String,
-    /// A regular file, or nothing.
+    /// The regular file; None if there is none.
     pub file: Option<Metadata>,
 }
 
@@ -32,7 +32,7 @@ pub(crate) fn beside(alloc: Global, name: &str, other: &str) -> Result<String, A
     Ok(text)
 }
 
-/// Returns the file that `look` found; None if nothing is there, which is no fault.
+/// Returns the file that the lookup `look` found; None if nothing is there, which is no fault.
 fn found(look: io::Result<Metadata>) -> io::Result<Option<Metadata>> {
     match look {
         Ok(file) => Ok(Some(file)),
@@ -46,6 +46,7 @@ fn found(look: io::Result<Metadata>) -> io::Result<Option<Metadata>> {
     }
 }
 
+/// Returns true if the lookup `file` found a symbolic link.
 fn is_link(file: &Option<Metadata>) -> bool {
     match file {
         Some(file) => file.is_symlink(),
@@ -53,7 +54,7 @@ fn is_link(file: &Option<Metadata>) -> bool {
     }
 }
 
-/// Returns the name to which `link` leads.
+/// Returns the name to which the symbolic link `link` points; a relative one is taken from the folder of the link.
 fn next_name<R: Files + AllocGlobal>(rt: &R, link: &str) -> io::Result<String> {
     let text = fs::read_link(rt, link)?;
     let next = text.as_path().as_str();
@@ -63,12 +64,12 @@ fn next_name<R: Files + AllocGlobal>(rt: &R, link: &str) -> io::Result<String> {
     Ok(beside(rt.alloc(), link, next)?)
 }
 
-/// Returns the place to which `out` leads: the end of the links, if it is a link.
+/// Follows the symbolic links from `out`, and returns the place at their end.
 ///
 /// # Errors
 ///
-/// FilesystemLoop if there are too many links, or the error of a look.
-fn followed<R: Files + AllocGlobal>(rt: &R, out: &str) -> io::Result<Destination> {
+/// FilesystemLoop if there are too many links, or the error of a lookup.
+fn end_of_links<R: Files + AllocGlobal>(rt: &R, out: &str) -> io::Result<Destination> {
     let mut name = String::from_str(rt.alloc(), out)?;
     for _ in 0..=MAX_LINKS {
         let file = found(fs::symlink_metadata(rt, name.as_str()))?;
@@ -80,16 +81,16 @@ fn followed<R: Files + AllocGlobal>(rt: &R, out: &str) -> io::Result<Destination
     Err(io::Error::from(ErrorKind::FilesystemLoop))
 }
 
-/// Returns true if `file`, which a look found, can be OUT's place.
-fn may_be(file: &Option<Metadata>) -> bool {
+/// Returns true if OUT can be `file`: a regular file, or none.
+fn may_be_out(file: &Option<Metadata>) -> bool {
     match file {
         Some(file) => file.is_file(),
         None => true,
     }
 }
 
-/// Returns true if `look` and `other` both found nothing, or both the same file.
-fn is_same(look: &Option<Metadata>, other: &Option<Metadata>) -> bool {
+/// Returns true if the lookups `look` and `other` both found nothing, or both the same file.
+fn is_same_file(look: &Option<Metadata>, other: &Option<Metadata>) -> bool {
     match (look, other) {
         (None, None) => true,
         (Some(file), Some(again)) => file.dev() == again.dev() && file.ino() == again.ino(),
@@ -97,22 +98,22 @@ fn is_same(look: &Option<Metadata>, other: &Option<Metadata>) -> bool {
     }
 }
 
-/// Returns the place to which `out` leads.
+/// Returns the place of `out`, at the end of its symbolic links.
 ///
 /// # Errors
 ///
-/// `out` is no regular file, the links go round, or a look fails; or somebody else replaces `out` again and again.
+/// `out` is no regular file, its links form a loop, or a lookup fails; or somebody else replaces `out` again and again.
 pub(crate) fn place_of<R: Files + AllocGlobal>(rt: &R, out: &str) -> io::Result<Destination> {
-    // The system's own look comes first, because the system may refuse to follow a link that someone else made; the place has to be what
-    // that look found. If the place is another one, OUT may have been replaced between the two looks, and is looked at anew.
+    // The system's own lookup comes first, because the system may refuse to follow a link that someone else made; the place must be the
+    // file that it found. If it is another file, OUT may have been replaced between the two lookups, so both are repeated.
     for _ in 0..MAX_LOOKS {
         let seen = found(fs::metadata(rt, out))?;
-        let place = followed(rt, out)?;
-        if !may_be(&seen) || !may_be(&place.file) {
+        let place = end_of_links(rt, out)?;
+        if !may_be_out(&seen) || !may_be_out(&place.file) {
             let why = "it is no regular file, and leads to none";
             return Err(io::Error::new(ErrorKind::InvalidInput, why));
         }
-        if is_same(&seen, &place.file) {
+        if is_same_file(&seen, &place.file) {
             return Ok(place);
         }
     }
@@ -120,34 +121,34 @@ pub(crate) fn place_of<R: Files + AllocGlobal>(rt: &R, out: &str) -> io::Result<
     Err(io::Error::new(ErrorKind::InvalidInput, why))
 }
 
-/// Returns whether the file at OUT's place may go, so that no input is lost that was typed for OUT: the file is FILE itself, it is empty,
-/// or it is a DFU file, as each one that `dfu add` makes. If nothing is there, it may.
-fn may_go<R: Files>(rt: &R, file: &str, place: &Destination) -> io::Result<bool> {
+/// Returns true if the file at `place` may be replaced: it is FILE itself, it is empty, or it is a DFU file, as `dfu add` makes; or there
+/// is none. Any other file stays, because somebody may have typed the name of an input for OUT.
+fn may_be_replaced<R: Files>(rt: &R, file: &str, place: &Destination) -> io::Result<bool> {
     let Some(old) = &place.file else {
         return Ok(true);
     };
     if old.len() == 0 {
         return Ok(true);
     }
-    // Standard input has no name to look at.
-    if file != "-" && is_same(&found(fs::metadata(rt, file))?, &place.file) {
+    // Standard input has no name to look up.
+    if file != "-" && is_same_file(&found(fs::metadata(rt, file))?, &place.file) {
         return Ok(true);
     }
     Ok(check(fs::open(rt, place.name.as_str())?).is_ok())
 }
 
-/// Returns the place to which `out`, OUT of `dfu add`, leads.
+/// Returns the place of `out`, OUT of `dfu add`, at the end of its symbolic links.
 ///
 /// # Errors
 ///
-/// Those of `place_of`; or the file there must stay, or can't be looked at.
-pub(crate) fn place_for<R: Files + AllocGlobal>(
+/// Those of `place_of`; or the file there may not be replaced, or can't be examined.
+pub(crate) fn place_for_add<R: Files + AllocGlobal>(
     rt: &R,
     file: &str,
     out: &str,
 ) -> io::Result<Destination> {
     let place = place_of(rt, out)?;
-    if may_go(rt, file, &place)? {
+    if may_be_replaced(rt, file, &place)? {
         return Ok(place);
     }
     let why = "it is there, and no DFU file; remove it, or give OUT another name";

@@ -1,19 +1,19 @@
-//! A file that is read whole, and the outcome if that fails or the file is refused.
+//! Reading of whole files, and the outcomes for files that can't be read or are refused.
 
 use crate::given::{Given, RecordingReader, open};
-use crate::reasons::{error_reason, found_reason, given_reason};
+use crate::reasons::{error_reason, found_reason, reader_reason};
 use dfu_output::{Outcome, fault_text};
 use dfu_suffix::{Findings, GatherFault, SuffixFault, check_with, gather};
 use std::io;
 use std::rt::Files;
 
-/// Largest number of bytes of a file.
+/// Largest size of a file, in bytes.
 pub(crate) const MAX_FILE: usize = 16_777_216;
 
-/// The bytes of a file, or of standard input if its name is `-`, and the reader, which noted what a reason needs.
+/// The bytes of a file, or of standard input if its name is `-`, and the reader, which recorded the details for a reason.
 pub(crate) type Gathered<F, I> = (Vec<u8>, RecordingReader<Given<F, I>>);
 
-/// Reads a file whole, or standard input if its name is `-`. If that fails, the outcome of the command is returned.
+/// Reads a whole file, or standard input if its name is `-`. If that fails, returns the outcome of the command.
 pub(crate) fn gathered<R: Files + Input + Print + AllocGlobal>(
     rt: &R,
     file: &str,
@@ -37,7 +37,7 @@ pub(crate) fn unread<R: Print + AllocGlobal>(rt: &R, file: &str, error: &io::Err
     }
 }
 
-/// Writes the line for `file`, which isn't read whole, or for what is made of which memory runs out, and returns the outcome.
+/// Writes the line of `fault` for `file`, which can't be read whole, or for whose result there is no memory, and returns the outcome.
 pub(crate) fn refused<R: Print + AllocGlobal, S>(
     rt: &R,
     file: &str,
@@ -46,12 +46,12 @@ pub(crate) fn refused<R: Print + AllocGlobal, S>(
 ) -> Outcome {
     Outcome {
         exit: fault_text(fault, &mut io::writer(rt)),
-        reason: given_reason(rt.alloc(), file, fault, noting, &Findings::new()),
+        reason: reader_reason(rt.alloc(), file, fault, noting, &Findings::new()),
     }
 }
 
-/// Writes the line for `file`, whose `bytes` are refused for `fault`, and returns the outcome. The bytes are checked once more if
-/// `explain` wants the reason.
+/// Writes the line for `file`, whose `bytes` are refused because of `fault`, and returns the outcome. If `explain` is set, the bytes are
+/// checked again, to find the reason.
 pub(crate) fn refused_bytes<R: Print + AllocGlobal>(
     rt: &R,
     file: &str,
@@ -69,7 +69,7 @@ pub(crate) fn refused_bytes<R: Print + AllocGlobal>(
     }
 }
 
-/// Returns the fault of a file that wasn't read whole because of `fault`.
+/// Converts `fault`, at which reading a whole file stopped, to a fault of a suffix.
 pub fn gather_fault(fault: GatherFault) -> SuffixFault {
     match fault {
         GatherFault::TooLarge => SuffixFault::TooLarge,

@@ -1,10 +1,10 @@
-//! Input of a command: a file, standard input, or bytes that were read; and notes about the input for a reason.
+//! Input of a command: a file, standard input, or bytes in memory; and a reader that records the details for a reason.
 
 use std::fs;
 use std::io::{self, IsTerminal, Read};
 use std::rt::Files;
 
-/// A reader of bytes that were read before.
+/// Reader of bytes in memory.
 #[derive(Drop)]
 pub struct Held {
     bytes: Vec<u8>,
@@ -28,15 +28,14 @@ impl Read for Held {
     }
 }
 
-/// A file that was opened, standard input, or bytes that were read. One type has all three, because the code that reads is then compiled
-/// once.
+/// An open file, standard input, or bytes in memory. One type has all three, so that the code that reads is compiled once.
 #[derive(Drop)]
 pub enum Given<F, I> {
-    /// The file.
+    /// An open file.
     File(F),
     /// Standard input.
     Input(I),
-    /// Bytes.
+    /// Bytes in memory.
     Bytes(Held),
 }
 
@@ -60,7 +59,7 @@ impl<F: IsTerminal, I: IsTerminal> IsTerminal for Given<F, I> {
     }
 }
 
-/// A reader, its first bytes, and the error at which it failed.
+/// Reader that records its first 64 bytes, and the error at which it failed last.
 #[derive(Drop)]
 pub(crate) struct RecordingReader<R> {
     reader: R,
@@ -70,7 +69,7 @@ pub(crate) struct RecordingReader<R> {
 }
 
 impl<R> RecordingReader<R> {
-    /// Returns a recording reader before the first byte is read from `reader`.
+    /// Returns a new recording reader of the bytes of `reader`.
     pub(crate) fn new(reader: R) -> RecordingReader<R> {
         RecordingReader {
             reader,
@@ -80,12 +79,12 @@ impl<R> RecordingReader<R> {
         }
     }
 
-    /// Returns the first 64 bytes that the reader gave, or all if it gave fewer.
+    /// Returns the first 64 bytes that were read, or all if there were fewer.
     pub(crate) fn head(&self) -> &[u8] {
         self.head.get(..self.held).unwrap_or(&[])
     }
 
-    /// Notes the first of `bytes`, as far as there is room for them.
+    /// Records the first of `bytes`, as far as there is room for them.
     fn keep(&mut self, bytes: &[u8]) {
         for byte in bytes {
             match self.head.get_mut(self.held) {

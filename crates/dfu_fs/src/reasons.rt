@@ -1,4 +1,4 @@
-//! Reasons for which a file could not be read, written or accepted.
+//! Reasons for failing to read, write or accept a file.
 
 ghost use Rattle.std.specs.Prelude.{◌≡◌, ◌≢◌, [], IfOk, IfSome, List, ℕ, codes};
 ghost use Rattle.std.specs.String.{string_bytes};
@@ -12,7 +12,7 @@ use std::alloc::{AllocError, Global};
 use std::io;
 
 /// Returns the words for a file in a reason: its name, or standard input for the name `-`.
-fn called(name: &str) -> &str
+fn name_in_reason(name: &str) -> &str
     ensures input { name.now ≡ codes "-" → result.now ≡ codes "standard input" }
     ensures file { name.now ≢ codes "-" → result.now ≡ name.now }
 {
@@ -24,13 +24,14 @@ pub fn file_reason(alloc: Global, name: &str, why: &str) -> Option<String>
     ensures input { name.now ≡ codes "-" → IfSome result (λ t. string_bytes t ≡ reason_line [] (codes "standard input") why.now) }
     ensures file { name.now ≢ codes "-" → IfSome result (λ t. string_bytes t ≡ reason_line [] name.now why.now) }
 {
-    match reason_line(alloc, "", called(name), why) {
+    match reason_line(alloc, "", name_in_reason(name), why) {
         Ok(line) => Some(line),
         Err(_) => None,
     }
 }
 
-/// Returns the reason for which the system refused a call, in its words.
+/// Returns the line with the error, in the system's words, of a call on file `name`, or on standard input if `name` is `-`; None if memory
+/// ran out for the line.
 pub fn error_reason(alloc: Global, name: &str, error: &io::Error) -> Option<String>
     ensures input { name.now ≡ codes "-" →
         IfSome result (λ t. (why : List ℕ) × (string_bytes t ≡ reason_line [] (codes "standard input") why)) }
@@ -42,6 +43,7 @@ pub fn error_reason(alloc: Global, name: &str, error: &io::Error) -> Option<Stri
     }
 }
 
+/// Returns the line that says `why` file `name` is refused; None if there was no memory for `why`, or there is none for the line.
 fn made_reason(alloc: Global, name: &str, why: Result<String, AllocError>) -> Option<String> {
     match why {
         Ok(why) => file_reason(alloc, name, &why),
@@ -69,7 +71,7 @@ fn length_why(alloc: Global, said: u8, count: u32) -> Result<String, AllocError>
     )
 }
 
-/// Returns the fault of the bytes of a reader, in words, and what a user can do.
+/// Explains a fault of a file in words, and says what a user can do; None for BadLength, BadCrc, Read and Write.
 fn fault_why(fault: SuffixFault) -> Option<&'static str> {
     match fault {
         SuffixFault::TooShort => {
@@ -94,7 +96,8 @@ fn fault_why(fault: SuffixFault) -> Option<&'static str> {
     }
 }
 
-/// Returns the reason for which the bytes of a file are refused, by the findings of their check.
+/// Returns the reason for refusing the bytes of a file because of `fault`, with the numbers that their check found. None for Read and
+/// Write, or if there is no memory.
 pub(crate) fn found_reason(
     alloc: Global,
     name: &str,
@@ -119,8 +122,8 @@ pub(crate) fn found_reason(
     }
 }
 
-/// Returns the reason for which the bytes of a reader are refused, or for which it failed.
-pub(crate) fn given_reason<R>(
+/// Returns the reason for refusing the bytes of a reader because of `fault`; for Read, it is the error at which the reader failed.
+pub(crate) fn reader_reason<R>(
     alloc: Global,
     name: &str,
     fault: SuffixFault,

@@ -1,4 +1,4 @@
-//! A file that takes the place of another one whole.
+//! Replacement of a file as a whole.
 
 ghost use Rattle.std.specs.Prelude.{◌≤◌, length, IfOk};
 
@@ -9,21 +9,22 @@ use dfu_suffix::{SuffixFault, write_whole};
 use std::io::{self, ErrorKind, Write};
 use std::rt::Files;
 
-/// File that is to take the place of OUT, or of the file to which OUT leads, whole: bytes are written beside it, into a part that then
-/// takes its name, so that a cut of power leaves the old file or the new one. Until then the old file is unchanged. The part is made at the
-/// first write, so that OUT isn't looked at if nothing is written.
+/// New file that replaces OUT, or the file to which OUT leads, as a whole. Its bytes are written into a file beside that one, the part,
+/// which takes its name at the end, so that a power cut leaves the old file or the new one. Until then the old file is unchanged. The part
+/// is made at the first write, so that OUT isn't looked up if nothing is written.
 #[derive(Drop)]
 pub(crate) struct Replacement<'a, R: Files> {
     rt: &'a R,
-    // FILE of `dfu add`: the file at OUT's place must be one that may go.
+    // FILE of `dfu add`, because `dfu add` may not replace every file.
     file: Option<&'a str>,
     out: &'a str,
     part: Option<TempFile<R::File>>,
-    /// Step at which making or writing the part failed.
+    /// Last error at which making or writing the part failed; None if there was none.
     pub error: Option<io::Error>,
 }
 
 impl<'a, R: Files> Replacement<'a, R> {
+    /// Returns a new file for `out`, without a part so far. For `dfu add`, `file` is FILE.
     pub(crate) fn new(rt: &'a R, file: Option<&'a str>, out: &'a str) -> Self {
         Replacement {
             rt,
@@ -34,7 +35,7 @@ impl<'a, R: Files> Replacement<'a, R> {
         }
     }
 
-    /// Replaces OUT by what was written. If that fails, the file there is as it was.
+    /// Replaces OUT by the part. If that fails, the old file is unchanged, and the part is removed.
     pub(crate) fn finish(self) -> io::Result<()> {
         let Some(part) = &self.part else {
             return Err(io::Error::from(ErrorKind::NotFound));
@@ -46,7 +47,7 @@ impl<'a, R: Files> Replacement<'a, R> {
         placed
     }
 
-    /// Removes the part, if there is one, and leaves OUT as it was.
+    /// Removes the part, if there is one, and leaves OUT unchanged.
     pub(crate) fn abandon(self) {
         if let Some(part) = &self.part {
             remove(self.rt, part);
@@ -58,7 +59,7 @@ impl<R: Files + AllocGlobal> Replacement<'_, R>
 where
     R::File: Owned,
 {
-    /// Makes the part, unless it is there.
+    /// Makes the part, unless it exists.
     fn make(&mut self) -> io::Result<()> {
         if self.part.is_none() {
             self.part = Some(begin(self.rt, self.file, self.out)?);
@@ -66,8 +67,8 @@ where
         Ok(())
     }
 
-    /// Makes the part, also if no byte is to be written.
-    fn is_made(&mut self) -> bool {
+    /// Makes the part, even if no byte is to be written, and returns true; or records the error, and returns false.
+    fn try_make(&mut self) -> bool {
         match self.make() {
             Ok(()) => true,
             Err(error) => {
@@ -77,6 +78,7 @@ where
         }
     }
 
+    /// Makes the part, unless it exists, and writes `buf` to it. Returns the number of bytes that the part took.
     fn put(&mut self, buf: &[u8]) -> io::Result<usize>
         ensures { IfOk result (λ n. n ≤ length buf.now) }
     {
@@ -108,7 +110,7 @@ where
     }
 }
 
-/// Puts the part in OUT's place, and writes the line for it.
+/// Replaces OUT by the part, and writes `line`; or, if that fails, the line `fault Write`. The outcome has the reason of the error.
 pub(crate) fn finish<R: Files + Print + AllocGlobal>(
     rt: &R,
     to: &str,
@@ -128,7 +130,7 @@ pub(crate) fn finish<R: Files + Print + AllocGlobal>(
     }
 }
 
-/// Makes OUT of a text, and writes the line for it.
+/// Replaces OUT by a file of `text`, and writes `line`; or, if that fails, the line `fault Write`. The outcome has the reason of the error.
 pub(crate) fn replace<'a, R: Files + Print + AllocGlobal>(
     rt: &'a R,
     to: &'a str,
@@ -139,7 +141,7 @@ where
     R::File: Owned,
 {
     let mut made = Replacement::new(rt, None, to);
-    if made.is_made() && write_whole(&mut made, text).is_ok() {
+    if made.try_make() && write_whole(&mut made, text).is_ok() {
         return finish(rt, to, made, line);
     }
     let reason = match &made.error {

@@ -8,8 +8,8 @@ use dfu_output::{Exit, Outcome, check_text, wrote_line};
 use dfu_suffix::{SuffixFault, read};
 use std::rt::Files;
 
-/// Makes a file of the payload of another one, or of standard input if its name is `-`, only if the other one is a DFU file. The outcome
-/// has the reason of a fault.
+/// Writes the payload of `file`, or of standard input if its name is `-`, to file `to`, only if `file` is a DFU file. The outcome has the
+/// reason of a fault; a wrong check sum or length is looked up for it only if `explain` is set.
 pub fn extract_file<R: Files + Input + Print + AllocGlobal>(
     rt: &R,
     file: &str,
@@ -35,8 +35,8 @@ where
     }
 }
 
-/// Changes the identifiers of a file, which is replaced whole, and prints the line of a check of the new file. The outcome has the reason
-/// of a fault.
+/// Changes the identifiers of a file, which is replaced as a whole, and prints the line of a check of the new file. The outcome has the
+/// reason of a fault; a wrong check sum or length is looked up for it only if `explain` is set.
 pub fn set_file<R: Files + Input + Print + AllocGlobal>(
     rt: &R,
     file: &str,

@@ -1,8 +1,8 @@
-//! A new file beside the file that it is to replace.
+//! Part: a new file beside the file that it is to replace.
 
 ghost use Rattle.std.specs.Prelude.{◌≡◌, ◌*◌, true, false, bit_and, bit_or};
 
-use crate::destination::{Destination, beside, place_for, place_of};
+use crate::destination::{Destination, beside, place_for_add, place_of};
 use std::alloc::{AllocError, Global};
 use std::fs::{self, File, Metadata, OpenFile, OpenOptions, Permissions};
 use std::io::{self, ErrorKind};
@@ -24,7 +24,7 @@ impl Owned for File {
     }
 }
 
-/// A new file beside the file that it is to replace.
+/// Part: a new file beside the file that it is to replace.
 #[derive(Drop)]
 pub(crate) struct TempFile<F> {
     name: String,
@@ -34,7 +34,7 @@ pub(crate) struct TempFile<F> {
 
 /// Returns the rights of a new file for `place`, before the system's mask. If the new file replaces another one, only its own user has any
 /// right until it gets the rights of the other one.
-fn first_rights(place: &Destination) -> u32 {
+fn initial_rights(place: &Destination) -> u32 {
     match place.file {
         Some(_) => 0o600,
         None => 0o666,
@@ -48,10 +48,12 @@ fn part_name(alloc: Global, name: &str, number: u32) -> Result<String, AllocErro
     Ok(part)
 }
 
-/// Makes a file that wasn't there before.
+/// Makes a part, under the first of its names that isn't taken.
 fn new_part<R: Files + AllocGlobal>(rt: &R, place: Destination) -> io::Result<TempFile<R::File>> {
     let mut how = OpenOptions::new();
-    how.write(true).create_new(true).mode(first_rights(&place));
+    how.write(true)
+        .create_new(true)
+        .mode(initial_rights(&place));
     for number in 0..MAX_PARTS {
         let name = part_name(rt.alloc(), &place.name, number)?;
         match how.open(rt, name.as_str()) {
@@ -81,20 +83,19 @@ pub fn rights_after(mode: u32, is_kept: bool) -> u32
     (mode & 0o707) | (others * 8)
 }
 
-/// Gives the new file the owner, the group and the rights of the old one; the owner and the group
-/// as far as the system lets it.
-fn take_rights<F: OpenFile + Owned>(file: &F, old: &Metadata) -> io::Result<()> {
+/// Gives the new file the owner and the group of the old one, if the system allows it, and the rights of `rights_after`.
+fn copy_rights<F: OpenFile + Owned>(file: &F, old: &Metadata) -> io::Result<()> {
     let is_kept = file.set_owner(old.uid(), old.gid()).is_ok();
     let rights = rights_after(old.mode(), is_kept);
     file.set_permissions(Permissions::from_mode(rights))
 }
 
-/// Removes `part`, as far as the system lets it.
+/// Removes `part`, if the system allows it.
 pub(crate) fn remove<R: Files>(rt: &R, part: &TempFile<R::File>) {
     let _ = fs::remove_file(rt, part.name.as_str());
 }
 
-/// Makes the part for OUT, which gets its rights before it has any byte; for OUT of `dfu add`, `file` is its FILE.
+/// Makes the part for OUT, with its rights set before it has any byte. For `dfu add`, `file` is FILE.
 pub(crate) fn begin<R: Files + AllocGlobal>(
     rt: &R,
     file: Option<&str>,
@@ -104,12 +105,12 @@ where
     R::File: Owned,
 {
     let place = match file {
-        Some(file) => place_for(rt, file, out)?,
+        Some(file) => place_for_add(rt, file, out)?,
         None => place_of(rt, out)?,
     };
     let part = new_part(rt, place)?;
     let ready = match &part.place.file {
-        Some(old) => take_rights(&part.file, old),
+        Some(old) => copy_rights(&part.file, old),
         None => Ok(()),
     };
     match ready {
@@ -121,7 +122,7 @@ where
     }
 }
 
-/// Puts the part on the disk, and then in its place.
+/// Writes the part to the disk, and then gives it the name of the file that it replaces.
 pub(crate) fn put<R: Files>(rt: &R, part: &TempFile<R::File>) -> io::Result<()> {
     part.file.sync_all()?;
     fs::rename(rt, part.name.as_str(), part.place.name.as_str())

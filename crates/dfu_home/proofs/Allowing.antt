@@ -1,4 +1,4 @@
--- Operations that are due, which lie in the first slot and leave the image.
+-- Range of each due operation, which lies in the first slot, and the active image, which the operation keeps.
 use Rattle.std.proofs.Common.{◌≡◌, inl, inr, ℕ, ◌+◌, ◌-◌, ◌*◌, ◌%◌, ◌≤◌, ◌<◌, List, length, get_or, drop, slice_index, Option, sym, ◌∙◌, ap, subst, arith}
 use Rattle.std.proofs.lemmas.List.{get_or-take, get_or-drop}
 use Rattle.dfu_slots.specs.Units.{gate_size}
@@ -14,9 +14,9 @@ use Rattle.dfu_boot.specs.declared.install.due.Due.TheVariants as fill
 use Rattle.dfu_boot.proofs.Allowing.{does_only_allowed as fill_allowed}
 use Rattle.dfu_home.specs.declared.due.Due.TheVariants.{Refuse, Home, Erase, Program}
 use Rattle.dfu_home.specs.Places.{first_of, away_image, last_in_data}
-use Rattle.dfu_home.specs.Next.{IsCopying, CopiesBytes, ErasesForCopy, ProgramsForCopy}
+use Rattle.dfu_home.specs.Next.{IsCopying, IsByteCopyDue, ErasesForCopy, ProgramsForCopy}
 use Rattle.dfu_home.specs.Laws.{ImageStays, WritesTheFirstSlot}
-use Rattle.dfu_home.proofs.Away.{image_away_if_first_closed, image_away_if_found_there}
+use Rattle.dfu_home.proofs.Away.{image_second_if_first_closed, image_second_if_found_second}
 use Rattle.dfu_home.proofs.Staying.{image_stays_as_gate_closes, image_stays_as_data_fills, image_stays_as_gate_opens}
 
 module _ (m : MediumState) (c : IsCopying m) where
@@ -29,8 +29,8 @@ module _ (m : MediumState) (c : IsCopying m) where
   abbrev sector : ℕ
   sector = m.grain.sector
 
-  pub gate_unit_is_sector : g ≡ sector
-  gate_unit_is_sector = gate_room_is_a_sector m.grain (capacity_of m) c.sized.whole c.sectors
+  pub gate_room_is_one_sector : g ≡ sector
+  gate_room_is_one_sector = gate_room_is_a_sector m.grain (capacity_of m) c.sized.whole c.sectors
 
   gate_is_whole_sectors : g % sector ≡ 0
   gate_is_whole_sectors = gate_room_ends_at_edge m.grain (capacity_of m) c.sized.whole c.sectors
@@ -39,7 +39,7 @@ module _ (m : MediumState) (c : IsCopying m) where
   first_data_fills_capacity = data_length g m.bytes 0 (omega (arith, c.sized.even)) (omega (arith, c.sized.room))
 
   -- A sector of the data that is erased lies in the first slot, and begins at a multiple of the sector size.
-  data_erase_within_slot : (last : Option ℕ) (at d : ℕ) → at ≡ 2 * g + d → CopiesBytes m last (fill.Erase d)
+  data_erase_within_slot : (last : Option ℕ) (at d : ℕ) → at ≡ 2 * g + d → IsByteCopyDue m last (fill.Erase d)
       → (at + sector ≤ half) × (at % sector ≡ 0)
   data_erase_within_slot last at d is does =
       let ok = fill_allowed (away_image m) (first_of m).data_bytes sector (last_in_data (2 * g) last) (fill.Erase d) does in
@@ -53,11 +53,11 @@ module _ (m : MediumState) (c : IsCopying m) where
   pub copy_erase_within_slot : (last : Option ℕ) (at : ℕ) → ErasesForCopy m last at → (at + sector ≤ half) × (at % sector ≡ 0)
   copy_erase_within_slot last at (inl (d, is, does)) = data_erase_within_slot last at d is does
   copy_erase_within_slot last at (inr (inl (due, is, old))) =
-      (omega (arith, is, gate_unit_is_sector, c.sized.room), ap (λ (k : ℕ). k % sector) is ∙ gate_is_whole_sectors)
+      (omega (arith, is, gate_room_is_one_sector, c.sized.room), ap (λ (k : ℕ). k % sector) is ∙ gate_is_whole_sectors)
   copy_erase_within_slot last at (inr (inr (due, is, old))) =
-      (omega (arith, is, gate_unit_is_sector, c.sized.room), ap (λ (k : ℕ). k % sector) is ∙ first_byte_is_edge sector c.sectors)
+      (omega (arith, is, gate_room_is_one_sector, c.sized.room), ap (λ (k : ℕ). k % sector) is ∙ first_byte_is_edge sector c.sectors)
 
-  -- A byte of the first slot's data, as a byte of the medium.
+  -- A byte of the first slot's data is the byte of the medium at its place.
   data_byte_is_medium_byte : (i : ℕ) → 2 * g ≤ i → i < half → slice_index (first_of m).data_bytes (i - 2 * g) ≡ slice_index m.bytes i
   data_byte_is_medium_byte i low high =
       let e : 0 + 2 * g + (i - 2 * g) ≡ i = omega (arith, low) in
@@ -65,7 +65,7 @@ module _ (m : MediumState) (c : IsCopying m) where
       ∙ get_or-drop (0 + 2 * g) m.bytes (i - 2 * g) 0
       ∙ ap (λ (k : ℕ). get_or m.bytes k 0) e
 
-  data_program_within_blank : (last : Option ℕ) (at d : ℕ) → at ≡ 2 * g + d → CopiesBytes m last (fill.Program d)
+  data_program_within_blank : (last : Option ℕ) (at d : ℕ) → at ≡ 2 * g + d → IsByteCopyDue m last (fill.Program d)
       → (at + 256 ≤ half) × RangeIsBlank m.bytes at (at + 256)
   data_program_within_blank last at d is does =
       let ok = fill_allowed (away_image m) (first_of m).data_bytes sector (last_in_data (2 * g) last) (fill.Program d) does in
@@ -98,7 +98,7 @@ writes_the_first_slot m p (Erase at) (may, inl (away, is_open, some, is)) =
 writes_the_first_slot m p (Erase at) (may, inr (c, erases)) = copy_erase_within_slot m c p.last at erases
 writes_the_first_slot m p (Program at len) (may, c, programs) = copy_program_within_blank m c p.last at len programs
 
--- If nothing is carried out, the image stays.
+-- A medium of unchanged bytes keeps its active image.
 unchanged_medium_keeps_image : (m now : MediumState) (image : List ℕ) → Active m image → now.bytes ≡ m.bytes → now.grain ≡ m.grain →
     Active now image
 unchanged_medium_keeps_image m now image a bytes grain =
@@ -110,11 +110,11 @@ image_stays m now image p (Refuse refusal) a does carried = unchanged_medium_kee
 image_stays m now image p Home a does carried = unchanged_medium_keeps_image m now image a carried.bytes.after carried.grain
 image_stays m now image p (Erase at) a (may, inl (away, is_open, some, is)) carried =
     let gate = gate_room_is_a_sector m.grain (capacity_of m) a.sized.whole some in
-    image_stays_as_gate_closes m now image at (at + m.grain.sector) (image_away_if_found_there m image a away.second) a.sized.whole
+    image_stays_as_gate_closes m now image at (at + m.grain.sector) (image_second_if_found_second m image a away.second) a.sized.whole
     carried.bytes carried.grain
     (omega (arith, is, gate, a.sized.room)) is_open (omega (arith, is, gate))
 image_stays m now image p (Erase at) a (may, inr (c, erases)) carried =
-    let away = image_away_if_first_closed m image a c.shut in
+    let away = image_second_if_first_closed m image a c.shut in
     let within = (copy_erase_within_slot m c p.last at erases).0 in
     elim erases [
       | inl (d, is, does) ↦ image_stays_as_data_fills m now image at (at + m.grain.sector) away a.sized.whole carried.bytes carried.grain
@@ -125,10 +125,10 @@ image_stays m now image p (Erase at) a (may, inr (c, erases)) carried =
           c.shut (omega (arith, is, gate_room_at_least_16 m.grain))
       | inr (inr (due, is, old)) ↦ image_stays_as_gate_opens m now image at (at + m.grain.sector) away a.sized.whole carried.bytes
           carried.grain within
-          (omega (arith, is, gate_unit_is_sector m c)) due.0 due.1
+          (omega (arith, is, gate_room_is_one_sector m c)) due.0 due.1
     ]
 image_stays m now image p (Program at len) a (may, c, programs) carried =
-    let away = image_away_if_first_closed m image a c.shut in
+    let away = image_second_if_first_closed m image a c.shut in
     let within = (copy_program_within_blank m c p.last at len programs).0 in
     elim programs [
       | inl (d, is, size, does) ↦ image_stays_as_data_fills m now image at (at + len) away a.sized.whole carried.bytes carried.grain within

@@ -1,24 +1,24 @@
--- The active image, which stays whatever becomes of the operation that is due.
+-- Active image in the second slot, which stays active as the first slot changes.
 use Rattle.std.proofs.Common.{◌≡◌, inl, inr, ⊎_elim, ℕ, ◌≤◌, ◌<◌, List, length, take, slice_index, refl, sym, ◌∙◌, ap, subst, arith}
 use Rattle.std.proofs.lemmas.Bool.{cases_eq}
 use Rattle.dfu_suffix.specs.Register.{register}
 use Rattle.dfu_slots.specs.Units.{Grain, IsWhole, gate_room}
-use Rattle.dfu_slots.specs.Medium.{MediumState, FrameOutside}
+use Rattle.dfu_slots.specs.Medium.{MediumState, ChangedWithin}
 use Rattle.dfu_slots.specs.Layout.{Slot, slot, slot_size, HasOpenGate, OPEN, generation, next_generation, header, header_length, HasHeader}
 use Rattle.dfu_slots.specs.Image.{gate_of, capacity_of, SlotCounts, IsNewest, Active}
 use Rattle.dfu_slots.proofs.Stands.{ActiveAt}
 use Rattle.dfu_slots.proofs.Sectors.{gate_room_at_least_16}
-use Rattle.dfu_slots.proofs.Parts.{gate_kept_outside_change, header_kept_outside_change, data_kept_outside_change, slot_size_kept_by_change, two_slots_of_same_length, data_length}
-use Rattle.dfu_slots.proofs.Counting.{length_in_formed_header, version_two_header_formed}
+use Rattle.dfu_slots.proofs.Parts.{gate_kept_outside_change, header_kept_outside_change, data_kept_outside_change, slot_size_kept_by_change, same_length_has_two_slots, data_length}
+use Rattle.dfu_slots.proofs.Counting.{formed_header_has_its_length, version_two_header_is_formed}
 use Rattle.dfu_slots.proofs.Kept.{active_slot_kept, active_image_kept, open_gate_change_keeps_image, closed_slot_change_keeps_image}
 use Rattle.dfu_slots.proofs.Series.{SameSize}
 use Rattle.dfu_slots.proofs.Seeing.{active_on_same_size}
-use Rattle.dfu_home.specs.Places.{first_of, second_of, away_image, HasBytes, HasCopyHeader, copy_header}
+use Rattle.dfu_home.specs.Places.{first_of, second_slot_of, away_image, HasCopiedBytes, HasCopyHeader, copy_header}
 use Rattle.dfu_home.proofs.Away.{away_header_has_image_length, active_image_is_away_image, away_image_fits_capacity}
 
 -- Changes in the first slot while the image is in the second.
 module _ (m now : MediumState) (image : List ℕ) (from to : ℕ) (a : ActiveAt (gate_of m) m.bytes (slot_size m.bytes) 0 image)
-    (whole : IsWhole m.grain (capacity_of m)) (keeps : FrameOutside from to m.bytes now.bytes) (grain : now.grain ≡ m.grain)
+    (whole : IsWhole m.grain (capacity_of m)) (keeps : ChangedWithin from to m.bytes now.bytes) (grain : now.grain ≡ m.grain)
     (below : to ≤ slot_size m.bytes) where
   abbrev g : ℕ
   g = gate_of m
@@ -29,27 +29,27 @@ module _ (m now : MediumState) (image : List ℕ) (from to : ℕ) (a : ActiveAt 
   wide : 16 ≤ g
   wide = gate_room_at_least_16 m.grain
 
-  same : SameSize m now
-  same = record { grain = grain; size = keeps.size }
+  size_stays : SameSize m now
+  size_stays = record { grain = grain; size = keeps.size }
 
-  on : ActiveAt g now.bytes half 0 image → Active now image
-  on stands = active_on_same_size half 0 image same whole stands
+  active_at_slot : ActiveAt g now.bytes half 0 image → Active now image
+  active_at_slot stands = active_on_same_size half 0 image size_stays whole stands
 
   -- The image stays if only the open gate of the first slot changes.
   pub image_stays_as_gate_closes : HasOpenGate (first_of m) → to ≤ g → Active now image
-  image_stays_as_gate_closes was_open gate = on
+  image_stays_as_gate_closes was_open gate = active_at_slot
       (open_gate_change_keeps_image g wide m.bytes now.bytes half 0 image from to a keeps was_open (omega arith) (omega (arith, gate)))
 
   -- The image stays if only bytes behind the closed gate of the first slot change.
   pub image_stays_as_data_fills : ¬ HasOpenGate (first_of m) → 0 < from → Active now image
-  image_stays_as_data_fills shut above = on
+  image_stays_as_data_fills shut above = active_at_slot
       (closed_slot_change_keeps_image g wide m.bytes now.bytes half 0 image from to a keeps shut above (omega (arith, below)))
 
-  -- The first slot after the change, by the gate size of before.
-  first_slot_now : first_of now ≡ slot g now.bytes 0
-  first_slot_now = ap (λ (w : Grain). slot (gate_room w) now.bytes 0) grain
+  -- The first slot after the change is read with the gate size before it, because the grain stays.
+  first_slot_keeps_gate_size : first_of now ≡ slot g now.bytes 0
+  first_slot_keeps_gate_size = ap (λ (w : Grain). slot (gate_room w) now.bytes 0) grain
 
-  -- The first slot is as it was if only its gate changes, which was open and is open.
+  -- The first slot is as it was if only its gate changes, and the gate was open and still is.
   pub first_slot_stays_if_open : HasOpenGate (first_of m) → to ≤ g → HasOpenGate (first_of now) → first_of now ≡ first_of m
   first_slot_stays_if_open was_open gate is_open =
       let head : (slot g now.bytes 0).header
@@ -57,7 +57,7 @@ module _ (m now : MediumState) (image : List ℕ) (from to : ℕ) (a : ActiveAt 
       let body : (slot g now.bytes 0).data_bytes
       ≡ (first_of m).data_bytes = data_kept_outside_change g from to m.bytes now.bytes 0 keeps (inr (omega (arith, gate))) in
       let opened : (slot g now.bytes 0).gate ≡ (first_of m).gate = is_open ∙ sym was_open in
-      first_slot_now ∙ (λ i. record { gate = opened i; header = head i; data_bytes = body i })
+      first_slot_keeps_gate_size ∙ (λ i. record { gate = opened i; header = head i; data_bytes = body i })
 
   -- The gate of the first slot stays closed if only bytes behind it change.
   pub first_slot_stays_shut : ¬ HasOpenGate (first_of m) → 0 < from → ¬ HasOpenGate (first_of now)
@@ -66,8 +66,8 @@ module _ (m now : MediumState) (image : List ℕ) (from to : ℕ) (a : ActiveAt 
       ≡ (first_of m).gate = gate_kept_outside_change g from to m.bytes now.bytes 0 keeps (inl above) in
       shut (sym gate ∙ is_open)
 
-  -- Changes of the gate of a whole copy: the first slot does not count, or it is one generation on, with the same image.
-  module _ (gate : to ≤ g) (bytes : HasBytes m) (head : HasCopyHeader m) where
+  -- Changes of the gate of a whole copy: the first slot does not count, or is one generation newer, with the same image.
+  module _ (gate : to ≤ g) (bytes : HasCopiedBytes m) (head : HasCopyHeader m) where
     abbrev s : Slot
     s = slot g now.bytes 0
 
@@ -77,29 +77,31 @@ module _ (m now : MediumState) (image : List ℕ) (from to : ℕ) (a : ActiveAt 
     header_now_is_copy_header : s.header ≡ copy_header m
     header_now_is_copy_header = header_kept_outside_change g from to m.bytes now.bytes 0 keeps (inr (omega (arith, gate))) ∙ head
 
-    data_now_is_data_before : s.data_bytes ≡ (first_of m).data_bytes
-    data_now_is_data_before = data_kept_outside_change g from to m.bytes now.bytes 0 keeps (inr (omega (arith, gate)))
+    data_kept_by_gate_change : s.data_bytes ≡ (first_of m).data_bytes
+    data_kept_by_gate_change = data_kept_outside_change g from to m.bytes now.bytes 0 keeps (inr (omega (arith, gate)))
 
     copied : take (length image) s.data_bytes ≡ image
-    copied = ap (λ (d : List ℕ). take (length image) d) data_now_is_data_before
+    copied = ap (λ (d : List ℕ). take (length image) d) data_kept_by_gate_change
         ∙ ap (λ (n : ℕ). take n (first_of m).data_bytes) (ap length is)
         ∙ bytes ∙ sym is
 
     long : length s.data_bytes ≡ capacity_of m
-    long = ap length data_now_is_data_before
+    long = ap length data_kept_by_gate_change
         ∙ data_length g m.bytes 0 (omega (arith, a.sized.even)) (omega (arith, a.sized.room))
 
-    header_now_is_of_image : s.header ≡ header 2 (next_generation (generation (second_of m))) (length image) (register (take (length image)
+    header_now_is_of_image : s.header
+        ≡ header 2 (next_generation (generation (second_slot_of m))) (length image) (register (take (length image)
         s.data_bytes))
-    header_now_is_of_image = header_now_is_copy_header ∙ (λ i. header 2 (next_generation (generation (second_of m)))
+    header_now_is_of_image = header_now_is_copy_header ∙ (λ i. header 2 (next_generation (generation (second_slot_of m)))
         (away_header_has_image_length m image a i) (register ((sym is ∙ sym copied) i)))
 
     slot_now_has_header : HasHeader s (length image)
-    slot_now_has_header = version_two_header_formed s (next_generation (generation (second_of m))) (length image) header_now_is_of_image
+    slot_now_has_header =
+        version_two_header_is_formed s (next_generation (generation (second_slot_of m))) (length image) header_now_is_of_image
         (omega (arith, long, away_image_fits_capacity m image a))
 
     header_now_has_image_length : header_length s ≡ length image
-    header_now_has_image_length = length_in_formed_header s (length image) slot_now_has_header (omega (
+    header_now_has_image_length = formed_header_has_its_length s (length image) slot_now_has_header (omega (
       arith,
       away_image_fits_capacity m
           image a,
@@ -110,8 +112,8 @@ module _ (m now : MediumState) (image : List ℕ) (from to : ℕ) (a : ActiveAt 
     second_slot_stays = active_slot_kept g wide m.bytes now.bytes half 0 image from to a keeps (omega arith) (omega (arith, below))
 
     opened : HasOpenGate s → Active now image
-    opened is_open = active_on_same_size 0 half image same whole (record {
-      sized = two_slots_of_same_length g m.bytes now.bytes keeps.size a.sized;
+    opened is_open = active_on_same_size 0 half image size_stays whole (record {
+      sized = same_length_has_two_slots g m.bytes now.bytes keeps.size a.sized;
       places = inl (refl, sym (slot_size_kept_by_change from to m.bytes now.bytes keeps));
       newest = record {
         counts = record { is_open = is_open; intact = λ two. subst (HasHeader s) (sym header_now_has_image_length) slot_now_has_header };
@@ -124,10 +126,10 @@ module _ (m now : MediumState) (image : List ℕ) (from to : ℕ) (a : ActiveAt 
 
     pub image_stays_as_gate_opens : Active now image
     image_stays_as_gate_opens = ⊎_elim opened
-        (λ off. on (active_image_kept g wide m.bytes now.bytes half 0 image from to a keeps (omega arith) (omega (arith, below))
+        (λ off. active_at_slot (active_image_kept g wide m.bytes now.bytes half 0 image from to a keeps (omega arith) (omega (arith, below))
         (inl (λ c. off c.is_open)))) (cases_eq s.gate OPEN)
 
-    -- The first slot shows the image, whatever its gate is.
-    pub copy_shows_image : take (header_length (first_of now)) (first_of now).data_bytes ≡ image
-    copy_shows_image = ap (λ (x : Slot). take (header_length x) x.data_bytes) first_slot_now
+    -- The first slot shows the image afterwards, with an open or a closed gate.
+    pub copied_slot_shows_image : take (header_length (first_of now)) (first_of now).data_bytes ≡ image
+    copied_slot_shows_image = ap (λ (x : Slot). take (header_length x) x.data_bytes) first_slot_keeps_gate_size
         ∙ ap (λ (n : ℕ). take n s.data_bytes) header_now_has_image_length ∙ copied

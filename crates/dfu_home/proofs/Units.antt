@@ -1,4 +1,4 @@
--- Bytes that a copy programs, and operations that are due of it.
+-- Bytes that a copy programs, and its next operations.
 use Rattle.std.proofs.Common.{◌≡◌, inl, inr, ℕ, ◌+◌, ◌-◌, ◌*◌, ◌≤◌, ◌==◌, List, [], ◌∷◌, ◌++◌, length, take, drop, replicate, Option, if◌then◌else◌, refl, sym, ◌∙◌, ap, subst, arith}
 use Rattle.std.proofs.lemmas.List.{drop-replicate, take-replicate, take_all}
 use Rattle.std.proofs.lemmas.Bool.{cond-false, ne_eqb}
@@ -14,19 +14,19 @@ use Rattle.dfu_boot.specs.install.Next.{IsNextDue as Fills}
 use Rattle.dfu_boot.specs.declared.install.due.Due.{Due as FillDue}
 use Rattle.dfu_home.specs.declared.due.Due.{Due}
 use Rattle.dfu_home.specs.declared.due.Due.TheVariants.{Refuse, Home, Erase, Program}
-use Rattle.dfu_home.specs.Places.{first_of, second_of, away_image, HasBytes, last_in_data}
-use Rattle.dfu_home.specs.Next.{CopiesBytes, IsHeaderOrGateDue, IsCopyDue, program_bytes}
+use Rattle.dfu_home.specs.Places.{first_of, second_slot_of, away_image, HasCopiedBytes, last_in_data}
+use Rattle.dfu_home.specs.Next.{IsByteCopyDue, IsHeaderOrGateDue, IsCopyDue, program_bytes}
 
--- If bytes are copied to the front of a buffer of 256 zeros, the buffer is these bytes and then zeros.
-pub unit_buffer_filled : (bytes copied : List ℕ) → copied ≡ bytes
+-- A buffer of 256 zeros to whose front bytes were copied has these bytes, and zeros after them.
+pub unit_buffer_is_padded : (bytes copied : List ℕ) → copied ≡ bytes
     → copied ++ drop (length bytes) (replicate 256 0) ≡ bytes ++ replicate (256 - length bytes) 0
-unit_buffer_filled bytes copied is = λ i. is i ++ drop-replicate (length bytes) 256 0 i
+unit_buffer_is_padded bytes copied is = λ i. is i ++ drop-replicate (length bytes) 256 0 i
 
--- The first len bytes of a buffer that a front and zeros fill are the front and zeros.
-pub front_of_unit_buffer : (front after : List ℕ) (len : ℕ) → after ≡ front ++ replicate (256 - length front) 0 → length front ≤ len →
+-- The first `len` bytes of a buffer of `front` and zeros are `front` and zeros, if `front` is not longer.
+pub unit_buffer_begins_padded : (front after : List ℕ) (len : ℕ) → after ≡ front ++ replicate (256 - length front) 0 → length front ≤ len →
     len ≤ 256
     → take len after ≡ front ++ replicate (len - length front) 0
-front_of_unit_buffer front after len is low high =
+unit_buffer_begins_padded front after len is low high =
     let zeros : List ℕ = replicate (256 - length front) 0 in
     let e : len ≡ length front + (len - length front) = omega (arith, low) in
     ap (λ (l : List ℕ). take len l) is ∙ ap (λ (k : ℕ). take k (front ++ zeros)) e ∙ take-append-add front zeros (len - length front)
@@ -39,31 +39,32 @@ module _ (m : MediumState) where
   abbrev size : ℕ
   size = gate_size m.grain.unit
 
-  abbrev bytes_at_header : List ℕ
-  bytes_at_header = header_unit size (next_generation (generation (second_of m))) (header_length (second_of m)) (register (away_image m))
+  abbrev header_unit_bytes : List ℕ
+  header_unit_bytes = header_unit size (next_generation (generation (second_slot_of m))) (header_length (second_slot_of m))
+      (register (away_image m))
 
-  -- The bytes of a piece are the bytes that a program at its place has.
+  -- A piece of the image is the bytes of the program at its place.
   piece_is_program_bytes : (d : ℕ) → program_piece (away_image m) d ≡ program_bytes m (2 * g + d)
   piece_is_program_bytes d =
       let at = 2 * g + d in
       let wide = gate_room_at_least_16 m.grain in
       let e : at - 2 * g ≡ d = omega arith in
-      sym (cond-false (at == 0) (gate_unit size OPEN) (if at == g then bytes_at_header else program_piece (away_image m) (at - 2 * g))
+      sym (cond-false (at == 0) (gate_unit size OPEN) (if at == g then header_unit_bytes else program_piece (away_image m) (at - 2 * g))
       (ne_eqb at 0 (λ none. omega (arith, none, wide)))
-      ∙ cond-false (at == g) bytes_at_header (program_piece (away_image m) (at - 2 * g)) (ne_eqb at g (λ is. omega (arith, is, wide)))
+      ∙ cond-false (at == g) header_unit_bytes (program_piece (away_image m) (at - 2 * g)) (ne_eqb at g (λ is. omega (arith, is, wide)))
       ∙ ap (λ (k : ℕ). program_piece (away_image m) k) e)
 
-  -- An operation that would be due of a run area is due of the data of the first slot.
+  -- The next operation of a run area with the bytes of the first slot's data, for the image in the second slot, is the next byte copy.
   pub copies : (image run : List ℕ) (sector : ℕ) (last shown : Option ℕ) (due : FillDue) → image ≡ away_image m
       → run ≡ (first_of m).data_bytes → sector ≡ m.grain.sector → shown ≡ last_in_data (2 * g) last → Fills image run sector shown due
-      → CopiesBytes m last due
+      → IsByteCopyDue m last due
   copies image run sector last shown due is data_is sector_is shown_is does =
       subst (λ (l : List ℕ). Fills l (first_of m).data_bytes m.grain.sector (last_in_data (2 * g) last) due) is
       (subst (λ (l : List ℕ). Fills image l m.grain.sector (last_in_data (2 * g) last) due) data_is
       (subst (λ (n : ℕ). Fills image run n (last_in_data (2 * g) last) due) sector_is
       (subst (λ (o : Option ℕ). Fills image run sector o due) shown_is does)))
 
-  -- A piece that is filled with zeros has the bytes that a program at its place has.
+  -- A buffer of 256 bytes with a piece of the image has the bytes of the program at its place.
   pub filled_piece_is_program_bytes : (image after : List ℕ) (d : ℕ) → image ≡ away_image m → after ≡ program_piece image d →
       length after ≡ 256
       → take 256 after ≡ program_bytes m (2 * g + d)
@@ -73,8 +74,8 @@ module _ (m : MediumState) where
       whole : (l : List ℕ) → take (length l) l ≡ l
       whole l = take_all (length l) l (omega arith)
 
-  -- Once the bytes are copied, an operation that is due of the header or the gate is due of the copy.
-  pub header_due_is_copy_due : (last : Option ℕ) (due : Due) → HasBytes m → IsHeaderOrGateDue m last due → IsCopyDue m last due
+  -- Once the bytes are copied, the next operation of the header or the gate is that of the copy.
+  pub header_due_is_copy_due : (last : Option ℕ) (due : Due) → HasCopiedBytes m → IsHeaderOrGateDue m last due → IsCopyDue m last due
   header_due_is_copy_due last (Refuse refusal) bytes head = head
   header_due_is_copy_due last Home bytes head = head
   header_due_is_copy_due last (Erase at) bytes (inl head) = inr (inl ((bytes, head.0), head.1, head.2))
@@ -82,9 +83,9 @@ module _ (m : MediumState) where
   header_due_is_copy_due last (Program at len) bytes (inl head) = inr (inl ((bytes, head.0), head.1, head.2, head.3))
   header_due_is_copy_due last (Program at len) bytes (inr head) = inr (inr ((bytes, head.0), head.1, head.2, head.3))
 
-  -- The bytes of an image of no bytes are copied.
-  pub no_bytes : length (away_image m) ≡ 0 → HasBytes m
-  no_bytes none = empty (away_image m) none
+  -- An image of no bytes counts as copied.
+  pub empty_image_has_copied_bytes : length (away_image m) ≡ 0 → HasCopiedBytes m
+  empty_image_has_copied_bytes none = empty (away_image m) none
     where
       empty : (l : List ℕ) → length l ≡ 0 → take (length l) (first_of m).data_bytes ≡ l
       empty [] none = refl

@@ -1,6 +1,6 @@
--- Facts of each operation that is due, whatever becomes of it.
+-- Facts of each due operation, also if it fails, lies or is cut.
 use Rattle.std.specs.Prelude.{◌≡◌, ◌⊎◌, ℕ, ◌+◌, ◌%◌, ◌≤◌, List, take}
-use Rattle.dfu_slots.specs.Medium.{MediumState, FrameOutside}
+use Rattle.dfu_slots.specs.Medium.{MediumState, ChangedWithin}
 use Rattle.dfu_slots.specs.Layout.{slot_size, HasOpenGate, header_length}
 use Rattle.dfu_slots.specs.Image.{Active, gate_of, spare_at}
 use Rattle.dfu_boot.specs.install.Area.{RangeIsBlank}
@@ -17,7 +17,7 @@ place_of (Program at len) = at
 place_of (Refuse refusal) = 0
 place_of Home = 0
 
--- Place at which the range of an operation ends; if none is due the range is empty.
+-- Place at which the range of an operation ends, behind its last byte; if none is due the range is empty.
 abbrev pub end_of_due : ℕ → Due → ℕ
 end_of_due sector (Erase at) = at + sector
 end_of_due sector (Program at len) = at + len
@@ -26,32 +26,33 @@ end_of_due sector Home = 0
 
 -- An operation that was due is carried out, and works, fails, lies or is cut: its range has any bytes, and elsewhere nothing changes.
 pub record HomeOperationOutcome (m : MediumState) (due : Due) (now : MediumState) : Type 0 where
-  pub bytes : FrameOutside (place_of due) (end_of_due m.grain.sector due) m.bytes now.bytes
+  pub bytes : ChangedWithin (place_of due) (end_of_due m.grain.sector due) m.bytes now.bytes
   pub grain : now.grain ≡ m.grain
 
--- Whatever becomes of the operation that is due, the active image stays.
+-- The active image stays active for any outcome of the due operation.
 abbrev pub ImageStays : Type 0
 ImageStays =
     (m now : MediumState) (image : List ℕ) (p : Progress) (due : Due) → Active m image → IsNextDue m p due →
     HomeOperationOutcome m due now →
     Active now image
 
--- An operation lies in the first slot, and erases a whole sector or programs blank bytes.
+-- An operation lies in the first slot, and erases a whole sector or programs blank bytes; if none is due there is no condition.
 abbrev pub IsFirstSlotOperation : MediumState → Due → Type 0
 IsFirstSlotOperation m (Erase at) = (at + m.grain.sector ≤ slot_size m.bytes) × (at % m.grain.sector ≡ 0)
 IsFirstSlotOperation m (Program at len) = (at + len ≤ slot_size m.bytes) × RangeIsBlank m.bytes at (at + len)
 IsFirstSlotOperation m (Refuse refusal) = Unit {0}
 IsFirstSlotOperation m Home = Unit {0}
 
+-- Each due operation lies in the first slot, and erases a whole sector or programs blank bytes.
 abbrev pub WritesTheFirstSlot : Type 0
 WritesTheFirstSlot = (m : MediumState) (p : Progress) (due : Due) → IsNextDue m p due → IsFirstSlotOperation m due
 
--- As long as the active image is in the first slot, the second one is spare: each operation of a download lies in it.
+-- As long as the active image is in the first slot, the second one is the spare slot, in which each operation of a download lies.
 abbrev pub SecondIsSpare : Type 0
 SecondIsSpare = (m : MediumState) → IsActiveHome m → spare_at (gate_of m) m.bytes ≡ slot_size m.bytes
 
--- Whatever becomes of the operation that is due, if the gate of the first slot is open afterwards, the slot is as it was before, or shows
--- the active image.
+-- For any outcome of the due operation: if the gate of the first slot is open afterwards, the slot is as it was before, or shows the active
+-- image.
 abbrev pub FirstSlotIsKnown : Type 0
 FirstSlotIsKnown =
     (m now : MediumState) (image : List ℕ) (p : Progress) (due : Due) → Active m image → IsNextDue m p due →

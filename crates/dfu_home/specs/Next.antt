@@ -1,4 +1,4 @@
--- Operations that are due next, so that the active image comes to the first slot.
+-- Operations that bring the active image to the first slot.
 use Rattle.std.specs.Prelude.{◌≡◌, ◌⊎◌, ℕ, ◌+◌, ◌-◌, ◌*◌, ◌≤◌, ◌<◌, ◌++◌, List, length, take, replicate, Option, ◌==◌, if◌then◌else◌}
 use Rattle.dfu_suffix.specs.Register.{register}
 use Rattle.dfu_slots.specs.Units.{gate_size}
@@ -13,45 +13,46 @@ use Rattle.dfu_home.specs.declared.due.Due.{Due}
 use Rattle.dfu_home.specs.declared.due.Due.TheVariants.{Refuse, Home, Erase, Program}
 use Rattle.dfu_home.specs.declared.due.Refusal.TheVariants.{NoSectors, NoImage, NotWritten}
 use Rattle.dfu_home.specs.declared.due.Progress.{Progress}
-use Rattle.dfu_home.specs.Places.{first_of, second_of, IsActiveHome, IsActiveAway, away_image, HasBytes, HasCopyHeader, IsErasedAt, last_in_data, most_operations}
+use Rattle.dfu_home.specs.Places.{first_of, second_slot_of, IsActiveHome, IsActiveAway, away_image, HasCopiedBytes, HasCopyHeader, IsErasedByLast, last_in_data, most_operations}
 
--- The copy of the bytes goes on with an operation in the first slot's data, as a run area is filled, from the first byte of the data on.
-abbrev pub CopiesBytes : MediumState → Option ℕ → FillDue → Type 0
-CopiesBytes m last due = Fills (away_image m) (first_of m).data_bytes m.grain.sector (last_in_data (2 * gate_of m) last) due
+-- Next operation that copies bytes of the image: the first slot's data is filled as a run area is, from its first byte on.
+abbrev pub IsByteCopyDue : MediumState → Option ℕ → FillDue → Type 0
+IsByteCopyDue m last due = Fills (away_image m) (first_of m).data_bytes m.grain.sector (last_in_data (2 * gate_of m) last) due
 
 -- A copy is under way: the gate of the first slot is closed, that of the second is open, and the image fits.
 pub record IsCopying (m : MediumState) : Type 0 where
   pub sized : IsSizedMedium m
   pub sectors : 0 < m.grain.sector
   pub shut : ¬ HasOpenGate (first_of m)
-  pub there : HasOpenGate (second_of m)
-  pub fits : header_length (second_of m) ≤ capacity_of m
+  pub there : HasOpenGate (second_slot_of m)
+  pub fits : header_length (second_slot_of m) ≤ capacity_of m
 
--- The bytes are copied, and the header is due; or the header is there too, and the gate is due. Each is erased and then programmed.
+-- The header of the copy is due: the bytes are copied, and the header is not.
 abbrev pub IsHeaderDue : MediumState → Type 0
-IsHeaderDue m = HasBytes m × (¬ HasCopyHeader m)
+IsHeaderDue m = HasCopiedBytes m × (¬ HasCopyHeader m)
 
+-- The gate of the copy is due: the bytes and the header are copied.
 abbrev pub IsGateDue : MediumState → Type 0
-IsGateDue m = HasBytes m × HasCopyHeader m
+IsGateDue m = HasCopiedBytes m × HasCopyHeader m
 
--- Sector that is erased for a copy: one of the data, the header's, or the gate's.
+-- The sector at `at` is erased next for a copy: one of the data, the header's, or the gate's.
 abbrev pub ErasesForCopy : MediumState → Option ℕ → ℕ → Type 0
-ErasesForCopy m last at = ((d : ℕ) × (at ≡ 2 * gate_of m + d) × CopiesBytes m last (fill.Erase d))
-    ⊎ (IsHeaderDue m × (at ≡ gate_of m) × (¬ IsErasedAt m last at)
-    ⊎ IsGateDue m × (at ≡ 0) × (¬ IsErasedAt m last at))
+ErasesForCopy m last at = ((d : ℕ) × (at ≡ 2 * gate_of m + d) × IsByteCopyDue m last (fill.Erase d))
+    ⊎ (IsHeaderDue m × (at ≡ gate_of m) × (¬ IsErasedByLast m last at)
+    ⊎ IsGateDue m × (at ≡ 0) × (¬ IsErasedByLast m last at))
 
--- Range that is programmed for a copy.
+-- The `len` bytes at `at` are programmed next for a copy: a piece of the image, the unit of the header, or the unit of the gate.
 abbrev pub ProgramsForCopy : MediumState → Option ℕ → ℕ → ℕ → Type 0
-ProgramsForCopy m last at len = ((d : ℕ) × (at ≡ 2 * gate_of m + d) × (len ≡ 256) × CopiesBytes m last (fill.Program d))
-    ⊎ (IsHeaderDue m × (at ≡ gate_of m) × (len ≡ gate_size m.grain.unit) × IsErasedAt m last at
-    ⊎ IsGateDue m × (at ≡ 0) × (len ≡ gate_size m.grain.unit) × IsErasedAt m last at)
+ProgramsForCopy m last at len = ((d : ℕ) × (at ≡ 2 * gate_of m + d) × (len ≡ 256) × IsByteCopyDue m last (fill.Program d))
+    ⊎ (IsHeaderDue m × (at ≡ gate_of m) × (len ≡ gate_size m.grain.unit) × IsErasedByLast m last at
+    ⊎ IsGateDue m × (at ≡ 0) × (len ≡ gate_size m.grain.unit) × IsErasedByLast m last at)
 
--- The medium was looked at since the power came, and there is room for an operation.
+-- The medium has an active image before the first operation, and fewer operations were taken than `most_operations`.
 pub record HasOperationLeft (m : MediumState) (p : Progress) : Type 0 where
   pub looked : p.count ≡ 0 → HasImage m
   pub left : p.count < most_operations m
 
--- The operation that is due next. The gate of the first slot is closed first, because from then on only the second slot can have the image.
+-- Operation that is due next. The gate of the first slot is closed first, because from then on only the second slot can have the image.
 abbrev pub IsNextDue : MediumState → Progress → Due → Type 0
 IsNextDue m p (Refuse NoSectors) = m.grain.sector ≡ 0
 IsNextDue m p (Refuse NoImage) = (0 < m.grain.sector) × (¬ HasImage m)
@@ -61,10 +62,10 @@ IsNextDue m p (Erase at) = HasOperationLeft m p × (IsActiveAway m × HasOpenGat
     ⊎ IsCopying m × ErasesForCopy m p.last at)
 IsNextDue m p (Program at len) = HasOperationLeft m p × IsCopying m × ProgramsForCopy m p.last at len
 
--- The bytes of a program at a place: the unit of the gate, the unit of the header, or a piece of the image.
+-- Bytes of a program at a place: the unit of the gate at 0, the unit of the header behind the gate, or else a piece of the image.
 abbrev pub program_bytes : MediumState → ℕ → List ℕ
 program_bytes m at =
-    let s = second_of m in
+    let s = second_slot_of m in
     let size = gate_size m.grain.unit in
     if at == 0 then gate_unit size OPEN
     else if at == gate_of m then header_unit size (next_generation (generation s)) (header_length s) (register (away_image m))
@@ -77,26 +78,27 @@ BufferOfProgram m (Refuse refusal) before after = after ≡ before
 BufferOfProgram m Home before after = after ≡ before
 BufferOfProgram m (Erase at) before after = after ≡ before
 
--- Operation that is due of a copy.
+-- Next operation of a copy: an erase or a program.
 abbrev pub IsCopyDue : MediumState → Option ℕ → Due → Type 0
 IsCopyDue m last (Erase at) = ErasesForCopy m last at
 IsCopyDue m last (Program at len) = ProgramsForCopy m last at len
 IsCopyDue m last (Refuse refusal) = ⊥
 IsCopyDue m last Home = ⊥
 
--- Operation that is due once the bytes are copied: of the header, or of the gate.
+-- Next operation once the bytes are copied: of the header, or of the gate.
 abbrev pub IsHeaderOrGateDue : MediumState → Option ℕ → Due → Type 0
-IsHeaderOrGateDue m last (Erase at) = ((¬ HasCopyHeader m) × (at ≡ gate_of m) × (¬ IsErasedAt m last at))
-    ⊎ (HasCopyHeader m × (at ≡ 0) × (¬ IsErasedAt m last at))
-IsHeaderOrGateDue m last (Program at len) = ((¬ HasCopyHeader m) × (at ≡ gate_of m) × (len ≡ gate_size m.grain.unit) × IsErasedAt m last at)
-    ⊎ (HasCopyHeader m × (at ≡ 0) × (len ≡ gate_size m.grain.unit) × IsErasedAt m last at)
+IsHeaderOrGateDue m last (Erase at) = ((¬ HasCopyHeader m) × (at ≡ gate_of m) × (¬ IsErasedByLast m last at))
+    ⊎ (HasCopyHeader m × (at ≡ 0) × (¬ IsErasedByLast m last at))
+IsHeaderOrGateDue m last (Program at len) =
+    ((¬ HasCopyHeader m) × (at ≡ gate_of m) × (len ≡ gate_size m.grain.unit) × IsErasedByLast m last at)
+    ⊎ (HasCopyHeader m × (at ≡ 0) × (len ≡ gate_size m.grain.unit) × IsErasedByLast m last at)
 IsHeaderOrGateDue m last (Refuse refusal) = ⊥
 IsHeaderOrGateDue m last Home = ⊥
 
--- Operation that is due of a gate unit at a place: an erase, and then a program.
+-- Next operation of the unit at a place: a program if the last operation erased its sector, else the erase.
 abbrev pub IsGateUnitDue : MediumState → Option ℕ → ℕ → Due → Type 0
-IsGateUnitDue m last place (Erase at) = (at ≡ place) × (¬ IsErasedAt m last place)
-IsGateUnitDue m last place (Program at len) = (at ≡ place) × (len ≡ gate_size m.grain.unit) × IsErasedAt m last place
+IsGateUnitDue m last place (Erase at) = (at ≡ place) × (¬ IsErasedByLast m last place)
+IsGateUnitDue m last place (Program at len) = (at ≡ place) × (len ≡ gate_size m.grain.unit) × IsErasedByLast m last place
 IsGateUnitDue m last place (Refuse refusal) = ⊥
 IsGateUnitDue m last place Home = ⊥
 

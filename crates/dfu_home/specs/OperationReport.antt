@@ -5,7 +5,8 @@ use Rattle.dfu_home.specs.declared.due.Due.{Due}
 use Rattle.dfu_home.specs.declared.due.Due.TheVariants.{Refuse, Home, Erase, Program}
 use Rattle.dfu_home.specs.Laws.{place_of}
 
--- An operation worked, as the flash reads: the erased sector is FFh, or the programmed bytes are there.
+-- An operation worked, as the flash reads: its range is not empty and lies in a flash of less than 2^32 bytes, and the erased sector is
+-- FFh, or the programmed bytes, 256 at most, are there.
 abbrev pub HomeDueWorked : List ℕ → ℕ → Due → List ℕ → Type 0
 HomeDueWorked flash sector (Erase at) bytes =
     (length flash < 2 ^ 32) × (0 < sector) × (at + sector ≤ length flash) × RangeIsBlank flash at (at + sector)
@@ -14,7 +15,7 @@ HomeDueWorked flash sector (Program at len) bytes =
 HomeDueWorked flash sector (Refuse refusal) bytes = ⊥
 HomeDueWorked flash sector Home bytes = ⊥
 
--- The note after an operation is its place if it was not reported as failed and worked, and else none.
-abbrev pub NoteOfOperation : List ℕ → ℕ → Due → List ℕ → Bool → Option ℕ → Type 0
-NoteOfOperation flash sector due bytes failed (Some at) = (failed ≡ false) × (at ≡ place_of due) × HomeDueWorked flash sector due bytes
-NoteOfOperation flash sector due bytes failed None = failed ≡ false → ¬ HomeDueWorked flash sector due bytes
+-- Note of an operation: its place if it worked and was not reported as failed, else None.
+abbrev pub IsNoteOfHomeDue : List ℕ → ℕ → Due → List ℕ → Bool → Option ℕ → Type 0
+IsNoteOfHomeDue flash sector due bytes failed (Some at) = (failed ≡ false) × (at ≡ place_of due) × HomeDueWorked flash sector due bytes
+IsNoteOfHomeDue flash sector due bytes failed None = failed ≡ false → ¬ HomeDueWorked flash sector due bytes

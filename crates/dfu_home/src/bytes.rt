@@ -1,9 +1,9 @@
-//! Bytes that are compared, and those of a unit.
+//! Comparison of bytes of flash, and the buffer of a unit.
 ghost use Rattle.std.specs.Prelude.{◌≡◌, ◌↔◌, ◌≤◌, ◌-◌, ◌++◌, length, replicate, IsTrue};
 
 use dfu_slots::flash_byte_at;
 
-/// Returns whether bytes of flash are those of a slice of the same length. (A loop is less code than `==`.)
+/// Returns whether bytes of flash equal a slice of the same length. (A loop is less code than `==`.)
 pub(crate) fn are_same(one: &[u8], other: &[u8]) -> bool
     requires { length one.now ≡ length other.now }
     ensures { IsTrue result ↔ (one.now ≡ other.now) }

@@ -1,4 +1,4 @@
-//! The copy of the image in the second slot: its bytes, its header, and then the gate is opened.
+//! Operations that copy the image of the second slot into the first: its bytes, then its header, and then the gate, which opens.
 ghost use Rattle.std.specs.Prelude.{◌≡◌, ◌↔◌, ◌≤◌, ◌<◌, ◌+◌, ◌-◌, ◌*◌, ◌^◌, ◌++◌, ℕ, length, take, drop, replicate, slice_index, slice_range, IsTrue};
 ghost use Rattle.std.specs.Int.{w32, from_le_bytes};
 ghost use Rattle.dfu_suffix.specs.Register.{register};
@@ -14,7 +14,8 @@ use dfu_slots::{
     Medium, OPEN_GATE, VERSION, crc_of_flash, gate_of, header_of, length_in, make_header,
 };
 
-// Returns the place of the last operation in the data of the first slot, if it went there.
+// Returns the place of the last operation, counted from the first slot's data, which begins at `gates`; None without one, and if it lies
+// before the data.
 fn last_in_data(gates: u32, last: Option<u32>) -> Option<u32>
     ensures { result ≡ last_in_data gates last }
 {
@@ -24,7 +25,7 @@ fn last_in_data(gates: u32, last: Option<u32>) -> Option<u32>
     }
 }
 
-// The header of the copy of an image that has this one: one generation on.
+// Returns the header of the copy of an image with the header `found`: one generation newer.
 fn copy_header(found: &[u8; 16], image: &[u8]) -> [u8; 16]
     ensures { result ≡ header 2 (next_generation (slice_index found.now 0)) (from_le_bytes w32 (take 4 (drop 4 found.now))) (register image.now) }
 {
@@ -36,7 +37,7 @@ fn copy_header(found: &[u8; 16], image: &[u8]) -> [u8; 16]
     )
 }
 
-// The data of the first slot.
+// Returns the data of the first slot.
 fn first_data<'f, M: Medium>(medium: &M, flash: &'f [u8]) -> &'f [u8]
     requires mapped { flash.now ≡ (M.state medium.now).bytes }
     requires copying { IsCopying (M.state medium.now) }
@@ -47,7 +48,7 @@ fn first_data<'f, M: Medium>(medium: &M, flash: &'f [u8]) -> &'f [u8]
     &flash[gates as usize..half as usize]
 }
 
-// The image in the second slot.
+// Returns the image in the second slot.
 fn away_image<'f, M: Medium>(medium: &M, flash: &'f [u8]) -> &'f [u8]
     requires mapped { flash.now ≡ (M.state medium.now).bytes }
     requires copying { IsCopying (M.state medium.now) }
@@ -68,8 +69,8 @@ fn gate_size<M: Medium>(medium: &M) -> u32
     16.max(medium.unit().size())
 }
 
-// Returns the operation that is due of a gate unit that begins there, which is to have these bytes, and zeros after them: it is programmed
-// if the last operation erased it, and else erased.
+// Returns the next operation of the gate unit or header unit at `at`, which is to hold `front` and zeros after it: a program if the last
+// operation erased its sector, else the erase. `out` has the unit for the program.
 fn unit_due<M: Medium>(
     medium: &M,
     flash: &[u8],
@@ -106,7 +107,7 @@ fn has_header<M: Medium>(medium: &M, flash: &[u8], header: &[u8; 16]) -> bool
     are_same(&flash[at..at + 16], header)
 }
 
-// Returns the operation that is due once the bytes are there: the header, or behind it the gate.
+// Returns the next operation once the bytes are copied: that of the header and, once the header is there, that of the gate.
 fn head<M: Medium>(
     medium: &M,
     flash: &[u8],
@@ -127,7 +128,7 @@ fn head<M: Medium>(
     unit_due(medium, flash, gate_of(medium), last, &header, out)
 }
 
-/// Returns the operation that is due of a copy.
+/// Returns the next operation of a copy, an erase or a program; the bytes of the program are at the front of `out`.
 pub(crate) fn copy<M: Medium>(
     medium: &M,
     flash: &[u8],

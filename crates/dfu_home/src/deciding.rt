@@ -1,4 +1,4 @@
-//! The choice of the operation that is due next.
+//! Operation that is due next, by the gate of the first slot.
 ghost use Rattle.std.specs.Prelude.{◌≡◌, ◌<◌, not, ℕ, List, IsTrue};
 ghost use Rattle.dfu_slots.specs.Layout.{HasOpenGate};
 ghost use Rattle.dfu_slots.specs.Image.{IsSizedMedium, HasImage};
@@ -10,14 +10,14 @@ use crate::copying::copy;
 use crate::{Due, Progress, Refusal};
 use dfu_slots::{Medium, capacity_of, header_of, is_open, is_sized, length_in};
 
-// Returns the number of operations that may come on a medium: one for each 128 bytes. A medium that works needs fewer.
+// Returns the largest number of operations that a copy on a medium may take: one for each 128 bytes. A medium that works needs fewer.
 fn most_operations<M: Medium>(medium: &M) -> u32
     ensures { result ≡ most_operations (M.state medium.now) }
 {
     medium.len() / 128
 }
 
-// Returns whether the second slot, of which alone the image can be, is open, and its image fits.
+// Returns true if the second slot, the only one that can have the image, is open, and its image fits.
 fn is_copying<M: Medium>(medium: &M) -> bool
     requires sized { IsSizedMedium (M.state medium.now) }
     requires sectors { 0 < (M.state medium.now).grain.sector }
@@ -35,7 +35,7 @@ fn is_copying<M: Medium>(medium: &M) -> bool
     true
 }
 
-// Returns whether the medium has an active image, unless so many operations came since it was looked at.
+// Returns true after the first operation (`count` over 0), without a look, and before it only if the medium has an active image.
 fn is_looked<M: Medium>(medium: &M, count: u32) -> bool
     ensures looked { IsTrue result → count ≡ 0 → HasImage (M.state medium.now) }
     ensures none { IsTrue (not result) → ¬ HasImage (M.state medium.now) }
@@ -65,7 +65,7 @@ fn opened<M: Medium>(medium: &M, progress: Progress) -> Due
     }
 }
 
-// Returns the operation that is due while it is closed: the image can only be in the second slot.
+// Returns the operation that is due while the gate of the first slot is closed, so that only the second slot can have the image.
 fn shut<M: Medium>(medium: &M, flash: &[u8], progress: Progress, out: &mut [u8; 256]) -> Due
     requires mapped { flash.now ≡ (M.state medium.now).bytes }
     requires sized { IsSizedMedium (M.state medium.now) }
@@ -86,12 +86,12 @@ fn shut<M: Medium>(medium: &M, flash: &[u8], progress: Progress, out: &mut [u8; 
     copy(medium, flash, progress.last, out)
 }
 
-/// Returns the operation that is due next, so that the active image comes to the first slot.
+/// Returns the next operation that brings the active image to the first slot.
 ///
 /// `flash` has the bytes of the medium, as it is mapped for reading. `progress` is no last operation and a count of 0 after each loss of
-/// power, and else what `took` returned. Whatever it is, `Home` comes only if the active image is in the first slot, each operation lies
-/// in that slot, and whatever becomes of it the same image stays the active one. The bytes of a program are at the front of `out`; else
-/// that is as it was.
+/// power, and else the result of `took`. For any `progress`, `Home` is returned only if the active image is in the first slot, each
+/// operation lies in that slot, and the active image stays active, also if the operation fails, lies or is cut off. The bytes of a program
+/// are at the front of `out`; without a program `out` is as it was.
 ///
 /// Refused, in this order: `NoSectors`, `NoImage`, `NotWritten`.
 pub fn next<M: Medium>(medium: &M, flash: &[u8], progress: Progress, out: &mut [u8; 256]) -> Due

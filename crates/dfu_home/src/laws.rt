@@ -1,8 +1,8 @@
 //! Laws of two areas. Each is the contract of a function with an empty body, which is proved and not to be called.
 ghost use Rattle.dfu_home.specs.Laws.{ImageStays, WritesTheFirstSlot, SecondIsSpare, FirstSlotIsKnown};
 
-/// Whatever becomes of an operation that is due, also if it fails, lies or is cut off with any bytes in its range, the same image is the
-/// active one. So it is after any list of them, and of losses of power.
+/// The active image stays active for any outcome of a due operation, also if it fails, lies or is cut off with any bytes in its range. So
+/// it is after any list of operations and losses of power.
 pub fn image_stays()
     ensures { ImageStays }
 {}
@@ -12,13 +12,13 @@ pub fn writes_the_first_slot()
     ensures { WritesTheFirstSlot }
 {}
 
-/// As long as the active image is in the first slot, the second one is spare.
+/// As long as the active image is in the first slot, the second one is the spare slot.
 pub fn second_is_spare()
     ensures { SecondIsSpare }
 {}
 
-/// Whatever becomes of an operation that is due, no other image comes into the first slot: if its gate is open afterwards, the slot is as
-/// it was before, or shows the active image.
+/// No outcome of a due operation brings another image into the first slot: if its gate is open afterwards, the slot is as it was before, or
+/// shows the active image.
 pub fn first_slot_is_known()
     ensures { FirstSlotIsKnown }
 {}

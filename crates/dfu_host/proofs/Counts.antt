@@ -12,25 +12,25 @@ use Rattle.dfu_host.specs.Table as table
 use Rattle.dfu_host.specs.BlockLaws.{nth_block_is_slice, counted_block_starts_in_payload, started_block_is_counted}
 
 -- The blocks of a goal in the table are the blocks of the goal's payload.
-pub blocks_of_goal_payload : (g : Goal) (t : ℕ) → table.blocks_of (goal_of g) t ≡ blocks (payload_of g) t
+pub goal_has_payload_blocks : (g : Goal) (t : ℕ) → table.blocks_of (goal_of g) t ≡ blocks (payload_of g) t
 unfolding blocks
-blocks_of_goal_payload (goal.Load payload) t = refl
-blocks_of_goal_payload goal.Fetch t = refl
-blocks_of_goal_payload (goal.Verify payload) t = refl
-blocks_of_goal_payload (goal.Compare payload) t = refl
+goal_has_payload_blocks (goal.Load payload) t = refl
+goal_has_payload_blocks goal.Fetch t = refl
+goal_has_payload_blocks (goal.Verify payload) t = refl
+goal_has_payload_blocks (goal.Compare payload) t = refl
 
 -- A payload of at least one byte has a first block.
-pub first_block_in_payload : (g : Goal) (t : ℕ) (payload : Bor (List ℕ)) → (g ≡ goal.Load payload) ⊎ (g ≡ goal.Verify payload) →
+pub payload_has_first_block : (g : Goal) (t : ℕ) (payload : Bor (List ℕ)) → (g ≡ goal.Load payload) ⊎ (g ≡ goal.Verify payload) →
     0 < size_of g
     → 0 * t < length (payload_of g)
-first_block_in_payload (goal.Load payload) t other e some = omega (arith, some)
-first_block_in_payload (goal.Verify payload) t other e some = omega (arith, some)
-first_block_in_payload (goal.Compare payload) t other e some = omega (arith, some)
-first_block_in_payload goal.Fetch t other (inl e) some = absurd cc
-first_block_in_payload goal.Fetch t other (inr e) some = absurd cc
+payload_has_first_block (goal.Load payload) t other e some = omega (arith, some)
+payload_has_first_block (goal.Verify payload) t other e some = omega (arith, some)
+payload_has_first_block (goal.Compare payload) t other e some = omega (arith, some)
+payload_has_first_block goal.Fetch t other (inl e) some = absurd cc
+payload_has_first_block goal.Fetch t other (inr e) some = absurd cc
 
 module _ (p : List ℕ) (t : ℕ) where
-  -- A block is a slice of the payload's rest, and empty if no rest is left.
+  -- For t over 0, block n is the bytes of the payload from `start` on, at most t of them; it is empty at the payload's end.
   pub block_is_slice_of_rest : (n start m : ℕ) → 0 < t → start ≡ min (n * t) (length p)
       → m ≡ min t (length (take (length p - start) (drop start p)))
       → take m (take (length p - start) (drop start p)) ≡ slice_index_or (blocks p t) n []
@@ -39,7 +39,7 @@ module _ (p : List ℕ) (t : ℕ) where
       ap (λ z. take z rest) e ∙ take_min t rest ∙ ap (take t) (take_rest p start)
       ∙ ap (λ z. take t (drop z p)) begins ∙ ap (take t) (drop_min (n * t) p) ∙ sym (nth_block_is_slice p t n ht)
 
-  -- A block is the front of the payload's rest from the block's first byte on.
+  -- For t over 0, block n equals the payload's bytes from n times t on, as many as the block has.
   pub block_is_prefix_from_place : (n : ℕ) (block : List ℕ) → 0 < t → block ≡ slice_index_or (blocks p t) n []
       → block ≡ take (length block) (drop (n * t) p)
   block_is_prefix_from_place n block ht is =
@@ -47,9 +47,9 @@ module _ (p : List ℕ) (t : ℕ) where
       let e : block ≡ take t rest = is ∙ nth_block_is_slice p t n ht in
       e ∙ sym (ap (λ z. take z rest) (ap length e ∙ length-take t rest) ∙ take_min t rest)
 
-  -- A block is the last exactly if the payload's rest fits into it.
-  pub last_block_by_rest : (n : ℕ) → 0 < t → n * t < length p → nat_le (length p - n * t) t ≡ (suc n == length (blocks p t))
-  last_block_by_rest n ht h = elim (cases_lt t (length p - n * t)) [
+  -- If block n begins within the payload, it is the last one exactly if at most t bytes of the payload are left at its first byte.
+  pub rest_tells_last_block : (n : ℕ) → 0 < t → n * t < length p → nat_le (length p - n * t) t ≡ (suc n == length (blocks p t))
+  rest_tells_last_block n ht h = elim (cases_lt t (length p - n * t)) [
     | inl more ↦
         let next : suc n < length (blocks p t) = started_block_is_counted p t (suc n) ht (omega (arith, suc-mul n t, more)) in
         let e : nat_le (length p - n * t) t ≡ false = lt-leb _ _ more in
@@ -65,9 +65,9 @@ module _ (p : List ℕ) (t : ℕ) where
         e ∙ sym f
   ]
 
-  -- Number of a payload's blocks, by its length and the transfer size.
-  pub block_count : 0 < t → 0 < length p → (length p - 1) / t + 1 ≡ length (blocks p t)
-  block_count ht h =
+  -- For t over 0, a payload of at least one byte has (length - 1) / t + 1 blocks.
+  pub payload_has_block_count : 0 < t → 0 < length p → (length p - 1) / t + 1 ≡ length (blocks p t)
+  payload_has_block_count ht h =
       let q = (length p - 1) / t in
       let low : q * t ≤ length p - 1 = div-mul-le_self (length p - 1) t in
       let high : length p - 1 < q * t + t = lt-div-mul-add {a = length p - 1} ht in
@@ -77,9 +77,9 @@ module _ (p : List ℕ) (t : ℕ) where
         | inr less ↦ absurd (omega (arith, counted_block_starts_in_payload p t (suc q) less, suc-mul q t, high, h))
       ]
 
-  -- If a block is not the last, another one begins within the payload.
-  pub next_starts : (n : ℕ) → 0 < t → n * t < length p → (suc n == length (blocks p t)) ≡ false → (n + 1) * t < length p
-  next_starts n ht h e =
+  -- If block n begins within the payload and is not the last, block n + 1 begins within the payload.
+  pub next_block_starts_in_payload : (n : ℕ) → 0 < t → n * t < length p → (suc n == length (blocks p t)) ≡ false → (n + 1) * t < length p
+  next_block_starts_in_payload n ht h e =
       let some : suc n < length (blocks p t) = elim (eq-or-lt_of_le (started_block_is_counted p t n ht h)) [
         | inl same ↦ absurd (eqb-false _ _ e same)
         | inr less ↦ less

@@ -1,4 +1,4 @@
--- A device that left of itself: after the close that counts as the last reset, and before it as a restart.
+-- A device that left by itself: after the close it counts as reset for the last time, before the close as restarted.
 use Rattle.std.proofs.Common.{◌≡◌, pred, true, false, IsTrue, sym, ap, ◌∙◌, refl}
 use Rattle.dfu_host.specs.declared.report.Report.TheVariants as report
 use Rattle.dfu_host.specs.declared.seen.Seen.TheVariants as seen
@@ -6,23 +6,23 @@ use Rattle.dfu_host.specs.Phases.{Goal, Phase, Over, OverUploaded, Restarted, Le
 use Rattle.dfu_host.specs.Table.{after_last, goal_after_reset}
 use Rattle.dfu_host.specs.BehindClose.{is_behind_close}
 use Rattle.dfu_host.specs.Host.{HostState, HostRow, phase_in_budget, host_after_leaving, host_after_phase, after}
-use Rattle.dfu_host.specs.Departure.{CloseIsDone, NothingConfirmsAfterClose, CompareFollowsClose, LeavingElsewhereIsRestart}
+use Rattle.dfu_host.specs.Departure.{CloseIsDone, NothingConfirmsAfterClose, CompareFollowsClose, LeavingBeforeCloseIsRestart}
 
--- After the close a device that left counts as one that did the last reset.
-leaving_behind_close : (h : HostState) (phase : Phase) → IsTrue (is_behind_close h.task.goal phase)
+-- After the close, a device that left counts as reset for the last time.
+leaving_after_close_is_reset : (h : HostState) (phase : Phase) → IsTrue (is_behind_close h.task.goal phase)
     → host_after_phase h phase Left ≡ host_after_leaving h phase true
-leaving_behind_close h (Over r) is = absurd cc
-leaving_behind_close h (OverUploaded kept) is = absurd cc
-leaving_behind_close h phase is = ap (host_after_leaving h phase) is
+leaving_after_close_is_reset h (Over r) is = absurd cc
+leaving_after_close_is_reset h (OverUploaded kept) is = absurd cc
+leaving_after_close_is_reset h phase is = ap (host_after_leaving h phase) is
 
--- Before the close a device that left counts as restarted.
-leaving_elsewhere_is_restart : (h : HostState) (phase : Phase) → is_behind_close h.task.goal phase ≡ false
+-- Before the close, a device that left counts as restarted.
+leaving_before_close_is_restart : (h : HostState) (phase : Phase) → is_behind_close h.task.goal phase ≡ false
     → host_after_phase h phase Left ≡ host_after_phase h phase Restarted
-leaving_elsewhere_is_restart h (Over r) e = refl
-leaving_elsewhere_is_restart h (OverUploaded kept) e = refl
-leaving_elsewhere_is_restart h phase e = ap (host_after_leaving h phase) e
+leaving_before_close_is_restart h (Over r) e = refl
+leaving_before_close_is_restart h (OverUploaded kept) e = refl
+leaving_before_close_is_restart h phase e = ap (host_after_leaving h phase) e
 
--- The host of a goal after a last reset that confirms nothing.
+-- The host after its last reset with report Unconfirmed, in a session with this goal.
 abbrev host_after_last_reset : HostState → Goal → HostState
 host_after_last_reset h goal = record {
   task = record h.task { goal = goal_after_reset goal };
@@ -31,13 +31,13 @@ host_after_last_reset h goal = record {
   restarts = h.restarts;
 }
 
--- After the close the host of a goal is in its last reset.
+-- After the close, a device that left takes the host through its last reset.
 leaving_is_last_reset : (h h' : HostState) (goal : Goal) → h.task.goal ≡ goal → CloseIsDone h → HostRow h seen.Left h' → h'
     ≡ host_after_last_reset h goal
 leaving_is_last_reset h h' goal e behind step =
-    step.same ∙ ap (after h) step.hears ∙ leaving_behind_close h h.phase behind ∙ ap (host_after_last_reset h) e
+    step.same ∙ ap (after h) step.hears ∙ leaving_after_close_is_reset h h.phase behind ∙ ap (host_after_last_reset h) e
 
--- After the close a download ends as Unconfirmed.
+-- After the close, a device that left ends a download as Unconfirmed.
 pub nothing_confirms_after_close : NothingConfirmsAfterClose
 nothing_confirms_after_close payload h h' e behind step =
     leaving_is_last_reset h h' _ e behind step
@@ -47,15 +47,15 @@ nothing_confirms_after_close payload h h' e behind step =
       actions = pred h.actions;
     }) (sym e)
 
--- After the close a verified download begins to compare.
+-- After the close, a device that left sends a verified download back to Find to compare, or ends it if no action is left.
 pub compare_follows_close : CompareFollowsClose
 compare_follows_close payload h h' e behind step = leaving_is_last_reset h h' _ e behind step
 
--- In each phase before the close is done, a device that left of itself counts as restarted.
-pub restart_before_close : LeavingElsewhereIsRestart
+-- In each phase before the close is done, a device that left by itself counts as restarted.
+pub restart_before_close : LeavingBeforeCloseIsRestart
 restart_before_close h h' e step = record {
   heard = Restarted;
   hears = refl;
   room = λ none. absurd cc;
-  same = step.same ∙ ap (after h) step.hears ∙ leaving_elsewhere_is_restart h h.phase e;
+  same = step.same ∙ ap (after h) step.hears ∙ leaving_before_close_is_restart h h.phase e;
 }

@@ -1,4 +1,4 @@
--- A session after a part of an upload that a room keeps.
+-- Results of a session whose caller keeps an upload's parts in a room of fixed size.
 use Rattle.std.proofs.Common.{◌≡◌, ◌∙◌, ◌↔◌, ℕ, zero, suc, pred, nat_lt, ◌==◌, ◌++◌, Bool, true, false, if◌then◌else◌, IsTrue, List, length, refl, sym, ap, subst}
 use Rattle.dfu_host.specs.declared.report.Report.TheVariants as report
 use Rattle.dfu_host.specs.declared.phase.Phase.{Phase}
@@ -12,76 +12,81 @@ use Rattle.dfu_host.specs.declared.progress.Progress.{Progress}
 use Rattle.dfu_host.specs.Table as table
 use Rattle.dfu_host.specs.Host.{HostState, after, host_after_phase, phase_in_budget}
 use Rattle.dfu_host.specs.InParts.{phase_of}
-use Rattle.dfu_host.specs.RowLaws.{property_after_choice}
-use Rattle.dfu_host.specs.Rooms.{NoMemoryOnlyWhereFull, FetchResultIn, part_overflows}
+use Rattle.dfu_host.specs.RowLaws.{choice_gives_property}
+use Rattle.dfu_host.specs.Rooms.{NoMemoryExactlyOnOverflow, FetchResultIn, part_overflows}
 use Rattle.dfu_host.specs.inside.Refusing.{SeenMeaningIn, RefusesAnswerByRoom}
-use Rattle.dfu_host.specs.inside.View.{meaning_of_heard, part_of, state_with}
+use Rattle.dfu_host.specs.inside.View.{meaning_of_heard, part_of, host_of_progress}
 
--- A host takes a part as its room says, if the part was refused as the room says.
+-- If a part was refused exactly when it overflows the room, the host takes it by `FetchResultIn`.
 pub part_is_taken_by_room : (room : ℕ) (memory : List ℕ) (t : Task) (p : Progress) (what : Seen) (refused : Bool) (word : Heard) (h' :
     HostState)
     → SeenMeaningIn p.phase what refused word → RefusesAnswerByRoom room t.transfer p.phase memory what refused
-    → h' ≡ after (state_with memory t p) (meaning_of_heard (part_of what) word)
-    → FetchResultIn room (state_with memory t p) (phase_of memory p.phase) what h'
+    → h' ≡ after (host_of_progress memory t p) (meaning_of_heard (part_of what) word)
+    → FetchResultIn room (host_of_progress memory t p) (phase_of memory p.phase) what h'
 part_is_taken_by_room room memory t p what refused word h' by full same = by_phase p.phase what by full same
   where
-    -- The meaning of a part in the table is NoRoom exactly if the part was refused.
-    heard_part_by_refusal : (part : List ℕ) (b : Bool)
+    -- A part means NoRoom in the table exactly if it was refused.
+    refusal_decides_heard_part : (part : List ℕ) (b : Bool)
         → meaning_of_heard part (if b then heard.NoRoom else heard.Part (length part)) ≡ (if b then table.NoRoom else table.Part part)
-    heard_part_by_refusal part true = refl
-    heard_part_by_refusal part false = refl
+    refusal_decides_heard_part part true = refl
+    refusal_decides_heard_part part false = refl
 
     by_phase : (phase : Phase) (what : Seen) → SeenMeaningIn phase what refused word →
         RefusesAnswerByRoom room t.transfer phase memory what refused
-        → h' ≡ after (state_with memory t p) (meaning_of_heard (part_of what) word)
-        → FetchResultIn room (state_with memory t p) (phase_of memory phase) what h'
+        → h' ≡ after (host_of_progress memory t p) (meaning_of_heard (part_of what) word)
+        → FetchResultIn room (host_of_progress memory t p) (phase_of memory phase) what h'
     by_phase (phase.Fetch k) (seen.Bytes bytes) by full same =
-        same ∙ ap (after (state_with memory t p)) (ap (meaning_of_heard bytes.now) by ∙ heard_part_by_refusal bytes.now refused
+        same ∙ ap (after (host_of_progress memory t p)) (ap (meaning_of_heard bytes.now) by ∙ refusal_decides_heard_part bytes.now refused
         ∙ ap (λ (b : Bool). if b then table.NoRoom else table.Part bytes.now) full)
     by_phase phase what by full same = tt
 
--- The phase is not the end with NoMemory.
+-- The phase, under any budget, does not end with NoMemory.
 abbrev IsNotOutOfMemory : table.Phase → Type 0
 IsNotOutOfMemory next = (left : ℕ) → phase_in_budget left next ≡ table.Over report.NoMemory → ⊥
 
--- The phase after a part that was taken is not the end with NoMemory.
-phase_after_part_goes_on : (t k : ℕ) (kept bytes : List ℕ) → IsNotOutOfMemory (table.fetched_phase t k kept bytes)
-phase_after_part_goes_on t k kept bytes =
-    property_after_choice IsNotOutOfMemory (length bytes == t) _ _
-    (λ e. property_after_choice IsNotOutOfMemory (suc k == 65535) _ _ too_many (next (suc k)))
-    (λ e. property_after_choice IsNotOutOfMemory (nat_lt (length bytes) t) _ _ last again)
+-- A part that was taken leads to no end with NoMemory.
+taken_part_is_not_out_of_memory : (t k : ℕ) (kept bytes : List ℕ) → IsNotOutOfMemory (table.fetched_phase t k kept bytes)
+taken_part_is_not_out_of_memory t k kept bytes =
+    choice_gives_property IsNotOutOfMemory (length bytes == t) _ _
+    (λ e. choice_gives_property IsNotOutOfMemory (suc k == 65535) _ _ too_many (next (suc k)))
+    (λ e. choice_gives_property IsNotOutOfMemory (nat_lt (length bytes) t) _ _ last again)
   where
+    -- The end with TooManyBlocks is none with NoMemory.
     too_many : {A : Type 0} → A → IsNotOutOfMemory (table.Over report.TooManyBlocks)
     too_many a left e = absurd cc
 
+    -- The phase of the next part is no end with NoMemory, under any budget.
     next : (k : ℕ) {A : Type 0} → A → IsNotOutOfMemory (table.Fetch k (kept ++ bytes))
     next k a zero e = absurd cc
     next k a (suc left) e = absurd cc
 
+    -- The last reset of an upload is no end with NoMemory, under any budget.
     last : {A : Type 0} → A → IsNotOutOfMemory (table.LastUploaded (kept ++ bytes))
     last a zero e = absurd cc
     last a (suc left) e = absurd cc
 
+    -- Phase Find is no end with NoMemory, under any budget.
     again : {A : Type 0} → A → IsNotOutOfMemory table.Find
     again a zero e = absurd cc
     again a (suc left) e = absurd cc
 
--- An upload ends with NoMemory exactly if a part overflows its room.
-pub no_memory_only_where_full : NoMemoryOnlyWhereFull
-no_memory_only_where_full room h h' k kept bytes at takes = no_memory_by_overflow (part_overflows room h.task.transfer k kept bytes.now)
+-- An upload that gets a part ends with NoMemory exactly if that part overflows the room.
+pub no_memory_exactly_on_overflow : NoMemoryExactlyOnOverflow
+no_memory_exactly_on_overflow room h h' k kept bytes at takes = no_memory_by_overflow (part_overflows room h.task.transfer k kept bytes.now)
     refl
   where
-    -- The phase that follows the meaning of the part.
+    -- The phase after part k follows NoRoom if the part overflows the room, else the part.
     follows : (b : Bool) → part_overflows room h.task.transfer k kept bytes.now ≡ b
         → h'.phase ≡ (host_after_phase h (table.Fetch k kept) (if b then table.NoRoom else table.Part bytes.now)).phase
     follows b e = let taken : FetchResultIn room h (table.Fetch k kept) (seen.Bytes bytes) h' =
         subst (λ (p : table.Phase). FetchResultIn room h p (seen.Bytes bytes) h') at takes in
         ap (λ (s : HostState). s.phase) taken ∙ rw (at, e) refl
 
+    -- The upload ends with NoMemory exactly if the part overflows, by the test of that.
     no_memory_by_overflow : (b : Bool) → part_overflows room h.task.transfer k kept bytes.now ≡ b
         → (h'.phase ≡ table.Over report.NoMemory) ↔ IsTrue (part_overflows room h.task.transfer k kept bytes.now)
     no_memory_by_overflow true e = (λ over. e, λ full. follows true e)
     no_memory_by_overflow false e = (
-      λ over. absurd (phase_after_part_goes_on h.task.transfer k kept bytes.now (pred h.actions) (sym (follows false e) ∙ over)),
+      λ over. absurd (taken_part_is_not_out_of_memory h.task.transfer k kept bytes.now (pred h.actions) (sym (follows false e) ∙ over)),
       λ full. absurd cc,
     )

@@ -3,7 +3,7 @@ use Rattle.std.specs.Prelude.{Bool, true, false}
 use Rattle.dfu_host.specs.Phases.{Goal, LoadGoal, FetchGoal, VerifyGoal, CompareGoal, Phase}
 use Rattle.dfu_host.specs.PhaseClasses.{Common, Sending, Closing, Manifesting, Fetching, Comparing, Ending, EndingUpload, Ended, EndedUpload, class_of}
 
--- The session still installs a payload.
+-- A session with this goal still has to install a payload.
 abbrev pub goal_installs : Goal → Bool
 goal_installs (LoadGoal payload) = true
 goal_installs FetchGoal = false

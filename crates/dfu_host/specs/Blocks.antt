@@ -12,21 +12,21 @@ AreFullBlocks t [] = Unit {0}
 AreFullBlocks t (piece ∷ []) = (0 < length piece) × (length piece ≤ t)
 AreFullBlocks t (piece ∷ next ∷ pieces) = (length piece ≡ t) × AreFullBlocks t (next ∷ pieces)
 
--- Pieces that joined are the payload, each of t bytes except the last, which has 1 to t.
+-- Pieces are the blocks of a payload: joined they are the payload, and each has t bytes except the last, which has 1 to t.
 pub record Blocks (payload : List ℕ) (t : ℕ) (pieces : List (List ℕ)) : Type 0 where
   pub all : joined pieces ≡ payload
   pub full : AreFullBlocks t pieces
 
--- Pieces of t bytes cut from the front, in at most `turns` cuts.
+-- Pieces of t bytes, cut from the beginning of the payload in at most `turns` cuts.
 abbrev pub blocks_in_turns : ℕ → ℕ → List ℕ → List (List ℕ)
 blocks_in_turns zero t payload = []
 blocks_in_turns (suc turns) t [] = []
 blocks_in_turns (suc turns) t (byte ∷ bytes) = take t (byte ∷ bytes) ∷ blocks_in_turns turns t (drop t (byte ∷ bytes))
 
--- The blocks of a payload as a list that computes: for a t over 0 they are its only `Blocks` (`cut_blocks_are_blocks`, `blocks_are_unique`).
+-- Blocks of a payload as a list that computes: for t over 0 the only list that is `Blocks` (`cut_blocks_are_blocks`, `blocks_are_unique`).
 unfoldable pub blocks : List ℕ → ℕ → List (List ℕ)
 blocks payload t = blocks_in_turns (length payload) t payload
 
--- The first n blocks joined.
+-- The first n blocks of a payload joined; all its blocks if it has fewer.
 abbrev pub first_blocks : List ℕ → ℕ → ℕ → List ℕ
 first_blocks payload t n = joined (take n (blocks payload t))

@@ -8,8 +8,8 @@ use Rattle.dfu_host.specs.Phases.{Task, Phase, Find, FindAgain, Trouble, Last, O
 use Rattle.dfu_host.specs.PhaseClasses.{Common, Sending, Closing, Manifesting, Fetching, Comparing, Ending, EndingUpload, Ended, EndedUpload, class_of}
 use Rattle.dfu_host.specs.Table.{work_start}
 
--- The phases that every session has: those that find the device's state and bring it to dfuIDLE or to appIDLE, and the last one of a
--- session that is given up.
+-- The phase is common to all sessions: it finds the device's state, brings the device to dfuIDLE or appIDLE, or ends a session that is
+-- given up.
 abbrev pub IsCommonPhase : Phase → Type 0
 IsCommonPhase phase = elim (class_of phase) [
   | Common ↦ Unit {0}
@@ -24,10 +24,10 @@ IsCommonPhase phase = elim (class_of phase) [
   | EndedUpload kept ↦ ⊥
 ]
 
--- The phases of a download: the common ones, those in which its blocks are sent and installed, and its ends with the reports of `Ends`,
--- before the last reset, or of `Over_with`, after it.
-abbrev pub IsOfDownload : (Ends Over_with : Report → Type 0) → Phase → Type 0
-IsOfDownload Ends Over_with phase = elim (class_of phase) [
+-- The phase belongs to a download: it is common, sends or installs blocks, is before the last reset with a report of `Ends`, or is over
+-- with a report of `Over_with`.
+abbrev pub IsPhaseOfDownload : (Ends Over_with : Report → Type 0) → Phase → Type 0
+IsPhaseOfDownload Ends Over_with phase = elim (class_of phase) [
   | Common ↦ Unit {0}
   | Sending n ↦ Unit {0}
   | Closing ↦ Unit {0}
@@ -40,31 +40,30 @@ IsOfDownload Ends Over_with phase = elim (class_of phase) [
   | EndedUpload kept ↦ ⊥
 ]
 
--- The phases of a download up to its last reset, none of which is an end.
+-- The phase belongs to a download before its last reset.
 abbrev pub IsDownloading : Phase → Type 0
-IsDownloading phase = IsOfDownload (λ report. ⊥) (λ report. ⊥) phase
+IsDownloading phase = IsPhaseOfDownload (λ report. ⊥) (λ report. ⊥) phase
 
--- The common phases that ask for the status, so that the next phase goes by the state that is heard.
+-- The common phase asks for the status, and the state in the answer decides the next phase.
 abbrev pub IsSeekingPhase : Phase → Type 0
 IsSeekingPhase Find = Unit {0}
 IsSeekingPhase FindAgain = Unit {0}
 IsSeekingPhase Trouble = Unit {0}
 IsSeekingPhase phase = ⊥
 
--- A property that holds of the common phases, of the first phase of the work once dfuIDLE is heard, and of the two ends to which common
--- phases lead. Facts of what is heard may be used.
+-- The property holds in the common phases, in the first phase of the work once dfuIDLE is heard, and at the two ends to which common phases
+-- lead. Facts `Known` of the result may be used.
 pub record CommonInvariant (task : Task) (P : Phase → Type 0) (Known : Heard → Type 0) : Type 0 where
   pub holds_in_each_phase : (phase : Phase) → IsCommonPhase phase → P phase
   pub begins : (code : Code) (poll : ℕ) → Known (Status code poll DfuIdle) → P (work_start task.goal)
   pub refused : (code : Code) → P (Over (Refused code))
   pub aborted : P (Over Aborted)
 
--- Every meaning may be heard.
-abbrev pub AnyMeaning : Heard → Type 0
-AnyMeaning heard = Unit {0}
+-- The fact that holds of every result.
+abbrev pub NoKnownFact : Heard → Type 0
+NoKnownFact heard = Unit {0}
 
--- A property that holds of a download's phases, of the first phase of the work, and of the ends that may follow. For a confirmed install it
--- says nothing.
+-- The property holds in a download's phases, in the first phase of the work, and at the ends that may follow, except the confirmed install.
 pub record DownloadInvariant (task : Task) (P : Phase → Type 0) : Type 0 where
   pub holds_in_each_phase : (phase : Phase) → IsDownloading phase → P phase
   pub begins : P (work_start task.goal)

@@ -1,5 +1,5 @@
--- Size of the bytes that an upload keeps: as many full parts as it counts, and at the end fewer than 65,535 of them and a shorter one. No
--- other session keeps anything, or ends as Uploaded.
+-- Size of the bytes that an upload keeps: k full parts while part k is fetched, and fewer bytes than 65,535 full parts at the end. No other
+-- session keeps bytes or ends as Uploaded.
 use Rattle.std.specs.Prelude.{◌≡◌, ◌*◌, ◌<◌, List, length}
 use Rattle.dfu_host.specs.declared.report.Report.{Report}
 use Rattle.dfu_host.specs.declared.report.Report.TheVariants as report
@@ -22,8 +22,8 @@ ReportsNoBytes report.NoMemory = Unit {0}
 ReportsNoBytes report.Verified = Unit {0}
 ReportsNoBytes report.Different = Unit {0}
 
--- The bytes kept in a phase are counted: k full parts of an upload while part k is fetched, and at the end fewer bytes than 65,535 full
--- parts. A phase that keeps nothing does not end in Uploaded.
+-- The kept bytes have the right count: k full parts of an upload while part k is fetched, and at the end fewer bytes than 65,535 full
+-- parts. No other phase ends as Uploaded.
 abbrev pub KeptBytesAreCounted : Task → Phase → Type 0
 KeptBytesAreCounted task phase = elim (class_of phase) [
   | Common ↦ Unit {0}
@@ -38,8 +38,8 @@ KeptBytesAreCounted task phase = elim (class_of phase) [
   | EndedUpload kept ↦ (task.goal ≡ FetchGoal) × (length kept < 65535 * task.transfer)
 ]
 
--- Whatever results come, the bytes that a host keeps stay counted, if they were counted before. They are when a session begins, and after
--- an abort.
+-- Any results leave the kept bytes of a host counted, if they were counted before and the transfer size is over 0. A session begins with
+-- counted bytes, and has them after an abort.
 abbrev pub KeptBytesStayCounted : Type 0
 KeptBytesStayCounted =
     (h h' : HostState) (seens : List Seen) → 0 < h.task.transfer → KeptBytesAreCounted h.task h.phase → HostRows h seens h'

@@ -1,4 +1,4 @@
--- Laws of the bytes that an upload keeps: row by row they stay counted, whatever is heard.
+-- Laws of the bytes that an upload keeps: every result leaves them counted.
 use Rattle.std.proofs.Common.{◌≡◌, ℕ, suc, ◌*◌, ◌<◌, ◌≤◌, nat_lt, ◌==◌, List, length, refl, arith, length-append}
 use Rattle.std.proofs.Math.Nat.{suc-mul, mul-le-mul_right}
 use Rattle.std.proofs.lemmas.Bool.{eqb-true, eqb-false, ltb-true}
@@ -8,18 +8,18 @@ use Rattle.dfu_host.specs.Phases.{Goal, LoadGoal, FetchGoal, VerifyGoal, Compare
 use Rattle.dfu_host.specs.Table.{work_start, after_last, on_part, host_row, task_after}
 use Rattle.dfu_host.specs.Host.{HostState, after}
 use Rattle.dfu_host.specs.CommonPhases.{IsDownloading, DownloadInvariant}
-use Rattle.dfu_host.specs.RowLaws.{property_after_choice, after_reset, property_after_compared_part, property_after_download_phase}
-use Rattle.dfu_host.specs.HostLaws.{IsCutShort, RowsPreserve, heard_result_preserves_property, host_rows_preserve_property}
+use Rattle.dfu_host.specs.RowLaws.{choice_gives_property, reset_has_property, compared_part_gives_property, download_phase_gives_property}
+use Rattle.dfu_host.specs.HostLaws.{IsEarlyEndReport, RowsPreserve, heard_result_preserves_property, host_rows_preserve_property}
 use Rattle.dfu_host.specs.Counting.{ReportsNoBytes, KeptBytesAreCounted, KeptBytesStayCounted}
 
--- The first phase of the work keeps counted bytes.
+-- The first phase of the work has counted bytes.
 work_start_is_counted : (task : Task) (goal : Goal) → task.goal ≡ goal → KeptBytesAreCounted task (work_start goal)
 work_start_is_counted task (LoadGoal payload) e = tt
 work_start_is_counted task FetchGoal e = (e, omega arith, omega arith)
 work_start_is_counted task (VerifyGoal payload) e = tt
 work_start_is_counted task (CompareGoal payload) e = tt
 
--- A phase of a download keeps counted bytes.
+-- Every phase of a download up to its last reset has counted bytes.
 download_phase_is_counted : (task : Task) (phase : Phase) → IsDownloading phase → KeptBytesAreCounted task phase
 download_phase_is_counted task (Fetch k kept) h = elim h [ ]
 download_phase_is_counted task (LastUploaded kept) h = elim h [ ]
@@ -28,9 +28,9 @@ download_phase_is_counted task (Over r) h = elim h [ ]
 download_phase_is_counted task (OverUploaded kept) h = elim h [ ]
 download_phase_is_counted task phase h = tt
 
--- Counted bytes are a property of a download's phases.
-counted_download_invariant : (task : Task) → DownloadInvariant task (KeptBytesAreCounted task)
-counted_download_invariant task = record {
+-- `KeptBytesAreCounted` is an invariant of a download's phases.
+counted_is_download_invariant : (task : Task) → DownloadInvariant task (KeptBytesAreCounted task)
+counted_is_download_invariant task = record {
   holds_in_each_phase = download_phase_is_counted task;
   begins = work_start_is_counted task task.goal refl;
   refused = λ c. tt;
@@ -38,19 +38,19 @@ counted_download_invariant task = record {
   unconfirmed = tt;
 }
 
--- The phase after a part keeps counted bytes.
+-- If the bytes are counted before a part is fetched, the phase after the part has counted bytes.
 phase_after_part_is_counted : (task : Task) (k : ℕ) (kept : List ℕ) (heard : Heard) → 0 < task.transfer →
     KeptBytesAreCounted task (Fetch k kept)
     → KeptBytesAreCounted task (on_part task.transfer k kept heard)
 phase_after_part_is_counted task k kept (Part bytes) some c =
     let t = task.transfer in
-    property_after_choice (KeptBytesAreCounted task) (length bytes == t) _ _
-    (λ full. property_after_choice (KeptBytesAreCounted task) (suc k == 65535) _ _ (λ e. tt) (λ more.
+    choice_gives_property (KeptBytesAreCounted task) (length bytes == t) _ _
+    (λ full. choice_gives_property (KeptBytesAreCounted task) (suc k == 65535) _ _ (λ e. tt) (λ more.
     let f : length bytes ≡ t = eqb-true _ _ full in
     let n : suc k ≡ 65535 → ⊥ = eqb-false _ _ more in
     let g : suc k < 65535 = omega (arith, c.1, n) in
     (c.0, g, omega (arith, c.2, f, length-append kept bytes, suc-mul k t))))
-    (λ other. property_after_choice (KeptBytesAreCounted task) (nat_lt (length bytes) t) _ _
+    (λ other. choice_gives_property (KeptBytesAreCounted task) (nat_lt (length bytes) t) _ _
     (λ short.
     let f : length bytes < t = ltb-true _ _ short in
     let g : suc k * t ≤ 65535 * t = mul-le-mul_right t (omega (arith, c.1)) in
@@ -58,38 +58,38 @@ phase_after_part_is_counted task k kept (Part bytes) some c =
     (λ long. tt))
 phase_after_part_is_counted task k kept heard some c = tt
 
--- The phase after the last reset keeps counted bytes.
+-- The phase after the last reset has counted bytes, if the report is not Uploaded.
 phase_after_last_is_counted : (task : Task) (goal : Goal) (r : Report) → ReportsNoBytes r → KeptBytesAreCounted task (after_last goal r)
 phase_after_last_is_counted task (VerifyGoal payload) r c = tt
 phase_after_last_is_counted task goal r c = c
 
--- The phase after a row keeps counted bytes.
+-- If the bytes are counted in a phase, the phase to which its row leads has counted bytes.
 phase_after_row_is_counted : (task : Task) (phase : Phase) (heard : Heard) → 0 < task.transfer → KeptBytesAreCounted task phase
     → KeptBytesAreCounted (task_after task phase heard) (host_row task phase heard)
 phase_after_row_is_counted task (Fetch k kept) heard some c = phase_after_part_is_counted task k kept heard some c
-phase_after_row_is_counted task (LastUploaded kept) heard some c = after_reset (KeptBytesAreCounted task) heard (OverUploaded kept)
+phase_after_row_is_counted task (LastUploaded kept) heard some c = reset_has_property (KeptBytesAreCounted task) heard (OverUploaded kept)
     (LastUploaded kept) c c
-phase_after_row_is_counted task (Compare k) heard some c = property_after_compared_part task (KeptBytesAreCounted task) k heard tt tt tt tt
+phase_after_row_is_counted task (Compare k) heard some c = compared_part_gives_property task (KeptBytesAreCounted task) k heard tt tt tt tt
     (λ matched. tt)
 phase_after_row_is_counted task (Last r) heard some c = let next = task_after task (Last r) heard in
-    after_reset (KeptBytesAreCounted next) heard (after_last task.goal r) (Last r) (phase_after_last_is_counted next task.goal r c) c
+    reset_has_property (KeptBytesAreCounted next) heard (after_last task.goal r) (Last r) (phase_after_last_is_counted next task.goal r c) c
 phase_after_row_is_counted task (Over r) heard some c = c
 phase_after_row_is_counted task (OverUploaded kept) heard some c = c
-phase_after_row_is_counted task phase heard some c = property_after_download_phase task (KeptBytesAreCounted task)
-    (counted_download_invariant task) phase heard tt (λ confirmed. tt)
+phase_after_row_is_counted task phase heard some c = download_phase_gives_property task (KeptBytesAreCounted task)
+    (counted_is_download_invariant task) phase heard tt (λ confirmed. tt)
 
--- A report by the budget, the restarts or the caller has no bytes.
-cut_short_report_has_no_bytes : (report : Report) → IsCutShort report → ReportsNoBytes report
+-- A report by the budget, the restarts or the caller is not Uploaded.
+cut_short_report_has_no_bytes : (report : Report) → IsEarlyEndReport report → ReportsNoBytes report
 cut_short_report_has_no_bytes report.GaveUp is = tt
 cut_short_report_has_no_bytes report.RestartsSpent is = tt
 cut_short_report_has_no_bytes report.Aborted is = tt
 cut_short_report_has_no_bytes report is = elim is [ ]
 
--- The kept bytes are counted, and a part has room for a byte.
+-- The kept bytes are counted, and the transfer size is over 0.
 abbrev PartsAreCounted : Task → Phase → Type 0
 PartsAreCounted task phase = (0 < task.transfer) × KeptBytesAreCounted task phase
 
--- The rows keep the bytes counted.
+-- Rows, restarts and early ends leave the kept bytes counted.
 rows_preserve_counted_parts : RowsPreserve PartsAreCounted
 rows_preserve_counted_parts = record {
   next = λ task phase heard c. (c.0, phase_after_row_is_counted task phase heard c.0 c.1);
@@ -98,12 +98,12 @@ rows_preserve_counted_parts = record {
   leaves = λ task phase behind c. (c.0, tt);
 }
 
--- The kept bytes of a host stay counted after anything that is heard.
+-- A result leaves the kept bytes of a host counted, if its transfer size is over 0.
 pub heard_host_stays_counted : (h : HostState) (heard : Heard) → 0 < h.task.transfer → KeptBytesAreCounted h.task h.phase
     → KeptBytesAreCounted (after h heard).task (after h heard).phase
 heard_host_stays_counted h heard some c = (heard_result_preserves_property PartsAreCounted rows_preserve_counted_parts h heard (some, c)).1
 
--- The kept bytes of a host stay counted after any results.
+-- Any list of results leaves the kept bytes of a host counted, if its transfer size is over 0.
 pub kept_bytes_stay_counted : KeptBytesStayCounted
 kept_bytes_stay_counted h h' seens some c rows = (host_rows_preserve_property PartsAreCounted rows_preserve_counted_parts h h' seens rows
     (some, c)).1

@@ -1,4 +1,4 @@
--- A session whose device left of itself.
+-- A session whose device left by itself.
 use Rattle.std.specs.Prelude.{◌≡◌, ℕ, pred, false, IsTrue, List}
 use Rattle.dfu_host.specs.declared.report.Report.TheVariants as report
 use Rattle.dfu_host.specs.declared.seen.Seen.TheVariants as seen
@@ -10,14 +10,14 @@ use Rattle.dfu_host.specs.Host.{HostState, HostRow, phase_in_budget}
 abbrev pub CloseIsDone : HostState → Type 0
 CloseIsDone h = IsTrue (is_behind_close h.task.goal h.phase)
 
--- After the close a download that isn't verified ends as Unconfirmed, because nothing confirms the install, whatever the device said before
--- it left.
+-- If the device leaves after the close, a download that isn't verified ends as Unconfirmed, because nothing confirms the install.
 abbrev pub NothingConfirmsAfterClose : Type 0
 NothingConfirmsAfterClose =
     (payload : List ℕ) (h h' : HostState) → h.task.goal ≡ LoadGoal payload → CloseIsDone h → HostRow h seen.Left h'
     → h' ≡ record h { phase = Over report.Unconfirmed; actions = pred h.actions }
 
--- After the close a verified download begins to compare, with the restarts that it had.
+-- If the device leaves after the close, a verified download goes back to Find to compare, with the restarts that it had, or gives up if no
+-- action is left.
 abbrev pub CompareFollowsClose : Type 0
 CompareFollowsClose =
     (payload : List ℕ) (h h' : HostState) → h.task.goal ≡ VerifyGoal payload → CloseIsDone h → HostRow h seen.Left h'
@@ -28,7 +28,7 @@ CompareFollowsClose =
       restarts = h.restarts;
     }
 
--- In each phase before the close is done, a device that left of itself counts as restarted.
-abbrev pub LeavingElsewhereIsRestart : Type 0
-LeavingElsewhereIsRestart =
+-- If the device leaves by itself in a phase before the close is done, it counts as restarted.
+abbrev pub LeavingBeforeCloseIsRestart : Type 0
+LeavingBeforeCloseIsRestart =
     (h h' : HostState) → is_behind_close h.task.goal h.phase ≡ false → HostRow h seen.Left h' → HostRow h seen.Restarted h'

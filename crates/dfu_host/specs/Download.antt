@@ -1,4 +1,4 @@
--- Refusals of a download, verified or not.
+-- Refusals of a download, with or without comparison.
 use Rattle.std.specs.Prelude.{ℕ, ◌==◌, ◌&&◌, ◌||◌, not, Bool, true, false, List, [], ◌∷◌, ◌++◌, length, find, Option}
 use Rattle.dfu_wire.specs.declared.functionals.Functional.{Functional}
 use Rattle.dfu_wire.specs.declared.ids.Ids.{Ids}
@@ -8,14 +8,14 @@ use Rattle.dfu_host.specs.declared.fault.HostFault.TheVariants as fault
 use Rattle.dfu_host.specs.Phases.{Goal, LoadGoal, VerifyGoal}
 
 -- An identifier of a file fits a device with the same identifier; FFFFh fits every device.
-abbrev pub id_goes_with : (file device : ℕ) → Bool
-id_goes_with file device = (file == 0xFFFF) || (file == device)
+abbrev pub id_fits_device : (file device : ℕ) → Bool
+id_fits_device file device = (file == 0xFFFF) || (file == device)
 
 -- A file is for a device if its vendor and its product fit the device's.
 abbrev pub file_is_for : (file device : Ids) → Bool
-file_is_for file device = id_goes_with file.vendor device.vendor && id_goes_with file.product device.product
+file_is_for file device = id_fits_device file.vendor device.vendor && id_fits_device file.product device.product
 
--- Condition of each refusal of a download.
+-- Condition under which a download is refused with each fault.
 abbrev pub refuses_download : Content → Functional → Ids → HostFault → Bool
 refuses_download file functional device fault.EmptyPayload = length file.payload == 0
 refuses_download file functional device fault.WrongTarget = not (file_is_for file.ids device)
@@ -23,27 +23,27 @@ refuses_download file functional device fault.CannotDownload = not functional.ca
 refuses_download file functional device fault.CannotUpload = not functional.can_upload
 refuses_download file functional device fault.BadDescriptor = functional.transfer == 0
 
--- Refusals by the payload and its target, in the order in which they are checked.
+-- Faults of the payload, its target and the device, in the order in which they are checked first.
 abbrev pub payload_faults : List HostFault
 payload_faults = fault.EmptyPayload ∷ fault.WrongTarget ∷ fault.CannotDownload ∷ []
 
--- Refusals of a download, in the order in which they are checked.
+-- Faults for which a download is refused, in the order in which they are checked.
 abbrev pub download_faults : List HostFault
 download_faults = payload_faults ++ fault.BadDescriptor ∷ []
 
--- The first refusal of a download.
+-- The first fault for which a download is refused; None if there is none.
 abbrev pub first_download_fault : Content → Functional → Ids → Option HostFault
 first_download_fault file functional device = find (refuses_download file functional device) download_faults
 
--- Refusals of a verified download, in the order in which they are checked; the device must upload too.
+-- Faults for which a verified download is refused, in the order in which they are checked; the device must upload too.
 abbrev pub verify_faults : List HostFault
 verify_faults = payload_faults ++ fault.CannotUpload ∷ fault.BadDescriptor ∷ []
 
--- The first refusal of a verified download.
+-- The first fault for which a verified download is refused; None if there is none.
 abbrev pub first_verify_fault : Content → Functional → Ids → Option HostFault
 first_verify_fault file functional device = find (refuses_download file functional device) verify_faults
 
--- The first refusal of a session that installs a file, verified if `compares` is true.
+-- The first fault for which a session that installs a file, verified if `compares` is true, is refused; None if there is none.
 abbrev pub first_install_fault : (compares : Bool) → Content → Functional → Ids → Option HostFault
 first_install_fault false = first_download_fault
 first_install_fault true = first_verify_fault

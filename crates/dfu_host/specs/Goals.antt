@@ -19,7 +19,7 @@ payload_of goal.Fetch = []
 payload_of (goal.Verify payload) = payload.now
 payload_of (goal.Compare payload) = payload.now
 
--- Size of the goal in bytes: that of its payload, and 1 for an image, whose size is not known.
+-- Size of the goal in bytes: the payload's, or 1 for an upload, whose image has a size not known yet.
 abbrev pub size_of : Goal → ℕ
 size_of (goal.Load payload) = length payload.now
 size_of goal.Fetch = 1
@@ -33,7 +33,7 @@ IsFetch goal.Fetch = Unit {0}
 IsFetch (goal.Verify payload) = ⊥
 IsFetch (goal.Compare payload) = ⊥
 
--- The payload of the goal, if it has one, is the slice.
+-- The goal is an upload, or its payload is the given slice.
 abbrev pub CarriesPayload : Bor (List ℕ) → Goal → Type 0
 CarriesPayload payload (goal.Load given) = given ≡ payload
 CarriesPayload payload goal.Fetch = Unit {0}

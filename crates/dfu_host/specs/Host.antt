@@ -1,4 +1,4 @@
--- A host as one value, its action, and the host after one more result.
+-- A host as one value, its action, and the host after a result.
 use Rattle.std.specs.Prelude.{◌≡◌, ℕ, zero, suc, pred, max, Bool, true, false, IsTrue, List, [], ◌∷◌}
 use Rattle.dfu_wire.specs.declared.functionals.Functional.{Functional}
 use Rattle.dfu_host.specs.declared.limits.Limits.{Limits}
@@ -18,11 +18,11 @@ pub record HostState : Type 0 where
   pub actions : ℕ
   pub restarts : ℕ
 
--- A session that begins: in phase Find, with a budget of at least one action.
+-- A host at the beginning of its session: in phase Find, with at least one action.
 abbrev pub initial_host : Task → (actions restarts : ℕ) → HostState
 initial_host task actions restarts = record { task = task; phase = Find; actions = max 1 actions; restarts = restarts }
 
--- The task of a session by its goal and by its device's descriptor.
+-- Task of a session with this goal and its device's descriptor.
 abbrev pub task_by_descriptor : Functional → Goal → Task
 task_by_descriptor functional goal = record {
   goal = goal;
@@ -32,13 +32,13 @@ task_by_descriptor functional goal = record {
   detach_ms = functional.detach_ms;
 }
 
--- A session that begins, by its goal, its device's descriptor and the limits.
+-- Host at the beginning of a session, by its goal, its device's descriptor and the limits.
 abbrev pub host_for_goal : Functional → Goal → Limits → HostState
 host_for_goal functional goal limits = initial_host (task_by_descriptor functional goal) limits.actions limits.restarts
 
--- The host is not done.
-abbrev pub IsOnPhase : Phase → Type 0
-IsOnPhase phase = elim (class_of phase) [
+-- The phase is not one of the two in which a host is done.
+abbrev pub IsLivePhase : Phase → Type 0
+IsLivePhase phase = elim (class_of phase) [
   | Common ↦ Unit {0}
   | Sending n ↦ Unit {0}
   | Closing ↦ Unit {0}
@@ -51,20 +51,20 @@ IsOnPhase phase = elim (class_of phase) [
   | EndedUpload kept ↦ ⊥
 ]
 
--- The host is done: in the two phases that are not on.
+-- The phase is one of the two in which a host is done.
 abbrev pub IsOverPhase : Phase → Type 0
 IsOverPhase (Over report) = Unit {0}
 IsOverPhase (OverUploaded kept) = Unit {0}
 IsOverPhase phase = ⊥
 
--- A live host without an action left gives up, in place of the given phase.
+-- The phase after the budget check: with no actions left, a live host gives up instead of entering the phase.
 abbrev pub phase_in_budget : (left : ℕ) → Phase → Phase
 phase_in_budget left (Over r) = Over r
 phase_in_budget left (OverUploaded kept) = OverUploaded kept
 phase_in_budget zero phase = Over report.GaveUp
 phase_in_budget (suc left) phase = phase
 
--- The host after an action that leads to the given phase.
+-- The host after an action that leads to this phase: it has one action less, and gives up if it has none left.
 abbrev pub host_after_action : HostState → Phase → (restarts : ℕ) → HostState
 host_after_action h phase restarts = record {
   task = h.task;
@@ -73,59 +73,60 @@ host_after_action h phase restarts = record {
   restarts = restarts;
 }
 
--- The host after a restart of its device: in each phase it begins again, unless it gives up anyway or has no restart left.
+-- The host after a restart of its device: in GiveUp it ends as Aborted; in any other phase it ends as RestartsSpent if no restarts are
+-- left, and else begins again in Find with one restart less.
 abbrev pub host_after_restart : HostState → Phase → (restarts : ℕ) → HostState
 host_after_restart h GiveUp restarts = host_after_action h (Over report.Aborted) restarts
 host_after_restart h phase zero = host_after_action h (Over report.RestartsSpent) zero
 host_after_restart h phase (suc restarts) = host_after_action h Find restarts
 
--- The host after an action: the table's row gives the next phase, and the task beside it.
+-- The host after an action: the table's row gives the next phase, and `task_after` the task.
 abbrev pub host_by_row : HostState → Phase → Heard → HostState
 host_by_row h phase heard = host_after_action (record h { task = task_after h.task phase heard }) (host_row h.task phase heard) h.restarts
 
--- The host after its device left of itself. After the close that counts as the last reset, which confirms nothing; in every other phase it
+-- The host after its device left by itself. After the close that counts as the last reset, which confirms nothing; in every other phase it
 -- counts as a restart.
 abbrev pub host_after_leaving : HostState → Phase → (behind_close : Bool) → HostState
 host_after_leaving h phase true = host_by_row h (Last report.Unconfirmed) WasReset
 host_after_leaving h phase false = host_after_restart h phase h.restarts
 
--- The host after something was heard: a restart, a device that left of itself, or a result for the table's row.
+-- The live host after a result: a restart, a device that left by itself, or a result for the table's row.
 abbrev pub host_after_result : HostState → Phase → Heard → HostState
 host_after_result h phase Restarted = host_after_restart h phase h.restarts
 host_after_result h phase Left = host_after_leaving h phase (is_behind_close h.task.goal phase)
 host_after_result h phase heard = host_by_row h phase heard
 
--- The host after something was heard in a phase; a host that is done stays as it is.
+-- The host after a result in a phase; a host that is done stays as it is.
 abbrev pub host_after_phase : HostState → Phase → Heard → HostState
 host_after_phase h (Over r) heard = h
 host_after_phase h (OverUploaded kept) heard = h
 host_after_phase h phase heard = host_after_result h phase heard
 
--- The host after something was heard.
+-- The host after a result in its own phase.
 abbrev pub after : HostState → Heard → HostState
 after h heard = host_after_phase h h.phase heard
 
--- The host after its caller gives it up in a phase: it leaves the transfer next, unless it is done.
+-- The host that its caller gives up in a phase: its phase becomes GiveUp, unless it is done.
 abbrev pub host_given_up_in_phase : HostState → Phase → HostState
 host_given_up_in_phase h (Over r) = h
 host_given_up_in_phase h (OverUploaded kept) = h
 host_given_up_in_phase h phase = record h { phase = GiveUp }
 
--- The host after its caller gives it up: its phase becomes Give up. A host that is done stays as it is.
+-- The host that its caller gives up: its phase becomes GiveUp. A host that is done stays as it is.
 abbrev pub aborted_host : HostState → HostState
 aborted_host h = host_given_up_in_phase h h.phase
 
--- The action that a host gives is the deed of its phase, with setup and body.
+-- The action of a host spells the deed of its phase, with setup and body.
 abbrev pub Act : HostState → Action → Type 0
 Act h action = SpellsDeed (deed h.task h.phase) action
 
--- The phase keeps what it asks for, and so wants memory; only an upload has such a phase.
+-- The phase keeps the bytes that it asks for, and so needs memory: only Fetch does.
 abbrev pub wants_memory : Phase → Bool
 wants_memory (Fetch k kept) = true
 wants_memory phase = false
 
--- A host takes a result by a row of the table. The bytes mean what its action says, and the table gives the rest. Only a phase that wants
--- memory can miss it.
+-- A host takes a result by a row of the table. The action decides what the result means, and the table the host after it. NoRoom is heard
+-- only in a phase that needs memory.
 pub record HostRow (h : HostState) (seen : Seen) (h' : HostState) : Type 0 where
   pub heard : Heard
   pub hears : SeenMeaning (deed h.task h.phase) seen heard

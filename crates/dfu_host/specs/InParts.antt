@@ -1,4 +1,4 @@
--- A session of the code as its parts, and their host, with the kept bytes of an upload.
+-- Sessions of the code as parts, and the table's host of those parts and an upload's kept bytes.
 use Rattle.std.specs.Prelude.{◌≡◌, ℕ, zero, suc, ◌*◌, ◌<◌, List, [], length, take, drop}
 use Rattle.dfu_host.specs.declared.goal.Goal.{Goal}
 use Rattle.dfu_host.specs.declared.phase.Phase.{Phase}
@@ -11,12 +11,12 @@ use Rattle.dfu_host.specs.PhaseClasses.{Common, Sending, Closing, Manifesting, F
 use Rattle.dfu_host.specs.Table as table
 use Rattle.dfu_host.specs.Host.{HostState}
 
--- Kept bytes of the memory when part k is asked for; before the first part there are none.
-abbrev pub buffered_at : ℕ → List ℕ → List ℕ
-buffered_at zero memory = []
-buffered_at (suc k) memory = memory
+-- Bytes of the memory that are kept when part k is asked for: none before the first part.
+abbrev pub bytes_kept_for_part : ℕ → List ℕ → List ℕ
+bytes_kept_for_part zero memory = []
+bytes_kept_for_part (suc k) memory = memory
 
--- The table's phase for a phase of the code, with the kept bytes of the memory.
+-- The table's phase for a phase of the code, with the bytes kept in memory.
 abbrev pub phase_of : List ℕ → Phase → table.Phase
 phase_of memory phase.Find = table.Find
 phase_of memory phase.FindAgain = table.FindAgain
@@ -37,20 +37,20 @@ phase_of memory (phase.WaitManifest poll) = table.WaitManifest poll
 phase_of memory (phase.WaitLast poll) = table.WaitLast poll
 phase_of memory phase.Trouble = table.Trouble
 phase_of memory (phase.Last report) = table.Last report
-phase_of memory (phase.Fetch k) = table.Fetch k (buffered_at k memory)
+phase_of memory (phase.Fetch k) = table.Fetch k (bytes_kept_for_part k memory)
 phase_of memory phase.LastUploaded = table.LastUploaded memory
 phase_of memory (phase.Compare k) = table.Compare k
 phase_of memory phase.GiveUp = table.GiveUp
 phase_of memory (phase.Over report) = table.Over report
 phase_of memory phase.OverUploaded = table.OverUploaded memory
 
--- The phase of the table is that of the code, whatever an upload keeps in it.
+-- The table's phase is this phase of the code, with some memory for an upload's bytes.
 pub record IsTablePhase (is : table.Phase) (phase : Phase) : Type 0 where
   pub memory : List ℕ
   pub same : is ≡ phase_of memory phase
 
--- A session has what its phase needs: the block that is sent, a payload to close, an image of which the parts 0 to 65,534 are fetched or
--- compared, or nothing.
+-- The session has what its phase needs: block n to send, a payload of at least one byte to close, an upload and a part number below 65,535
+-- to fetch, such a number to compare, or nothing.
 abbrev pub HasPhaseNeeds : Goal → (transfer : ℕ) → Phase → Type 0
 HasPhaseNeeds goal t phase = elim (class_of (phase_of [] phase)) [
   | Common ↦ Unit {0}
@@ -65,13 +65,13 @@ HasPhaseNeeds goal t phase = elim (class_of (phase_of [] phase)) [
   | EndedUpload kept ↦ Unit {0}
 ]
 
--- The parts are those of a session: its goal has something to do, a block has room for a byte, and the phase has what it needs.
+-- The parts are a session's: its goal is not empty, its transfer size is over 0, and the phase has what it needs.
 pub record ArePartsOfSession (p : Parts) : Type 0 where
   pub some : 0 < size_of p.goal
   pub transfers : 0 < p.transfer
   pub within : HasPhaseNeeds p.goal p.transfer p.phase
 
--- The host of a session's parts, with the kept bytes of the memory.
+-- The table's host of a session's parts, with the bytes kept in memory.
 abbrev pub host_of : List ℕ → Parts → HostState
 host_of memory p = record {
   task = record {
@@ -86,13 +86,12 @@ host_of memory p = record {
   restarts = p.restarts;
 }
 
--- Place in the payload at which the body of a phase's request begins: the first byte of the phase's block, and 0 in a phase whose request
--- has no body.
+-- Offset in the payload of the body of a phase's request: the first byte of the phase's block, and 0 in a phase whose request has no body.
 abbrev pub body_offset : (t : ℕ) → Phase → ℕ
 body_offset t (phase.Block n) = n * t
 body_offset t other = 0
 
--- The body of a session's request is a slice of the payload from the given place on.
+-- The body of a request is a slice of the payload that begins at this offset; any other action has no body.
 abbrev pub BodyIsSliceOfPayload : (payload : List ℕ) (from : ℕ) → Action → Type 0
 BodyIsSliceOfPayload payload from (action.Send setup body) = body.now ≡ take (length body.now) (drop from payload)
 BodyIsSliceOfPayload payload from (action.Wait ms) = Unit {0}

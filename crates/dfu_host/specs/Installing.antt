@@ -16,7 +16,7 @@ IsInstalledReport r = r ≡ report.Installed
 abbrev pub IsVerifiedReport : Report → Type 0
 IsVerifiedReport r = r ≡ report.Verified
 
--- The session is about to end with a report that P allows, or has ended so.
+-- The session is about to end with a report of P, or has ended with one.
 abbrev pub IsEndingPhase : (Report → Type 0) → Phase → Type 0
 IsEndingPhase P phase = elim (class_of phase) [
   | Common ↦ ⊥
@@ -38,14 +38,14 @@ pub record DfuIdleReported (task : Task) (phase : Phase) (heard : Heard) : Type 
   pub poll : ℕ
   pub told : heard ≡ Status code.Ok poll state.DfuIdle
 
--- Only the row in which a tolerant device confirms the install leads to Installed.
+-- A row leads to Installed only if the phase had that report already, or if a tolerant device confirms the install in this row.
 abbrev pub InstalledOnlyIfConfirmed : Type 0
 InstalledOnlyIfConfirmed =
     (task : Task) (phase : Phase) (heard : Heard)
     → IsEndingPhase IsInstalledReport (host_row task phase heard) →
     (IsEndingPhase IsInstalledReport phase) ⊎ DfuIdleReported task phase heard
 
--- While the image is compared, the last of the payload came back: its shorter block, or no byte after its last full block.
+-- In a comparison the device gave the last part of the payload back: the shorter last block, or no byte after the last full block.
 pub record LastPartMatched (task : Task) (phase : Phase) (heard : Heard) : Type 0 where
   pub k : ℕ
   pub bytes : List ℕ
@@ -54,7 +54,7 @@ pub record LastPartMatched (task : Task) (phase : Phase) (heard : Heard) : Type 
   pub same : bytes ≡ slice_index_or (session_blocks task) k []
   pub last : length bytes < task.transfer
 
--- Only the row in which the last of the payload came back leads to Verified.
+-- A row leads to Verified only if the phase had that report already, or if the device gives the last part of the payload back in this row.
 abbrev pub VerifiedOnlyIfMatched : Type 0
 VerifiedOnlyIfMatched =
     (task : Task) (phase : Phase) (heard : Heard)

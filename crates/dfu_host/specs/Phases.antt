@@ -13,7 +13,7 @@ pub data Goal : Type 0 where
   VerifyGoal : (payload : List ℕ) → Goal
   CompareGoal : (payload : List ℕ) → Goal
 
--- Task of a session, and the fields of its device's descriptor.
+-- Task of a session: its goal, and fields of its device's descriptor.
 pub record Task : Type 0 where
   pub goal : Goal
   pub transfer : ℕ
@@ -21,7 +21,7 @@ pub record Task : Type 0 where
   pub will_detach : Bool
   pub detach_ms : ℕ
 
--- The phases of a session, with what each keeps. Block, Ask, Poll and Compare count blocks from 0; Fetch keeps what was uploaded.
+-- The phases of a session. Block, Ask, Poll and Compare count blocks from 0; Fetch has the number of the part and the bytes kept so far.
 pub data Phase : Type 0 where
   Find : Phase
   FindAgain : Phase
@@ -49,7 +49,7 @@ pub data Phase : Type 0 where
   Over : Report → Phase
   OverUploaded : (kept : List ℕ) → Phase
 
--- Deed of a host: it sends a request with its body, waits, resets the bus, or is done. `Action` is the deed in the code, with the bytes of
+-- Deed of a host: it sends a request with its body, waits, resets the bus, or is done. `Action` is the code's form of it, with the bytes of
 -- the setup.
 pub data Deed : Type 0 where
   Send : (request : Request) (body : List ℕ) → Deed
@@ -57,7 +57,7 @@ pub data Deed : Type 0 where
   Reset : Deed
   Done : Report → Deed
 
--- Meaning of a result for a host. NoRoom is a part of an upload without memory; Left is a device that left of itself.
+-- Meaning of a result for a host. NoRoom is a part of an upload for which there is no memory; Left is a device that left by itself.
 pub data Heard : Type 0 where
   Acked : Heard
   Status : Code → (poll : ℕ) → State → Heard

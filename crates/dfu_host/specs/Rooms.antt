@@ -1,4 +1,4 @@
--- Parts of an upload that a room of a fixed size keeps, so that no memory is needed.
+-- Parts of an upload in a room of fixed size, so that the upload takes no memory.
 use Rattle.std.specs.Prelude.{◌≡◌, ◌↔◌, ℕ, ◌+◌, nat_lt, ◌&&◌, Bool, if◌then◌else◌, IsTrue, List, length}
 use Rattle.std.specs.Borrow.{Bor}
 use Rattle.dfu_host.specs.declared.report.Report.TheVariants as report
@@ -6,19 +6,18 @@ use Rattle.dfu_host.specs.declared.seen.Seen.{Seen}
 use Rattle.dfu_host.specs.declared.seen.Seen.TheVariants as seen
 use Rattle.dfu_host.specs.Phases.{Phase, Fetch, Over, Heard, Part, NoRoom}
 use Rattle.dfu_host.specs.PhaseClasses.{Common, Sending, Closing, Manifesting, Fetching, Comparing, Ending, EndingUpload, Ended, EndedUpload, class_of}
-use Rattle.dfu_host.specs.Wire.{is_part_kept}
+use Rattle.dfu_host.specs.Wire.{is_part_to_be_kept}
 use Rattle.dfu_host.specs.Host.{HostState, after}
 
--- Part k overflows the room: it is one that is kept, and with the bytes kept before it, it has more bytes than the room.
+-- Part k overflows the room: the part is to be kept, and with the bytes kept before it exceeds the room's size.
 abbrev pub part_overflows : (room t k : ℕ) → (kept part : List ℕ) → Bool
-part_overflows room t k kept part = is_part_kept t k (length part) && nat_lt room (length kept + length part)
+part_overflows room t k kept part = is_part_to_be_kept t k (length part) && nat_lt room (length kept + length part)
 
 -- Meaning of part k: NoRoom if the part overflows the room, else the part.
 abbrev pub heard_in : (room t k : ℕ) → (kept part : List ℕ) → Heard
 heard_in room t k kept part = if part_overflows room t k kept part then NoRoom else Part part
 
--- Bytes that come for part k are taken as NoRoom exactly if the part overflows the room, and else as the part. Other results are not spoken
--- of here.
+-- Bytes for part k are taken as NoRoom if the part overflows the room, else as the part. Other results are not constrained here.
 abbrev pub PartResultIn : (room : ℕ) → HostState → (k : ℕ) → (kept : List ℕ) → Seen → HostState → Type 0
 PartResultIn room h k kept (seen.Bytes bytes) h' = h' ≡ after h (heard_in room h.task.transfer k kept bytes.now)
 PartResultIn room h k kept seen.Ack h' = Unit {0}
@@ -29,8 +28,7 @@ PartResultIn room h k kept seen.WasReset h' = Unit {0}
 PartResultIn room h k kept seen.Restarted h' = Unit {0}
 PartResultIn room h k kept seen.Left h' = Unit {0}
 
--- An answer in a phase that fetches a part is taken as that part, with a room of `room` bytes. Phases that fetch no part are not spoken of
--- here.
+-- A result in a phase that fetches part k is taken as `PartResultIn` says of a room of `room` bytes. Other phases are not constrained here.
 abbrev pub FetchResultIn : (room : ℕ) → HostState → Phase → Seen → HostState → Type 0
 FetchResultIn room h phase seen h' = elim (class_of phase) [
   | Common ↦ Unit {0}
@@ -45,8 +43,8 @@ FetchResultIn room h phase seen h' = elim (class_of phase) [
   | EndedUpload kept ↦ Unit {0}
 ]
 
--- An upload with a room that fetches a part ends with NoMemory exactly if that part overflows the room.
-abbrev pub NoMemoryOnlyWhereFull : Type 0
-NoMemoryOnlyWhereFull = (room : ℕ) (h h' : HostState) (k : ℕ) (kept : List ℕ) (bytes : Bor (List ℕ))
+-- An upload that gets a part ends with NoMemory exactly if that part overflows the room.
+abbrev pub NoMemoryExactlyOnOverflow : Type 0
+NoMemoryExactlyOnOverflow = (room : ℕ) (h h' : HostState) (k : ℕ) (kept : List ℕ) (bytes : Bor (List ℕ))
     → h.phase ≡ Fetch k kept → FetchResultIn room h h.phase (seen.Bytes bytes) h'
     → (h'.phase ≡ Over report.NoMemory) ↔ IsTrue (part_overflows room h.task.transfer k kept bytes.now)

@@ -1,4 +1,4 @@
--- The host's table: the deed of a host in each phase, and the phase after what is heard.
+-- The host's table: the deed of a host in each phase, and the phase after each result.
 use Rattle.std.specs.Prelude.{ℕ, zero, suc, ◌%◌, ◌==◌, nat_lt, max, Bool, true, false, if◌then◌else◌, List, [], ◌++◌, length, slice_index_or}
 use Rattle.std.specs.Str.{bytes_eq}
 use Rattle.dfu_wire.specs.declared.codes.Code.{Code}
@@ -68,7 +68,7 @@ work_start FetchGoal = Fetch 0 []
 work_start (VerifyGoal payload) = Block 0
 work_start (CompareGoal payload) = Compare 0
 
--- The blocks of t bytes of a session's payload; an upload has no blocks.
+-- The blocks of a goal's payload, each of t bytes except the last; an upload has no blocks.
 abbrev pub blocks_of : Goal → ℕ → List (List ℕ)
 blocks_of (LoadGoal payload) t = blocks payload t
 blocks_of FetchGoal t = []
@@ -79,15 +79,15 @@ blocks_of (CompareGoal payload) t = blocks payload t
 abbrev pub session_blocks : Task → List (List ℕ)
 session_blocks task = blocks_of task.goal task.transfer
 
--- GETSTATUS asks for the whole status, which has six bytes.
+-- Deed that sends GETSTATUS, for the whole status of six bytes.
 abbrev pub get_status : Deed
 get_status = Send (request.GetStatus 6) []
 
--- GETSTATE asks for one byte, the state.
+-- Deed that sends GETSTATE, for one byte, the state.
 abbrev pub get_state : Deed
 get_state = Send (request.GetState 1) []
 
--- DNLOAD of a block goes with its number modulo 65,536 and its length.
+-- Deed that sends a DNLOAD with a block: the block's number modulo 65,536, its length and its bytes.
 abbrev pub download : ℕ → List ℕ → Deed
 download n body = Send (request.Dnload (n % 65536) (length body)) body
 
@@ -119,7 +119,7 @@ deed task GiveUp = Send request.Abort []
 deed task (Over report) = Done report
 deed task (OverUploaded kept) = Done report.Uploaded
 
--- The list: the phase after a status, by its state.
+-- Phase after a status, by the device's state; in dfuIDLE the work starts.
 abbrev pub phase_after_status : Phase → State → ℕ → Phase
 phase_after_status start state.AppIdle poll = Detach
 phase_after_status start state.AppDetach poll = Enter
@@ -133,22 +133,23 @@ phase_after_status start state.ManifestWaitReset poll = ResetFind
 phase_after_status start state.UploadIdle poll = Quit
 phase_after_status start state.Error poll = Clear
 
--- Trouble: dfuERROR with a code of its own ends the session, every other status goes by the list.
+-- Phase after a status in Trouble: dfuERROR with a code other than OK and errSTALLEDPKT ends the session as Refused; any other status leads
+-- to the phase for its state.
 abbrev pub phase_in_trouble : Phase → Code → ℕ → State → Phase
 phase_in_trouble start code.Ok poll s = phase_after_status start s poll
 phase_in_trouble start code.StalledPkt poll s = phase_after_status start s poll
 phase_in_trouble start c poll state.Error = Over (report.Refused c)
 phase_in_trouble start c poll s = phase_after_status start s poll
 
--- Poll: the block is being written, or is written; every other state is trouble.
+-- Phase after a status in Poll: a wait, or Close or the next block once block n is written; any other state is trouble.
 abbrev pub polled_phase : Phase → (blocks n : ℕ) → Code → ℕ → State → Phase
 polled_phase start blocks n c poll state.DownloadSync = WaitPoll n poll
 polled_phase start blocks n c poll state.DownloadBusy = WaitPoll n poll
 polled_phase start blocks n c poll state.DownloadIdle = if suc n == blocks then Close else Block (suc n)
 polled_phase start blocks n c poll s = phase_in_trouble start c poll s
 
--- Manifest: for a tolerant device only dfuIDLE with OK is an install; for another device nothing confirms one. Every other status is
--- trouble.
+-- Phase after a status in Manifest: a wait while the image is put in place. On a tolerant device dfuIDLE with OK then confirms the install;
+-- on another dfuIDLE or dfuMANIFEST-WAIT-RESET ends it unconfirmed. Any other status is trouble.
 abbrev pub manifest_phase : Phase → (tolerant : Bool) → Code → ℕ → State → Phase
 manifest_phase start true c poll state.ManifestSync = WaitManifest poll
 manifest_phase start true c poll state.Manifest = WaitManifest poll
@@ -160,28 +161,28 @@ manifest_phase start false c poll state.DfuIdle = Last report.Unconfirmed
 manifest_phase start false c poll state.ManifestWaitReset = Last report.Unconfirmed
 manifest_phase start false c poll s = phase_in_trouble start c poll s
 
--- Ask: the answer to a block was lost, and the state says if the block came. Every other state is trouble.
+-- Phase after a state in Ask, by which block n arrived, and is polled, or did not, and is sent again. Any other state is trouble.
 abbrev pub asked_phase : ℕ → State → Phase
 asked_phase n state.DownloadSync = Poll n
 asked_phase zero state.DfuIdle = Block zero
 asked_phase (suc n) state.DownloadIdle = Block (suc n)
 asked_phase n s = Trouble
 
--- Ask last: the answer to the closing request was lost, and the state says if the request came. Every other state is trouble.
+-- Phase after a state in AskLast, by which the close arrived, or did not and is sent again. Any other state is trouble.
 abbrev pub asked_last_phase : State → Phase
 asked_last_phase state.ManifestSync = Manifest
 asked_last_phase state.DownloadIdle = Close
 asked_last_phase s = Trouble
 
--- Fetch: a full answer, a shorter one, which is the last, or one that is too long.
+-- Phase after a part in Fetch: a full one leads to the next, or is one too many; a shorter one is the last; a longer one leads to Find.
 abbrev pub fetched_phase : (t k : ℕ) (kept bytes : List ℕ) → Phase
 fetched_phase t k kept bytes =
     if length bytes == t then (if suc k == 65535 then Over report.TooManyBlocks else Fetch (suc k) (kept ++ bytes))
     else if nat_lt (length bytes) t then LastUploaded (kept ++ bytes)
     else Find
 
--- Compare: an answer equal to block k (empty past the last block), a different answer, or one that is too long. An answer that is shorter
--- than a full one is the last of the image.
+-- Phase after a part in Compare: a longer one leads to Find, one that differs from block k (empty past the last block) to Different. An
+-- equal one leads to Verified if it is shorter than a full one; else to the next, or it is one too many.
 abbrev pub compared_phase : (t k : ℕ) → (block bytes : List ℕ) → Phase
 compared_phase t k block bytes =
     if nat_lt t (length bytes) then Find
@@ -189,51 +190,51 @@ compared_phase t k block bytes =
     else if suc k == 65535 then Over report.TooManyBlocks else Compare (suc k))
     else Last report.Different
 
--- Phase after the last reset: the report, or, if the payload is to be compared, a new beginning.
+-- Phase after the last reset: the end with the report, or Find if the payload is to be compared.
 abbrev pub after_last : Goal → Report → Phase
 after_last (VerifyGoal payload) report = Find
 after_last goal report = Over report
 
--- Phase after GETSTATUS: by the status, by a stall, or by anything else that is heard.
+-- Phase after GETSTATUS: by the status, by a stall, or by any other result.
 abbrev pub on_status : Heard → (Code → ℕ → State → Phase) → (stalled nothing : Phase) → Phase
 on_status (Status c poll s) told stalled nothing = told c poll s
 on_status Stalled told stalled nothing = stalled
 on_status heard told stalled nothing = nothing
 
--- Phase after GETSTATE: by the state, by a stall, or by anything else that is heard.
+-- Phase after GETSTATE: by the state, by a stall, or by any other result.
 abbrev pub on_state : Heard → (State → Phase) → (stalled nothing : Phase) → Phase
 on_state (StateIs s) told stalled nothing = told s
 on_state Stalled told stalled nothing = stalled
 on_state heard told stalled nothing = nothing
 
--- Phase after a request without an answer of bytes: by its acknowledgement, by a stall, or by anything else that is heard.
+-- Phase after a request whose answer has no bytes: by its acknowledgement, by a stall, or by any other result.
 abbrev pub on_ack : Heard → (acked stalled nothing : Phase) → Phase
 on_ack Acked acked stalled nothing = acked
 on_ack Stalled acked stalled nothing = stalled
 on_ack heard acked stalled nothing = nothing
 
--- Phase after a wait: if anything else is heard, the session waits again.
+-- Phase after a wait: `waited` once the wait is over, `again` after any other result.
 abbrev pub on_waited : Heard → (waited again : Phase) → Phase
 on_waited Waited waited again = waited
 on_waited heard waited again = again
 
--- Phase after a reset: if anything else is heard, the session resets again.
+-- Phase after a reset of the bus: `done` once the bus was reset, `again` after any other result.
 abbrev pub on_reset : Heard → (done again : Phase) → Phase
 on_reset WasReset done again = done
 on_reset heard done again = again
 
--- Phase after UPLOAD: by the bytes of a part, or the end if there was no memory for them. Anything else that is heard leads to Find.
+-- Phase after UPLOAD: by the bytes of the part, or the end if there was no memory for them. Any other result leads to Find.
 abbrev pub on_part : (t k : ℕ) (kept : List ℕ) → Heard → Phase
 on_part t k kept (Part bytes) = fetched_phase t k kept bytes
 on_part t k kept NoRoom = Over report.NoMemory
 on_part t k kept heard = Find
 
--- Phase after UPLOAD when the image is compared: by the bytes. Anything else that is heard leads to Find.
+-- Phase after UPLOAD for a comparison: by the bytes of the part. Any other result leads to Find.
 abbrev pub on_compared : (t k : ℕ) → (block : List ℕ) → Heard → Phase
 on_compared t k block (Part bytes) = compared_phase t k block bytes
 on_compared t k block heard = Find
 
--- The table: the phase after a result that is no restart and no device that left of itself, before the budget.
+-- The table: the phase after a result other than Restarted and Left, before the budget check.
 abbrev pub host_row : Task → Phase → Heard → Phase
 host_row task Find heard = on_status heard (λ c poll s. phase_after_status (work_start task.goal) s poll) FindAgain Find
 host_row task FindAgain heard = on_status heard (λ c poll s. phase_after_status (work_start task.goal) s poll) ResetFind FindAgain
@@ -266,11 +267,11 @@ abbrev pub goal_after_reset : Goal → Goal
 goal_after_reset (VerifyGoal payload) = CompareGoal payload
 goal_after_reset goal = goal
 
--- The goal after a phase: it changes only after the last reset.
+-- The goal after a result in a phase: it changes only once the last reset is done.
 abbrev pub goal_after : Goal → Phase → Heard → Goal
 goal_after goal (Last report) WasReset = goal_after_reset goal
 goal_after goal phase heard = goal
 
--- The task after a phase: only its goal may change.
+-- The task after a result in a phase: only its goal may change.
 abbrev pub task_after : Task → Phase → Heard → Task
 task_after task phase heard = record task { goal = goal_after task.goal phase heard }

@@ -1,34 +1,35 @@
--- Bytes of results that a session's caller keeps.
+-- Bytes of an upload's parts that a session's caller keeps in memory.
 use Rattle.std.specs.Prelude.{◌≡◌, ℕ, ◌<◌, Bool, true, false, IsTrue, List, ◌++◌, length}
 use Rattle.dfu_host.specs.declared.phase.Phase.{Phase}
 use Rattle.dfu_host.specs.declared.phase.Phase.TheVariants as phase
 use Rattle.dfu_host.specs.declared.seen.Seen.{Seen}
 use Rattle.dfu_host.specs.declared.seen.Seen.TheVariants as seen
-use Rattle.dfu_host.specs.InParts.{buffered_at}
-use Rattle.dfu_host.specs.Wire.{is_part_kept, NeedsRoom}
+use Rattle.dfu_host.specs.InParts.{bytes_kept_for_part}
+use Rattle.dfu_host.specs.Wire.{is_part_to_be_kept, NeedsRoom}
 
--- Part k joined the bytes kept before it; or it was refused, which only a part with a byte is.
-abbrev pub PartOutcome : (k : ℕ) → (part : List ℕ) → (refused : Bool) → (memory memory' : List ℕ) → Type 0
-PartOutcome k part false memory memory' = memory' ≡ buffered_at k memory ++ part
-PartOutcome k part true memory memory' = 0 < length part
+-- Part k was appended to the bytes kept before it, or was refused, which is allowed only for a part of at least one byte.
+abbrev pub PartAppendedOrRefused : (k : ℕ) → (part : List ℕ) → (refused : Bool) → (memory memory' : List ℕ) → Type 0
+PartAppendedOrRefused k part false memory memory' = memory' ≡ bytes_kept_for_part k memory ++ part
+PartAppendedOrRefused k part true memory memory' = 0 < length part
 
--- Bytes came for part k. If they are kept, they joined the bytes kept before, or they were refused and needed room.
-abbrev pub PartBuffered : (t k : ℕ) → (part : List ℕ) → (refused : Bool) → (memory memory' : List ℕ) → Type 0
-PartBuffered t k part false memory memory' = IsTrue (is_part_kept t k (length part)) → memory' ≡ buffered_at k memory ++ part
-PartBuffered t k part true memory memory' = NeedsRoom t k (length part)
+-- Bytes for part k were appended to the kept bytes if the part is to be kept, or were refused and needed memory.
+abbrev pub AnswerKeptOrRefused : (t k : ℕ) → (part : List ℕ) → (refused : Bool) → (memory memory' : List ℕ) → Type 0
+AnswerKeptOrRefused t k part false memory memory' = IsTrue (is_part_to_be_kept t k (length part))
+    → memory' ≡ bytes_kept_for_part k memory ++ part
+AnswerKeptOrRefused t k part true memory memory' = NeedsRoom t k (length part)
 
--- Bytes came in a phase. The memory changes only by a part that the phase asked for.
-abbrev pub BytesBuffered : (t : ℕ) → Phase → (bytes : List ℕ) → (refused : Bool) → (memory memory' : List ℕ) → Type 0
-BytesBuffered t (phase.Fetch k) bytes refused memory memory' = PartBuffered t k bytes refused memory memory'
-BytesBuffered t other bytes refused memory memory' = memory' ≡ memory
+-- The memory after bytes in a phase: only a part that the phase asked for changes it.
+abbrev pub MemoryAfterBytes : (t : ℕ) → Phase → (bytes : List ℕ) → (refused : Bool) → (memory memory' : List ℕ) → Type 0
+MemoryAfterBytes t (phase.Fetch k) bytes refused memory memory' = AnswerKeptOrRefused t k bytes refused memory memory'
+MemoryAfterBytes t other bytes refused memory memory' = memory' ≡ memory
 
--- A result was seen in a phase, and its bytes were kept if they had to be. The memory changes only by a part that the phase asked for.
-abbrev pub PartsBuffered : (t : ℕ) → Phase → Seen → (refused : Bool) → (memory memory' : List ℕ) → Type 0
-PartsBuffered t phase (seen.Bytes bytes) refused memory memory' = BytesBuffered t phase bytes.now refused memory memory'
-PartsBuffered t phase seen.Ack refused memory memory' = memory' ≡ memory
-PartsBuffered t phase seen.Stall refused memory memory' = memory' ≡ memory
-PartsBuffered t phase seen.Nothing refused memory memory' = memory' ≡ memory
-PartsBuffered t phase seen.Waited refused memory memory' = memory' ≡ memory
-PartsBuffered t phase seen.WasReset refused memory memory' = memory' ≡ memory
-PartsBuffered t phase seen.Restarted refused memory memory' = memory' ≡ memory
-PartsBuffered t phase seen.Left refused memory memory' = memory' ≡ memory
+-- The memory after a result in a phase: only a part that the phase asked for changes it.
+abbrev pub MemoryAfterSeen : (t : ℕ) → Phase → Seen → (refused : Bool) → (memory memory' : List ℕ) → Type 0
+MemoryAfterSeen t phase (seen.Bytes bytes) refused memory memory' = MemoryAfterBytes t phase bytes.now refused memory memory'
+MemoryAfterSeen t phase seen.Ack refused memory memory' = memory' ≡ memory
+MemoryAfterSeen t phase seen.Stall refused memory memory' = memory' ≡ memory
+MemoryAfterSeen t phase seen.Nothing refused memory memory' = memory' ≡ memory
+MemoryAfterSeen t phase seen.Waited refused memory memory' = memory' ≡ memory
+MemoryAfterSeen t phase seen.WasReset refused memory memory' = memory' ≡ memory
+MemoryAfterSeen t phase seen.Restarted refused memory memory' = memory' ≡ memory
+MemoryAfterSeen t phase seen.Left refused memory memory' = memory' ≡ memory

@@ -10,7 +10,7 @@ use Rattle.dfu_host.specs.PhaseClasses.{Common, Sending, Closing, Manifesting, F
 use Rattle.dfu_host.specs.Wire.{NeedsRoom}
 use Rattle.dfu_host.specs.Host.{HostState, after}
 
--- Condition of each refusal of an upload, which has no payload and no file, and does not download.
+-- Condition under which an upload is refused with each fault. An upload has no payload and no file, and downloads nothing.
 abbrev pub refuses_upload : Functional → HostFault → Bool
 refuses_upload functional fault.EmptyPayload = false
 refuses_upload functional fault.WrongTarget = false
@@ -18,16 +18,15 @@ refuses_upload functional fault.CannotDownload = false
 refuses_upload functional fault.CannotUpload = not functional.can_upload
 refuses_upload functional fault.BadDescriptor = functional.transfer == 0
 
--- Refusals of an upload, in the order in which they are checked.
+-- Faults for which an upload is refused, in the order in which they are checked.
 abbrev pub upload_faults : List HostFault
 upload_faults = fault.CannotUpload ∷ fault.BadDescriptor ∷ []
 
--- The first refusal of an upload.
+-- The first fault for which an upload is refused; None if there is none.
 abbrev pub first_upload_fault : Functional → Option HostFault
 first_upload_fault functional = find (refuses_upload functional) upload_faults
 
--- Bytes that come for part k are taken as the part. Only an upload may have no memory for them, and only if they need some. Other results
--- are not spoken of here.
+-- Bytes for part k are taken as the part, or as NoRoom in an upload if the part needs memory. Other results are not constrained here.
 abbrev pub PartResult : HostState → (k : ℕ) → Seen → HostState → Type 0
 PartResult h k (seen.Bytes bytes) h' =
     (h' ≡ after h (Part bytes.now)) ⊎ ((h' ≡ after h NoRoom) × (h.task.goal ≡ FetchGoal) × NeedsRoom h.task.transfer k (length bytes.now))
@@ -39,7 +38,7 @@ PartResult h k seen.WasReset h' = Unit {0}
 PartResult h k seen.Restarted h' = Unit {0}
 PartResult h k seen.Left h' = Unit {0}
 
--- An answer in a phase that fetches a part is taken as that part. Phases that fetch no part are not spoken of here.
+-- A result in a phase that fetches part k is taken as `PartResult` says. Other phases are not constrained here.
 abbrev pub FetchResult : HostState → Phase → Seen → HostState → Type 0
 FetchResult h phase seen h' = elim (class_of phase) [
   | Common ↦ Unit {0}
@@ -54,10 +53,10 @@ FetchResult h phase seen h' = elim (class_of phase) [
   | EndedUpload kept ↦ Unit {0}
 ]
 
--- Bytes that an upload keeps in a phase: the parts since the fetching began, until the host goes back to find the device. In all other
--- phases none are kept.
-abbrev pub buffered_in : Phase → List ℕ
-buffered_in phase = elim (class_of phase) [
+-- Bytes that an upload keeps in a phase: the parts since the fetching began, until the host goes back to find the device. Other phases keep
+-- none.
+abbrev pub kept_bytes_in_phase : Phase → List ℕ
+kept_bytes_in_phase phase = elim (class_of phase) [
   | Common ↦ []
   | Sending n ↦ []
   | Closing ↦ []

@@ -1,4 +1,4 @@
--- The host's table over the wire: actions as setups, and results as meanings.
+-- The host's table over the wire: setups of the actions, and meanings of the results.
 use Rattle.std.specs.Prelude.{◌≡◌, ◌≢◌, ◌⊎◌, ℕ, suc, ◌<◌, ◌==◌, nat_lt, ◌&&◌, ◌||◌, not, Bool, IsTrue, List, [], ◌∷◌, length}
 use Rattle.dfu_wire.specs.declared.setups.Setup.{Setup}
 use Rattle.dfu_wire.specs.declared.states.State.{State}
@@ -6,7 +6,7 @@ use Rattle.dfu_wire.specs.declared.requests.Request.{Request}
 use Rattle.dfu_wire.specs.declared.requests.Request.TheVariants as request
 use Rattle.dfu_wire.specs.Status.{StatusFields, IsStatus}
 use Rattle.dfu_wire.specs.Setup.{IsSetup}
-use Rattle.dfu_wire.specs.Request.{SetupRequest, IsPlain}
+use Rattle.dfu_wire.specs.Request.{SetupAsksFor, UnusedValueIsZero}
 use Rattle.dfu_wire.specs.State.{state_byte}
 use Rattle.dfu_host.specs.declared.action.Action.{Action}
 use Rattle.dfu_host.specs.declared.action.Action.TheVariants as action
@@ -14,14 +14,14 @@ use Rattle.dfu_host.specs.declared.seen.Seen.{Seen}
 use Rattle.dfu_host.specs.declared.seen.Seen.TheVariants as seen
 use Rattle.dfu_host.specs.Phases.{Deed, Send, Wait, Reset, Done, Heard, Acked, Status, StateIs, Part, NoRoom, Stalled, Nothing, Waited, WasReset, Restarted, Left}
 
--- The eight bytes are a setup that asks for the request. Its fields without a meaning are 0.
+-- The eight bytes are the setup of this request. Fields without a meaning are 0.
 pub record IsSetupOf (q : Request) (bytes : List ℕ) : Type 0 where
   pub setup : Setup
   pub fields : IsSetup setup bytes
-  pub asks : SetupRequest setup q
-  pub plain : IsPlain setup q
+  pub asks : SetupAsksFor setup q
+  pub plain : UnusedValueIsZero setup q
 
--- The action spells the deed: a request goes as the bytes of its setup, with its body.
+-- The action spells the deed: a request is sent as the bytes of its setup, with its body.
 abbrev pub SpellsDeed : Deed → Action → Type 0
 SpellsDeed (Send q body) (action.Send setup given) = IsSetupOf q setup × (given.now ≡ body)
 SpellsDeed (Wait ms) (action.Wait given) = given ≡ ms
@@ -29,30 +29,30 @@ SpellsDeed Reset action.Reset = Unit {0}
 SpellsDeed (Done report) (action.Done given) = given ≡ report
 SpellsDeed deed given = ⊥
 
--- Bytes that answer GETSTATUS mean the status that they spell, or nothing if they spell none.
+-- Bytes that answer GETSTATUS mean the status that they spell, or Nothing if they spell none.
 abbrev pub ReadsStatus : List ℕ → Heard → Type 0
 ReadsStatus bytes (Status code poll state) = IsStatus (record { code = code; poll_ms = poll; state = state }) bytes
 ReadsStatus bytes Nothing = (s : StatusFields) → IsStatus s bytes → ⊥
 ReadsStatus bytes heard = ⊥
 
--- Bytes that answer GETSTATE mean the state whose number is their one byte, or nothing.
+-- Bytes that answer GETSTATE mean the state whose number is their one byte, or Nothing if they are no such byte.
 abbrev pub ReadsState : List ℕ → Heard → Type 0
 ReadsState bytes (StateIs state) = bytes ≡ state_byte state ∷ []
 ReadsState bytes Nothing = (state : State) → bytes ≢ state_byte state ∷ []
 ReadsState bytes heard = ⊥
 
--- Part k of an upload is kept if it is shorter than a block, and so the last, or if it is full. Not kept is the full part that is one too
--- many.
-abbrev pub is_part_kept : (t k length : ℕ) → Bool
-is_part_kept t k length = nat_lt length t || ((length == t) && not (suc k == 65535))
+-- Part k of an upload is kept if it is shorter than a full one, and so the last, or if it is full and its number isn't 65,534. A full part
+-- with that number is one too many.
+abbrev pub is_part_to_be_kept : (t k length : ℕ) → Bool
+is_part_to_be_kept t k length = nat_lt length t || ((length == t) && not (suc k == 65535))
 
 -- A part needs memory: it is kept, and has at least one byte.
 pub record NeedsRoom (t k length : ℕ) : Type 0 where
-  pub kept : IsTrue (is_part_kept t k length)
+  pub kept : IsTrue (is_part_to_be_kept t k length)
   pub some : 0 < length
 
--- Meaning of bytes that answer a request. To UPLOAD they are a part, or there was no memory for it if the part needs some. Any other
--- request has no answer of bytes, so they mean nothing. The number in an UPLOAD is that of the part, because only the parts 0 to 65,534 are
+-- Meaning of bytes that answer a request. For UPLOAD they are a part, or NoRoom, which only a part that needs memory may mean. For requests
+-- other than UPLOAD, GETSTATUS and GETSTATE they mean Nothing. The number in an UPLOAD is the part's, because only parts 0 to 65,534 are
 -- asked for.
 abbrev pub ReadsAnswer : Request → List ℕ → Heard → Type 0
 ReadsAnswer (request.GetStatus len) bytes heard = ReadsStatus bytes heard
@@ -60,7 +60,7 @@ ReadsAnswer (request.GetState len) bytes heard = ReadsState bytes heard
 ReadsAnswer (request.Upload block len) bytes heard = (heard ≡ Part bytes) ⊎ ((heard ≡ NoRoom) × NeedsRoom len block (length bytes))
 ReadsAnswer q bytes heard = heard ≡ Nothing
 
--- Meaning of bytes that come of an action: none, if the action is not a request.
+-- Meaning of bytes that follow an action: Nothing, if the action is not a request.
 abbrev pub BytesMeaning : Deed → List ℕ → Heard → Type 0
 BytesMeaning (Send q body) bytes heard = ReadsAnswer q bytes heard
 BytesMeaning deed bytes heard = heard ≡ Nothing

@@ -12,6 +12,6 @@ pub enum Action<'f> {
     Wait(u32),
     /// Reset the bus.
     Reset,
-    /// Nothing, because the session is over with this report.
+    /// Do nothing: the session is over with this report.
     Done(Report),
 }

@@ -1,4 +1,4 @@
-//! The rows of the phases after the last block, and of the phase after a refusal.
+//! The rows of the phases after the last block, and of the phase after a stall.
 
 ghost use Rattle.std.specs.Prelude.{◌≡◌, true, false, List, ℕ};
 ghost use Rattle.dfu_host.specs.BehindClose.{is_behind_close};
@@ -15,8 +15,8 @@ use crate::task::Task;
 use dfu_wire::{Code, State, Status};
 
 impl Task<'_> {
-    /// Returns the phase after `status`, which follows a refusal: dfuERROR with a code of its own ends the session, and every other status
-    /// goes by the list.
+    /// Returns the phase after `status`, asked for after a stall or an unexpected state: dfuERROR with a code other than OK and
+    /// errSTALLEDPKT ends the session; every other status leads to the phase for its state.
     pub(crate) fn troubled(&self, status: Status) -> Phase
         ensures next { (memory : List ℕ)
             → phase_of memory result ≡ table.phase_in_trouble
@@ -32,7 +32,7 @@ impl Task<'_> {
         }
     }
 
-    /// Returns true if `phase` is after the close.
+    /// Returns true if the close is done in `phase`.
     pub(crate) fn is_behind_close(&self, phase: Phase) -> bool
         ensures { (memory : List ℕ) → result ≡ is_behind_close (goal_of self.now.goal) (phase_of memory phase) }
     {
@@ -43,7 +43,8 @@ impl Task<'_> {
         }
     }
 
-    /// Returns the phase after the last reset: the report, or the comparison.
+    /// Returns the phase after the last reset: the end with the report, or Find to compare; after any result but a reset, the last reset
+    /// again.
     pub(crate) fn after_last(&self, report: Report, heard: Heard) -> Phase
         ensures next { (memory part : List ℕ)
             → phase_of memory result ≡ table.host_row (task_of_session self.now) (table.Last report) (meaning_of_heard part heard) }
@@ -58,7 +59,7 @@ impl Task<'_> {
         }
     }
 
-    /// Returns the phase after `status`, which was asked for after the close.
+    /// Returns the phase after `status`, asked for after the close.
     pub(crate) fn manifested(&self, status: Status) -> Phase
         ensures next { (memory : List ℕ)
             → phase_of memory result
@@ -72,7 +73,7 @@ impl Task<'_> {
         }
     }
 
-    /// Returns the phase by which `status` of a tolerant device confirms the new image: only dfuIDLE with OK is an install.
+    /// Returns the phase after `status` of a tolerant device: only dfuIDLE with OK confirms the new image.
     fn confirmed(&self, status: Status) -> Phase
         ensures next { (memory : List ℕ)
             → phase_of memory result
@@ -86,7 +87,7 @@ impl Task<'_> {
         }
     }
 
-    /// Returns the phase after `status` of a device that isn't tolerant, which never confirms an install.
+    /// Returns the phase after `status` of a device that isn't tolerant, which never confirms the new image.
     fn unconfirmed(&self, status: Status) -> Phase
         ensures next { (memory : List ℕ)
             → phase_of memory result

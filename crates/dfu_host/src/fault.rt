@@ -1,4 +1,4 @@
-//! Faults for which a session does not begin.
+//! Faults for which no session begins.
 
 ghost use Rattle.std.specs.Prelude.{◌≡◌};
 ghost use Rattle.dfu_host.specs.FaultName.{host_fault_name};
@@ -6,7 +6,7 @@ ghost use Rattle.dfu_host.specs.FaultName.{host_fault_name};
 use std::fmt;
 use thiserror::Error;
 
-/// A fault for which a session does not begin. A call returns the first that holds, in this order.
+/// A fault for which no session begins. A call returns the first one that holds, in this order.
 #[derive(Clone, Copy, Debug, Error)]
 pub enum HostFault {
     /// The file's payload has no bytes. Only for downloads.

@@ -1,14 +1,14 @@
 //! The rows of the phases that fetch the image, and its parts in memory.
 
 ghost use Rattle.std.specs.Prelude.{◌≡◌, ◌⊎◌, ◌+◌, ◌<◌, nat_lt, Bool, true, false, if◌then◌else◌, IfSome, None, List, ℕ, length, take};
-ghost use Rattle.dfu_host.specs.inside.PartMemory.{Joined, MemoryAfter, PartMemory, RefusedRoom};
+ghost use Rattle.dfu_host.specs.inside.PartMemory.{Joined, MemoryAfter, PartMemory, NoRoomOnlyIfNeeded};
 ghost use Rattle.dfu_host.specs.Table as table;
-ghost use Rattle.dfu_host.specs.UploadBuffer.{PartBuffered, PartOutcome};
-ghost use Rattle.dfu_host.specs.InParts.{HasPhaseNeeds, buffered_at, phase_of};
+ghost use Rattle.dfu_host.specs.UploadBuffer.{AnswerKeptOrRefused, PartAppendedOrRefused};
+ghost use Rattle.dfu_host.specs.InParts.{HasPhaseNeeds, bytes_kept_for_part, phase_of};
 ghost use Rattle.dfu_host.specs.Rooms.{part_overflows};
 ghost use Rattle.dfu_host.specs.Storing.{RoomIsUnchanged, PartIsStored, StoresPart};
 ghost use Rattle.dfu_host.specs.inside.View.{meaning_of_heard, task_of_session};
-ghost use Rattle.dfu_host.specs.Wire.{is_part_kept};
+ghost use Rattle.dfu_host.specs.Wire.{is_part_to_be_kept};
 
 use crate::heard::Heard;
 use crate::part::UploadPart;
@@ -16,7 +16,7 @@ use crate::phase::Phase;
 use crate::report::Report;
 use crate::task::Task;
 
-/// After this many full parts an upload ends without its image, and a comparison without its verdict. The
+/// Number of full parts after which an upload ends without its image, and a comparison without its verdict. The
 /// limit is this project's own.
 pub(crate) const MOST_PARTS: u16 = 65_535;
 
@@ -25,10 +25,10 @@ impl Task<'_> {
     pub(crate) fn received(&self, number: u16, part: &[u8], refused: bool) -> Heard
         requires { HasPhaseNeeds self.now.goal self.now.transfer (Phase.Fetch number) }
         ensures heard { (result ≡ Heard.Part (length part.now)) ⊎ (result ≡ Heard.NoRoom) }
-        ensures keeps { (memory memory' : List ℕ) → PartBuffered self.now.transfer number part.now refused memory memory'
+        ensures keeps { (memory memory' : List ℕ) → AnswerKeptOrRefused self.now.transfer number part.now refused memory memory'
             → PartMemory self.now.transfer number memory part.now result memory' }
-        ensures room { RefusedRoom self.now (Phase.Fetch number) part.now result }
-        ensures by { (memory memory' : List ℕ) → PartBuffered self.now.transfer number part.now refused memory memory'
+        ensures room { NoRoomOnlyIfNeeded self.now (Phase.Fetch number) part.now result }
+        ensures by { (memory memory' : List ℕ) → AnswerKeptOrRefused self.now.transfer number part.now refused memory memory'
             → result ≡ (if refused then Heard.NoRoom else Heard.Part (length part.now)) }
     {
         if refused && !part.is_empty() && self.is_kept(number, part.len()) {
@@ -38,24 +38,24 @@ impl Task<'_> {
         }
     }
 
-    /// Returns the part to keep of `bytes`, which answer the UPLOAD of part number `number`; None if there is none.
+    /// Returns the part to keep from `bytes`, which answer the UPLOAD of part number `number`; None if it is too long or one too many.
     pub(crate) fn part_in<'s>(&self, number: u16, bytes: &'s [u8]) -> Option<UploadPart<'s>>
         requires { number < 65535 }
         ensures some { IfSome result (λ part. (refused : Bool) (memory memory' : List ℕ)
-            → PartOutcome part.number part.bytes.now refused memory memory'
-            → PartBuffered self.now.transfer number bytes.now refused memory memory') }
-        ensures none { result ≡ None → (memory : List ℕ) → PartBuffered self.now.transfer number bytes.now false memory memory }
+            → PartAppendedOrRefused part.number part.bytes.now refused memory memory'
+            → AnswerKeptOrRefused self.now.transfer number bytes.now refused memory memory') }
+        ensures none { result ≡ None → (memory : List ℕ) → AnswerKeptOrRefused self.now.transfer number bytes.now false memory memory }
         ensures some_refused { IfSome result (λ part. (refused : Bool) (memory : List ℕ) (room : ℕ)
-            → refused ≡ nat_lt room (length (buffered_at part.number memory) + length part.bytes.now)
-            → refused ≡ part_overflows room self.now.transfer number (buffered_at number memory) bytes.now) }
+            → refused ≡ nat_lt room (length (bytes_kept_for_part part.number memory) + length part.bytes.now)
+            → refused ≡ part_overflows room self.now.transfer number (bytes_kept_for_part number memory) bytes.now) }
         ensures none_refused { result ≡ None → (memory : List ℕ) (room : ℕ)
-            → false ≡ part_overflows room self.now.transfer number (buffered_at number memory) bytes.now }
+            → false ≡ part_overflows room self.now.transfer number (bytes_kept_for_part number memory) bytes.now }
         ensures some_stored { IfSome result (λ part. (count : ℕ) (room : List ℕ) (count' : ℕ) (room' : List ℕ)
-            → false ≡ nat_lt (length room) (length (buffered_at part.number (take count room)) + length part.bytes.now)
-            → PartIsStored (buffered_at part.number (take count room)) part.bytes.now room count' room'
+            → false ≡ nat_lt (length room) (length (bytes_kept_for_part part.number (take count room)) + length part.bytes.now)
+            → PartIsStored (bytes_kept_for_part part.number (take count room)) part.bytes.now room count' room'
             → StoresPart self.now.transfer number bytes.now count room count' room') }
         ensures some_full { IfSome result (λ part. (count : ℕ) (room : List ℕ)
-            → true ≡ nat_lt (length room) (length (buffered_at part.number (take count room)) + length part.bytes.now)
+            → true ≡ nat_lt (length room) (length (bytes_kept_for_part part.number (take count room)) + length part.bytes.now)
             → StoresPart self.now.transfer number bytes.now count room count room) }
         ensures none_stored { result ≡ None → (count : ℕ) (room : List ℕ)
             → StoresPart self.now.transfer number bytes.now count room count room }
@@ -67,23 +67,24 @@ impl Task<'_> {
         }
     }
 
-    /// Returns whether part `number` with `len` bytes is kept: a part that is shorter than a block, and so the last, or a full one,
-    /// except the full one that is one too many.
+    /// Returns whether part `number` with `len` bytes is kept: a full part, or a shorter one, which is the last; but not the full part that
+    /// is one too many.
     fn is_kept(&self, number: u16, len: usize) -> bool
         requires { number < 65535 }
-        ensures { result ≡ is_part_kept self.now.transfer number len }
+        ensures { result ≡ is_part_to_be_kept self.now.transfer number len }
     {
         let transfer = self.transfer as usize;
         len < transfer || len == transfer && number + 1 != MOST_PARTS
     }
 
-    /// Returns the phase after UPLOAD of part number `number`, which is kept already, as `heard` says.
+    /// Returns the phase after UPLOAD of part number `number`; a part in `heard` is kept already.
     pub(crate) fn after_fetch(&self, number: u16, heard: Heard) -> Phase
         requires { HasPhaseNeeds self.now.goal self.now.transfer (Phase.Fetch number) }
         ensures next { (memory memory' part : List ℕ)
             → MemoryAfter self.now.transfer memory (Phase.Fetch number) part heard memory'
             → phase_of memory' result
-            ≡ table.host_row (task_of_session self.now) (table.Fetch number (buffered_at number memory)) (meaning_of_heard part heard) }
+            ≡ table.host_row (task_of_session self.now) (table.Fetch number (bytes_kept_for_part number memory))
+            (meaning_of_heard part heard) }
         ensures within { HasPhaseNeeds self.now.goal self.now.transfer result }
     {
         match heard {
@@ -98,7 +99,7 @@ impl Task<'_> {
         requires { HasPhaseNeeds self.now.goal self.now.transfer (Phase.Fetch number) }
         ensures next { (memory memory' part : List ℕ)
             → Joined self.now.transfer number memory part len memory'
-            → phase_of memory' result ≡ table.fetched_phase self.now.transfer number (buffered_at number memory) part }
+            → phase_of memory' result ≡ table.fetched_phase self.now.transfer number (bytes_kept_for_part number memory) part }
         ensures within { HasPhaseNeeds self.now.goal self.now.transfer result }
     {
         let transfer = self.transfer as usize;

@@ -4,7 +4,7 @@ ghost use Rattle.std.specs.Prelude.{◌≡◌, IsTrue, false};
 ghost use Rattle.dfu_host.specs.BehindClose.{goal_installs};
 ghost use Rattle.dfu_host.specs.Goals.{IsFetch, goal_of, payload_of};
 
-/// Goal of a session. A goal takes no memory, because the caller keeps what an upload fetches.
+/// Goal of a session. A goal takes no memory, because the caller keeps the bytes that an upload fetches.
 #[derive(Clone, Copy)]
 pub enum Goal<'f> {
     /// To install a payload, which has at least one byte.
@@ -28,7 +28,7 @@ impl<'f> Goal<'f> {
         }
     }
 
-    /// Returns whether a payload is still to be installed.
+    /// Returns whether a payload still has to be installed.
     pub(crate) fn installs(&self) -> bool
         ensures { result ≡ goal_installs (goal_of self.now) }
     {
@@ -38,7 +38,7 @@ impl<'f> Goal<'f> {
         }
     }
 
-    /// Returns whether the image is fetched.
+    /// Returns whether the goal is to fetch the image.
     pub(crate) fn is_fetch(&self) -> bool
         ensures yes { IsTrue result → IsFetch self.now }
         ensures no { result ≡ false → IsFetch self.now → ⊥ }

@@ -1,11 +1,11 @@
-//! Meaning of results for a host.
+//! Meanings of results for a host.
 
 ghost use Rattle.std.specs.Prelude.{◌≡◌, List, ℕ, length};
 ghost use Rattle.dfu_host.specs.inside.Comparing.{ComparedMeaning};
-ghost use Rattle.dfu_host.specs.inside.PartMemory.{MemoryAfter, RefusedRoom};
+ghost use Rattle.dfu_host.specs.inside.PartMemory.{MemoryAfter, NoRoomOnlyIfNeeded};
 ghost use Rattle.dfu_host.specs.inside.Refusing.{SeenMeaningIn, BytesMeaningIn};
 ghost use Rattle.dfu_host.specs.Table.{deed};
-ghost use Rattle.dfu_host.specs.UploadBuffer.{PartsBuffered, BytesBuffered};
+ghost use Rattle.dfu_host.specs.UploadBuffer.{MemoryAfterSeen, MemoryAfterBytes};
 ghost use Rattle.dfu_host.specs.InParts.{HasPhaseNeeds, phase_of};
 ghost use Rattle.dfu_host.specs.inside.View.{meaning_of_heard, part_of, task_of_session};
 ghost use Rattle.dfu_host.specs.Wire.{SeenMeaning, BytesMeaning, ReadsStatus, ReadsState};
@@ -17,7 +17,7 @@ use crate::seen::Seen;
 use crate::task::Task;
 use dfu_wire::{State, Status};
 
-/// Meaning that a host gives to the result of its action.
+/// Meaning of a result for a host.
 #[derive(Clone, Copy)]
 pub(crate) enum Heard {
     Acked,
@@ -25,8 +25,8 @@ pub(crate) enum Heard {
     StateIs(State),
     /// A part of an upload, with its length in bytes; it is kept already.
     Part(usize),
-    /// A part of an image that is compared: `same` says that it is the payload's, `len` is its length in
-    /// bytes.
+    /// A part of an image that was compared: `same` says that it equals the payload's block, `len` is its length
+    /// in bytes.
     Compared { same: bool, len: usize },
     /// A part of an upload for which there was no memory.
     NoRoom,
@@ -39,17 +39,17 @@ pub(crate) enum Heard {
 }
 
 impl Task<'_> {
-    /// Returns the meaning of `seen` in `phase`. Bytes are read as the answer to the phase's request; bytes that are no such answer mean
-    /// that nothing came. A part of an upload is kept already, or `refused`, and a part of a comparison is compared here.
+    /// Returns the meaning of `seen` in `phase`. Bytes are read as the answer to the phase's request; bytes that are no valid answer mean
+    /// Nothing. A part of an upload is kept already, or `refused`; a part of a comparison is compared here.
     pub(crate) fn hear(&self, phase: Phase, seen: Seen<'_>, refused: bool) -> Heard
         requires { HasPhaseNeeds self.now.goal self.now.transfer phase }
         ensures hears { (memory : List ℕ) → SeenMeaning (deed (task_of_session self.now) (phase_of memory phase)) seen.entry
             (meaning_of_heard (part_of seen.entry) result) }
-        ensures keeps { (memory memory' : List ℕ) → PartsBuffered self.now.transfer phase seen.entry refused memory memory'
+        ensures keeps { (memory memory' : List ℕ) → MemoryAfterSeen self.now.transfer phase seen.entry refused memory memory'
             → MemoryAfter self.now.transfer memory phase (part_of seen.entry) result memory' }
         ensures compares { ComparedMeaning (task_of_session self.now) phase (part_of seen.entry) result }
-        ensures room { RefusedRoom self.now phase (part_of seen.entry) result }
-        ensures by { (memory memory' : List ℕ) → PartsBuffered self.now.transfer phase seen.entry refused memory memory'
+        ensures room { NoRoomOnlyIfNeeded self.now phase (part_of seen.entry) result }
+        ensures by { (memory memory' : List ℕ) → MemoryAfterSeen self.now.transfer phase seen.entry refused memory memory'
             → SeenMeaningIn phase seen.entry refused result }
     {
         match seen {
@@ -69,11 +69,11 @@ impl Task<'_> {
         requires { HasPhaseNeeds self.now.goal self.now.transfer phase }
         ensures hears { (memory : List ℕ) → BytesMeaning (deed (task_of_session self.now) (phase_of memory phase)) bytes.now
             (meaning_of_heard bytes.now result) }
-        ensures keeps { (memory memory' : List ℕ) → BytesBuffered self.now.transfer phase bytes.now refused memory memory'
+        ensures keeps { (memory memory' : List ℕ) → MemoryAfterBytes self.now.transfer phase bytes.now refused memory memory'
             → MemoryAfter self.now.transfer memory phase bytes.now result memory' }
         ensures compares { ComparedMeaning (task_of_session self.now) phase bytes.now result }
-        ensures room { RefusedRoom self.now phase bytes.now result }
-        ensures by { (memory memory' : List ℕ) → BytesBuffered self.now.transfer phase bytes.now refused memory memory'
+        ensures room { NoRoomOnlyIfNeeded self.now phase bytes.now result }
+        ensures by { (memory memory' : List ℕ) → MemoryAfterBytes self.now.transfer phase bytes.now refused memory memory'
             → BytesMeaningIn phase (length bytes.now) refused result }
     {
         match phase {
@@ -91,7 +91,7 @@ impl Task<'_> {
 /// Returns the meaning of `bytes` as an answer to GETSTATUS.
 fn status_in(bytes: &[u8]) -> Heard
     ensures reads { (part : List ℕ) → ReadsStatus bytes.now (meaning_of_heard part result) }
-    ensures room { (task : Task) (phase : Phase) (part : List ℕ) → RefusedRoom task phase part result }
+    ensures room { (task : Task) (phase : Phase) (part : List ℕ) → NoRoomOnlyIfNeeded task phase part result }
 {
     match Status::decode(bytes) {
         Ok(status) => Heard::Told(status),
@@ -102,7 +102,7 @@ fn status_in(bytes: &[u8]) -> Heard
 /// Returns the meaning of `bytes` as an answer to GETSTATE, one byte.
 fn state_in(bytes: &[u8]) -> Heard
     ensures reads { (part : List ℕ) → ReadsState bytes.now (meaning_of_heard part result) }
-    ensures room { (task : Task) (phase : Phase) (part : List ℕ) → RefusedRoom task phase part result }
+    ensures room { (task : Task) (phase : Phase) (part : List ℕ) → NoRoomOnlyIfNeeded task phase part result }
 {
     match bytes {
         [byte] => match State::from_byte(*byte) {

@@ -1,8 +1,8 @@
-//! The host machine, and its memory.
+//! The host machine, and its memory for an upload.
 
 ghost use Rattle.std.specs.Prelude.{◌≡◌, ◌≤◌, ◌-◌, ◌↔◌, IsTrue, IfOk, Err, Some, ◌+◌, ◌<◌, length, vec_capacity};
-ghost use Rattle.dfu_host.specs.InParts.{buffered_at};
-ghost use Rattle.dfu_host.specs.UploadBuffer.{PartsBuffered, PartOutcome};
+ghost use Rattle.dfu_host.specs.InParts.{bytes_kept_for_part};
+ghost use Rattle.dfu_host.specs.UploadBuffer.{MemoryAfterSeen, PartAppendedOrRefused};
 ghost use Rattle.dfu_host.specs.inside.Memories.{bytes_of};
 
 use crate::action::Action;
@@ -34,7 +34,7 @@ impl<'f> Model for Host<'f> {
     ghost use Rattle.dfu_host.specs.InParts.{host_of};
     ghost use Rattle.dfu_host.specs.inside.Memories.{bytes_of};
 
-    // The task, the phase with what an upload keeps, and the actions and restarts that are left.
+    // The task, the phase with the bytes that an upload keeps, and the actions and restarts left.
     ghost Value = { HostState };
 
     ghost view = { λ h. host_of (bytes_of h.memory) h.session };
@@ -42,11 +42,11 @@ impl<'f> Model for Host<'f> {
 
 impl<'f> Host<'f> {
     ghost use Rattle.dfu_host.specs.Host.{Act, HostRow, IsOverPhase, aborted_host, host_for_goal};
-    ghost use Rattle.dfu_host.specs.Budget.{is_done, remaining_inputs};
+    ghost use Rattle.dfu_host.specs.Budget.{is_done, remaining_results};
     ghost use Rattle.dfu_host.specs.Download.{first_download_fault, first_verify_fault};
     ghost use Rattle.dfu_host.specs.InParts.{IsTablePhase};
     ghost use Rattle.dfu_host.specs.Phases.{FetchGoal, LoadGoal, VerifyGoal};
-    ghost use Rattle.dfu_host.specs.Uploading.{FetchResult, first_upload_fault, buffered_in};
+    ghost use Rattle.dfu_host.specs.Uploading.{FetchResult, first_upload_fault, kept_bytes_in_phase};
     ghost use Rattle.dfu_host.specs.declared.fault.HostFault.{HostFault};
 
     /// Makes a host that installs a file on the device with the given descriptor and identifiers. The host
@@ -73,10 +73,10 @@ impl<'f> Host<'f> {
         Ok(Host { session, memory })
     }
 
-    /// Makes a host that installs a file as the one of `download` does, and after its last reset asks for the
-    /// active image and compares it with the payload, so that its report is neither Installed nor
-    /// Unconfirmed, but Verified or Different. The host borrows the file's payload and takes no memory; the
-    /// transfer size is 1 to 65,535. A payload of more than 65,534 full blocks ends as TooManyBlocks.
+    /// Makes a host that installs a file as `download` does, and after its last reset asks for the active image and
+    /// compares it with the payload, so that its report is neither Installed nor Unconfirmed, but Verified or
+    /// Different. The host borrows the file's payload and takes no memory; the transfer size is 1 to 65,535. A
+    /// payload of more than 65,534 full blocks ends as TooManyBlocks.
     ///
     /// The faults, in the order in which they are looked for:
     ///
@@ -124,7 +124,7 @@ impl<'f> Host<'f> {
     /// Returns the action that the host wants next. The call changes nothing, so it may be repeated.
     pub fn next(&self) -> Action<'f>
         ensures act { Act self.now result }
-        ensures done { IsTrue (is_done result) ↔ (remaining_inputs self.now ≡ 0) }
+        ensures done { IsTrue (is_done result) ↔ (remaining_results self.now ≡ 0) }
     {
         self.session.next()
     }
@@ -143,7 +143,7 @@ impl<'f> Host<'f> {
     /// the session ends with the report NoMemory.
     pub fn take(&mut self, seen: Seen<'_>)
         ensures row { HostRow self.old seen.entry self.new }
-        ensures budget { remaining_inputs self.new ≤ remaining_inputs self.old - 1 }
+        ensures budget { remaining_results self.new ≤ remaining_results self.old - 1 }
         ensures over { IsOverPhase self.old.phase → self.new ≡ self.old }
         ensures part { FetchResult self.old self.old.phase seen.entry self.new }
     {
@@ -164,7 +164,7 @@ impl<'f> Host<'f> {
     /// came since the fetching last began; and nothing in a download, or after the session went back to find the device, was given up or
     /// ended in another way.
     pub fn uploaded(&self) -> &[u8]
-        ensures { result.now ≡ buffered_in self.now.phase }
+        ensures { result.now ≡ kept_bytes_in_phase self.now.phase }
     {
         match self.session.parts().phase {
             Phase::Fetch(0) => &[],
@@ -174,7 +174,7 @@ impl<'f> Host<'f> {
     }
 }
 
-/// The memory of a host: a vector for the parts of an upload, which grows, or nothing.
+/// The memory of a host: a vector that grows with the parts of an upload, or nothing.
 #[derive(Drop)]
 pub(crate) enum Memory {
     Nothing,
@@ -184,7 +184,7 @@ pub(crate) enum Memory {
 impl Memory {
     /// Keeps the part in `seen`, if there is one, and returns true if it was refused.
     pub(crate) fn refuses(&mut self, session: &Session<'_>, seen: Seen<'_>) -> bool
-        ensures { PartsBuffered session.now.transfer session.now.phase seen.entry result (bytes_of self.old) (bytes_of self.new) }
+        ensures { MemoryAfterSeen session.now.transfer session.now.phase seen.entry result (bytes_of self.old) (bytes_of self.new) }
     {
         match session.part(seen) {
             Some(part) => self.refuses_part(&part),
@@ -192,10 +192,10 @@ impl Memory {
         }
     }
 
-    /// Stores `part`, and returns true if it was refused: only if there is no vector, or if the vector had no room for it and could not
-    /// grow.
+    /// Stores `part`, and returns true if it was refused: because there is no vector, or because the vector had no room for it and could
+    /// not grow.
     fn refuses_part(&mut self, part: &UploadPart<'_>) -> bool
-        ensures { PartOutcome part.now.number part.now.bytes.now result (bytes_of self.old) (bytes_of self.new) }
+        ensures { PartAppendedOrRefused part.now.number part.now.bytes.now result (bytes_of self.old) (bytes_of self.new) }
     {
         match self {
             Memory::Nothing => !part.bytes.is_empty(),
@@ -214,10 +214,11 @@ impl Memory {
     }
 }
 
-/// Stores `part` in `kept`, and returns true if the vector was full.
+/// Stores `part` in `kept`, and returns true if the vector was full and could not grow.
 fn is_full(kept: &mut Vec<u8>, part: &UploadPart<'_>) -> bool
-    ensures stored { PartOutcome part.now.number part.now.bytes.now result kept.old.items kept.new.items }
-    ensures full { IsTrue result → vec_capacity kept.old < length (buffered_at part.now.number kept.old.items) + length part.now.bytes.now }
+    ensures stored { PartAppendedOrRefused part.now.number part.now.bytes.now result kept.old.items kept.new.items }
+    ensures full { IsTrue result
+        → vec_capacity kept.old < length (bytes_kept_for_part part.now.number kept.old.items) + length part.now.bytes.now }
 {
     if part.number == 0 {
         kept.clear();

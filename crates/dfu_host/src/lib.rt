@@ -1,8 +1,7 @@
-//! The host of USB device firmware upgrade (USB DFU 1.1): a machine that says which request, wait
-//! or reset comes next, and what a session's end was.
+//! The host of USB device firmware upgrade (USB DFU 1.1): a machine that says which request, wait or reset comes
+//! next, and how a session ended.
 //!
-//! It sends nothing itself. Only the calls that begin a session can refuse, and only `take` of an
-//! upload takes memory.
+//! The machine sends nothing itself. Only the calls that begin a session can refuse, and only `take` of an upload takes memory.
 #![tactic(auto)]
 
 mod action;

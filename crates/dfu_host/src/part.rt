@@ -1,6 +1,6 @@
 //! A part of an upload that is to be kept.
 
-/// A part of an upload that must be kept: its bytes join those kept since the fetching began.
+/// A part of an upload that must be kept: its bytes are appended to those kept since the fetching began.
 #[derive(Clone, Copy)]
 pub(crate) struct UploadPart<'s> {
     /// Number of the part; part 0 is the first, and nothing is kept before it.

@@ -1,4 +1,4 @@
-//! A session taken apart.
+//! The parts of a session, as plain values.
 
 ghost use Rattle.std.specs.Prelude.{◌≡◌, ◌*◌, ◌<◌, IsTrue, false, length};
 ghost use Rattle.dfu_host.specs.Goals.{payload_of, size_of};
@@ -8,7 +8,7 @@ use crate::fetching::MOST_PARTS;
 use crate::goal::Goal;
 use crate::phase::Phase;
 
-/// A session taken apart: plain values, which a caller may keep between two calls.
+/// The parts of a session: plain values, which a caller may keep between two calls.
 #[derive(Clone, Copy)]
 pub struct Parts<'f> {
     /// Goal of the session.
@@ -30,7 +30,7 @@ pub struct Parts<'f> {
 }
 
 impl Parts<'_> {
-    /// Returns whether the parts are those of a session.
+    /// Returns whether a session has these parts.
     pub(crate) fn is_session(&self) -> bool
         ensures yes { IsTrue result → ArePartsOfSession self.now }
         ensures no { result ≡ false → ArePartsOfSession self.now → ⊥ }
@@ -38,7 +38,7 @@ impl Parts<'_> {
         self.transfer > 0 && self.has_some() && self.is_within()
     }
 
-    /// Returns whether the goal has something to do.
+    /// Returns whether the goal has something to do: an image to fetch, or a payload of at least one byte.
     fn has_some(&self) -> bool
         ensures yes { IsTrue result → 0 < size_of self.now.goal }
         ensures no { result ≡ false → 0 < size_of self.now.goal → ⊥ }
@@ -51,7 +51,7 @@ impl Parts<'_> {
         }
     }
 
-    /// Returns whether the phase has what it needs.
+    /// Returns whether the session has the payload, block or part that its phase needs.
     fn is_within(&self) -> bool
         ensures yes { IsTrue result → HasPhaseNeeds self.now.goal self.now.transfer self.now.phase }
         ensures no { result ≡ false → HasPhaseNeeds self.now.goal self.now.transfer self.now.phase → ⊥ }

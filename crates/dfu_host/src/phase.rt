@@ -2,15 +2,14 @@
 
 use crate::report::Report;
 
-/// A phase of a session, with what the session has to remember in it. Blocks are counted from 0,
-/// poll times are in milliseconds.
+/// A phase of a session, with the values that the session must remember in it. Blocks are counted from 0, poll times are in milliseconds.
 #[derive(Clone, Copy)]
 pub enum Phase {
     /// Ask for the status, to find the device's state.
     Find,
     /// Like `Find`, after a stall.
     FindAgain,
-    /// Ask the application to make way.
+    /// Ask the application with DETACH to make way for upgrade mode.
     Detach,
     /// Bring the device from its application into upgrade mode.
     Enter,
@@ -18,21 +17,21 @@ pub enum Phase {
     Clear,
     /// Leave the transfer of an earlier session.
     Quit,
-    /// Wait for what an earlier session left running, then find.
+    /// Wait for a write or an install that an earlier session left running, then find.
     WaitFind(u32),
     /// Reset, then find.
     ResetFind,
     /// Send the block.
     Block(usize),
-    /// The answer to the block was lost: ask whether it came.
+    /// The answer to the block was lost: ask whether the block arrived.
     Ask(usize),
-    /// The block came: ask whether the device has written it.
+    /// The block arrived: ask whether the device has written it.
     Poll(usize),
     /// The block isn't written yet: wait, then poll again.
     WaitPoll(usize, u32),
-    /// All blocks are written: say that no more follow.
+    /// All blocks are written: close the download with a DNLOAD of no bytes.
     Close,
-    /// The answer to the closing request was lost: ask whether the request came.
+    /// The answer to the closing request was lost: ask whether the request arrived.
     AskLast,
     /// Ask whether the new image is in place.
     Manifest,
@@ -40,7 +39,7 @@ pub enum Phase {
     WaitManifest(u32),
     /// The device won't report the image in place: wait, then end unconfirmed.
     WaitLast(u32),
-    /// Something was refused: ask for the reason.
+    /// A request was stalled, or the state is unexpected: ask for the status.
     Trouble,
     /// Ask for the part of the image with this number, 0 to 65,534.
     Fetch(u16),

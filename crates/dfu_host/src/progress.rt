@@ -6,7 +6,7 @@ ghost use Rattle.dfu_host.specs.inside.Comparing.{ComparedMeaning};
 ghost use Rattle.dfu_host.specs.inside.PartMemory.{MemoryAfter};
 ghost use Rattle.dfu_host.specs.Table as table;
 ghost use Rattle.dfu_host.specs.InParts.{HasPhaseNeeds, phase_of};
-ghost use Rattle.dfu_host.specs.inside.View.{meaning_of_heard, state_with, task_of_session};
+ghost use Rattle.dfu_host.specs.inside.View.{meaning_of_heard, host_of_progress, task_of_session};
 ghost use Rattle.dfu_host.specs.declared.task.Task.{Task};
 ghost use Rattle.std.specs.Borrow.{Bor};
 ghost use Rattle.dfu_host.specs.BehindClose.{is_behind_close};
@@ -40,14 +40,13 @@ pub(crate) fn beginning(limits: Limits) -> Progress
 }
 
 impl Progress {
-    /// Returns the progress after an action whose result was heard, and kept if it was a part. The session's
-    /// task goes on with it.
+    /// Returns the progress after the result `heard`, whose part, if any, is kept or refused already. The task changes with it.
     pub(crate) fn after(self, task: &mut Task<'_>, heard: Heard) -> Progress
         requires { HasPhaseNeeds task.old.goal task.old.transfer self.phase }
         ensures state { (memory memory' part : List ℕ)
             → MemoryAfter task.old.transfer memory self.phase part heard memory'
             → ComparedMeaning (task_of_session task.old) self.phase part heard
-            → state_with memory' task.new result ≡ host.after (state_with memory task.old self) (meaning_of_heard part heard) }
+            → host_of_progress memory' task.new result ≡ host.after (host_of_progress memory task.old self) (meaning_of_heard part heard) }
         ensures payload { (payload : Bor (List ℕ)) → CarriesPayload payload task.old.goal → CarriesPayload payload task.new.goal }
         ensures within { HasPhaseNeeds task.new.goal task.new.transfer result.phase }
     {
@@ -61,14 +60,14 @@ impl Progress {
         }
     }
 
-    /// Returns the progress after an action whose result the table's row takes.
+    /// Returns the progress after a result that the table's row takes.
     fn by_row(self, task: &mut Task<'_>, heard: Heard) -> Progress
         requires { HasPhaseNeeds task.old.goal task.old.transfer self.phase }
         ensures state { (memory memory' part : List ℕ)
             → MemoryAfter task.old.transfer memory self.phase part heard memory'
             → ComparedMeaning (task_of_session task.old) self.phase part heard
-            → state_with memory' task.new result
-            ≡ host.host_by_row (state_with memory task.old self) (phase_of memory self.phase) (meaning_of_heard part heard) }
+            → host_of_progress memory' task.new result
+            ≡ host.host_by_row (host_of_progress memory task.old self) (phase_of memory self.phase) (meaning_of_heard part heard) }
         ensures payload { (payload : Bor (List ℕ)) → CarriesPayload payload task.old.goal → CarriesPayload payload task.new.goal }
         ensures within { HasPhaseNeeds task.new.goal task.new.transfer result.phase }
     {
@@ -78,11 +77,11 @@ impl Progress {
         self.spent(next, self.restarts)
     }
 
-    /// Returns the progress after the device left of itself. After the close that counts as the last reset,
-    /// which confirms nothing; in every other phase it counts as a restart.
+    /// Returns the progress after the device left by itself. After the close that counts as the last reset, which
+    /// confirms nothing; in every other phase it counts as a restart.
     fn left(self, task: &mut Task<'_>) -> Progress
-        ensures state { (memory old : List ℕ) → state_with memory task.new result
-            ≡ host.host_after_leaving (state_with old task.old self) (phase_of old self.phase)
+        ensures state { (memory old : List ℕ) → host_of_progress memory task.new result
+            ≡ host.host_after_leaving (host_of_progress old task.old self) (phase_of old self.phase)
             (is_behind_close (goal_of task.old.goal) (phase_of old self.phase)) }
         ensures payload { (payload : Bor (List ℕ)) → CarriesPayload payload task.old.goal → CarriesPayload payload task.new.goal }
         ensures within { HasPhaseNeeds task.new.goal task.new.transfer result.phase }
@@ -97,8 +96,8 @@ impl Progress {
 
     /// Returns the progress after a restart of the device.
     fn restarted(self) -> Progress
-        ensures state { (task : Task) (memory old : List ℕ) → state_with memory task result
-            ≡ host.host_after_restart (state_with old task self) (phase_of old self.phase) self.restarts }
+        ensures state { (task : Task) (memory old : List ℕ) → host_of_progress memory task result
+            ≡ host.host_after_restart (host_of_progress old task self) (phase_of old self.phase) self.restarts }
         ensures within { (task : Task) → HasPhaseNeeds task.goal task.transfer result.phase }
     {
         if let Phase::GiveUp = self.phase {
@@ -113,8 +112,8 @@ impl Progress {
 
     /// Returns the progress after an action that leads to `next`.
     fn spent(self, next: Phase, restarts: u16) -> Progress
-        ensures state { (task : Task) (memory old : List ℕ) → state_with memory task result
-            ≡ host.host_after_action (state_with old task self) (phase_of memory next) restarts }
+        ensures state { (task : Task) (memory old : List ℕ) → host_of_progress memory task result
+            ≡ host.host_after_action (host_of_progress old task self) (phase_of memory next) restarts }
         ensures within { (task : Task) → HasPhaseNeeds task.goal task.transfer next → HasPhaseNeeds task.goal task.transfer result.phase }
     {
         let actions = self.actions.saturating_sub(1);
@@ -126,7 +125,7 @@ impl Progress {
     }
 }
 
-/// Returns whether the phase was the last reset, and the reset was done.
+/// Returns whether `phase` was the last reset, and the bus was reset.
 fn is_last_done(phase: &Phase, heard: &Heard) -> bool
     ensures { (goal : table.Goal) (memory part : List ℕ)
         → table.goal_after goal (phase_of memory phase.now) (meaning_of_heard part heard.now)
@@ -138,7 +137,7 @@ fn is_last_done(phase: &Phase, heard: &Heard) -> bool
     }
 }
 
-/// Returns the phase of a session with `left` actions: without any the session gives up, unless it is over.
+/// Returns the phase after the budget check: with no actions left, a session that isn't over gives up.
 fn budgeted(left: u32, phase: Phase) -> Phase
     ensures next { (memory : List ℕ) → phase_of memory result ≡ host.phase_in_budget left (phase_of memory phase) }
     ensures within { (task : Task) → HasPhaseNeeds task.goal task.transfer phase → HasPhaseNeeds task.goal task.transfer result }

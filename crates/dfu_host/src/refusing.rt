@@ -34,7 +34,7 @@ pub(crate) fn goal_to_install<'f>(
     Ok(Goal::Load(payload))
 }
 
-/// Returns the payload of the file, or the first fault for which the device can't take it.
+/// Returns the payload of the file, or the first fault for which the device can't install it.
 fn payload_for<'f>(
     file: &File<'f>,
     functional: &Functional,
@@ -56,7 +56,7 @@ fn payload_for<'f>(
     }
 }
 
-/// Refuses a device that gives no image.
+/// Returns the first fault for which the device can't upload, if there is one.
 pub(crate) fn gives_uploads(functional: &Functional) -> Result<(), HostFault>
     ensures err { IfErr result (λ fault. first_upload_fault functional.now ≡ Some fault) }
     ensures ok { IfOk result (λ nothing. (first_upload_fault functional.now ≡ None) × (0 < functional.now.transfer)) }

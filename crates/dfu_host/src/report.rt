@@ -15,8 +15,8 @@ pub enum Report {
     /// A tolerant device took the whole payload, reported dfuIDLE with OK after it, and was
     /// reset.
     Installed,
-    /// A device that isn't tolerant took the whole payload and was reset, and can't report whether the image
-    /// is in place. Or a device took the payload and left of itself.
+    /// A device that isn't tolerant took the whole payload and was reset, and can't report whether the image is in
+    /// place. Or a device took the payload and left by itself.
     Unconfirmed,
     /// The caller gave the session up.
     Aborted,
@@ -27,12 +27,11 @@ pub enum Report {
     Refused(Code),
     /// The device was restarted more often than the limits allow.
     RestartsSpent,
-    /// The parts came up to one that is shorter than the transfer size, which is the last. Only
-    /// for uploads.
+    /// All parts of the image arrived; the last is shorter than the transfer size. Only for uploads.
     Uploaded,
-    /// 65,535 full parts came, which is more than an upload or a comparison takes.
+    /// 65,535 full parts arrived, more than an upload or a comparison takes.
     TooManyBlocks,
-    /// There was no memory for a part of the image. Only uploads end so.
+    /// There was no memory for a part of the image. Only for uploads.
     NoMemory,
     /// After the last reset the device gave the whole payload back, and was reset once more. Only
     /// for downloads that are verified.

@@ -1,8 +1,8 @@
-//! Bytes that an upload keeps, in a caller's room.
+//! An upload whose caller keeps the bytes in a room.
 
 ghost use Rattle.std.specs.Prelude.{◌≡◌, ◌+◌, ◌<◌, ◌≤◌, ◌++◌, nat_lt, IfSome, None, drop, false, length, take, true, List, ℕ};
-ghost use Rattle.dfu_host.specs.InParts.{host_of, buffered_at};
-ghost use Rattle.dfu_host.specs.UploadBuffer.{PartsBuffered};
+ghost use Rattle.dfu_host.specs.InParts.{host_of, bytes_kept_for_part};
+ghost use Rattle.dfu_host.specs.UploadBuffer.{MemoryAfterSeen};
 ghost use Rattle.dfu_host.specs.TakeCall.{TakeResult};
 ghost use Rattle.dfu_host.specs.Rooms.{FetchResultIn};
 ghost use Rattle.dfu_host.specs.Storing.{PartIsStored, RoomAfterSeen};
@@ -15,9 +15,9 @@ use crate::seen::Seen;
 use crate::session::Session;
 
 impl Session<'_> {
-    /// Gives the session the result of its action, as [`crate::Host::take`] does, and returns how many bytes
-    /// of the caller's room are kept then. The first `kept` bytes of the room are kept already. A download
-    /// keeps no bytes and needs no room.
+    /// Gives the session the result of its action, as [`crate::Host::take`] does, and returns how many bytes of the
+    /// caller's room are kept after it. Before the call the first `kept` bytes of the room are kept. A download keeps
+    /// no bytes and needs no room.
     ///
     /// A part of an upload is stored in the room after the kept bytes. If the part doesn't fit, nothing is
     /// stored, and the session ends with the report NoMemory.
@@ -45,13 +45,12 @@ impl Session<'_> {
     }
 }
 
-/// Stores the part in a session's result, and returns how many bytes are kept then. If the part doesn't fit,
-/// nothing changes.
+/// Stores the part in a session's result, and returns how many bytes are kept after it. If the part doesn't fit, nothing changes.
 fn keep(session: &Session<'_>, room: &mut [u8], kept: usize, seen: Seen<'_>) -> Option<usize>
     requires { kept ≤ length room.old }
     ensures some { IfSome result (λ n.
-        PartsBuffered session.now.transfer session.now.phase seen.entry false (take kept room.old) (take n room.new)) }
-    ensures none { result ≡ None → PartsBuffered session.now.transfer session.now.phase seen.entry true (take kept room.old) (take kept room.old) }
+        MemoryAfterSeen session.now.transfer session.now.phase seen.entry false (take kept room.old) (take n room.new)) }
+    ensures none { result ≡ None → MemoryAfterSeen session.now.transfer session.now.phase seen.entry true (take kept room.old) (take kept room.old) }
     ensures taken { IfSome result (λ n.
         RefusesAnswerByRoom (length room.old) session.now.transfer session.now.phase (take kept room.old) seen.entry false) }
     ensures stored { IfSome result (λ n. RoomAfterSeen session.now.transfer session.now.phase seen.entry kept room.old n room.new) }
@@ -69,23 +68,22 @@ fn keep(session: &Session<'_>, room: &mut [u8], kept: usize, seen: Seen<'_>) -> 
     }
 }
 
-/// Stores a part after the first `kept` bytes, and returns how many bytes are kept then. If the part doesn't
-/// fit, nothing changes.
+/// Stores a part after the first `kept` bytes, and returns how many bytes are kept after it. If the part doesn't fit, nothing changes.
 #[tactic(auto, using(std::proofs::lemmas::Slice::overwrites))]
 fn store(room: &mut [u8], kept: usize, part: &UploadPart<'_>) -> Option<usize>
     requires { kept ≤ length room.old }
     ensures len { length room.new ≡ length room.old }
     ensures fits { IfSome result (λ n. n ≤ length room.old) }
-    ensures joins { IfSome result (λ n. take n room.new ≡ buffered_at part.now.number (take kept room.old) ++ part.now.bytes.now) }
+    ensures joins { IfSome result (λ n. take n room.new ≡ bytes_kept_for_part part.now.number (take kept room.old) ++ part.now.bytes.now) }
     ensures beyond { IfSome result (λ n. drop n room.new ≡ drop n room.old) }
     ensures stored { IfSome result (λ n. PartIsStored
-        (buffered_at part.now.number (take kept room.old)) part.now.bytes.now room.old n room.new) }
+        (bytes_kept_for_part part.now.number (take kept room.old)) part.now.bytes.now room.old n room.new) }
     ensures some { result ≡ None → 0 < length part.now.bytes.now }
     ensures same { result ≡ None → room.new ≡ room.old }
     ensures fitted { IfSome result (λ n.
-        false ≡ nat_lt (length room.old) (length (buffered_at part.now.number (take kept room.old)) + length part.now.bytes.now)) }
+        false ≡ nat_lt (length room.old) (length (bytes_kept_for_part part.now.number (take kept room.old)) + length part.now.bytes.now)) }
     ensures full { result ≡ None
-        → true ≡ nat_lt (length room.old) (length (buffered_at part.now.number (take kept room.old)) + length part.now.bytes.now) }
+        → true ≡ nat_lt (length room.old) (length (bytes_kept_for_part part.now.number (take kept room.old)) + length part.now.bytes.now) }
 {
     let from = if part.number == 0 { 0 } else { kept };
     if room.len() - from < part.bytes.len() {

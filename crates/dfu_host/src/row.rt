@@ -17,7 +17,7 @@ use crate::report::Report;
 use crate::task::Task;
 use dfu_wire::{State, Status};
 
-/// Returns the phase after a request without an answer of bytes: by its acknowledgement, by a stall, or by anything else.
+/// Returns the phase after a request whose answer has no bytes: by its acknowledgement, by a stall, or by any other result.
 fn on_ack(heard: Heard, acked: Phase, stalled: Phase, nothing: Phase) -> Phase
     ensures next { (memory part : List ℕ) → phase_of memory result
         ≡ table.on_ack (meaning_of_heard part heard) (phase_of memory acked) (phase_of memory stalled) (phase_of memory nothing) }
@@ -31,7 +31,7 @@ fn on_ack(heard: Heard, acked: Phase, stalled: Phase, nothing: Phase) -> Phase
     }
 }
 
-/// Returns the phase after a wait: if anything else is heard, the session waits again.
+/// Returns the phase after a wait: `waited` once the wait is over, `again` after any other result.
 fn on_waited(heard: Heard, waited: Phase, again: Phase) -> Phase
     ensures next { (memory part : List ℕ) → phase_of memory result
         ≡ table.on_waited (meaning_of_heard part heard) (phase_of memory waited) (phase_of memory again) }
@@ -44,7 +44,7 @@ fn on_waited(heard: Heard, waited: Phase, again: Phase) -> Phase
 }
 
 impl Task<'_> {
-    /// Returns the next phase, by `phase` and by `heard`, what was heard in it.
+    /// Returns the phase that follows the result `heard` in `phase`.
     pub(crate) fn row(&self, phase: Phase, heard: Heard) -> Phase
         requires { HasPhaseNeeds self.now.goal self.now.transfer phase }
         ensures next { (memory memory' part : List ℕ)
@@ -81,7 +81,7 @@ impl Task<'_> {
         }
     }
 
-    /// Returns the phase after GETSTATUS: by the status, by a stall, or by anything else that is heard.
+    /// Returns the phase after GETSTATUS: by the status, by a stall, or by any other result.
     fn on_status(&self, phase: Phase, heard: Heard, stalled: Phase) -> Phase
         requires { HasPhaseNeeds self.now.goal self.now.transfer phase }
         ensures next { (memory part : List ℕ) → phase_of memory result
@@ -124,7 +124,7 @@ impl Task<'_> {
         }
     }
 
-    /// Returns the phase after `status` by the list, which goes by its state.
+    /// Returns the phase after `status`, by the device's state.
     pub(crate) fn listed(&self, status: Status) -> Phase
         ensures next { (memory : List ℕ)
             → phase_of memory result ≡ table.phase_after_status (table.work_start (goal_of self.now.goal)) status.state status.poll_ms }
@@ -142,7 +142,7 @@ impl Task<'_> {
         }
     }
 
-    /// Returns the phase after Enter: a wait if the device detaches by itself, else a reset.
+    /// Returns the phase after Enter, which waits if the device detaches by itself, and else resets the bus.
     pub(crate) fn after_enter(&self, heard: Heard) -> Phase
         ensures next { (memory part : List ℕ) → phase_of memory result
             ≡ table.host_row (task_of_session self.now) table.Enter (meaning_of_heard part heard) }
@@ -155,7 +155,7 @@ impl Task<'_> {
         }
     }
 
-    /// Returns the phase after GETSTATE, which tells if block number `number` came whose answer was lost.
+    /// Returns the phase after GETSTATE, asked because the answer to block number `number` was lost: the state says if the block arrived.
     pub(crate) fn after_ask(&self, number: usize, heard: Heard) -> Phase
         requires { number * self.now.transfer < length (payload_of self.now.goal) }
         ensures next { (memory part : List ℕ)
@@ -171,7 +171,7 @@ impl Task<'_> {
         }
     }
 
-    /// Returns the phase after `status`, which was asked for after block number `number`.
+    /// Returns the phase after `status`, asked for after block number `number`.
     pub(crate) fn polled(&self, number: usize, status: Status) -> Phase
         requires { number * self.now.transfer < length (payload_of self.now.goal) }
         ensures next { (memory : List ℕ)
@@ -190,7 +190,7 @@ impl Task<'_> {
         }
     }
 
-    /// Returns the phase after GETSTATE, which tells if the close came whose answer was lost.
+    /// Returns the phase after GETSTATE, asked because the answer to the close was lost: the state says if the close arrived.
     pub(crate) fn after_ask_last(&self, heard: Heard) -> Phase
         requires { 0 < length (payload_of self.now.goal) }
         ensures next { (memory part : List ℕ) → phase_of memory result

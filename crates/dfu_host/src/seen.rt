@@ -3,7 +3,7 @@
 /// Result of an action. A result that doesn't fit the action counts as [`Seen::Nothing`].
 #[derive(Clone, Copy)]
 pub enum Seen<'s> {
-    /// A request that has no answer of bytes was acknowledged.
+    /// A request whose answer has no bytes was acknowledged.
     Ack,
     /// The device answered the request with these bytes, of any length.
     Bytes(&'s [u8]),
@@ -18,8 +18,8 @@ pub enum Seen<'s> {
     /// The device was restarted, or somebody else reset it. The host gets this before any later
     /// answer.
     Restarted,
-    /// The device left the bus of itself, or came back reset, after the close: it acknowledged the
-    /// DNLOAD that closes the download, a GETSTATUS after that said dfuMANIFEST-SYNC or dfuMANIFEST,
-    /// and nobody reset it or asked it to leave. The host gets this once, before any later answer.
+    /// The device left the bus by itself, or came back reset, after the close: it acknowledged the DNLOAD that closes
+    /// the download, a GETSTATUS after that said dfuMANIFEST-SYNC or dfuMANIFEST, and nobody reset it or asked it to
+    /// leave. The host gets this once, before any later answer.
     Left,
 }

@@ -1,4 +1,4 @@
-//! A host without memory of its own.
+//! A session of a host that takes no memory.
 
 ghost use Rattle.std.specs.Prelude.{◌≡◌, ◌↔◌, ◌<◌, ◌≤◌, ◌-◌, ◌+◌, nat_lt, Bool, true, false, Err, IfOk, IfSome, IsTrue, List, None, Some, ℕ, length, take};
 ghost use Rattle.std.specs.Borrow.{Bor};
@@ -18,7 +18,7 @@ use dfu_suffix::File;
 use dfu_wire::{Functional, Ids};
 use std::marker::Model;
 
-/// A session of a host, for a caller that keeps what an upload fetches itself. A session takes no memory.
+/// A session of a host, for a caller that keeps the fetched bytes itself. A session takes no memory.
 #[derive(Drop)]
 pub struct Session<'f> {
     task: Task<'f>,
@@ -30,8 +30,7 @@ impl<'f> Model for Session<'f> {
     ghost use Rattle.dfu_host.specs.InParts.{HasPhaseNeeds};
     ghost use Rattle.dfu_host.specs.inside.View.{session_parts};
 
-    // Sees a session as its parts. With the bytes that its caller keeps they make a `HostState`, like a
-    // `Host`.
+    // The session as its parts. With the bytes that its caller keeps they make a `HostState`, like a `Host`.
     ghost Value = { Parts };
 
     ghost view = { λ s. session_parts s.task s.progress };
@@ -41,13 +40,13 @@ impl<'f> Model for Session<'f> {
 
 impl<'f> Session<'f> {
     ghost use Rattle.dfu_host.specs.Host.{Act, aborted_host, host_for_goal};
-    ghost use Rattle.dfu_host.specs.Budget.{is_done, remaining_inputs};
+    ghost use Rattle.dfu_host.specs.Budget.{is_done, remaining_results};
     ghost use Rattle.dfu_host.specs.Download.{first_download_fault, first_verify_fault};
     ghost use Rattle.dfu_host.specs.Phases.{FetchGoal, LoadGoal, VerifyGoal};
     ghost use Rattle.dfu_host.specs.Uploading.{first_upload_fault};
     ghost use Rattle.dfu_host.specs.Goals.{CarriesPayload, goal_of, payload_of, size_of};
-    ghost use Rattle.dfu_host.specs.InParts.{BodyIsSliceOfPayload, ArePartsOfSession, body_offset, host_of, buffered_at};
-    ghost use Rattle.dfu_host.specs.UploadBuffer.{PartsBuffered, PartOutcome};
+    ghost use Rattle.dfu_host.specs.InParts.{BodyIsSliceOfPayload, ArePartsOfSession, body_offset, host_of, bytes_kept_for_part};
+    ghost use Rattle.dfu_host.specs.UploadBuffer.{MemoryAfterSeen, PartAppendedOrRefused};
     ghost use Rattle.dfu_host.specs.TakeCall.{TakeResult};
     ghost use Rattle.dfu_host.specs.Rooms.{FetchResultIn};
     ghost use Rattle.dfu_host.specs.Storing.{PartIsStored, RoomAfterSeen};
@@ -94,7 +93,7 @@ impl<'f> Session<'f> {
         Ok(Session::begin(Goal::Fetch, functional, limits))
     }
 
-    /// Returns a session that begins, with `goal`; everything else of its task goes by `functional` and `limits`.
+    /// Returns a new session with `goal`, the device descriptor `functional` and `limits`.
     pub(crate) fn begin(goal: Goal<'f>, functional: &Functional, limits: Limits) -> Session<'f>
         requires some { 0 < size_of goal }
         requires transfers { 0 < functional.now.transfer }
@@ -129,7 +128,7 @@ impl<'f> Session<'f> {
         }
     }
 
-    /// Returns the session of `parts`. None exactly if no session has these parts: there is nothing to do, as with a payload of no bytes;
+    /// Returns the session of `parts`. None exactly if no session has these parts: the goal has nothing to do, as with an empty payload;
     /// the transfer size is 0; or the phase needs something that doesn't exist, such as a block after the last one.
     pub fn from_parts(parts: Parts<'f>) -> Option<Session<'f>>
         ensures some { IfSome result (λ s. s ≡ parts.entry) }
@@ -157,14 +156,14 @@ impl<'f> Session<'f> {
     /// Returns the action that the session wants next. The call changes nothing, so it may be repeated.
     pub fn next(&self) -> Action<'f>
         ensures act { (memory : List ℕ) → Act (host_of memory self.now) result }
-        ensures done { (memory : List ℕ) → IsTrue (is_done result) ↔ (remaining_inputs (host_of memory self.now) ≡ 0) }
+        ensures done { (memory : List ℕ) → IsTrue (is_done result) ↔ (remaining_results (host_of memory self.now) ≡ 0) }
         ensures cut { BodyIsSliceOfPayload (payload_of self.now.goal) (body_offset self.now.transfer self.now.phase) result }
     {
         self.task.action(self.progress.phase)
     }
 
-    /// Returns the place in the payload at which the body of `next` begins; 0 without a body. The body is a
-    /// slice of the payload from there on.
+    /// Returns the offset in the payload at which the body of `next` begins; 0 without a body. The body is a slice of
+    /// the payload from there on.
     pub fn sends_from(&self) -> usize
         ensures { result ≡ body_offset self.now.transfer self.now.phase }
     {
@@ -177,20 +176,20 @@ impl<'f> Session<'f> {
     /// Returns the part of the image in `seen` that must be kept, before the session gets the result; None if there is none.
     pub(crate) fn part<'s>(&self, seen: Seen<'s>) -> Option<UploadPart<'s>>
         ensures some { IfSome result (λ part. (refused : Bool) (memory memory' : List ℕ)
-            → PartOutcome part.number part.bytes.now refused memory memory'
-            → PartsBuffered self.now.transfer self.now.phase seen.entry refused memory memory') }
-        ensures none { result ≡ None → (memory : List ℕ) → PartsBuffered self.now.transfer self.now.phase seen.entry false memory memory }
+            → PartAppendedOrRefused part.number part.bytes.now refused memory memory'
+            → MemoryAfterSeen self.now.transfer self.now.phase seen.entry refused memory memory') }
+        ensures none { result ≡ None → (memory : List ℕ) → MemoryAfterSeen self.now.transfer self.now.phase seen.entry false memory memory }
         ensures some_refused { IfSome result (λ part. (refused : Bool) (memory : List ℕ) (room : ℕ)
-            → refused ≡ nat_lt room (length (buffered_at part.number memory) + length part.bytes.now)
+            → refused ≡ nat_lt room (length (bytes_kept_for_part part.number memory) + length part.bytes.now)
             → RefusesAnswerByRoom room self.now.transfer self.now.phase memory seen.entry refused) }
         ensures none_refused { result ≡ None → (memory : List ℕ) (room : ℕ)
             → RefusesAnswerByRoom room self.now.transfer self.now.phase memory seen.entry false }
         ensures some_stored { IfSome result (λ part. (count : ℕ) (room : List ℕ) (count' : ℕ) (room' : List ℕ)
-            → false ≡ nat_lt (length room) (length (buffered_at part.number (take count room)) + length part.bytes.now)
-            → PartIsStored (buffered_at part.number (take count room)) part.bytes.now room count' room'
+            → false ≡ nat_lt (length room) (length (bytes_kept_for_part part.number (take count room)) + length part.bytes.now)
+            → PartIsStored (bytes_kept_for_part part.number (take count room)) part.bytes.now room count' room'
             → RoomAfterSeen self.now.transfer self.now.phase seen.entry count room count' room') }
         ensures some_full { IfSome result (λ part. (count : ℕ) (room : List ℕ)
-            → true ≡ nat_lt (length room) (length (buffered_at part.number (take count room)) + length part.bytes.now)
+            → true ≡ nat_lt (length room) (length (bytes_kept_for_part part.number (take count room)) + length part.bytes.now)
             → RoomAfterSeen self.now.transfer self.now.phase seen.entry count room count room) }
         ensures none_stored { result ≡ None → (count : ℕ) (room : List ℕ)
             → RoomAfterSeen self.now.transfer self.now.phase seen.entry count room count room }
@@ -201,13 +200,12 @@ impl<'f> Session<'f> {
         }
     }
 
-    /// Gives the session the result of its action; `refused` says that the caller did not keep the part in
-    /// it.
+    /// Gives the session the result of its action; `refused` says that the caller did not keep the result's part.
     pub(crate) fn on_result(&mut self, seen: Seen<'_>, refused: bool)
         ensures payload { (payload : Bor (List ℕ)) → CarriesPayload payload self.old.goal → CarriesPayload payload self.new.goal }
-        ensures takes { (memory memory' : List ℕ) → PartsBuffered self.old.transfer self.old.phase seen.entry refused memory memory'
+        ensures takes { (memory memory' : List ℕ) → MemoryAfterSeen self.old.transfer self.old.phase seen.entry refused memory memory'
             → TakeResult (host_of memory self.old) seen.entry (host_of memory' self.new) }
-        ensures room { (memory memory' : List ℕ) (room : ℕ) → PartsBuffered self.old.transfer self.old.phase seen.entry refused memory memory'
+        ensures room { (memory memory' : List ℕ) (room : ℕ) → MemoryAfterSeen self.old.transfer self.old.phase seen.entry refused memory memory'
             → RefusesAnswerByRoom room self.old.transfer self.old.phase memory seen.entry refused
             → FetchResultIn room (host_of memory self.old) (host_of memory self.old).phase seen.entry (host_of memory' self.new) }
     {
@@ -216,7 +214,7 @@ impl<'f> Session<'f> {
         self.progress = self.progress.after(&mut self.task, heard);
     }
 
-    /// Gives the session up, as [`crate::Host::abort`].
+    /// Gives the session up, as [`crate::Host::abort`] does.
     pub fn abort(&mut self)
         ensures payload { (payload : Bor (List ℕ)) → CarriesPayload payload self.old.goal → CarriesPayload payload self.new.goal }
         ensures given_up { (memory : List ℕ) → host_of memory self.new ≡ aborted_host (host_of memory self.old) }

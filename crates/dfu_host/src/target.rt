@@ -1,22 +1,23 @@
-//! Files that are for a device.
+//! Match between a file's identifiers and a device's.
 
 ghost use Rattle.std.specs.Prelude.{◌≡◌};
 ghost use Rattle.dfu_host.specs.Download as download;
 
 use dfu_wire::Ids;
 
-/// A vendor or product of a file that fits every device.
+/// Vendor or product in a file that fits every device.
 const ANY: u16 = 0xffff;
 
-/// Returns true if `file`, the identifiers of a file, are for `device`: the file's vendor and product are each the device's, or FFFFh.
+/// Returns true if a file with the identifiers `file` is for `device`: its vendor and product are each the device's, or FFFFh.
 pub(crate) fn is_for(file: Ids, device: Ids) -> bool
     ensures { result ≡ download.file_is_for file device }
 {
     goes_with(file.vendor, device.vendor) && goes_with(file.product, device.product)
 }
 
+/// Returns true if the identifier `file` of a file fits a device with the identifier `device`: it is the device's, or FFFFh.
 fn goes_with(file: u16, device: u16) -> bool
-    ensures { result ≡ download.id_goes_with file device }
+    ensures { result ≡ download.id_fits_device file device }
 {
     file == ANY || file == device
 }

@@ -1,9 +1,9 @@
-//! Task of a session, and the action of each phase in the form that the caller gets.
+//! Task of a session, and the action of each phase.
 
 ghost use Rattle.std.specs.Prelude.{◌≡◌, ℕ, suc, ◌+◌, ◌*◌, ◌<◌, ◌^◌, ◌==◌, drop, length, take, IsTrue, ◌↔◌, slice_index_or, if◌then◌else◌, [], List, ◌≤◌};
 ghost use Rattle.dfu_host.specs.Goals.{CarriesPayload, size_of};
 ghost use Rattle.std.specs.Borrow.{Bor};
-ghost use Rattle.dfu_wire.specs.Request.{IsUnnamed};
+ghost use Rattle.dfu_wire.specs.Request.{IsUnnamedRequest};
 ghost use Rattle.dfu_host.specs.Table as table;
 ghost use Rattle.dfu_host.specs.Wire.{SpellsDeed};
 ghost use Rattle.dfu_host.specs.InParts.{BodyIsSliceOfPayload};
@@ -54,7 +54,7 @@ impl<'f> Task<'f> {
         &rest[..transfer.min(rest.len())]
     }
 
-    /// Returns the place in the payload at which block number `number` begins.
+    /// Returns the offset in the payload at which block number `number` begins.
     pub(crate) fn begins(&self, number: usize) -> usize
         requires { number * self.now.transfer < length (payload_of self.now.goal) }
         ensures { result ≡ number * self.now.transfer }
@@ -73,7 +73,7 @@ impl<'f> Task<'f> {
         self.payload().len() - number * transfer <= transfer
     }
 
-    /// Changes the goal once the last reset is done: a payload that was to be verified is compared then.
+    /// Changes the goal once the last reset is done: a payload that was to be verified is compared from then on.
     pub(crate) fn go_on(&mut self, done: bool)
         ensures payload { (payload : Bor (List ℕ)) → CarriesPayload payload self.old.goal → CarriesPayload payload self.new.goal }
         ensures task { task_of_session self.new
@@ -156,9 +156,9 @@ fn download(number: usize, body: &[u8]) -> Action<'_>
     send(Request::Dnload { block, length }, body)
 }
 
-/// Returns the sending of `request`, one of the seven, with its `body`.
+/// Returns the action that sends `request`, one of the seven, with its `body`.
 fn send(request: Request, body: &[u8]) -> Action<'_>
-    requires { IsUnnamed request → ⊥ }
+    requires { IsUnnamedRequest request → ⊥ }
     ensures spells { SpellsDeed (table.Send request body.now) result }
     ensures cut { (payload : List ℕ) (from : ℕ) → body.now ≡ take (length body.now) (drop from payload) → BodyIsSliceOfPayload payload from result }
 {

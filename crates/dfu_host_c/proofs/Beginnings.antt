@@ -1,4 +1,4 @@
--- Sessions on a file and a descriptor that were read.
+-- Results of the calls that begin a session, after its file and its descriptor were read.
 use Rattle.std.proofs.Common.{◌≡◌, ◌↔◌, ℕ, ℤ, pos, List, Option, Some, None, Result, Ok, Err, refl, subst}
 use Rattle.dfu_wire.specs.declared.functionals.Functional.{Functional}
 use Rattle.dfu_wire.specs.declared.ids.Ids.{Ids}
@@ -13,15 +13,15 @@ use Rattle.dfu_host_c.specs.Refusing.{HostRefuses}
 use Rattle.dfu_host_c.specs.Refusals.{refused_number}
 use Rattle.dfu_host_c.specs.declared.refusals.Refusal.TheVariants as refusal
 use Rattle.dfu_host_core.specs.declared.session.DfuSession.{DfuSession}
-use Rattle.dfu_host_c.proofs.Refused.{refused_for_first_fault}
+use Rattle.dfu_host_c.proofs.Refused.{call_is_refused_by_first_fault}
 
--- A call that is refused exactly by its first fault, and was not refused, has no fault.
-pub no_fault : {T : Type 0} (result : Result T HostFault) (value : T) (first : Option HostFault) → result ≡ Ok value
+-- If a call fails exactly with its first fault, and it succeeded, there is no first fault.
+pub successful_call_has_no_fault : {T : Type 0} (result : Result T HostFault) (value : T) (first : Option HostFault) → result ≡ Ok value
     → ((fault : HostFault) → (result ≡ Err fault) ↔ (first ≡ Some fault)) → first ≡ None
-no_fault result value None is refused = refl
-no_fault result value (Some fault) is refused = let e : result ≡ Err fault = (refused fault).1 refl in absurd cc
+successful_call_has_no_fault result value None is refused = refl
+successful_call_has_no_fault result value (Some fault) is refused = let e : result ≡ Err fault = (refused fault).1 refl in absurd cc
 
--- A session that the host takes begins.
+-- If the file and the descriptor were read and the host accepts the session, the call has begun that session.
 pub begins : {T : Type 0} {file descriptor : List ℕ} {asked device : Ids} {limits : Limits} {result : ℤ} {r' : DfuSession}
     {content : Content} {functional : Functional} {host : T} (to : List ℕ → Goal)
     (first : Content → Functional → Ids → Option HostFault) (made : Result T HostFault)
@@ -34,25 +34,25 @@ begins {content = content} {functional = functional} to first made is_content is
   functional = functional;
   is_content = is_content;
   is_functional = is_functional;
-  accepted = subst (λ (d : Ids). first content functional d ≡ None) same (no_fault _ _ _ is refused);
+  accepted = subst (λ (d : Ids). first content functional d ≡ None) same (successful_call_has_no_fault _ _ _ is refused);
   begun = begun;
   number_is = number;
 }
 
--- A session that the host refuses is refused by its first fault.
-pub refused_session_has_first_fault : {T : Type 0} {file descriptor : List ℕ} {asked device : Ids} {result : ℤ} {content : Content}
+-- If the file and the descriptor were read and the host refuses the session, the call is refused by the host's first fault.
+pub refused_call_has_first_fault : {T : Type 0} {file descriptor : List ℕ} {asked device : Ids} {result : ℤ} {content : Content}
     {functional : Functional}
     {fault : HostFault} (first : Content → Functional → Ids → Option HostFault) (made : Result T HostFault)
     → IsContent content file → IsFunctional functional descriptor → asked ≡ device → made ≡ Err fault
     → ((fault : HostFault) → (made ≡ Err fault) ↔ (first content functional asked ≡ Some fault))
     → result ≡ refused_number (refusal.Host fault) → HostRefuses first file descriptor device result
-refused_session_has_first_fault {content = content} {functional = functional} {fault = fault} first made is_content is_functional same is
+refused_call_has_first_fault {content = content} {functional = functional} {fault = fault} first made is_content is_functional same is
     refused
     number = record {
       content = content;
       functional = functional;
       is_content = is_content;
       is_functional = is_functional;
-      refused = refused_for_first_fault made fault is
+      refused = call_is_refused_by_first_fault made fault is
           (subst (λ (d : Ids). (fault : HostFault) → (made ≡ Err fault) ↔ (first content functional d ≡ Some fault)) same refused) number;
     }

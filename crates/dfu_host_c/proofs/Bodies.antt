@@ -1,4 +1,4 @@
--- Place of the body of an action in the payload.
+-- Offset of an action's body in the payload.
 use Rattle.std.proofs.Common.{◌≡◌, ℕ, ◌+◌, ◌≤◌, List, length, take, drop, ap, arith}
 use Rattle.std.proofs.lemmas.List.{length-take, length-drop}
 use Rattle.dfu_host.specs.declared.parts.Parts.{Parts}
@@ -7,14 +7,14 @@ use Rattle.dfu_host.specs.declared.phase.Phase.TheVariants as phase
 use Rattle.dfu_host.specs.Goals.{payload_of}
 use Rattle.dfu_host.specs.InParts.{ArePartsOfSession, HasPhaseNeeds, body_offset}
 
--- A body that is cut from a place within the payload ends within the payload.
+-- A body that is a slice of the payload from an offset within it ends within the payload.
 pub body_ends_in_payload : (payload body : List ℕ) (from : ℕ) → body ≡ take (length body) (drop from payload) → from ≤ length payload
     → from + length body ≤ length payload
 body_ends_in_payload payload body from e within =
     let f : length body ≡ length (take (length body) (drop from payload)) = ap length e in
     omega (arith, f, length-take (length body) (drop from payload), length-drop from payload, within)
 
--- The body of a session's action begins within its payload.
+-- The body of a session's action begins within the session's payload.
 pub body_begins_in_payload : (p : Parts) → ArePartsOfSession p → body_offset p.transfer p.phase ≤ length (payload_of p.goal)
 body_begins_in_payload p sound = by_phase p.phase sound.within
   where

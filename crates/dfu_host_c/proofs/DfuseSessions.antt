@@ -1,4 +1,4 @@
--- A session keeps its map and its image, and so does its record.
+-- A DfuSe session keeps its map and its image, and so does its record.
 use Rattle.std.proofs.Common.{rules, ◌≡◌, ℕ, List, Some, sym, ap, ◌∙◌, subst}
 use Rattle.std.specs.Borrow.{Bor}
 use Rattle.dfu_formats.specs.memory.Reading.{MapContent}
@@ -10,20 +10,21 @@ use Rattle.std.specs.Prelude.{Option, None, option_map}
 use Rattle.dfu_host_c.specs.dfuse.Sessions.{IsDfuseRecordOf, phase_in, session_in, dfuse_session_in_phase}
 use Rattle.dfu_host_c.specs.declared.dfuse.session.DfuseSession.{DfuseSession}
 
--- The session of a record has the map and the image over which the record is read.
-session_plan_with_map_and_image : (r : DfuseSession) (map : Bor MapContent) (image : Bor (List Element)) (o : Option Phase) (s : Session) →
+-- The session that is read from a record has the given map and the given image.
+session_has_map_and_image : (r : DfuseSession) (map : Bor MapContent) (image : Bor (List Element)) (o : Option Phase) (s : Session) →
     option_map (dfuse_session_in_phase r map image) o ≡ Some s → (s.plan.map ≡ map) × (s.plan.image ≡ image)
-session_plan_with_map_and_image r map image None s e = absurd cc
-session_plan_with_map_and_image r map image (Some phase) s e =
+session_has_map_and_image r map image None s e = absurd cc
+session_has_map_and_image r map image (Some phase) s e =
     let same : dfuse_session_in_phase r map image phase ≡ s = search (rules, e) in
     (sym (ap (λ (t : Session). t.plan.map) same), sym (ap (λ (t : Session). t.plan.image) same))
 
--- The record after a step holds the next session, over the same string and image.
+-- If a record is read as the next session, which has the plan of the session before, the record holds the next session over the string of
+-- the map and the image.
 pub record_holds_session : (r r' : DfuseSession) (text : List ℕ) (image : Bor (List Element)) (s next : Session)
     → IsDfuseRecordOf r text image s →
     next.plan ≡ s.plan → session_in r' next.plan.map next.plan.image ≡ Some next → IsDfuseRecordOf r' text image next
 record_holds_session r r' text image s next held plan says =
-    let both : (s.plan.map ≡ held.map) × (s.plan.image ≡ image) = session_plan_with_map_and_image r held.map image (phase_in r) s held.says
+    let both : (s.plan.map ≡ held.map) × (s.plan.image ≡ image) = session_has_map_and_image r held.map image (phase_in r) s held.says
     in
     let map : next.plan.map ≡ held.map = ap (λ (p : Plan). p.map) plan ∙ both.0 in
     let over : next.plan.image ≡ image = ap (λ (p : Plan). p.image) plan ∙ both.1 in record {

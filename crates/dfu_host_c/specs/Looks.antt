@@ -1,4 +1,4 @@
--- The record for C of a file without a DFU suffix, by its look.
+-- Record for C of a look at a file without a DFU suffix.
 use Rattle.std.specs.Prelude.{ℕ, Option, Some, None}
 use Rattle.dfu_formats.specs.declared.images.format.Format.{Format}
 use Rattle.dfu_formats.specs.declared.images.format.Format.TheVariants.{IntelHex, SRecord, Uf2, Elf}
@@ -11,14 +11,14 @@ use Rattle.dfu_formats.specs.declared.images.looks.Looks.TheVariants as looks
 use Rattle.dfu_formats.specs.declared.images.looks.Look.{Look}
 use Rattle.dfu_host_c.specs.declared.looks.DfuLook.{DfuLook}
 
--- The number of a format, 1 to 4.
+-- Number of an image format, 1 to 4.
 abbrev pub image_format_number : Format → ℕ
 image_format_number IntelHex = 1
 image_format_number SRecord = 2
 image_format_number Uf2 = 3
 image_format_number Elf = 4
 
--- The number of a file's kind, 0 to 9. A format has its own number.
+-- Number of a file's kind, 0 to 9: 0 raw bytes, 1 to 4 an image format, and 5 to 9 a file of another kind.
 abbrev pub looks_number : Looks → ℕ
 looks_number looks.Raw = 0
 looks_number (looks.Of format) = image_format_number format
@@ -28,23 +28,23 @@ looks_number (looks.Other Gzip) = 7
 looks_number (looks.Other Text) = 8
 looks_number (looks.Other (Named ending)) = 9
 
--- The number of a name's ending, 0 to 5. A format has its own number.
+-- Number of a file name's ending, 0 to 5: 0 no known ending, 1 to 4 that of an image format, and 5 `.dfu`.
 abbrev pub ending_number : Option Ending → ℕ
 ending_number None = 0
 ending_number (Some (ending.Of format)) = image_format_number format
 ending_number (Some ending.Dfu) = 5
 
--- The line of a place, or 0 if there is no place.
+-- Line of a place in a file; 0 if there is no place.
 abbrev pub line_number : Option Place → ℕ
 line_number None = 0
 line_number (Some place) = place.line
 
--- The column of a place, or 0 if there is no place.
+-- Column of a place in a file; 0 if there is no place.
 abbrev pub column_number : Option Place → ℕ
 column_number None = 0
 column_number (Some place) = place.column
 
--- The record of a look at a file.
+-- Record of a look at a file: the numbers of its kind and of its name's ending, and the place of its bad byte.
 abbrev pub record_of_look : Look → DfuLook
 record_of_look look = record {
   looks = looks_number look.looks;

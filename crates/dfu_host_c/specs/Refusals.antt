@@ -1,4 +1,4 @@
--- Numbers that C gets from refused calls.
+-- Numbers that refused calls return to C.
 use Rattle.std.specs.Prelude.{◌≡◌, ℤ, negsuc}
 use Rattle.dfu_wire.specs.declared.fault.WireFault.TheVariants as wire
 use Rattle.dfu_suffix.specs.declared.fault.SuffixFault.TheVariants as suffix
@@ -10,8 +10,8 @@ use Rattle.dfu_formats.specs.declared.dfuse.image.ImageFault.TheVariants as imag
 use Rattle.dfu_host_c.specs.declared.refusals.Refusal.{Refusal}
 use Rattle.dfu_host_c.specs.declared.refusals.Refusal.TheVariants as refusal
 
--- Each refusal has a number of its own: -1 to -10 for a file, -21 to -25 for the host, -31 to -37 for a descriptor, -51 to -59 for a map,
--- -61 to -68 for a plan, -71 to -86 for a DfuSe file, and -87 and -88 for its image.
+-- Number of each refusal, different for all: -1 to -10 for a file, -21 to -25 for the host, -31 to -37 for a descriptor, -51 to -59 for a
+-- map, -61 to -68 for a plan, -71 to -86 for a DfuSe file, and -87 and -88 for its image.
 abbrev pub refused_number : Refusal → ℤ
 refused_number (refusal.File suffix.TooShort) = negsuc 0
 refused_number (refusal.File suffix.NoSignature) = negsuc 1
@@ -71,15 +71,15 @@ refused_number (refusal.DfuseFile dfuse.Trailing) = negsuc 85
 refused_number (refusal.Image image.NoSuchSetting) = negsuc 86
 refused_number (refusal.Image image.TooManyElements) = negsuc 87
 
--- -43: the buffer is too short for a body.
+-- -43: the buffer is too short for the body of the next request.
 abbrev pub no_room : ℤ
 no_room = negsuc 42
 
--- -44: the map has no range with the number.
+-- -44: the map has no range with this number.
 abbrev pub no_range : ℤ
 no_range = negsuc 43
 
--- A call is refused by the first fault of what it read, with that fault's number.
+-- A first fault holds, and the call is refused with the number of that fault.
 pub record IsRefusedFor {F : Type 0} (why : F → Refusal) (first : F → Type 0) (result : ℤ) : Type 0 where
   pub fault : F
   pub is_first : first fault

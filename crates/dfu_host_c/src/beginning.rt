@@ -9,7 +9,7 @@ ghost use Rattle.dfu_host.specs.Phases.{FetchGoal, LoadGoal, VerifyGoal};
 ghost use Rattle.dfu_host.specs.Uploading.{first_upload_fault};
 ghost use Rattle.dfu_host.specs.declared.fault.HostFault.{HostFault};
 ghost use Rattle.dfu_host_core.specs.BeginCalls.{BeginResult, BeginUploadResult, IsInitialRecord, IsContent};
-ghost use Rattle.dfu_host_c.specs.Refusing.{HostRefuses, IsNoDescriptor, FileOrDescriptorIsFaulty, RefusesUpload};
+ghost use Rattle.dfu_host_c.specs.Refusing.{HostRefuses, IsNoDescriptor, FileOrDescriptorIsFaulty, HostRefusesUpload};
 ghost use Rattle.dfu_host_core.specs.Sessions.{limits_of};
 ghost use Rattle.dfu_host_c.specs.Ids.{ids_of};
 
@@ -22,14 +22,14 @@ use dfu_host_core::DfuSession;
 use dfu_suffix::File;
 use dfu_wire::{Functional, Ids};
 
-/// A file and a descriptor that were read.
+/// A file and a descriptor that were read without a fault.
 #[derive(Drop)]
 struct Wanted<'f> {
     file: File<'f>,
     functional: Functional,
 }
 
-/// Reads a file and a descriptor. Fails with the number of the file's fault, else of the descriptor's.
+/// Reads a file and a descriptor. Fails with the number of the file's fault, or else of the descriptor's.
 fn read_both<'f>(file: &'f [u8], descriptor: &[u8]) -> Result<Wanted<'f>, i32>
     ensures file { IfOk result (λ w. IsContent w.file file.now) }
     ensures functional { IfOk result (λ w. IsFunctional w.functional descriptor.now) }
@@ -45,7 +45,7 @@ fn read_both<'f>(file: &'f [u8], descriptor: &[u8]) -> Result<Wanted<'f>, i32>
     }
 }
 
-/// Writes the record of a session that begins.
+/// Writes the record of a new session, and returns 0.
 fn start(session: &mut DfuSession, host: &Session<'_>) -> i32
     ensures number { result ≡ pos 0 }
     ensures begun { (start : HostState) → ((memory : List ℕ) → host_of memory host.now ≡ start) → IsInitialRecord session.new start }
@@ -145,7 +145,7 @@ pub extern "C" fn dfu_host_upload(
 ) -> i32
     ensures outcome { BeginUploadResult FetchGoal first_upload_fault descriptor.now (limits_of actions restarts) result session.new
         ⊎ (IsNoDescriptor descriptor.now result × (session.new ≡ session.old))
-        ⊎ (RefusesUpload first_upload_fault descriptor.now result × (session.new ≡ session.old)) }
+        ⊎ (HostRefusesUpload first_upload_fault descriptor.now result × (session.new ≡ session.old)) }
 {
     let functional = match Functional::decode(descriptor) {
         Ok(functional) => functional,

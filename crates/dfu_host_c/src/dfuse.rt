@@ -1,4 +1,4 @@
-//! The host of DfuSe for C, and memory maps: `include/dfuse_host.h` describes these calls. DfuSe files: `include/dfuse_file.h` does.
+//! The host of DfuSe and memory maps for C, described in `include/dfuse_host.h`, and DfuSe files, described in `include/dfuse_file.h`.
 
 mod action;
 mod file;

@@ -21,19 +21,19 @@ pub struct DfuFile {
     pub payload: u64,
     /// bLength: length of the suffix in bytes, 16 to 255.
     pub suffix: u32,
-    /// dwCRC.
+    /// dwCRC: checksum of the file.
     pub crc: u32,
-    /// bcdDevice.
+    /// bcdDevice: release of the device.
     pub device: u16,
-    /// idProduct.
+    /// idProduct: product of the device.
     pub product: u16,
-    /// idVendor.
+    /// idVendor: vendor of the device.
     pub vendor: u16,
-    /// bcdDFU.
+    /// bcdDFU: version of the DFU format.
     pub dfu: u16,
 }
 
-/// Returns the last four bytes as a number, the low byte first.
+/// Returns the CRC, the number in the last four bytes, low byte first.
 fn crc_in(bytes: &[u8]) -> u32
     requires { 16 ≤ length bytes.now }
     ensures { result ≡ little_number 4 (drop (length bytes.now - 4) bytes.now) }
@@ -59,7 +59,7 @@ fn record_of(file: &File<'_>, bytes: &[u8]) -> DfuFile
     }
 }
 
-/// Reads a file, or gives its first fault: by the CRC's small table, since a file is read only once. The library has this code only once.
+/// Reads a file, or returns its first fault. The CRC's small table is enough, because a file is read only once. Not inlined, to save space.
 #[inline(never)]
 pub(crate) fn file_in(bytes: &[u8]) -> Result<File<'_>, SuffixFault>
     ensures found { IfOk result (λ f. (extra : List ℕ) × IsFile f.payload f.ids f.dfu extra bytes.now × (f.suffix ≡ 16 + length extra)) }

@@ -7,7 +7,7 @@ ghost use Rattle.dfu_host_core.specs.Sessions.{goal_at};
 
 use dfu_host::Goal;
 
-/// Returns the goal with that number, over the payload; None if no goal has it.
+/// Returns the goal with this number and this payload; None if no goal has the number.
 pub(crate) fn goal_at<'f>(number: u32, payload: &'f [u8]) -> Option<Goal<'f>>
     ensures value { result ≡ goal_at number payload.entry }
     ensures carries { IfSome result (λ goal. CarriesPayload payload.entry goal) }

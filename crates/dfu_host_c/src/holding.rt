@@ -4,7 +4,7 @@ ghost use Rattle.std.specs.Prelude.{◌≡◌, List, ℕ, IfSome, None, Some};
 ghost use Rattle.std.specs.Borrow.{Bor};
 ghost use Rattle.dfu_host.specs.Goals.{CarriesPayload};
 ghost use Rattle.dfu_host.specs.declared.parts.Parts.{Parts};
-ghost use Rattle.dfu_host_core.specs.Sessions.{IsRecord, IsWritten, parts_of};
+ghost use Rattle.dfu_host_core.specs.Sessions.{IsRecord, HasWrittenNumbers, parts_of};
 
 use crate::goals::{goal_at, goal_number};
 use crate::phases::{numbers_of, phase_at};
@@ -12,7 +12,7 @@ use crate::version::VERSION;
 use dfu_host::{Parts, Session};
 use dfu_host_core::DfuSession;
 
-/// Returns the parts of a record; None if its numbers are those of no goal or no phase.
+/// Returns the parts of a record; None if no goal or no phase has its numbers.
 fn parts_of<'f>(given: &DfuSession, payload: &'f [u8]) -> Option<Parts<'f>>
     ensures value { result ≡ parts_of given.now payload.entry }
     ensures carries { IfSome result (λ parts. CarriesPayload payload.entry parts.goal) }
@@ -35,8 +35,7 @@ fn parts_of<'f>(given: &DfuSession, payload: &'f [u8]) -> Option<Parts<'f>>
     })
 }
 
-/// Returns the session of a record over a payload; None for another version, or if the record belongs to no
-/// session.
+/// Returns the session of a record with a payload; None for another version, or if no session has the record's parts.
 pub(crate) fn session_of<'f>(given: &DfuSession, payload: &'f [u8]) -> Option<Session<'f>>
     ensures some { IfSome result (λ s. IsRecord given.now payload.entry s × CarriesPayload payload.entry s.goal) }
     ensures none { result ≡ None → (parts : Parts) → IsRecord given.now payload.entry parts → ⊥ }
@@ -57,7 +56,7 @@ pub(crate) fn session_of<'f>(given: &DfuSession, payload: &'f [u8]) -> Option<Se
 /// Makes the record of a session that keeps `kept` bytes.
 pub(crate) fn record_of(session: &Session<'_>, kept: u64) -> DfuSession
     ensures says { (payload : Bor (List ℕ)) → CarriesPayload payload session.now.goal → IsRecord result payload session.now }
-    ensures written { IsWritten result session.now }
+    ensures written { HasWrittenNumbers result session.now }
     ensures kept { result.kept ≡ kept }
 {
     let parts = session.parts();

@@ -1,4 +1,4 @@
-//! The identifiers of a device, for C.
+//! Identifiers of a device, for C.
 
 ghost use Rattle.std.specs.Prelude.{◌≡◌};
 ghost use Rattle.dfu_host_c.specs.Ids.{ids_of};
@@ -9,16 +9,16 @@ use dfu_wire::Ids;
 #[repr(C)]
 #[derive(Drop)]
 pub struct DfuIds {
-    /// bcdDevice.
+    /// bcdDevice: release of the device.
     pub device: u16,
-    /// idProduct.
+    /// idProduct: product of the device.
     pub product: u16,
-    /// idVendor.
+    /// idVendor: vendor of the device.
     pub vendor: u16,
 }
 
 impl DfuIds {
-    /// Returns the identifiers.
+    /// Returns the three identifiers as a value.
     pub(crate) fn ids(&self) -> Ids
         ensures { result ≡ ids_of self.now }
     {

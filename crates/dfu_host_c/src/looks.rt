@@ -1,4 +1,4 @@
-//! The record for C of a file without a DFU suffix: `include/dfu_image.h` describes this call.
+//! Record for C of a look at a file without a DFU suffix, described in `include/dfu_image.h`.
 
 ghost use Rattle.std.specs.Prelude.{◌≡◌};
 ghost use Rattle.dfu_formats.specs.images.Looks.{look_at_file};
@@ -14,9 +14,9 @@ pub struct DfuLook {
     pub looks: u32,
     /// Format of the name's ending, 0 to 5.
     pub named: u32,
-    /// Line of the first byte that no record allows there, from 1; 0 if there is none.
+    /// Line of the first byte that no record allows at its place, from 1; 0 if there is no such byte.
     pub line: u64,
-    /// Column of the place in its line, from 1; 0 without a place.
+    /// Column of the first byte that no record allows at its place, from 1; 0 if there is no such byte.
     pub column: u64,
 }
 
@@ -32,7 +32,7 @@ fn image_format_number(format: Format) -> u32
     })
 }
 
-/// Returns the number of a file's kind.
+/// Returns the number of a file's kind, 0 to 9.
 fn looks_number(looks: Looks) -> u32
     ensures { result ≡ looks_number looks }
 {
@@ -47,7 +47,7 @@ fn looks_number(looks: Looks) -> u32
     }
 }
 
-/// Returns the number of a name's ending.
+/// Returns the number of a file name's ending, 0 to 5.
 fn ending_number(ending: Option<Ending>) -> u32
     ensures { result ≡ ending_number ending }
 {
@@ -58,7 +58,7 @@ fn ending_number(ending: Option<Ending>) -> u32
     }
 }
 
-/// Makes the record of a look.
+/// Makes the record of a look at a file.
 fn record_of_look(look: Look) -> DfuLook
     ensures { result ≡ record_of_look look }
 {

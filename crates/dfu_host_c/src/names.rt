@@ -1,4 +1,4 @@
-//! The names of reports.
+//! Names of reports.
 
 ghost use Rattle.std.specs.Prelude.{◌≡◌, ◌≤◌, ◌<◌, ◌++◌, drop, length, pos};
 ghost use Rattle.dfu_host.specs.ReportName.{report_name};
@@ -7,8 +7,8 @@ ghost use Rattle.dfu_host_c.specs.ReportNames.{name_at};
 use crate::reports::report_at;
 use dfu_host::Report;
 
-/// Returns the name of a report, as `Report::name` does. All names are cut from one text, because pointers to several would be data, and
-/// the library has none.
+/// Returns the name of a report, as `Report::name` does. All names are cut from one text, because pointers to several texts would be data,
+/// and the library has no data.
 fn name_of(report: Report) -> &'static [u8]
     ensures name { result.now ≡ report_name report }
 {
@@ -30,7 +30,7 @@ fn name_of(report: Report) -> &'static [u8]
     &names[from..to]
 }
 
-/// Returns the name of the report with that number; no bytes if no report has it.
+/// Returns the name of the report with this number; empty if no report has the number.
 fn name_at(number: u32) -> &'static [u8]
     ensures name { result.now ≡ name_at number }
     ensures len { length result.now ≤ 15 }

@@ -9,7 +9,7 @@ use crate::reports::{report_at, report_numbers};
 use dfu_host::{Phase, Report};
 use dfu_host_core::EncodedPhase;
 
-/// Returns the phase with those numbers; None if no phase has them.
+/// Returns the phase with these numbers; None if no phase has them.
 pub(crate) fn phase_at(which: u32, number: u64, more: u32) -> Option<Phase>
     ensures { result ≡ phase_at which number more }
 {
@@ -56,7 +56,7 @@ pub(crate) fn phase_at(which: u32, number: u64, more: u32) -> Option<Phase>
     }
 }
 
-/// Returns the part with that number; None over 65,535.
+/// Returns `number` as the number of a part; None over 65,535.
 fn part_at(number: u64) -> Option<u16>
     ensures { result ≡ part_at number }
 {
@@ -101,6 +101,7 @@ pub(crate) fn numbers_of(phase: Phase) -> EncodedPhase
     }
 }
 
+/// Returns the numbers of a phase: its own, its block, part or report, and its poll time or code.
 fn of(which: u32, number: u64, more: u32) -> EncodedPhase
     ensures { result ≡ record { which = which; number = number; more = more } }
 {
@@ -111,6 +112,7 @@ fn of(which: u32, number: u64, more: u32) -> EncodedPhase
     }
 }
 
+/// Returns the numbers of a phase with a report: its own, and those of the report.
 fn reported(which: u32, report: Report) -> EncodedPhase
     ensures which { result.which ≡ which }
     ensures report { report_at result.number result.more ≡ Some report }

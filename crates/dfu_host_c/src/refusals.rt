@@ -1,4 +1,4 @@
-//! Refusals of a call, for C: negative numbers, in the order of the faults.
+//! Refusals of calls, for C: negative numbers, in the order of the faults.
 
 ghost use Rattle.std.specs.Prelude.{◌≡◌};
 ghost use Rattle.dfu_host_c.specs.Refusals.{refused_number};
@@ -10,16 +10,16 @@ use dfu_suffix::SuffixFault;
 use dfu_wire::WireFault;
 use dfuse_host::PlanFault;
 
-/// The record belongs to no session over the payload and the buffer, or over the map and the image.
+/// The record holds no session with this payload and buffer, or with this map and image.
 pub(crate) const NO_SESSION: i32 = -41;
 
-/// No result has the number `seen`.
+/// No result of an action has the number `seen`.
 pub(crate) const NO_SEEN: i32 = -42;
 
-/// The buffer for a body has no room for it.
+/// The buffer is too short for the body.
 pub(crate) const NO_ROOM: i32 = -43;
 
-/// The map has no range with the number.
+/// The map has no range with this number.
 pub(crate) const NO_RANGE: i32 = -44;
 
 /// Reasons for which a call is refused.
@@ -37,7 +37,7 @@ pub(crate) enum Refusal {
     Plan(PlanFault),
     /// The bytes are no DfuSe file.
     DfuseFile(FileFault),
-    /// A DfuSe file has no image for a setting.
+    /// A DfuSe file has no image for an alternate setting, or too many elements.
     Image(ImageFault),
 }
 

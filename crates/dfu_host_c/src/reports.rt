@@ -8,7 +8,7 @@ use crate::tables::numbers;
 use dfu_host::Report;
 use dfu_wire::Code;
 
-/// Returns the status code with that number; None over 15.
+/// Returns the status code with this number; None over 15.
 pub(crate) fn code_at(number: u32) -> Option<Code>
     ensures { result ≡ code_at number }
 {
@@ -36,14 +36,14 @@ macro_rules! reports {
     };
 }
 
-/// Returns the report with that number; None for 0, over 11, or if Refused has no such code.
+/// Returns the report with this number; None for 0, over 11, or if it is Refused and `code` is the number of no code.
 pub(crate) fn report_at(number: u64, code: u32) -> Option<Report>
     ensures { result ≡ report_at number code }
 {
     reports!(read number, code)
 }
 
-/// Returns the number of a report, and that of its code, which is 0 except for Refused.
+/// Returns the number of a report, and the number of its code; 0 for reports other than Refused.
 pub(crate) fn report_numbers(report: Report) -> (u32, u32)
     ensures report { report_at result.0 result.1 ≡ Some report }
     ensures numbers { result ≡ report_numbers report }

@@ -7,7 +7,7 @@ ghost use Rattle.dfu_host_c.specs.dfuse.SeenNumbers.{dfuse_seen_at};
 use dfu_host::Seen;
 use dfuse_host::Seen as DfuseSeen;
 
-/// Result of an action by its number: the results that both hosts see, and those that only this one sees. None if no
+/// Result of an action by its number: the results that both hosts have, and those that only this host has. None if no
 /// result has the number.
 macro_rules! numbered {
     ($kind:ident, $number:ident, $bytes:ident $(, $own:literal => $name:ident)*) => {
@@ -24,14 +24,14 @@ macro_rules! numbered {
     };
 }
 
-/// Returns the result of an action by its number, 0 to 7; None over 7. Number 1 has the given bytes.
+/// Returns the result of an action by its number, 0 to 7; None over 7. Result 1 has the given bytes.
 pub(crate) fn seen_at<'s>(number: u32, bytes: &'s [u8]) -> Option<Seen<'s>>
     ensures { result ≡ seen_at number bytes.entry }
 {
     numbered!(Seen, number, bytes, 5 => WasReset, 7 => Left)
 }
 
-/// Returns the result that the host of DfuSe sees, by its number; None if no result has it. Number 1 has the given bytes.
+/// Returns a result for the host of DfuSe by its number; None if no result has it. Result 1 has the given bytes.
 pub(crate) fn dfuse_seen_at<'s>(number: u32, bytes: &'s [u8]) -> Option<DfuseSeen<'s>>
     ensures { result ≡ dfuse_seen_at number bytes.entry }
 {

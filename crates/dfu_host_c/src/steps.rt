@@ -1,4 +1,4 @@
-//! The calls that step a session.
+//! Calls that step a session.
 
 ghost use Rattle.std.specs.Prelude.{◌≤◌, List, ℕ, length};
 ghost use Rattle.std.specs.Borrow.{Bor};
@@ -7,7 +7,7 @@ ghost use Rattle.dfu_host.specs.Host.{HostRow};
 ghost use Rattle.dfu_host.specs.Rooms.{FetchResultIn};
 ghost use Rattle.dfu_host.specs.Storing.{RoomAfterSeen};
 ghost use Rattle.dfu_host_core.specs.Calls.{HostAbortResult, HostTakeResult};
-ghost use Rattle.dfu_host_core.specs.Sessions.{IsRecordWithParts, IsWritten, host_in};
+ghost use Rattle.dfu_host_core.specs.Sessions.{IsRecordAndBuffer, HasWrittenNumbers, host_in};
 
 use crate::holding::{record_of, session_of};
 use crate::refusals::{NO_SEEN, NO_SESSION};
@@ -15,7 +15,7 @@ use crate::seen::seen_at;
 use dfu_host::{Seen, Session};
 use dfu_host_core::DfuSession;
 
-/// Takes `seen` as one step of the session of record `given`, and returns the record that follows.
+/// Gives `host`, the session of record `given`, the result `seen`, and returns the next record.
 fn step(given: &DfuSession, host: &mut Session<'_>, kept: &mut [u8], seen: Seen<'_>) -> DfuSession
     requires { given.now.kept ≤ length kept.old }
     ensures row { HostRow (host_in given.now kept.old host.old) seen.entry (host_in result kept.new host.new) }
@@ -23,8 +23,8 @@ fn step(given: &DfuSession, host: &mut Session<'_>, kept: &mut [u8], seen: Seen<
         (host_in given.now kept.old host.old).phase seen.entry
         (host_in result kept.new host.new) }
     ensures stores { RoomAfterSeen host.old.transfer host.old.phase seen.entry given.now.kept kept.old result.kept kept.new }
-    ensures written { IsWritten result host.new }
-    ensures held { (payload : Bor (List ℕ)) → CarriesPayload payload host.old.goal → IsRecordWithParts result payload kept.new host.new }
+    ensures written { HasWrittenNumbers result host.new }
+    ensures held { (payload : Bor (List ℕ)) → CarriesPayload payload host.old.goal → IsRecordAndBuffer result payload kept.new host.new }
 {
     let count = host.take(kept, given.kept as usize, seen);
     record_of(host, count as u64)

@@ -1,9 +1,9 @@
-//! Numbers by a table, both ways.
+//! Conversion between numbers and variants by a table.
 
 /// Reads or writes a number by a table, which has a number for each variant of a type.
 ///
-/// `read` gives the variant of a number, and None if there is none; what the variant holds is read from the second number. `write` gives
-/// the number of a variant, and that of what it holds, or 0. The table names how what is held is read and written if it is no number.
+/// `read` returns the variant of a number, or None; the value in the variant is read from the second number. `write` returns the number of
+/// a variant, and that of its value, or 0. The table names the functions that read and write a value that is no number.
 macro_rules! numbers {
     (read $number:ident, $more:ident,
         $kind:ident { $($n:literal $name:ident $(($held:ident $(: $at:ident, $of:ident)?))?),* }) => {

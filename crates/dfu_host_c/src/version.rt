@@ -3,7 +3,7 @@
 ghost use Rattle.std.specs.Prelude.{◌≡◌, pos};
 ghost use Rattle.dfu_host_core.specs.Sessions.{version};
 
-/// The version, 0.3.0: 10,000 for each major one, 100 for each minor one, and 1 for each patch.
+/// The version, 0.3.0: 10,000 for each major, 100 for each minor and 1 for each patch version.
 pub(crate) const VERSION: u32 = 300;
 
 /// Returns the version of the library, which the library writes into each record.

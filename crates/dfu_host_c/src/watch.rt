@@ -1,17 +1,16 @@
-//! Records for C of a watch over a session, and of the facts of its device.
+//! Records for C of the watch over a session, and of the facts of its device.
 
-/// `struct dfu_watch`: what has come of a session's requests so far. All numbers are 0 before the first
-/// session.
+/// `struct dfu_watch`: counts of a session's requests and resets so far. All numbers are 0 before the first session.
 #[repr(C)]
 #[derive(Drop)]
 pub struct DfuWatch {
     /// Requests and resets in a row that were not finished; 24 or more end the session.
     pub silent: u32,
-    /// Resets in a row since requests that the device stalled in run-time mode.
+    /// Resets in a row that followed requests stalled in run-time mode.
     pub resets: u32,
     /// 1 if the device stalled the last request that went out, in run-time mode.
     pub stalled: u8,
-    /// 1 if the session sent a block or the end of a download.
+    /// 1 if the session sent a block or the close of a download.
     pub sent: u8,
     /// 1 if another session was begun in place of the first.
     pub anew: u8,
@@ -33,8 +32,8 @@ pub struct DfuFacts {
     pub open: u8,
     /// The device is in DFU mode.
     pub upgrade: u8,
-    /// The device is the one that was first found in its mode.
+    /// The device is the one first found in this mode.
     pub again: u8,
-    /// The device's functional descriptor is the one that the session began with.
+    /// The device has the functional descriptor with which the session began.
     pub same: u8,
 }

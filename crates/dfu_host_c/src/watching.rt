@@ -1,15 +1,15 @@
-//! The calls that watch over a session: when a program gives a device up, and when it begins anew.
+//! Calls of the watch over a session: when a program gives a device up, and when it begins another session.
 
 ghost use Rattle.std.specs.Prelude.{◌≡◌, ◌<◌, ◌≢◌, if◌then◌else◌};
 ghost use Rattle.dfu_host_c.specs.Watch.{
   c_number_of_bool,
-  watch_restarted,
+  watch_after_course,
   capped_count,
   course_after,
   course_before,
   detach_number,
   is_download,
-  is_of_image,
+  is_image_transfer,
   is_other_device,
   is_request_out,
   resets_after,
@@ -38,12 +38,12 @@ const ENDS_STALLED: u32 = 6;
 
 const ENDS_REFUSED: u32 = 7;
 
-/// Requests and resets in a row that may have no answer: a dead device takes 5 seconds for each.
+/// Requests and resets in a row that may stay unfinished: a dead device takes 5 seconds for each.
 pub(crate) const MOST_SILENT: u32 = 24;
-/// Resets in a row that may follow nothing but stalls, because a running application is reset then.
+/// Resets in a row that may follow nothing but stalls, because each of them resets a running application.
 const MOST_RESETS: u32 = 3;
 
-/// Returns whether an action sends a block or the end of a download (USB DFU 1.1, section 6.1.1).
+/// Returns whether an action sends a block or the close of a download (USB DFU 1.1, section 6.1.1).
 fn is_download(action: &DfuAction) -> bool
     ensures { result ≡ is_download action.now }
 {
@@ -51,33 +51,33 @@ fn is_download(action: &DfuAction) -> bool
 }
 
 /// Returns whether an action sends or fetches a part of an image (sections 6.1.1 and 6.2).
-fn is_of_image(action: &DfuAction) -> bool
-    ensures { result ≡ is_of_image action.now }
+fn is_image_transfer(action: &DfuAction) -> bool
+    ensures { result ≡ is_image_transfer action.now }
 {
     is_download(action) || (action.what == 0 && action.setup[0] == 0xa1 && action.setup[1] == 2)
 }
 
-/// Returns whether a request went out to the device.
+/// Returns whether the action is a request that went out to the device.
 fn is_reached(action: &DfuAction, facts: &DfuFacts) -> bool
     ensures { result ≡ is_request_out action.now facts.now }
 {
     action.what == 0 && facts.reached != 0
 }
 
-/// Returns the next number, but at most `most`.
-pub(crate) fn counted(number: u32, most: u32) -> u32
+/// Returns the count plus one if it is below `most`, else the count.
+pub(crate) fn count_and_one(number: u32, most: u32) -> u32
     ensures { result ≡ capped_count number most }
 {
     if number < most { number + 1 } else { number }
 }
 
-/// Returns whether the session's next action may be done: 0, or the end of the session in place of it. `by_another` is not 0 if the session
-/// goes by a functional descriptor in place of the device's own.
+/// Returns 0 if the session's next action may be done, else the course that ends the session. `by_another` is not 0 if the session uses a
+/// functional descriptor other than the device's own.
 #[unsafe(no_mangle)]
 pub extern "C" fn dfu_watch_before(watch: &DfuWatch, action: &DfuAction, by_another: u32) -> u32
     ensures { result ≡ course_before watch.now action.now by_another }
 {
-    if by_another != 0 && is_of_image(action) {
+    if by_another != 0 && is_image_transfer(action) {
         ENDS_REFUSED
     } else if action.what == 2 && watch.stalled != 0 && watch.resets >= MOST_RESETS {
         ENDS_STALLED
@@ -86,8 +86,8 @@ pub extern "C" fn dfu_watch_before(watch: &DfuWatch, action: &DfuAction, by_anot
     }
 }
 
-/// Returns whether the program sends a DETACH of its own before the reset that the session asks for: 1 if the device stalled the last
-/// request in run-time mode and no reset followed a stall yet, else 0.
+/// Returns 1 if the program must send a DETACH before the reset that the session asks for, because the device stalled the last request in
+/// run-time mode and no reset followed a stall yet; else 0.
 #[unsafe(no_mangle)]
 pub extern "C" fn dfu_watch_detaches(watch: &DfuWatch) -> u32
     ensures { result ≡ detach_number watch.now }
@@ -95,34 +95,34 @@ pub extern "C" fn dfu_watch_detaches(watch: &DfuWatch) -> u32
     u32::from(watch.stalled != 0 && watch.resets == 0)
 }
 
-/// Counts the requests and resets in a row that were not finished, after an action.
+/// Returns the number of requests and resets in a row that were not finished, after an action.
 fn silent_after(watch: &DfuWatch, action: &DfuAction, seen: u32) -> u32
     ensures { result ≡ silent_after watch.now action.now seen }
 {
     if action.what != 0 && action.what != 2 {
         watch.silent
     } else if seen == 3 {
-        counted(watch.silent, MOST_SILENT)
+        count_and_one(watch.silent, MOST_SILENT)
     } else {
         0
     }
 }
 
-/// Counts the resets in a row that followed nothing but stalls, after an action: 0 once a request went out, and the device is in DFU mode
-/// or acknowledged or answered it.
+/// Returns the number of resets in a row that followed nothing but stalls, after an action: 0 once a request went out, and the device is in
+/// DFU mode or acknowledged or answered the request.
 fn resets_after(watch: &DfuWatch, action: &DfuAction, seen: u32, facts: &DfuFacts) -> u32
     ensures { result ≡ resets_after watch.now action.now seen facts.now }
 {
     if is_reached(action, facts) && (facts.upgrade != 0 || seen == 0 || seen == 1) {
         0
     } else if action.what == 2 && watch.stalled != 0 && seen == 5 {
-        counted(watch.resets, MOST_RESETS)
+        count_and_one(watch.resets, MOST_RESETS)
     } else {
         watch.resets
     }
 }
 
-/// Returns whether the last request that went out was stalled, in run-time mode.
+/// Returns whether the device stalled the last request that went out, in run-time mode.
 fn stalled_after(watch: &DfuWatch, action: &DfuAction, seen: u32, facts: &DfuFacts) -> bool
     ensures { result ≡ stalled_after watch.now action.now seen facts.now }
 {
@@ -133,8 +133,8 @@ fn stalled_after(watch: &DfuWatch, action: &DfuAction, seen: u32, facts: &DfuFac
     }
 }
 
-/// Returns the record after an action.
-fn watched(watch: &DfuWatch, action: &DfuAction, seen: u32, facts: &DfuFacts) -> DfuWatch
+/// Returns the record of the watch after an action.
+fn watch_after(watch: &DfuWatch, action: &DfuAction, seen: u32, facts: &DfuFacts) -> DfuWatch
     ensures { result ≡ watch_after_action watch.now action.now seen facts.now }
 {
     DfuWatch {
@@ -146,15 +146,15 @@ fn watched(watch: &DfuWatch, action: &DfuAction, seen: u32, facts: &DfuFacts) ->
     }
 }
 
-/// Returns whether the device that is open is another one than the session's. Once a DNLOAD was sent, a device in run-time mode may run
-/// another image, and is not compared.
+/// Returns whether the open device is not the session's. Once a DNLOAD was sent, a device in run-time mode may run another image, so its
+/// identity is not compared.
 fn is_other(watch: &DfuWatch, facts: &DfuFacts) -> bool
     ensures { result ≡ is_other_device watch.now facts.now }
 {
     facts.open != 0 && facts.again == 0 && (facts.upgrade != 0 || watch.sent == 0)
 }
 
-/// Returns 1 if the open device is another one than the session's, so that it gets no request, else 0.
+/// Returns 1 if the open device is not the session's, so that it must get no request; else 0.
 #[unsafe(no_mangle)]
 pub extern "C" fn dfu_watch_is_other(watch: &DfuWatch, facts: &DfuFacts) -> u32
     ensures { result ≡ c_number_of_bool (is_other_device watch.now facts.now) }
@@ -162,7 +162,7 @@ pub extern "C" fn dfu_watch_is_other(watch: &DfuWatch, facts: &DfuFacts) -> u32
     u32::from(is_other(watch, facts))
 }
 
-/// Returns the course of the program, by the record and by what it sees of the device.
+/// Returns the course of the program, by the record of the watch and the facts of the device.
 fn course(watch: &DfuWatch, facts: &DfuFacts) -> u32
     ensures { result ≡ course_after watch.now facts.now }
 {
@@ -187,8 +187,8 @@ fn course(watch: &DfuWatch, facts: &DfuFacts) -> u32
     }
 }
 
-/// Returns the course after an action, by what was seen of it and by the facts of the device: 0 to go on, 1 to begin another session
-/// in place of this one, 2 to 5 for an end of the session. Course 1 is noted in the record.
+/// Returns the course after an action, by its result and by the facts of the device: 0 to go on, 1 to begin another session in place of
+/// this one, 2 to 5 to end the session. Course 1 is recorded in `watch`.
 #[unsafe(no_mangle)]
 pub extern "C" fn dfu_watch_after(
     watch: &mut DfuWatch,
@@ -197,13 +197,13 @@ pub extern "C" fn dfu_watch_after(
     facts: &DfuFacts,
 ) -> u32
     ensures course { result ≡ course_after (watch_after_action watch.old action.now seen facts.now) facts.now }
-    ensures kept { watch.new ≡ watch_restarted result (watch_after_action watch.old action.now seen facts.now) }
-    // A device that has answered nothing 24 times in a row gets no further request.
+    ensures kept { watch.new ≡ watch_after_course result (watch_after_action watch.old action.now seen facts.now) }
+    // A device that has answered nothing 24 times in a row must get no further request.
     ensures silence { result < 2 → watch.new.silent < 24 }
-    // Another session is begun once, and only before anything of an image was sent.
+    // Another session is begun at most once, and only before any part of an image was sent.
     ensures once { result ≡ 1 → (watch.old.anew ≡ 0) × (watch.new.anew ≡ 1) × (watch.new.sent ≡ 0) }
 {
-    *watch = watched(watch, action, seen, facts);
+    *watch = watch_after(watch, action, seen, facts);
     let result = course(watch, facts);
     if result == BEGINS_ANEW {
         watch.anew = 1;

@@ -1,4 +1,4 @@
--- Content of the record of an action.
+-- Contents of an action's record.
 use Rattle.std.specs.Prelude.{◌≡◌, ◌+◌, ◌≤◌, ℕ, List, Some, length, replicate, take, drop}
 use Rattle.dfu_wire.specs.declared.requests.Request.{Request}
 use Rattle.dfu_host.specs.declared.report.Report.{Report}
@@ -7,8 +7,7 @@ use Rattle.dfu_host.specs.Wire.{IsSetupOf}
 use Rattle.dfu_host_core.specs.ReportNumbers.{report_at, report_numbers}
 use Rattle.dfu_host_core.specs.declared.action.DfuAction.{DfuAction}
 
--- The record says to send the request q: its setup asks for q, and its body is that many bytes of the payload from a place on, within the
--- payload.
+-- The record is a request to send: its setup asks for q, and its body is a slice of the payload that begins at `from`, within the payload.
 pub record SendActionRecord (payload : List ℕ) (from : ℕ) (q : Request) (body : List ℕ) (r : DfuAction) : Type 0 where
   pub what : r.what ≡ 0
   pub value : r.value ≡ 0
@@ -19,8 +18,8 @@ pub record SendActionRecord (payload : List ℕ) (from : ℕ) (q : Request) (bod
   pub ends : from + length body ≤ length payload
   pub code : r.code ≡ 0
 
--- The record says to do something other than send a request: it has no setup and no body.
-pub record IsOther (what value code : ℕ) (r : DfuAction) : Type 0 where
+-- Record of an action without a request: it has the given numbers, and zeros for the setup and the body.
+pub record IsNoRequestRecord (what value code : ℕ) (r : DfuAction) : Type 0 where
   pub action_number_matches : r.what ≡ what
   pub value_is : r.value ≡ value
   pub code_is : r.code ≡ code
@@ -28,15 +27,15 @@ pub record IsOther (what value code : ℕ) (r : DfuAction) : Type 0 where
   pub size : r.length ≡ 0
   pub setup : r.setup ≡ replicate 8 0
 
--- The record says that the session is over with `report`.
+-- The record says that the session is over with `report`, and has zeros for the setup and the body.
 pub record FinalActionRecord (report : Report) (r : DfuAction) : Type 0 where
-  pub other : IsOther 3 r.value (report_numbers report).1 r
+  pub other : IsNoRequestRecord 3 r.value (report_numbers report).1 r
   pub final_report_matches : report_at r.value r.code ≡ Some report
 
--- Record of what a host with a payload does: 0 to send a request, 1 to wait that many milliseconds, 2 to reset the bus, and 3 if it is
--- done. A body begins in the payload at the given place. A number that an action does not need is 0.
+-- Record of a deed of a host with a payload: 0 to send a request, 1 to wait for some milliseconds, 2 to reset the bus, and 3 if the host is
+-- done. A body begins at `from` in the payload. Numbers that an action does not need are 0.
 abbrev pub ActionRecord : (payload : List ℕ) → (from : ℕ) → Deed → DfuAction → Type 0
 ActionRecord payload from (Send q body) r = SendActionRecord payload from q body r
-ActionRecord payload from (Wait ms) r = IsOther 1 ms 0 r
-ActionRecord payload from Reset r = IsOther 2 0 0 r
+ActionRecord payload from (Wait ms) r = IsNoRequestRecord 1 ms 0 r
+ActionRecord payload from Reset r = IsNoRequestRecord 2 0 0 r
 ActionRecord payload from (Done report) r = FinalActionRecord report r

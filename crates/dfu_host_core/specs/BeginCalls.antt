@@ -12,22 +12,23 @@ use Rattle.dfu_host.specs.Goals.{CarriesPayload}
 use Rattle.dfu_host.specs.Host.{HostState, host_for_goal}
 use Rattle.dfu_host.specs.InParts.{host_of}
 use Rattle.dfu_host.specs.Phases.{Goal}
-use Rattle.dfu_host_core.specs.Sessions.{IsRecord, IsWritten}
+use Rattle.dfu_host_core.specs.Sessions.{IsRecord, HasWrittenNumbers}
 use Rattle.dfu_host_core.specs.declared.session.DfuSession.{DfuSession}
 
--- The record is that of a session that begins as the host `start`, and keeps no bytes yet.
+-- Over any payload that its goal carries, the record holds a new session, with the host `start` and no kept bytes.
 pub record IsInitialRecord (r : DfuSession) (start : HostState) : Type 0 where
   pub parts : Parts
   pub stands : (payload : Bor (List ℕ)) → CarriesPayload payload parts.goal → IsRecord r payload parts
-  pub written : IsWritten r parts
+  pub written : HasWrittenNumbers r parts
   pub nothing : r.kept ≡ 0
   pub begins : (memory : List ℕ) → host_of memory parts ≡ start
 
--- The bytes are a file with the content.
+-- The bytes are a file with this content.
 abbrev pub IsContent : Content → List ℕ → Type 0
 IsContent c bytes = (extra : List ℕ) × IsFile c.payload c.ids c.dfu extra bytes × (c.suffix ≡ 16 + length extra)
 
--- A session was begun on a file and a descriptor without a fault of `first`. Its goal is the one that `to` makes of the file's payload.
+-- Result 0 of a call that has begun a session: the file and the descriptor were read, `first` finds no fault, and the record is that of a
+-- new session with the goal `to` of the file's payload.
 pub record BeginResult (to : List ℕ → Goal) (first : Content → Functional → Ids → Option HostFault) (file descriptor : List ℕ)
     (device : Ids)
     (limits : Limits) (result : ℤ) (r' : DfuSession) : Type 0 where
@@ -39,7 +40,8 @@ pub record BeginResult (to : List ℕ → Goal) (first : Content → Functional 
   pub begun : IsInitialRecord r' (host_for_goal functional (to content.payload) limits)
   pub number_is : result ≡ pos 0
 
--- An upload was begun by a descriptor without a fault of `first`.
+-- Result 0 of a call that has begun an upload: the descriptor was read, `first` finds no fault, and the record is that of a new session
+-- with the goal `to`.
 pub record BeginUploadResult (to : Goal) (first : Functional → Option HostFault) (descriptor : List ℕ) (limits : Limits) (result : ℤ)
     (r' : DfuSession) : Type 0 where
   pub functional : Functional

@@ -11,49 +11,49 @@ use Rattle.dfu_host.specs.Storing.{RoomAfterSeen}
 use Rattle.dfu_host.specs.Table.{deed}
 use Rattle.dfu_host_core.specs.Actions.{ActionRecord}
 use Rattle.dfu_host_core.specs.Numbers.{no_session, no_seen}
-use Rattle.dfu_host_core.specs.Sessions.{IsRecord, IsRecordWithParts, IsWritten, host_in}
+use Rattle.dfu_host_core.specs.Sessions.{IsRecord, IsRecordAndBuffer, HasWrittenNumbers, host_in}
 use Rattle.dfu_host_core.specs.SeenNumbers.{seen_at}
 use Rattle.dfu_host_core.specs.declared.action.DfuAction.{DfuAction}
 use Rattle.dfu_host_core.specs.declared.session.DfuSession.{DfuSession}
 
--- The session of a record took a result, by a row of the host's table. A part of an upload was stored if the buffer had room for it; else
--- the host took it as a part without memory.
+-- The session of a record took a result by a row of the host's table. A part of an upload was stored if the buffer had room for it;
+-- otherwise the host took it as NoRoom.
 pub record TakeSeenResult (r r' : DfuSession) (payload : Bor (List ℕ)) (buffer buffer' : List ℕ) (seen : ℕ) (bytes : Bor (List ℕ)) : Type 0 where
   pub parts : Parts
   pub word : Seen
   pub next : Parts
-  pub before : IsRecordWithParts r payload buffer parts
+  pub before : IsRecordAndBuffer r payload buffer parts
   pub seen_is : seen_at seen bytes ≡ Some word
-  pub later : IsRecordWithParts r' payload buffer' next
-  pub written : IsWritten r' next
+  pub later : IsRecordAndBuffer r' payload buffer' next
+  pub written : HasWrittenNumbers r' next
   pub row : HostRow (host_in r buffer parts) word (host_in r' buffer' next)
   pub room : FetchResultIn (length buffer) (host_in r buffer parts) (host_in r buffer parts).phase word (host_in r' buffer' next)
   pub stores : RoomAfterSeen parts.transfer parts.phase word r.kept buffer r'.kept buffer'
 
--- The record and the buffer belong to a session over the payload.
-pub record IsSessionRecord (r : DfuSession) (payload : Bor (List ℕ)) (buffer : List ℕ) : Type 0 where
+-- The record and the buffer hold a session with this payload.
+pub record RecordAndBufferHoldSession (r : DfuSession) (payload : Bor (List ℕ)) (buffer : List ℕ) : Type 0 where
   pub parts : Parts
-  pub held : IsRecordWithParts r payload buffer parts
+  pub held : IsRecordAndBuffer r payload buffer parts
 
--- The record and the buffer belong to no session over the payload.
-abbrev pub RecordOrBufferIsNoSession : DfuSession → Bor (List ℕ) → (buffer : List ℕ) → Type 0
-RecordOrBufferIsNoSession r payload buffer = (parts : Parts) → IsRecordWithParts r payload buffer parts → ⊥
+-- The record and the buffer hold no session with this payload.
+abbrev pub RecordAndBufferHoldNoSession : DfuSession → Bor (List ℕ) → (buffer : List ℕ) → Type 0
+RecordAndBufferHoldNoSession r payload buffer = (parts : Parts) → IsRecordAndBuffer r payload buffer parts → ⊥
 
--- The record belongs to no session over the payload.
-abbrev pub RecordIsNoSession : DfuSession → Bor (List ℕ) → Type 0
-RecordIsNoSession r payload = (parts : Parts) → IsRecord r payload parts → ⊥
+-- The record holds no session with this payload.
+abbrev pub RecordHoldsNoSession : DfuSession → Bor (List ℕ) → Type 0
+RecordHoldsNoSession r payload = (parts : Parts) → IsRecord r payload parts → ⊥
 
--- The session of a record was given up. The number of bytes that it keeps stays.
+-- The session of a record was given up. The number of its kept bytes is unchanged.
 pub record AbortedRecord (r r' : DfuSession) (payload : Bor (List ℕ)) : Type 0 where
   pub parts : Parts
   pub next : Parts
   pub before : IsRecord r payload parts
   pub later : IsRecord r' payload next
-  pub written : IsWritten r' next
+  pub written : HasWrittenNumbers r' next
   pub same : (memory : List ℕ) → host_of memory next ≡ aborted_host (host_of memory parts)
   pub kept : r'.kept ≡ r.kept
 
--- The record of an action says what the session of a record does next; a body is cut from the payload.
+-- The record `a` is the action of the session that r holds; a body is a slice of the payload of the session's goal.
 pub record IsNextAction (r : DfuSession) (payload : Bor (List ℕ)) (a : DfuAction) : Type 0 where
   pub parts : Parts
   pub stands : IsRecord r payload parts
@@ -61,19 +61,19 @@ pub record IsNextAction (r : DfuSession) (payload : Bor (List ℕ)) (a : DfuActi
       → ActionRecord (payload_of parts.goal) (body_offset parts.transfer parts.phase)
       (deed (host_of memory parts).task (host_of memory parts).phase) a
 
--- Result of dfu_host_take: the session took the result `seen`. If the record belongs to no session, or no result has the number `seen`,
--- nothing changes.
+-- Result of dfu_host_take: 0 if the session took the result `seen`. If the record and the buffer hold no session, or no result has the
+-- number `seen`, the call is refused and nothing changes.
 abbrev pub HostTakeResult : DfuSession → Bor (List ℕ) → (buffer : List ℕ) → (seen : ℕ) → Bor (List ℕ) → ℤ → DfuSession → (buffer' : List ℕ)
     → Type 0
 HostTakeResult r payload buffer seen bytes n r' buffer' = ((n ≡ pos 0) × TakeSeenResult r r' payload buffer buffer' seen bytes)
-    ⊎ ((n ≡ no_session) × RecordOrBufferIsNoSession r payload buffer × (r' ≡ r) × (buffer' ≡ buffer))
-    ⊎ ((n ≡ no_seen) × IsSessionRecord r payload buffer × (seen_at seen bytes ≡ None) × (r' ≡ r) × (buffer' ≡ buffer))
+    ⊎ ((n ≡ no_session) × RecordAndBufferHoldNoSession r payload buffer × (r' ≡ r) × (buffer' ≡ buffer))
+    ⊎ ((n ≡ no_seen) × RecordAndBufferHoldSession r payload buffer × (seen_at seen bytes ≡ None) × (r' ≡ r) × (buffer' ≡ buffer))
 
--- Result of dfu_host_abort: the session was given up. If the record belongs to no session, nothing changes.
+-- Result of dfu_host_abort: 0 if the session was given up. If the record holds no session, the call is refused and nothing changes.
 abbrev pub HostAbortResult : DfuSession → Bor (List ℕ) → ℤ → DfuSession → Type 0
-HostAbortResult r payload n r' = ((n ≡ pos 0) × AbortedRecord r r' payload) ⊎ ((n ≡ no_session) × RecordIsNoSession r payload × (r' ≡ r))
+HostAbortResult r payload n r' = ((n ≡ pos 0) × AbortedRecord r r' payload) ⊎ ((n ≡ no_session) × RecordHoldsNoSession r payload × (r' ≡ r))
 
--- Result of dfu_host_next: the record of the action says what the session does next. If the record of the session belongs to none, nothing
--- changes.
+-- Result of dfu_host_next: 0 if the record `a'` is the session's next action. If the record holds no session, the call is refused and
+-- nothing changes.
 abbrev pub HostNextResult : DfuSession → Bor (List ℕ) → ℤ → (a a' : DfuAction) → Type 0
-HostNextResult r payload n a a' = ((n ≡ pos 0) × IsNextAction r payload a') ⊎ ((n ≡ no_session) × RecordIsNoSession r payload × (a' ≡ a))
+HostNextResult r payload n a a' = ((n ≡ pos 0) × IsNextAction r payload a') ⊎ ((n ≡ no_session) × RecordHoldsNoSession r payload × (a' ≡ a))

@@ -1,10 +1,10 @@
--- Numbers with which a call on a session is refused.
+-- Numbers that a refused call on a session returns.
 use Rattle.std.specs.Prelude.{ℤ, negsuc}
 
--- A record that belongs to no session is refused with -41.
+-- -41: the record holds no session.
 abbrev pub no_session : ℤ
 no_session = negsuc 40
 
--- A number that no result has is refused with -42.
+-- -42: no result of an action has the number that the call was given.
 abbrev pub no_seen : ℤ
 no_seen = negsuc 41

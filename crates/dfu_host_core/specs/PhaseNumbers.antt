@@ -1,15 +1,15 @@
--- Phases as numbers.
+-- Phases of sessions as numbers.
 use Rattle.std.specs.Prelude.{ℕ, ◌==◌, nat_lt, if◌then◌else◌, Option, Some, None, option_map}
 use Rattle.dfu_host.specs.declared.phase.Phase.{Phase}
 use Rattle.dfu_host.specs.declared.phase.Phase.TheVariants as phase
 use Rattle.dfu_host_core.specs.ReportNumbers.{report_at}
 
--- The part with that number; None over 65,535.
+-- The part with this number; None for a number over 65,535.
 abbrev pub part_at : ℕ → Option ℕ
 part_at number = if nat_lt number 65536 then Some number else None
 
--- The phase with the number `which`, 0 to 24. `number` is its block, part or report, `more` its poll time or code. None if no phase has
--- these numbers.
+-- The phase with number `which`, 0 to 24. `number` is its block, part or report, `more` its poll time or code. None if no phase has these
+-- numbers.
 abbrev pub phase_at : (which number more : ℕ) → Option Phase
 phase_at which number more =
     if which == 0 then Some phase.Find

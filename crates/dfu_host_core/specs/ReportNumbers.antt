@@ -1,4 +1,4 @@
--- Reports as numbers.
+-- Reports of sessions as numbers.
 use Rattle.std.specs.Prelude.{ℕ, List, [], ◌∷◌, Option, Some, None, option_map, slice_index_or}
 use Rattle.std.specs.List.{slice_get}
 use Rattle.dfu_wire.specs.declared.codes.Code.{Code}
@@ -13,23 +13,22 @@ status_codes =
     code.Ok ∷ code.Target ∷ code.File ∷ code.Write ∷ code.Erase ∷ code.CheckErased ∷ code.Prog ∷ code.Verify ∷ code.Address ∷
     code.NotDone ∷ code.Firmware ∷ code.Vendor ∷ code.Usbr ∷ code.Por ∷ code.Unknown ∷ code.StalledPkt ∷ []
 
--- The status code with that number; None over 15.
+-- The status code with this number; None for a number over 15.
 abbrev pub code_at : ℕ → Option Code
 code_at number = slice_get status_codes number
 
--- The reports in the order of their numbers, 1 to 11; Refused has the code with the number `code`.
+-- Reports in the order of their numbers, 1 to 11, after None for 0; Refused has the code with number `code`, and is None if no code has it.
 abbrev reports : (code : ℕ) → List (Option Report)
 reports code =
     None ∷ Some report.Installed ∷ Some report.Unconfirmed ∷ Some report.Aborted ∷ Some report.GaveUp ∷
     option_map report.Refused (code_at code) ∷ Some report.RestartsSpent ∷ Some report.Uploaded ∷ Some report.TooManyBlocks ∷
     Some report.NoMemory ∷ Some report.Verified ∷ Some report.Different ∷ []
 
--- The report with that number; None if no report has it, or if the number of the code of Refused is no code's.
+-- The report with this number; None if no report has it, or if it is Refused and `code` is the number of no code.
 abbrev pub report_at : (number code : ℕ) → Option Report
 report_at number code = slice_index_or (reports code) number None
 
--- The number of a report, as `report_at` reads it, and the number of its code. Only Refused has a code; for the other reports the second
--- number is 0.
+-- Numbers of a report, as `report_at` reads them: its number, and the number of its code for Refused, or 0 for any other report.
 abbrev pub report_numbers : Report → ℕ × ℕ
 report_numbers report.Installed = (1, 0)
 report_numbers report.Unconfirmed = (2, 0)

@@ -1,4 +1,4 @@
--- Lists of calls on a session in C, and the host that the calls move.
+-- Lists of calls on a session in C, and their effect on the session's host.
 use Rattle.std.specs.Prelude.{◌≡◌, ◌⊎◌, ℕ, ℤ, pos, List, [], ◌∷◌, Some, None}
 use Rattle.std.specs.Borrow.{Bor}
 use Rattle.dfu_host.specs.declared.parts.Parts.{Parts}
@@ -11,7 +11,7 @@ use Rattle.dfu_host_core.specs.ReportNumbers.{report_at}
 use Rattle.dfu_host_core.specs.Actions.{ActionRecord}
 use Rattle.dfu_host_core.specs.Numbers.{no_seen}
 use Rattle.dfu_host_core.specs.SeenNumbers.{seen_at}
-use Rattle.dfu_host_core.specs.Sessions.{IsRecordWithParts, host_in}
+use Rattle.dfu_host_core.specs.Sessions.{IsRecordAndBuffer, host_in}
 use Rattle.dfu_host_core.specs.BeginCalls.{IsInitialRecord}
 use Rattle.dfu_host_core.specs.Calls.{HostTakeResult, HostAbortResult, HostNextResult}
 use Rattle.dfu_host_core.specs.declared.action.DfuAction.{DfuAction}
@@ -22,12 +22,12 @@ pub record CoreHost : Type 0 where
   pub kept : DfuSession
   pub buffer : List ℕ
 
--- The session in C is the host h, over a payload with the given bytes, wherever these are in memory.
+-- The session in C matches the host h, with a payload of these bytes at some address in memory.
 pub record CoreHostMatches (payload : List ℕ) (x : CoreHost) (h : HostState) : Type 0 where
   pub slice : Bor (List ℕ)
   pub same : slice.now ≡ payload
   pub parts : Parts
-  pub held : IsRecordWithParts x.kept slice x.buffer parts
+  pub held : IsRecordAndBuffer x.kept slice x.buffer parts
   pub is : host_in x.kept x.buffer parts ≡ h
 
 -- A call that changes a session: dfu_host_take with the number of a result and its bytes, or dfu_host_abort.
@@ -42,52 +42,53 @@ pub record HostStep : Type 0 where
   pub number : ℤ
   pub after : CoreHost
 
--- Result of a call as the call's clause says, for a payload and bytes that lie anywhere in memory.
+-- A call returned as its contract says, with the payload and the given bytes at some address in memory.
 abbrev pub HostCallResult : (payload : List ℕ) → CoreHost → HostCall → ℤ → CoreHost → Type 0
 HostCallResult payload x (CoreTakeCall seen bytes) n x' = (slice : Bor (List ℕ)) × (given : Bor (List ℕ)) × (slice.now ≡ payload)
     × (given.now ≡ bytes) × HostTakeResult x.kept slice x.buffer seen given n x'.kept x'.buffer
 HostCallResult payload x CoreAbortCall n x' = (slice : Bor (List ℕ)) × (slice.now ≡ payload) × (x'.buffer ≡ x.buffer)
     × HostAbortResult x.kept slice n x'.kept
 
--- Calls in their order, each with the record and the buffer that the one before left.
+-- The steps are calls in their order, each on the session that the call before left, from x to x'; each returned as its contract says.
 abbrev pub IsHostRun : (payload : List ℕ) → CoreHost → List HostStep → CoreHost → Type 0
 IsHostRun payload x [] x' = x' ≡ x
 IsHostRun payload x (s ∷ rest) x' =
     (s.before ≡ x) × HostCallResult payload s.before s.call s.number s.after × IsHostRun payload s.after rest x'
 
--- The host takes the result that a number and bytes say.
-pub record SeenResult (seen : ℕ) (bytes : List ℕ) (h h' : HostState) : Type 0 where
+-- By a row of its table, the host takes the result with this number and these bytes.
+pub record HostTakesSeenNumber (seen : ℕ) (bytes : List ℕ) (h h' : HostState) : Type 0 where
   pub slice : Bor (List ℕ)
   pub same : slice.now ≡ bytes
   pub word : Seen
   pub is : seen_at seen slice ≡ Some word
   pub row : HostRow h word h'
 
--- No result has the number `seen`.
+-- No result of an action has the number `seen`, with these bytes at some address.
 abbrev pub SeenNumberUnknown : (seen : ℕ) → (bytes : List ℕ) → Type 0
 SeenNumberUnknown seen bytes = (slice : Bor (List ℕ)) × (slice.now ≡ bytes) × (seen_at seen slice ≡ None)
 
--- Effect of a call on a host. The call is never refused for want of a session, and a number that no result has changes nothing.
+-- Effect of a call on a host. dfu_host_take moves it by a row of its table and returns 0, or changes nothing if no result has the number;
+-- dfu_host_abort gives it up and returns 0.
 abbrev pub HostMovesByCall : HostState → HostCall → ℤ → HostState → Type 0
-HostMovesByCall h (CoreTakeCall seen bytes) n h' = ((n ≡ pos 0) × SeenResult seen bytes h h') ⊎ ((n ≡ no_seen) × SeenNumberUnknown seen bytes × (h' ≡ h))
+HostMovesByCall h (CoreTakeCall seen bytes) n h' = ((n ≡ pos 0) × HostTakesSeenNumber seen bytes h h') ⊎ ((n ≡ no_seen) × SeenNumberUnknown seen bytes × (h' ≡ h))
 HostMovesByCall h CoreAbortCall n h' = (n ≡ pos 0) × (h' ≡ aborted_host h)
 
--- Effect of a list of calls on a host.
-pub data HostCourse : HostState → List HostStep → HostState → Type 0 where
-  stays : {h : HostState} → HostCourse h [] h
-  moves : {h mid h' : HostState} {s : HostStep} {rest : List HostStep} → HostMovesByCall h s.call s.number mid → HostCourse mid rest h'
-      → HostCourse h (s ∷ rest) h'
+-- The host h becomes h' by the calls of the steps, each of which moves the host that the call before left.
+pub data HostMoves : HostState → List HostStep → HostState → Type 0 where
+  stays : {h : HostState} → HostMoves h [] h
+  moves : {h mid h' : HostState} {s : HostStep} {rest : List HostStep} → HostMovesByCall h s.call s.number mid → HostMoves mid rest h'
+      → HostMoves h (s ∷ rest) h'
 
--- A session in C went through the steps as its host does.
-pub record SessionOfSteps (payload : List ℕ) (h : HostState) (steps : List HostStep) (x' : CoreHost) : Type 0 where
+-- After the steps, the session in C matches a host to which the calls of these steps lead from h.
+pub record SessionMatchesHostAfterSteps (payload : List ℕ) (h : HostState) (steps : List HostStep) (x' : CoreHost) : Type 0 where
   pub now : HostState
   pub is : CoreHostMatches payload x' now
-  pub goes : HostCourse h steps now
+  pub goes : HostMoves h steps now
 
--- Whatever calls come to a session in C, the session goes through them as its host does.
+-- If a session in C matches a host, then after any list of calls it matches a host that these calls lead to.
 abbrev pub CoreSessionsRefineHosts : Type 0
 CoreSessionsRefineHosts = (payload : List ℕ) (x x' : CoreHost) (h : HostState) (steps : List HostStep) → CoreHostMatches payload x h
-    → IsHostRun payload x steps x' → SessionOfSteps payload h steps x'
+    → IsHostRun payload x steps x' → SessionMatchesHostAfterSteps payload h steps x'
 
 -- The payload of the goal has the given bytes, or the goal has no payload.
 abbrev pub HasPayload : Goal → (payload : List ℕ) → Type 0
@@ -96,27 +97,27 @@ HasPayload FetchGoal payload = Unit {0}
 HasPayload (VerifyGoal p) payload = p ≡ payload
 HasPayload (CompareGoal p) payload = p ≡ payload
 
--- A session that a call has begun is the host that begins, over the bytes of the file's payload, wherever they are in memory.
-abbrev pub BeginIsInitial : Type 0
-BeginIsInitial = (payload buffer : List ℕ) (r : DfuSession) (start : HostState) → IsInitialRecord r start
+-- A session that a call has begun matches its initial host, with any buffer, if its goal has these bytes as its payload or has no payload.
+abbrev pub BegunSessionIsInitialHost : Type 0
+BegunSessionIsInitialHost = (payload buffer : List ℕ) (r : DfuSession) (start : HostState) → IsInitialRecord r start
     → HasPayload start.task.goal payload
     → CoreHostMatches payload (record { kept = r; buffer = buffer }) start
 
--- A session in C is one host.
+-- A session in C matches only one host.
 abbrev pub CoreSessionIsOneHost : Type 0
 CoreSessionIsOneHost = (payload : List ℕ) (x : CoreHost) (h h' : HostState) → CoreHostMatches payload x h →
     CoreHostMatches payload x h' → h' ≡ h
 
--- Answer of dfu_host_next for a session in C. The call is not refused, and the record of the action says what the host does. A body is cut
+-- Result of dfu_host_next for a session in C. The call is not refused, and the record of the action is the host's next action, with a body
 -- from the payload. If the record says that the session is over with a report, the host is done with that report.
-pub record NextOfHost (payload : List ℕ) (h : HostState) (n : ℤ) (a : DfuAction) : Type 0 where
+pub record IsNextActionOfHost (payload : List ℕ) (h : HostState) (n : ℤ) (a : DfuAction) : Type 0 where
   pub number : n ≡ pos 0
   pub from : ℕ
   pub tells : ActionRecord payload from (deed h.task h.phase) a
   pub report : (report : Report) → a.what ≡ 3 → report_at a.value a.code ≡ Some report → deed h.task h.phase ≡ Done report
 
--- dfu_host_next answers so for each session in C.
-abbrev pub NextOfCoreSessions : Type 0
-NextOfCoreSessions = (payload : List ℕ) (x : CoreHost) (h : HostState) (slice : Bor (List ℕ)) (n : ℤ) (a a' : DfuAction) →
+-- For every session in C that matches a host, dfu_host_next returns the host's next action, wherever the payload is in memory.
+abbrev pub NextIsHostAction : Type 0
+NextIsHostAction = (payload : List ℕ) (x : CoreHost) (h : HostState) (slice : Bor (List ℕ)) (n : ℤ) (a a' : DfuAction) →
     CoreHostMatches payload x h
-    → slice.now ≡ payload → HostNextResult x.kept slice n a a' → NextOfHost payload h n a'
+    → slice.now ≡ payload → HostNextResult x.kept slice n a a' → IsNextActionOfHost payload h n a'

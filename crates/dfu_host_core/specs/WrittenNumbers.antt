@@ -1,15 +1,15 @@
--- The numbers that the library writes for a phase.
+-- Numbers that the library writes for a phase.
 use Rattle.std.specs.Prelude.{ℕ}
 use Rattle.dfu_host.specs.declared.phase.Phase.{Phase}
 use Rattle.dfu_host.specs.declared.phase.Phase.TheVariants as phase
 use Rattle.dfu_host_core.specs.ReportNumbers.{report_numbers}
 use Rattle.dfu_host_core.specs.declared.encoded.EncodedPhase.{EncodedPhase}
 
--- The numbers of a phase: its own, that of its block, part or report, and that of its poll time or code.
+-- Numbers of a phase: its own, its block, part or report, and its poll time or code.
 abbrev encoded_phase : (which number more : ℕ) → EncodedPhase
 encoded_phase which number more = record { which = which; number = number; more = more }
 
--- The numbers of each phase, as `phase_at` reads them; a number that a phase does not need is 0.
+-- Numbers of each phase, as `phase_at` reads them; 0 for those that the phase does not need.
 abbrev pub numbers_in : Phase → EncodedPhase
 numbers_in phase.Find = encoded_phase 0 0 0
 numbers_in phase.FindAgain = encoded_phase 1 0 0

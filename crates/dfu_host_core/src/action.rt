@@ -8,12 +8,12 @@ pub struct DfuAction {
     pub what: u32,
     /// The milliseconds of a wait, or the number of a report.
     pub value: u32,
-    /// Place at which the body begins in the payload.
+    /// Offset in the payload at which the body begins.
     pub from: u64,
-    /// Length of the body in bytes.
+    /// Length in bytes of the body.
     pub length: u64,
     /// The code of the report Refused.
     pub code: u32,
-    /// The setup that is sent.
+    /// Setup of the request to send.
     pub setup: [u8; 8],
 }

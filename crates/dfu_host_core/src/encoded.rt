@@ -1,6 +1,6 @@
-//! A phase as a record keeps it.
+//! A phase as numbers, for the record of a session.
 
-/// A phase as numbers.
+/// Numbers of a phase.
 #[derive(Clone, Copy)]
 pub struct EncodedPhase {
     /// Number of the phase.

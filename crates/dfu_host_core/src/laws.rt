@@ -1,14 +1,14 @@
-//! Laws of sessions in C. Each is the contract of a function with an empty body, which is proved and not to be called.
+//! Laws of sessions in C. Each is the contract of a function with an empty body, proved and not meant to be called.
 
-ghost use Rattle.dfu_host_core.specs.Runs.{CoreSessionsRefineHosts, BeginIsInitial, CoreSessionIsOneHost, NextOfCoreSessions};
+ghost use Rattle.dfu_host_core.specs.Runs.{CoreSessionsRefineHosts, BegunSessionIsInitialHost, CoreSessionIsOneHost, NextIsHostAction};
 
-/// Any calls come to a session in C that a call has begun, each with the record and the buffer that the last call left, and with a payload
-/// of the same bytes, wherever these are in memory. The session goes through them as the host of dfu_host does, row by row. A call is
-/// refused only if no result has its number `seen`, and such a call changes nothing. A record belongs to one host. The answer of
-/// dfu_host_next is the action of that host; if it says that the session is over with a report, the host is over with that report.
+/// A call has begun a session in C, and any calls follow, each with the record and the buffer that the call before left, and with a payload
+/// of the same bytes, at any address in memory. These calls do to the session what they do to its host of dfu_host, row by row. A call is
+/// refused only if no result has its number `seen`, and then changes nothing. A record holds one host. dfu_host_next returns the action of
+/// that host; if the action says that the session is over with a report, the host is over with that report.
 pub fn core_hosts_are_hosts()
-    ensures begins { BeginIsInitial }
+    ensures begins { BegunSessionIsInitialHost }
     ensures refines { CoreSessionsRefineHosts }
     ensures one { CoreSessionIsOneHost }
-    ensures tells { NextOfCoreSessions }
+    ensures tells { NextIsHostAction }
 {}

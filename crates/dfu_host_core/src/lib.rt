@@ -1,4 +1,4 @@
-//! Base of the library of the host for C: its records, their sessions, the effects of its calls, and the laws of any list of calls.
+//! Base of the C library of the host: its records, the sessions in them, the effects of its calls, and laws of any list of calls.
 #![tactic(auto)]
 
 mod action;

@@ -4,19 +4,19 @@
 #[repr(C)]
 #[derive(Drop)]
 pub struct DfuSession {
-    /// The version of the library that wrote the record.
+    /// Version of the library that wrote the record.
     pub version: u32,
     /// Goal of the session, 1 to 4.
     pub goal: u32,
-    /// The block, the part or the report of the phase.
+    /// Block, part or report of the phase.
     pub number: u64,
-    /// Bytes that an upload keeps.
+    /// Number of bytes that an upload keeps.
     pub kept: u64,
     /// Phase of the session, 0 to 24.
     pub phase: u32,
     /// A poll time in milliseconds, or the code of a report.
     pub more: u32,
-    /// Actions that are left.
+    /// Actions left.
     pub actions: u32,
     /// Further restarts of the device that the session takes.
     pub restarts: u16,

@@ -1,4 +1,4 @@
--- Refusals of the image of a file, for C: a number, and the places that the fault names.
+-- Refusals of a call that takes an image, for C: a number, and the places that the fault names.
 use Rattle.std.specs.Prelude.{ℕ, ℤ, negsuc}
 use Rattle.dfu_formats.specs.declared.images.fault.ImageFault.{ImageFault}
 use Rattle.dfu_formats.specs.declared.images.fault.ImageFault.TheVariants as file
@@ -7,7 +7,7 @@ use Rattle.dfu_formats.specs.declared.images.making.ImageFileFault.{ImageFileFau
 use Rattle.dfu_formats.specs.declared.images.making.ImageFileFault.TheVariants.{Unread, NoData, Unlaid}
 use Rattle.dfu_image_c.specs.declared.refusals.ImageRefusal.{ImageRefusal}
 
--- The number of the fault of a file, -103 to -125.
+-- Number of each fault of a file, from -103 to -125.
 abbrev pub image_fault_number : ImageFault → ℤ
 image_fault_number file.NoMemory = negsuc 102
 image_fault_number (file.NoMark at) = negsuc 103
@@ -33,7 +33,7 @@ image_fault_number (file.TooLarge at) = negsuc 122
 image_fault_number (file.TooManyElements at) = negsuc 123
 image_fault_number (file.Overlaps address) = negsuc 124
 
--- The line, block, segment or address that the fault of a file names, or 0.
+-- The line, block, segment or address that a fault of a file names, or 0 if it names none.
 abbrev pub image_fault_place : ImageFault → ℕ
 image_fault_place file.NoMemory = 0
 image_fault_place (file.NoMark at) = at
@@ -59,8 +59,8 @@ image_fault_place (file.TooLarge at) = at
 image_fault_place (file.TooManyElements at) = at
 image_fault_place (file.Overlaps address) = address
 
--- A refusal with the number and the places of the fault. A file without bytes is -126, a gap -127, and an image that is too large, with its
--- filling, -128.
+-- Refusal of a file without an image, by the fault. A fault of the file has its number and its place. A file without bytes is -126, a gap
+-- -127, with its two ends, and an image that is too large with its filling -128. No memory for the image is -103, as for the file.
 abbrev pub image_refusal : ImageFileFault → ImageRefusal
 image_refusal (Unread fault) = record { number = image_fault_number fault; from = image_fault_place fault; to = 0 }
 image_refusal NoData = record { number = negsuc 125; from = 0; to = 0 }
@@ -68,10 +68,10 @@ image_refusal (Unlaid lay.NoMemory) = record { number = negsuc 102; from = 0; to
 image_refusal (Unlaid (lay.Gap from to)) = record { number = negsuc 126; from = from; to = to }
 image_refusal (Unlaid lay.TooLarge) = record { number = negsuc 127; from = 0; to = 0 }
 
--- A number of no format is refused with -101.
-abbrev pub no_format_number : ℤ
-no_format_number = negsuc 100
+-- Result for a format number that no format has: -101.
+abbrev pub unknown_format_number : ℤ
+unknown_format_number = negsuc 100
 
--- A room that is shorter than the image is refused with -102.
+-- Result for a room that is shorter than the image: -102.
 abbrev pub room_too_short_number : ℤ
 room_too_short_number = negsuc 101

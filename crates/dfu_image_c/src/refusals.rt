@@ -1,28 +1,28 @@
-//! Refusals of the image of a file, for C: a number, and the places that the fault names.
+//! Refusals of a call that takes an image, for C: a number, and the places that the fault names.
 
 ghost use Rattle.std.specs.Prelude.{◌≡◌};
 ghost use Rattle.dfu_image_c.specs.Refusals.{image_fault_number, image_fault_place, image_refusal};
 
 use dfu_formats::images::{ImageFault, ImageFileFault, LayFault};
 
-/// Number of the refusal if no format has the given number.
+/// Number of the refusal of a format number that no format has.
 pub(crate) const NO_FORMAT: i32 = -101;
 
-/// Number of the refusal if the room is shorter than the image.
+/// Number of the refusal of a room that is shorter than the image.
 pub(crate) const NO_ROOM: i32 = -102;
 
 /// A refusal: its number, and the places that it names, or 0.
 #[derive(Clone, Copy)]
 pub(crate) struct ImageRefusal {
-    /// The number, -103 to -129.
+    /// The number, -103 to -128.
     pub(crate) number: i32,
-    /// A line from 1, a block or segment from 0, or an address.
+    /// A line from 1, a block or segment from 0, or an address; 0 if the fault names none.
     pub(crate) from: u64,
-    /// The address of the first byte behind a gap.
+    /// The address of the first byte after a gap; 0 for any other fault.
     pub(crate) to: u64,
 }
 
-/// Returns the number of `fault`, that of a file.
+/// Returns the number of `fault`, a fault of a file.
 fn image_fault_number(fault: ImageFault) -> i32
     ensures { result ≡ image_fault_number fault }
 {
@@ -53,7 +53,7 @@ fn image_fault_number(fault: ImageFault) -> i32
     }
 }
 
-/// Returns the line, block, segment or address that `fault`, that of a file, names, or 0.
+/// Returns the line, block, segment or address that `fault`, a fault of a file, names, or 0.
 fn image_fault_place(fault: ImageFault) -> u64
     ensures { result ≡ image_fault_place fault }
 {
@@ -80,7 +80,7 @@ fn image_fault_place(fault: ImageFault) -> u64
     }
 }
 
-/// Returns the refusal of a file that makes no image because of `fault`.
+/// Returns the refusal of a file that has no image because of `fault`.
 pub(crate) fn image_refusal(fault: ImageFileFault) -> ImageRefusal
     ensures { result ≡ image_refusal fault }
 {

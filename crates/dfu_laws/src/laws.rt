@@ -91,14 +91,14 @@ pub fn boards_ask_few_times()
     steps_are_the_writes();
 }
 
-/// For all that comes to a board over a link with a host, from power on: if the host reports Installed or Verified, the payload with which
-/// its session began is the active image of the board's flash, and the board is in appIDLE. With any report, the active image is the one
-/// that it was at first, or the whole of a payload offered so far, at each step, also between two writes of a call. The bytes that come
-/// with Uploaded are the active image. All steps of the board are runs of it, so the laws above hold of them. Meanwhile marks of a trial
-/// may be set and trials may end: the image that comes back then is one of the two that were in the slots at first, or was offered. If the
-/// payload is on trial once it is in place, each start runs it until its tries are spent, or the confirmed image if the mark of the start
-/// fails; then the confirmed one comes back. In two areas operations of the copy to the first slot may come between a restart and the begin
-/// of the device, and any of them may fail, lie or be cut off.
+/// For all events of a board over a link with a host, from power on: if the host reports Installed or Verified, the payload with which its
+/// session began is the active image of the board's flash, and the board is in appIDLE. With any report, the active image is the one that
+/// it was at first, or the whole of a payload offered so far, at each step, also between two writes of a call. The bytes that come with
+/// Uploaded are the active image. All steps of the board are runs of it, so the laws above hold of them. Meanwhile marks of a trial may be
+/// set and trials may end: the image that comes back then is one of the two that were in the slots at first, or was offered. If the payload
+/// is on trial once it is in place, each start runs it until its tries are spent, or the confirmed image if the mark of the start fails;
+/// then the confirmed one comes back. In two areas operations of the copy to the first slot may come between a restart and the begin of the
+/// device, and any of them may fail, lie or be cut off.
 pub fn boards_install()
     ensures in_place { ReportMeansPayloadInPlace }
     ensures stays { ReportedTrialStays }
@@ -125,7 +125,7 @@ pub fn copies_change_no_image()
     image_stays();
 }
 
-/// As a trial ends by dfu_boot, whatever becomes of its operation, only the sector of one gate changes, and that gate was open. The laws
+/// As a trial ends by dfu_boot, only the sector of one gate changes, with any result of its operation, and that gate was open. The laws
 /// here count each such change as the end of a trial.
 pub fn ends_of_trials_close_a_gate()
     ensures { (m now : MediumState) (tries : ℕ) → TrialStepResult tries m Ends now → OpenGateWasClosed m now.bytes }
@@ -140,7 +140,7 @@ pub fn answers_are_kept()
 {}
 
 /// All steps of a board in C from power on are a run of a board, event by event, and therefore rows of the device table, with the answers
-/// that the numbers say.
+/// that the numbers give.
 pub fn core_boards_are_devices()
     ensures { CoreRunsRefineTable }
 {
@@ -160,21 +160,21 @@ pub fn core_boards_keep_an_image()
     boards_keep_an_image();
 }
 
-/// For any steps of a board in C that just got power: until a call is answered, DFU_WRITE_PENDING is returned at most `DFU_BLOCK_ERASES`
-/// plus `DFU_BLOCK_PROGRAMS` times (of the transfer size and the sector) while a block is written, and at most `DFU_COMMIT_ERASES` plus
-/// `DFU_COMMIT_PROGRAMS` times while an image is put in place. Therefore a loop that runs while the number is DFU_WRITE_PENDING ends, after
-/// at most these sums of operations.
+/// For any steps of a board in C that was just powered on: until a call is answered, DFU_WRITE_PENDING is returned at most
+/// `DFU_BLOCK_ERASES` plus `DFU_BLOCK_PROGRAMS` times (of the transfer size and the sector) while a block is written, and at most
+/// `DFU_COMMIT_ERASES` plus `DFU_COMMIT_PROGRAMS` times while an image is put in place. Therefore a loop that runs while the number is
+/// DFU_WRITE_PENDING ends, after at most these sums of operations.
 pub fn core_boards_ask_few_times()
     ensures { CoreOperationsBounded }
 {
     boards_ask_few_times();
 }
 
-/// Whatever comes to a board in C over a link with a host, from power on: if the host reports Installed or Verified, the payload with which
+/// For all events of a board in C over a link with a host, from power on: if the host reports Installed or Verified, the payload with which
 /// its session began is the active image of the flash, and dfu_core_state returns appIDLE. With any report, the active image is the one
 /// that it was at first, or the whole of a payload offered so far, at each step, also between two writes of a call. The bytes that come
 /// with Uploaded are the active image. All steps of the board are runs of it, so the laws above hold of them. Marks, ends of trials and
-/// copies of two areas may come as with a board; of a payload on trial `stays` says what runs.
+/// copies of two areas may come as with a board; for a payload on trial, `stays` says which image runs.
 pub fn core_boards_install()
     ensures in_place { CoreReportMeansInPlace }
     ensures stays { CoreReportedTrialStays }
@@ -188,7 +188,7 @@ pub fn core_boards_install()
     what_was_confirmed_runs_or_the_newest_on_trial();
 }
 
-/// Whatever becomes of the writes of a format: once dfu_core_format_took returns 0 the image is the active one of the flash, on which
+/// With any results of the writes of a format: once dfu_core_format_took returns 0 the image is the active one of the flash, on which
 /// dfu_core_power_on is not refused. A format that was broken off, by a loss of power or a fault of a write, leaves a flash which need not
 /// have an active image, and a new format may begin on it as on any other.
 pub fn core_formats_make_an_image()
@@ -196,15 +196,15 @@ pub fn core_formats_make_an_image()
     ensures anew { BrokenFormatCanRestart }
 {}
 
-/// Whatever becomes of the writes of a format: its calls return DFU_WRITE_PENDING at most `DFU_FORMAT_ERASES` plus `DFU_FORMAT_PROGRAMS`
+/// With any results of the writes of a format: its calls return DFU_WRITE_PENDING at most `DFU_FORMAT_ERASES` plus `DFU_FORMAT_PROGRAMS`
 /// times (of the image's length and the sector). Therefore the loop that carries a format out ends.
 pub fn core_formats_ask_few_times()
     ensures { FormatOperationsBounded }
 {}
 
-/// The result of dfu_core_closes for a setup agrees with dfu_core_refuse_close: where dfu_core_closes says 1 the latter returns DFU_STALL,
-/// and where it says 0, DFU_NO_CLOSE. Therefore a program that checks the image whenever dfu_core_closes says 1 can refuse each image
-/// before it is put in place.
+/// The result of dfu_core_closes for a setup agrees with dfu_core_refuse_close: if dfu_core_closes returns 1, dfu_core_refuse_close returns
+/// DFU_STALL, and if it returns 0, DFU_NO_CLOSE. Therefore a program that checks the image whenever dfu_core_closes returns 1 can refuse
+/// each image before it is put in place.
 pub fn core_closes_if_refused()
     ensures { ClosesIfRefused }
 {}

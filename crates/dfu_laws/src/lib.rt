@@ -1,6 +1,6 @@
 //! Laws of whole runs: of a board that runs a device of dfu_asks, through every call and a loss of power at any time; of the reports of a
-//! host over a link that may lose any message; of the same board with the calls in C; and of the answers of a device, beside a table of the
-//! standard that was made apart. No program calls a law.
+//! host over a link that may lose any message; of the same board with the calls in C; and of the answers of a device, against a table of
+//! the standard that was made separately. No program calls a law.
 #![tactic(auto)]
 
 mod hosts;

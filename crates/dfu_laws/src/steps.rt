@@ -7,7 +7,7 @@ ghost use Rattle.dfu_slots.specs.Medium.{Torn};
 ghost use Rattle.dfu_slots.specs.Image.{HasImage};
 ghost use Rattle.dfu_slots.specs.StoreView.{SlotsState};
 ghost use Rattle.dfu_device.specs.Borrowed.{answer_room};
-ghost use Rattle.dfu_asks.specs.Lent.{lent, SameSetup};
+ghost use Rattle.dfu_asks.specs.Lent.{lent, SameConfig};
 ghost use Rattle.dfu_asks.specs.Calls.{WritesPending};
 ghost use Rattle.dfu_asks.specs.Refused.{IsRefusedCall, ReportRefusedFor};
 ghost use Rattle.dfu_asks.specs.Mapped.{grain_of, mapped_medium};
@@ -37,7 +37,7 @@ pub fn handle(
         (board_of_parts asking.new block.new held.new flash.now) }
     ensures refused { IfErr result (λ e.
         IsRefusedCall e asking.old block.old held.old flash.now (answer_room asking.old.config) (length out.old)) }
-    ensures same { SameSetup asking.old asking.new }
+    ensures same { SameConfig asking.old asking.new }
 {
     asking.handle(block, held, flash, setup, body, out)
 }
@@ -53,7 +53,7 @@ pub fn elapse(
     ensures step { EventOutcome (board_of_parts asking.old block.old held.old flash.now) (Elapse ms) (reply_of_result result [])
         (board_of_parts asking.new block.new held.new flash.now) }
     ensures refused { IfErr result (λ e. IsRefusedCall e asking.old block.old held.old flash.now 0 0) }
-    ensures same { SameSetup asking.old asking.new }
+    ensures same { SameConfig asking.old asking.new }
 {
     asking.elapse(block, held, flash, ms)
 }
@@ -68,7 +68,7 @@ pub fn usb_reset(
     ensures step { EventOutcome (board_of_parts asking.old block.now held.now flash.now) UsbReset (reply_of_reset result)
         (board_of_parts asking.new block.now held.now flash.now) }
     ensures refused { IfErr result (λ e. IsRefusedCall e asking.old block.now held.now flash.now 0 0) }
-    ensures same { SameSetup asking.old asking.new }
+    ensures same { SameConfig asking.old asking.new }
 {
     asking.usb_reset(block, held, flash)
 }
@@ -82,7 +82,7 @@ pub fn refuse_close(
     ensures step { (block held flash : List ℕ) → EventOutcome (board_of_parts asking.old block held flash) (RefuseClose setup.now objection)
         (reply_of_close result) (board_of_parts asking.new block held flash) }
     ensures refused { IfErr result (λ e. (e ≡ Refusal.Asked) × IsSome asking.old.work) }
-    ensures same { SameSetup asking.old asking.new }
+    ensures same { SameConfig asking.old asking.new }
 {
     asking.refuse_close(setup, objection)
 }
@@ -93,12 +93,13 @@ pub fn refuse(asking: &mut Asking, objection: Objection) -> Result<(), Refusal>
         (reply_of_reset result)
         (board_of_parts asking.new block held flash) }
     ensures refused { IfErr result (λ e. (e ≡ Refusal.Asked) × IsSome asking.old.work) }
-    ensures same { SameSetup asking.old asking.new }
+    ensures same { SameConfig asking.old asking.new }
 {
     asking.refuse(objection)
 }
 
-/// `Asking::next` hands out the piece in whose range a step may change the flash, to any bytes.
+/// `Asking::next` hands out the piece in whose range a step may change the flash, to any bytes. It hands out none only if no writes are
+/// due.
 pub fn next(
     asking: &Asking,
     block: &[u8],
@@ -131,13 +132,13 @@ pub fn took(
     ensures further { PieceAdvances (board_of_parts asking.old block.now held.old flash.now) (Took failed) (reply_of_result result out.new)
         (board_of_parts asking.new block.now held.new flash.now) }
     ensures refused { IfErr result (λ e. ReportRefusedFor e (lent asking.old block.now held.old) (length out.old)) }
-    ensures same { SameSetup asking.old asking.new }
+    ensures same { SameConfig asking.old asking.new }
 {
     asking.took(block, held, flash, failed, out)
 }
 
-/// `Asking::power_on` makes a board that was just powered on and is in appIDLE, with any bytes in its memories. The flash may be what any
-/// steps left.
+/// `Asking::power_on` makes a board that was just powered on and is in appIDLE, with any bytes in its memories. The flash may be as any
+/// steps left it.
 pub fn power_on(config: Config, unit: Unit, sector: Sector, flash: &[u8]) -> Option<Asking>
     ensures on { (block held : List ℕ) → IfSome result (λ a. BoardStarts false (board_of_parts a block held flash.now)) }
     ensures step { (b : Board) (block held : List ℕ) → b.flash ≡ flash.now →

@@ -10,19 +10,19 @@ use Rattle.dfu_link.specs.ScriptRun.{blank_slots}
 pub blank_medium_is_blank_slots : (w : Grain) (n len : ℕ) → len ≡ 2 * (2 * gate_room w + n) → blank_medium w len ≡ blank_slots w n
 blank_medium_is_blank_slots w n len is = λ i. blank_medium w (is i)
 
--- Length of a blank medium: twice a gate, a header and the room for an image.
-blank_slots_length : (w : Grain) (n : ℕ) → length (blank_slots w n).bytes ≡ 2 * (2 * gate_room w + n)
-blank_slots_length w n = length-replicate {A = ℕ} (2 * (2 * gate_room w + n)) 255
+-- A blank medium is as long as two slots, each with a gate, a header and the room for an image.
+blank_slots_have_length : (w : Grain) (n : ℕ) → length (blank_slots w n).bytes ≡ 2 * (2 * gate_room w + n)
+blank_slots_have_length w n = length-replicate {A = ℕ} (2 * (2 * gate_room w + n)) 255
 
 -- Each slot of a blank medium has room for n bytes.
-pub blank_slots_capacity : (w : Grain) (n : ℕ) → capacity_of (blank_slots w n) ≡ n
-blank_slots_capacity w n = omega (arith, blank_slots_length w n)
+pub blank_slots_have_capacity : (w : Grain) (n : ℕ) → capacity_of (blank_slots w n) ≡ n
+blank_slots_have_capacity w n = omega (arith, blank_slots_have_length w n)
 
 -- Two slots fit on a blank medium whose room is whole and within the bounds.
 pub blank_slots_are_sized : (w : Grain) (n : ℕ) → 1 ≤ n → n ≤ 1048576 → IsWhole w n → IsSizedMedium (blank_slots w n)
 blank_slots_are_sized w n some most whole = record {
-  even = omega (arith, blank_slots_length w n);
-  room = omega (arith, blank_slots_length w n, some);
-  bound = omega (arith, blank_slots_length w n, most);
-  whole = subst (λ (k : ℕ). IsWhole w k) (sym (blank_slots_capacity w n)) whole;
+  even = omega (arith, blank_slots_have_length w n);
+  room = omega (arith, blank_slots_have_length w n, some);
+  bound = omega (arith, blank_slots_have_length w n, most);
+  whole = subst (λ (k : ℕ). IsWhole w k) (sym (blank_slots_have_capacity w n)) whole;
 }

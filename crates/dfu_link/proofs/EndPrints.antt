@@ -1,4 +1,4 @@
--- The text of a script follows from how the script ended, because each event keeps the headline.
+-- The written text follows from the script's ending, because each event keeps the headline.
 use Rattle.std.proofs.Common.{◌≡◌, inl, inr, ℕ, List, [], ◌∷◌, ◌++◌, map, Option, Some, None, Result, Ok, Err, refl, sym, ap, ◌∙◌, subst}
 use Rattle.std.proofs.lemmas.List.{map-append}
 use Rattle.std.specs.Prelude.{◌+◌, IfSome, replicate, unwrap_or}
@@ -24,17 +24,17 @@ use Rattle.dfu_sim.specs.SessionStarts.{sessions_after_event}
 use Rattle.dfu_link.specs.Texts.{uploaded_line, outcome_line, answer_line, refusal_line}
 use Rattle.dfu_link.specs.LineContent.{LineContent, Does, Go, GoesOn, Show}
 use Rattle.dfu_link.specs.Lines.{line_of}
-use Rattle.dfu_link.specs.ScriptRun.{Settings, initial_settings, link_at_rest, ScriptPoint, initial_point, checked_event, EventsPlayed, no_event_played, event_played_next, LineActs, skips, acts_by_limits, plays, goes_on, shows, expects, LinesRun, stays, line_runs_next, SetsUp, DeviceStarts, WroteRun, blank_slots}
-use Rattle.dfu_link.specs.Falls.{StopsInLine, in_events as breaks_in_events, stops_in_until_report as breaks_in_passes, stops_in_show as breaks_in_show, NextLineFails, ScriptFails, no_memory, fails_in_setting, at_start, in_run, ScriptEnding}
-use Rattle.dfu_link.specs.Printed.{IsKnownImage, LineEffect, Events, effect_of_line, report_text, EventsPrint, no_event, refused_event_prints_next, LinePrints, prints_nothing, prints_events, prints_passes, prints_image, LinesPrint, no_lines_print, line_prints_next, StartsWith, TextPrints, WrotePrinted, PartPrints, part_of_nothing, in_events, part_of_line_text, part_of_image_line, StopsPrinted, stopped_before_start, stopped_after_start, HasPrinted}
+use Rattle.dfu_link.specs.ScriptRun.{Settings, initial_settings, link_at_rest, ScriptPoint, initial_point, checked_event, EventsPlayed, no_event_played, event_played_next, LineActs, skips, acts_by_limits, plays, goes_on, shows, expects, LinesRun, stays, line_runs_next, IsPrologue, DeviceStarts, RunIsOut, blank_slots}
+use Rattle.dfu_link.specs.Falls.{PrintingStops, in_events as breaks_in_events, stops_in_until_report as breaks_in_passes, stops_in_show as breaks_in_show, NextLineFails, ScriptFails, no_memory, fails_in_setting, start_fails, run_fails, ScriptEnding}
+use Rattle.dfu_link.specs.Printed.{IsKnownImage, LineEffect, Events, effect_of_line, report_text, EventsPrint, no_event, refused_event_prints_next, LinePrints, prints_nothing, prints_events, prints_passes, prints_image, LinesPrint, no_lines_print, line_prints_next, IsStartPoint, TextPrints, WholeIsPrinted, PartPrints, part_of_nothing, in_events, part_of_line_text, part_of_image_line, PartIsPrinted, stopped_before_start, stopped_after_start, HasPrinted}
 use Rattle.dfu_link.proofs.LineBrings.{effect_of_content, line_effect_is_content_effect}
 use Rattle.dfu_link.proofs.PrintedTexts.{Refusal, refusal, state_words, state_words_are_one_line}
-use Rattle.dfu_link.proofs.Printing.{session_of_event, session_of_checked_event, sessions_of_line_events, one_more_event_prints, settings_lines_keep_given, settings_lines_before_start, start_before_next_line}
-use Rattle.dfu_link.proofs.PlayLaws.{replicate_one_more_at_end}
+use Rattle.dfu_link.proofs.Printing.{session_of_event, check_keeps_session, line_events_begin_sessions, one_more_event_prints, settings_lines_keep_given, settings_lines_precede, start_precedes_next_line}
+use Rattle.dfu_link.proofs.PlayLaws.{one_more_copy_is_at_end}
 use Rattle.dfu_sim.proofs.Steady.{machines_follow_event_result, uploads_are_active, rest_is_steady}
 use Rattle.dfu_sim.proofs.HeadlineKept.{event_keeps_headline, headline_at_start}
 
--- Facts that a script keeps at each point: the headline holds of the bench, with the last report, and the bench is steady.
+-- Facts that hold at each point of a script: the headline holds of the link, with some last report or none, and the link is steady.
 record Keeps (factory : List ℕ) (past : List SessionBeginning) (b : LinkView) : Type 0 where
   pub steady : IsSteadyLink b
   pub report : Option Report
@@ -53,7 +53,7 @@ shown_image_is_known shown {factory = factory} {past = past} {b = b} keeps =
     subst (λ (image : List ℕ). IsKnownImage factory past b image) (shown_image_is_headline_image shown keeps.holds)
     (record { active = keeps.holds.says.active; known = keeps.holds.says.known })
 
--- The text of a report is the line of the answer.
+-- If Uploaded comes with the bytes of the image, the text of a report, or of none, is the line of the answer.
 report_text_is_outcome_line : (report : Option Report) (gave : Option (List ℕ)) (image shows_image : List ℕ) → (report ≡ Some Uploaded →
     gave ≡ Some shows_image)
     → image ≡ shows_image → report_text report image ≡ outcome_line (Ok report) (unwrap_or gave [])
@@ -62,7 +62,7 @@ report_text_is_outcome_line (Some Uploaded) gave image shows_image gives e =
     ap uploaded_line (e ∙ ap (λ (x : Option (List ℕ)). unwrap_or x []) (sym (gives refl)))
 report_text_is_outcome_line (Some report) gave image shows_image gives e = refl
 
--- Events.
+-- After the events, the facts of a point hold, and the text of the events is as the headline allows.
 
 record HeadlineAfterEvents (factory : List ℕ) (past : List SessionBeginning) (b : LinkView) (hs : List Happening) (out : List ℕ)
     (b' : LinkView) : Type 0 where
@@ -70,11 +70,11 @@ record HeadlineAfterEvents (factory : List ℕ) (past : List SessionBeginning) (
   pub keeps : Keeps factory past' b'
   pub prints : EventsPrint factory past b (map session_of_event hs) out past' b'
 
-headline_after_next_event : BenchImageIsActive → {factory : List ℕ} {past : List SessionBeginning} {b c c' : LinkView} {hs : List Happening}
+next_event_keeps_headline : BenchImageIsActive → {factory : List ℕ} {past : List SessionBeginning} {b c c' : LinkView} {hs : List Happening}
     {out : List ℕ} {h : Happening}
     {answer : Result Answered LinkFault} → HeadlineAfterEvents factory past b hs out c → EventResult c h c' answer → BenchMatchesFlash c'
     → HeadlineAfterEvents factory past b (hs ++ h ∷ []) (out ++ answer_line answer) c'
-headline_after_next_event shown {factory = factory} {past = past} {b = b} {c = c} {hs = hs} {out = out} {h = h} rest (refuses {fault =
+next_event_keeps_headline shown {factory = factory} {past = past} {b = b} {c = c} {hs = hs} {out = out} {h = h} rest (refuses {fault =
     fault} why) active =
     let why : Refusal fault = refusal fault in
     record {
@@ -87,7 +87,7 @@ headline_after_next_event shown {factory = factory} {past = past} {b = b} {c = c
           ++ text) rest.past' c)
           (sym why.is) (refused_event_prints_next (session_of_event h) why.reason rest.prints why.reason_is_one_line));
     }
-headline_after_next_event shown {factory = factory} {past = past} {b = b} {c = c} {c' = c'} {hs = hs} {out = out} {h = h} rest
+next_event_keeps_headline shown {factory = factory} {past = past} {b = b} {c = c} {c' = c'} {hs = hs} {out = out} {h = h} rest
     (happens {event = event} {answer = answer} means play) active =
     let comes : EventResult c h c' (Ok answer) = happens means play in
     let after = uploads_are_active c c' h answer rest.keeps.steady comes in
@@ -105,13 +105,13 @@ headline_after_next_event shown {factory = factory} {past = past} {b = b} {c = c
           (one_more_event_prints h rest.prints k));
     }
 
-headline_after_events : BenchImageIsActive → {factory : List ℕ} {past : List SessionBeginning} {check : List ℕ} {b b' : LinkView}
+events_keep_headline : BenchImageIsActive → {factory : List ℕ} {past : List SessionBeginning} {check : List ℕ} {b b' : LinkView}
     {hs : List Happening} {out : List ℕ}
     → Keeps factory past b → EventsPlayed check b hs out b' → HeadlineAfterEvents factory past b hs out b'
-headline_after_events shown {past = past} keeps no_event_played = record { past' = past; keeps = keeps; prints = no_event }
-headline_after_events shown {factory = factory} {past = past} {check = check} {b = b} {b' = b'} keeps
+events_keep_headline shown {past = past} keeps no_event_played = record { past' = past; keeps = keeps; prints = no_event }
+events_keep_headline shown {factory = factory} {past = past} {check = check} {b = b} {b' = b'} keeps
     (event_played_next {c = c} {events = hs} {out = out} {answer = answer} h more one active) =
-    let kept = headline_after_next_event shown (headline_after_events shown keeps more) one active in
+    let kept = next_event_keeps_headline shown (events_keep_headline shown keeps more) one active in
     record {
       past' = kept.past';
       keeps = kept.keeps;
@@ -119,10 +119,10 @@ headline_after_events shown {factory = factory} {past = past} {check = check} {b
           subst (λ (events : List (Option SessionBeginning)). EventsPrint factory past b events (out ++ answer_line answer) kept.past' b')
           (map-append session_of_event hs (checked_event check c h ∷ [])
           ∙ ap (λ (x : Option SessionBeginning). map session_of_event hs ++ x ∷ [])
-          (session_of_checked_event check c h) ∙ sym (map-append session_of_event hs (h ∷ []))) kept.prints;
+          (check_keeps_session check c h) ∙ sym (map-append session_of_event hs (h ∷ []))) kept.prints;
     }
 
--- Lines.
+-- After the line, the facts of a point hold, and the text of the line is as the headline allows.
 
 record HeadlineAfterLine (factory : List ℕ) (past : List SessionBeginning) (p : ScriptPoint) (said : LineContent) (out : List ℕ)
     (p' : ScriptPoint) : Type 0 where
@@ -131,42 +131,42 @@ record HeadlineAfterLine (factory : List ℕ) (past : List SessionBeginning) (p 
   pub prints : LinePrints factory past p.at (effect_of_content said) out past' p'.at
   pub given : p'.given ≡ p.given
 
-headline_after_line : BenchImageIsActive → {factory : List ℕ} {past : List SessionBeginning} {k : ℕ} {p p' : ScriptPoint} {said :
+line_keeps_headline : BenchImageIsActive → {factory : List ℕ} {past : List SessionBeginning} {k : ℕ} {p p' : ScriptPoint} {said :
     LineContent}
     {out : List ℕ}
     → Keeps factory past p.at → LineActs k p said out p' → HeadlineAfterLine factory past p said out p'
-headline_after_line shown {past = past} keeps skips = record { past' = past; keeps = keeps; prints = prints_nothing; given = refl }
-headline_after_line shown {past = past} keeps acts_by_limits = record { past' = past; keeps = keeps; prints = prints_nothing; given = refl }
-headline_after_line shown {factory = factory} {past = past} {p = p} keeps (plays {events = events} {b = b} {out = out} come meets) =
-    let all = headline_after_events shown keeps come in
+line_keeps_headline shown {past = past} keeps skips = record { past' = past; keeps = keeps; prints = prints_nothing; given = refl }
+line_keeps_headline shown {past = past} keeps acts_by_limits = record { past' = past; keeps = keeps; prints = prints_nothing; given = refl }
+line_keeps_headline shown {factory = factory} {past = past} {p = p} keeps (plays {events = events} {b = b} {out = out} come meets) =
+    let all = events_keep_headline shown keeps come in
     record {
       past' = all.past';
       keeps = all.keeps;
       prints = prints_events (subst (λ (sessions : List (Option SessionBeginning)). EventsPrint factory past p.at sessions out all.past' b)
-          (sessions_of_line_events p.limits events) all.prints);
+          (line_events_begin_sessions p.limits events) all.prints);
       given = refl;
     }
-headline_after_line shown {factory = factory} {past = past} {p = p} keeps (goes_on {b = b} {answer = answer} times silent last active some
+line_keeps_headline shown {factory = factory} {past = past} {p = p} keeps (goes_on {b = b} {answer = answer} times silent last active some
     meets) =
     let come : EventsPlayed p.check p.at (replicate (times + 1) (Goes Pass no_write_harmed)) (answer_line answer) b = subst
-    (λ (hs : List Happening). EventsPlayed p.check p.at hs (answer_line answer) b) (sym (replicate_one_more_at_end times (Goes Pass
+    (λ (hs : List Happening). EventsPlayed p.check p.at hs (answer_line answer) b) (sym (one_more_copy_is_at_end times (Goes Pass
     no_write_harmed)))
     (event_played_next (Goes Pass no_write_harmed) silent last active) in
-    let all = headline_after_events shown keeps come in
+    let all = events_keep_headline shown keeps come in
     record {
       past' = all.past';
       keeps = all.keeps;
       prints = prints_passes (times + 1) (subst (λ (sessions : List (Option SessionBeginning)). EventsPrint factory past p.at sessions
-          (answer_line answer) all.past' b) (sessions_of_line_events p.limits (Go Pass no_write_harmed (times + 1))) all.prints);
+          (answer_line answer) all.past' b) (line_events_begin_sessions p.limits (Go Pass no_write_harmed (times + 1))) all.prints);
       given = refl;
     }
-headline_after_line shown {past = past} {p = p} keeps (shows meets) = record {
+line_keeps_headline shown {past = past} {p = p} keeps (shows meets) = record {
   past' = past;
   keeps = keeps;
   prints = prints_image (state_words p.at.device) (state_words_are_one_line p.at.device) (shown_image_is_known shown keeps);
   given = refl;
 }
-headline_after_line shown {past = past} keeps (expects free) = record {
+line_keeps_headline shown {past = past} keeps (expects free) = record {
   past' = past;
   keeps = keeps;
   prints = prints_events no_event;
@@ -189,14 +189,14 @@ record HeadlineAfterLines (factory : List ℕ) (past : List SessionBeginning) (p
   pub prints : LinesPrint p.given factory past p.at lines out past' p'.at
   pub given : p'.given ≡ p.given
 
-headline_after_lines : BenchImageIsActive → {factory : List ℕ} {past : List SessionBeginning} {k : ℕ} {p p' : ScriptPoint} {lines : List
+lines_keep_headline : BenchImageIsActive → {factory : List ℕ} {past : List SessionBeginning} {k : ℕ} {p p' : ScriptPoint} {lines : List
     (List ℕ)}
     {out : List ℕ}
     → Keeps factory past p.at → LinesRun k p lines out p' → HeadlineAfterLines factory past p lines out p'
-headline_after_lines shown {past = past} keeps stays = record { past' = past; keeps = keeps; prints = no_lines_print; given = refl }
-headline_after_lines shown {p = p} keeps (line_runs_next line {said = said} more is acts) =
-    let rest = headline_after_lines shown keeps more in
-    let next = headline_after_line shown rest.keeps acts in
+lines_keep_headline shown {past = past} keeps stays = record { past' = past; keeps = keeps; prints = no_lines_print; given = refl }
+lines_keep_headline shown {p = p} keeps (line_runs_next line {said = said} more is acts) =
+    let rest = lines_keep_headline shown keeps more in
+    let next = line_keeps_headline shown rest.keeps acts in
     record {
       past' = next.past';
       keeps = next.keeps;
@@ -205,50 +205,52 @@ headline_after_lines shown {p = p} keeps (line_runs_next line {said = said} more
       given = next.given ∙ rest.given;
     }
 
--- The start of a device.
+-- The headline holds when the device has started, with no session and no report.
 
-headline_at_device_start : {settings : Settings} {first : DeviceView} → DeviceStarts settings first
+headline_holds_at_start : {settings : Settings} {first : DeviceView} → DeviceStarts settings first
     → HeadlineInvariant settings.image [] None (link_at_rest first)
-headline_at_device_start {settings = settings} {first = first} starts = headline_at_start (link_at_rest first) settings.image starts.active
+headline_holds_at_start {settings = settings} {first = first} starts = headline_at_start (link_at_rest first) settings.image starts.active
     refl
     (λ x waits. subst (λ (s : Stage). IsWaiting s x) starts.stage waits)
 
-link_invariant_at_device_start : {settings : Settings} {first : DeviceView} → DeviceStarts settings first →
+facts_hold_at_device_start : {settings : Settings} {first : DeviceView} → DeviceStarts settings first →
     Keeps settings.image [] (link_at_rest first)
-link_invariant_at_device_start {settings = settings} {first = first} starts = record {
+facts_hold_at_device_start {settings = settings} {first = first} starts = record {
   steady = rest_is_steady first (whole_fuse_after_writes (blank_slots settings.grain settings.capacity) first.slots.medium
       (format_series (blank_slots settings.grain settings.capacity) settings.image) refl starts.formatted);
   report = None;
-  holds = headline_at_device_start starts;
+  holds = headline_holds_at_start starts;
 }
 
 whole_text_prints : BenchImageIsActive → {g : Option (List ℕ)} {text : List ℕ} {settings : Settings} {after done : List (List ℕ)} {first :
     DeviceView}
-    {out : List ℕ} {end : ScriptPoint} → SetsUp g text settings after → DeviceStarts settings first
+    {out : List ℕ} {end : ScriptPoint} → IsPrologue g text settings after → DeviceStarts settings first
     → (all : HeadlineAfterLines settings.image [] (initial_point settings (link_at_rest first)) done out end)
     → TextPrints g text after done out all.past' end.at (image_of end.at.device.slots)
-whole_text_prints shown {g = g} {settings = settings} {after = after} {done = done} {first = first} {out = out} {end = end} sets_up starts
+whole_text_prints shown {g = g} {settings = settings} {after = after} {done = done} {first = first} {out = out}
+    {end = end} lines_before_start_set_up_device starts
     all =
     let factory = settings.image in
-    let kept : settings.given ≡ g = settings_lines_keep_given sets_up.prepares in
+    let kept : settings.given ≡ g = settings_lines_keep_given lines_before_start_set_up_device.prepares in
     record {
       factory = factory;
-      starts = subst (λ (lines : List (List ℕ)). StartsWith g (initial_settings g).image lines after factory) (sym sets_up.split)
-          (settings_lines_before_start sets_up.prepares
-          (subst (λ (x : Option (List ℕ)). StartsWith x factory after after factory) kept
-          (start_before_next_line settings factory after sets_up.ready)));
+      starts = subst (λ (lines : List (List ℕ)). IsStartPoint g (initial_settings g).image lines after factory)
+          (sym lines_before_start_set_up_device.split)
+          (settings_lines_precede lines_before_start_set_up_device.prepares
+          (subst (λ (x : Option (List ℕ)). IsStartPoint x factory after after factory) kept
+          (start_precedes_next_line settings factory after lines_before_start_set_up_device.ready)));
       first = first;
-      holds = headline_at_device_start starts;
+      holds = headline_holds_at_start starts;
       lines = subst (λ (x : Option (List ℕ)). LinesPrint x factory [] (link_at_rest first) done out all.past' end.at) kept all.prints;
       known = shown_image_is_known shown all.keeps;
     }
 
 -- A script that ran whole has printed its text.
-script_run_prints : BenchImageIsActive → {g : Option (List ℕ)} {text : List ℕ} {old new : Option (List ℕ)} → WroteRun g text old new
-    → WrotePrinted g text old new
+script_run_prints : BenchImageIsActive → {g : Option (List ℕ)} {text : List ℕ} {old new : Option (List ℕ)} → RunIsOut g text old new
+    → WholeIsPrinted g text old new
 script_run_prints shown {old = old} {new = new} wrote =
     let run = wrote.run in
-    let all = headline_after_lines shown {p = initial_point run.settings (link_at_rest run.first)} (link_invariant_at_device_start
+    let all = lines_keep_headline shown {p = initial_point run.settings (link_at_rest run.first)} (facts_hold_at_device_start
     run.starts) run.runs in
     record {
       after = run.after;
@@ -256,25 +258,25 @@ script_run_prints shown {old = old} {new = new} wrote =
       past = all.past';
       end = run.end.at;
       image = image_of run.end.at.device.slots;
-      prints = whole_text_prints shown run.sets_up run.starts all;
+      prints = whole_text_prints shown run.lines_before_start_set_up_device run.starts all;
       told = subst (λ (out : List ℕ). Appends old new out) run.out_is wrote.told;
     }
 
--- A script that stops.
+-- A line in which the printing stops has printed a part of its text.
 
 stopped_line_prints_part : BenchImageIsActive → {factory : List ℕ} {past : List SessionBeginning} {p : ScriptPoint} {line : List ℕ} {lines
     : List
     (List ℕ)}
-    {old new : Option (List ℕ)} {fault : ScriptFault} {image : List ℕ} → Keeps factory past p.at → StopsInLine p line old new fault
+    {old new : Option (List ℕ)} {fault : ScriptFault} {image : List ℕ} → Keeps factory past p.at → PrintingStops p line old new fault
     → PartPrints p.given factory past p.at image (line ∷ lines) old new
 stopped_line_prints_part shown {p = p} {line = line} keeps (breaks_in_events {events = events} says broken) =
-    let all = headline_after_events shown keeps broken.plays in
-    let same = sym (sessions_of_line_events p.limits events) ∙ ap (map session_of_event) broken.split
+    let all = events_keep_headline shown keeps broken.plays in
+    let same = sym (line_events_begin_sessions p.limits events) ∙ ap (map session_of_event) broken.split
     ∙ map-append session_of_event broken.events_played_before broken.left in
     in_events (map session_of_event broken.left) (line_effect_is_content_effect p.given line (Does events) says
     ∙ ap Events same) all.prints broken.broken_text_in_part
 stopped_line_prints_part shown {p = p} {line = line} keeps (breaks_in_passes says acts broken_text_in_part fails) =
-    part_of_line_text (told p.given line GoesOn says (headline_after_line shown {p = record p { next = None }} keeps acts).prints)
+    part_of_line_text (told p.given line GoesOn says (line_keeps_headline shown {p = record p { next = None }} keeps acts).prints)
     broken_text_in_part
 stopped_line_prints_part shown {p = p} {line = line} keeps (breaks_in_show says broken_text_in_part fails) =
     part_of_line_text (told p.given line Show says
@@ -310,21 +312,22 @@ failed_line_prints_part shown p k [] old new (NonePrinted n) keeps (fails, broke
 failed_line_prints_part shown p k [] old new BadConfig keeps (fails, broken_text_in_part) = part_of_image_line broken_text_in_part
 
 failed_script_prints_part : BenchImageIsActive → {g : Option (List ℕ)} {text : List ℕ} {old new : Option (List ℕ)} {fault : ScriptFault}
-    → ScriptFails g text old new fault → StopsPrinted g text old new
+    → ScriptFails g text old new fault → PartIsPrinted g text old new
 unfolding whole_text_prints
 failed_script_prints_part shown (no_memory e) = stopped_before_start e
 failed_script_prints_part shown (fails_in_setting falls e) = stopped_before_start e
-failed_script_prints_part shown (at_start sets_up cannot there e) = stopped_before_start e
-failed_script_prints_part shown {g = g} {new = new} (in_run {settings = settings} {first = first} {fault = fault} sets_up starts falls
+failed_script_prints_part shown (start_fails lines_before_start_set_up_device cannot there e) = stopped_before_start e
+failed_script_prints_part shown {g = g} {new = new}
+    (run_fails {settings = settings} {first = first} {fault = fault} lines_before_start_set_up_device starts falls
     there) =
-    let all = headline_after_lines shown {p = initial_point settings (link_at_rest first)} (link_invariant_at_device_start starts)
+    let all = lines_keep_headline shown {p = initial_point settings (link_at_rest first)} (facts_hold_at_device_start starts)
     falls.runs in
-    let kept : falls.end.given ≡ g = all.given ∙ settings_lines_keep_given sets_up.prepares in
-    stopped_after_start (whole_text_prints shown sets_up starts all) falls.split falls.told
+    let kept : falls.end.given ≡ g = all.given ∙ settings_lines_keep_given lines_before_start_set_up_device.prepares in
+    stopped_after_start (whole_text_prints shown lines_before_start_set_up_device starts all) falls.split falls.told
     (subst (λ (x : Option (List ℕ)). PartPrints x settings.image all.past' falls.end.at (image_of falls.end.at.device.slots) falls.rest
     falls.mid new) kept (failed_line_prints_part shown falls.end _ falls.rest falls.mid new fault all.keeps falls.falls))
 
--- What is printed follows from how the script ended.
+-- If the read text is known, the printed text follows from the script's ending.
 pub ended_script_has_printed : BenchImageIsActive → (g given : Option (List ℕ)) (old new : Option (List ℕ)) (r : Result Unit ScriptFault)
     → IfSome given (λ text. ScriptEnding g text old new r) → IfSome given (λ text. HasPrinted g text old new r)
 ended_script_has_printed shown g None old new r end = tt

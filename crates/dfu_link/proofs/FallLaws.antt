@@ -1,23 +1,23 @@
--- Scripts that fail in a line, after the lines before it were done.
+-- Scripts that fail in a line or at their end, after the lines before that were done.
 use Rattle.std.proofs.Common.{◌≡◌, ℕ, ◌+◌, List, [], ◌∷◌, Option, Some, None, Err, inl, inr, refl, sym, ◌∙◌, subst, arith}
 use Rattle.std.specs.Prelude.{IfSome}
 use Rattle.std.specs.Io.KnownBytes.{IsAtEnd}
-use Rattle.dfu_suffix.specs.Writing.{IsOutInPart}
+use Rattle.dfu_suffix.specs.Writing.{IsPartlyWritten}
 use Rattle.dfu_link.specs.Texts.{image_line}
 use Rattle.dfu_link.specs.Words.{lines_of}
 use Rattle.dfu_link.specs.Lines.{line_of}
 use Rattle.dfu_link.specs.ScriptRun.{ScriptPoint}
 use Rattle.dfu_sim.specs.LinkView.{NoLiveSession}
 use Rattle.dfu_link.specs.LineContent.{Does, EventLine, HasTear}
-use Rattle.dfu_link.specs.Expecting.{Expectation, FailsToPrint}
-use Rattle.dfu_link.specs.Falls.{StopsInLine, in_events, stops_in_until_report, stops_in_show, needs_file_memory, needs_tear_memory, LineFails, NextLineFails}
+use Rattle.dfu_link.specs.Expecting.{Expectation, IsPrintFault}
+use Rattle.dfu_link.specs.Falls.{PrintingStops, in_events, stops_in_until_report, stops_in_show, needs_file_memory, needs_tear_memory, LineFails, NextLineFails}
 use Rattle.dfu_link.specs.TextLimit.{ExceedsLimit, ReadingIsStopped, NoLineRead}
-use Rattle.dfu_link.specs.inside.Expected.{PrintsNext}
-use Rattle.dfu_link.specs.inside.Source.{SourceState, LinesReadFrom, SourceLine, StopsSource}
-use Rattle.dfu_link.specs.inside.Moving.{LinesDone, MovesThenFails, NoRoomForFile}
+use Rattle.dfu_link.specs.inside.Expected.{PrintEnds}
+use Rattle.dfu_link.specs.inside.Source.{SourceState, LinesReadFrom, SourceLine, SourceStops}
+use Rattle.dfu_link.specs.inside.Moving.{LinesDone, LinesDoneThenFailure, NoRoomForFile}
 use Rattle.dfu_link.specs.declared.scripting.fault.ScriptFault.{ScriptFault}
 use Rattle.dfu_link.specs.declared.scripting.fault.ScriptFault.TheVariants.{BadLine, LateConfig, Expected, NonePrinted, TooLarge, NoMemory, Read, Write}
-use Rattle.dfu_link.proofs.MoveLaws.{lines_done_in_turn}
+use Rattle.dfu_link.proofs.MoveLaws.{lines_done_join}
 
 -- A line that fails within the limit of the text stops the reading.
 failed_line_stops_reading : (p : ScriptPoint) (k room : ℕ) (line left : List ℕ) (old new : Option (List ℕ)) (f : ScriptFault) →
@@ -31,18 +31,19 @@ failed_line_stops_reading p k room line left old new (Expected n) ends falls = e
 failed_line_stops_reading p k room line left old new (NonePrinted n) ends falls = ends
 failed_line_stops_reading p k room line left old new f ends falls = absurd falls
 
--- If the first of the lines fails, the script fails next.
-failed_line_is_next : (p : ScriptPoint) (k : ℕ) (line : List ℕ) (lines : List (List ℕ)) (old new : Option (List ℕ)) (f : ScriptFault)
+-- If the first of the lines fails, the script fails at its next line with that fault.
+failed_line_fails_script_next : (p : ScriptPoint) (k : ℕ) (line : List ℕ) (lines : List (List ℕ)) (old new : Option (List ℕ))
+    (f : ScriptFault)
     → LineFails p k line old new f → NextLineFails p k (line ∷ lines) old new f
-failed_line_is_next p k line lines old new (BadLine n) falls = falls
-failed_line_is_next p k line lines old new (LateConfig n) falls = falls
-failed_line_is_next p k line lines old new NoMemory falls = falls
-failed_line_is_next p k line lines old new Write falls = falls
-failed_line_is_next p k line lines old new (Expected n) falls = falls
-failed_line_is_next p k line lines old new (NonePrinted n) falls = falls
-failed_line_is_next p k line lines old new f falls = absurd falls
+failed_line_fails_script_next p k line lines old new (BadLine n) falls = falls
+failed_line_fails_script_next p k line lines old new (LateConfig n) falls = falls
+failed_line_fails_script_next p k line lines old new NoMemory falls = falls
+failed_line_fails_script_next p k line lines old new Write falls = falls
+failed_line_fails_script_next p k line lines old new (Expected n) falls = falls
+failed_line_fails_script_next p k line lines old new (NonePrinted n) falls = falls
+failed_line_fails_script_next p k line lines old new f falls = absurd falls
 
--- If a line that was read fails, the script fails in its text.
+-- If a line that was read within the limit fails, the script fails at the line with its number.
 read_line_fails_in_text : (p : ScriptPoint) (a b : Option (List ℕ)) (room room' k n : ℕ) (line : List ℕ) (old new : Option (List ℕ)) (f :
     ScriptFault)
     → LinesReadFrom a room (line ∷ []) b room' → IfSome a (λ left. ¬ ExceedsLimit room left) → n ≡ k → LineFails p n line old new f
@@ -51,7 +52,7 @@ read_line_fails_in_text p None b room room' k n line old new f took ends is fall
 read_line_fails_in_text p (Some a) None room room' k n line old new f took ends is falls = absurd took
 read_line_fails_in_text p (Some a) (Some b) room room' k n line old new f took ends is falls =
     let there : NextLineFails p k (line ∷ lines_of b) old new f =
-    failed_line_is_next p k line (lines_of b) old new f (subst (λ (x : ℕ). LineFails p x line old new f) is falls) in (
+    failed_line_fails_script_next p k line (lines_of b) old new f (subst (λ (x : ℕ). LineFails p x line old new f) is falls) in (
       failed_line_stops_reading p n room line a old new f ends falls,
       subst (λ (ls : List (List ℕ)). NextLineFails p k ls old new f) (sym
           took.are) there,
@@ -61,7 +62,7 @@ read_line_fails_in_text p (Some a) (Some b) room room' k n line old new f took e
 pub source_line_fails_after_moves : {p q : ScriptPoint} {s t u : SourceState} {old mid new : Option (List ℕ)} {n : ℕ} {line : List ℕ} {f :
     ScriptFault}
     → LinesDone p s old q t mid → SourceLine t u → n ≡ u.number → line ≡ u.line → LineFails q n line mid new f
-    → MovesThenFails p s old new f
+    → LinesDoneThenFailure p s old new f
 source_line_fails_after_moves {q = q} {t = t} {u = u} {mid = mid} {new = new} {n = n} {f = f} m given at is falls = record {
   to = q;
   at = t;
@@ -75,7 +76,7 @@ source_line_fails_after_moves {q = q} {t = t} {u = u} {mid = mid} {new = new} {n
 empty_rest_is_within_limit : (room : ℕ) → ¬ ExceedsLimit room []
 empty_rest_is_within_limit room over = absurd (omega (arith, over.over))
 
--- The faults that stop a script while it prints.
+-- The fault may stop a script while it prints.
 abbrev IsStoppingFault : ScriptFault → Type 0
 IsStoppingFault Write = Unit {0}
 IsStoppingFault (Expected n) = Unit {0}
@@ -84,24 +85,24 @@ IsStoppingFault fault = ⊥
 
 -- A text that fails to print stops the script with a stopping fault.
 failed_print_has_stopping_fault : (next : Option Expectation) (text : List ℕ) (old new : Option (List ℕ)) (f : ScriptFault) →
-    FailsToPrint next text old new f → IsStoppingFault f
+    IsPrintFault next text old new f → IsStoppingFault f
 failed_print_has_stopping_fault next text old new Write fails = tt
 failed_print_has_stopping_fault next text old new (Expected n) fails = tt
 failed_print_has_stopping_fault next text old new NoMemory fails = tt
 failed_print_has_stopping_fault next text old new f fails = absurd fails
 
--- If the line of the image fails after an empty rest, the script stops there.
+-- If printing the line of the image fails with no text left, the script fails there.
 image_line_stops_empty_text : (p : ScriptPoint) (k room : ℕ) (old new : Option (List ℕ)) (f : ScriptFault) → IsStoppingFault f
-    → FailsToPrint p.next (image_line p.at.device) old new f × IsOutInPart old new (image_line p.at.device)
+    → IsPrintFault p.next (image_line p.at.device) old new f × IsPartlyWritten old new (image_line p.at.device)
     → ReadingIsStopped room [] f × NextLineFails p k [] old new f
 image_line_stops_empty_text p k room old new Write stop falls = (empty_rest_is_within_limit room, falls)
 image_line_stops_empty_text p k room old new (Expected n) stop falls = (empty_rest_is_within_limit room, falls)
 image_line_stops_empty_text p k room old new NoMemory stop falls = (empty_rest_is_within_limit room, falls)
 image_line_stops_empty_text p k room old new f stop falls = elim stop [ ]
 
--- If the line of the image fails at the end, the script stops there.
+-- If printing the line of the image fails at the end of the text, the script fails there.
 image_line_breaks_at_end : (p : ScriptPoint) (a : Option (List ℕ)) (room k : ℕ) (old new : Option (List ℕ)) (f : ScriptFault) → IsAtEnd a
-    → FailsToPrint p.next (image_line p.at.device) old new f → IsOutInPart old new (image_line p.at.device)
+    → IsPrintFault p.next (image_line p.at.device) old new f → IsPartlyWritten old new (image_line p.at.device)
     → IfSome a (λ left. ReadingIsStopped room left f × NextLineFails p k (lines_of left) old new f)
 image_line_breaks_at_end p None room k old new f ended fails broken_text_in_part = tt
 image_line_breaks_at_end p (Some left) room k old new f ended fails broken_text_in_part =
@@ -111,8 +112,8 @@ image_line_breaks_at_end p (Some left) room k old new f ended fails broken_text_
 -- If no line is left, and the line of the image fails, the script fails after its last line.
 pub image_line_fails_after_moves : {p q : ScriptPoint} {s t : SourceState} {old mid new : Option (List ℕ)} {x : Option Expectation} {f :
     ScriptFault}
-    → LinesDone p s old q t mid → IsAtEnd t.left → PrintsNext q.next mid (image_line q.at.device) x new (Err f)
-    → MovesThenFails p s old new f
+    → LinesDone p s old q t mid → IsAtEnd t.left → PrintEnds q.next mid (image_line q.at.device) x new (Err f)
+    → LinesDoneThenFailure p s old new f
 image_line_fails_after_moves {q = q} {t = t} {mid = mid} {new = new} {f = f} m ended prints = record {
   to = q;
   at = t;
@@ -121,7 +122,7 @@ image_line_fails_after_moves {q = q} {t = t} {mid = mid} {new = new} {f = f} m e
   falls = image_line_breaks_at_end q t.left t.room (t.number + 1) mid new f ended prints.fault prints.err;
 }
 
--- If no line can be read, the script fails next.
+-- If no line can be read, the script fails at its next line.
 unread_line_fails_next : (p : ScriptPoint) (k : ℕ) (lines : List (List ℕ)) (old : Option (List ℕ)) (f : ScriptFault) →
     NoLineRead p.given k lines f
     → NextLineFails p k lines old old f
@@ -130,17 +131,17 @@ unread_line_fails_next p k lines old Read h = refl
 unread_line_fails_next p k (line ∷ lines) old (BadLine n) h = (h.0, h.1, refl)
 unread_line_fails_next p k lines old f h = absurd h
 
--- If reading stops, the script fails next.
+-- If reading stops, the script fails at its next line.
 stopped_reading_fails_next : (p : ScriptPoint) (a : Option (List ℕ)) (room k : ℕ) (old : Option (List ℕ)) (f : ScriptFault)
     → IfSome a (λ left. ReadingIsStopped room left f × NoLineRead p.given k (lines_of left) f)
     → IfSome a (λ left. ReadingIsStopped room left f × NextLineFails p k (lines_of left) old old f)
 stopped_reading_fails_next p None room k old f h = tt
 stopped_reading_fails_next p (Some left) room k old f h = (h.0, unread_line_fails_next p k (lines_of left) old f h.1)
 
--- If the source gives no line for a fault, the script fails with that fault after the lines before.
+-- If a fault keeps the source from giving a line, the script fails with that fault after the lines before.
 pub stopped_source_fails_after_moves : {p q : ScriptPoint} {s t : SourceState} {old mid : Option (List ℕ)} {f : ScriptFault} →
     LinesDone p s old q t mid
-    → StopsSource q.given t f → MovesThenFails p s old mid f
+    → SourceStops q.given t f → LinesDoneThenFailure p s old mid f
 stopped_source_fails_after_moves {q = q} {t = t} {mid = mid} {f = f} m stops = record {
   to = q;
   at = t;
@@ -149,32 +150,32 @@ stopped_source_fails_after_moves {q = q} {t = t} {mid = mid} {f = f} m stops = r
   falls = stopped_reading_fails_next q t.left t.room (t.number + 1) mid f stops;
 }
 
--- If lines were done, and the script fails in a line after them, it fails after the lines before them too.
-pub moves_before_failed_moves : {p q : ScriptPoint} {s t : SourceState} {old mid new : Option (List ℕ)} {f : ScriptFault} →
+-- If lines were done, and the script fails after some more lines, it fails after all of these lines.
+pub moves_then_failure_fail : {p q : ScriptPoint} {s t : SourceState} {old mid new : Option (List ℕ)} {f : ScriptFault} →
     LinesDone p s old q t mid
-    → MovesThenFails q t mid new f → MovesThenFails p s old new f
-moves_before_failed_moves m n = record { to = n.to; at = n.at; mid = n.mid; moves = lines_done_in_turn m n.moves; falls = n.falls }
+    → LinesDoneThenFailure q t mid new f → LinesDoneThenFailure p s old new f
+moves_then_failure_fail m n = record { to = n.to; at = n.at; mid = n.mid; moves = lines_done_join m n.moves; falls = n.falls }
 
--- A line that stops has a stopping fault.
+-- If the printing of a line stops, its fault is a stopping one.
 stopped_line_has_stopping_fault : {p : ScriptPoint} {line : List ℕ} {old new : Option (List ℕ)} (f : ScriptFault) →
-    StopsInLine p line old new f → IsStoppingFault f
+    PrintingStops p line old new f → IsStoppingFault f
 stopped_line_has_stopping_fault f (in_events says broken) = failed_print_has_stopping_fault _ _ _ _ f broken.fails
 stopped_line_has_stopping_fault f (stops_in_until_report says acts broken_text_in_part fails) = failed_print_has_stopping_fault _ _ _ _ f
     fails
 stopped_line_has_stopping_fault f (stops_in_show says broken_text_in_part fails) = failed_print_has_stopping_fault _ _ _ _ f fails
 
--- A line that stops with a stopping fault fails.
+-- If the printing of a line stops with a stopping fault, the line fails with it.
 stopping_fault_fails_line : (p : ScriptPoint) (k : ℕ) (line : List ℕ) (old new : Option (List ℕ)) (f : ScriptFault) → IsStoppingFault f
-    → StopsInLine p line old new f
+    → PrintingStops p line old new f
     → LineFails p k line old new f
 stopping_fault_fails_line p k line old new Write stop breaks = breaks
 stopping_fault_fails_line p k line old new (Expected n) stop breaks = breaks
 stopping_fault_fails_line p k line old new NoMemory stop breaks = inr breaks
 stopping_fault_fails_line p k line old new f stop breaks = elim stop [ ]
 
--- A line that stops in what it prints fails.
+-- If the printing of a line stops, the line fails with that fault.
 pub stopped_line_fails : (p : ScriptPoint) (k : ℕ) (line : List ℕ) {old new : Option (List ℕ)} (f : ScriptFault) →
-    StopsInLine p line old new f
+    PrintingStops p line old new f
     → LineFails p k line old new f
 stopped_line_fails p k line {old = old} {new = new} f breaks = stopping_fault_fails_line p k line old new f
     (stopped_line_has_stopping_fault f breaks) breaks

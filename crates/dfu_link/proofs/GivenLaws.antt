@@ -7,17 +7,17 @@ use Rattle.dfu_link.specs.inside.Source.{SourceState, LinesRead, LinesReadFrom, 
 use Rattle.dfu_link.specs.declared.scripting.fault.ScriptFault.{ScriptFault}
 
 -- A property of an optional value holds of the value that is there.
-pub holds_for_value : {A : Type 0} (o : Option A) (P : A → Type 0) (x : A) → o ≡ Some x → IfSome o P → P x
-holds_for_value {A = A} o P x e h = subst (λ (p : Option A). IfSome p P) e h
+pub value_has_property : {A : Type 0} (o : Option A) (P : A → Type 0) (x : A) → o ≡ Some x → IfSome o P → P x
+value_has_property {A = A} o P x e h = subst (λ (p : Option A). IfSome p P) e h
 
 -- Reading no line leaves a text as it is.
-no_lines_read : (text : List ℕ) (room : ℕ) → LinesRead text room [] text room
-no_lines_read text room = record { front = []; split = refl; are = refl; rooms = omega arith }
+no_lines_keep_text : (text : List ℕ) (room : ℕ) → LinesRead text room [] text room
+no_lines_keep_text text room = record { front = []; split = refl; are = refl; rooms = omega arith }
 
--- Lines that were read, followed by lines that were read, were all read.
-pub lines_read_in_turn : {text mid left : List ℕ} {room room1 room2 : ℕ} {xs ys : List (List ℕ)} → LinesRead text room xs mid room1
+-- Two runs of lines read one after the other are read as one run.
+pub lines_read_join : {text mid left : List ℕ} {room room1 room2 : ℕ} {xs ys : List (List ℕ)} → LinesRead text room xs mid room1
     → LinesRead mid room1 ys left room2 → LinesRead text room (xs ++ ys) left room2
-lines_read_in_turn {left = left} {xs = xs} {ys = ys} a b = record {
+lines_read_join {left = left} {xs = xs} {ys = ys} a b = record {
   front = a.front ++ b.front;
   split = a.split ∙ (ap (λ (zs : List ℕ). a.front ++ zs) b.split ∙ sym (append_assoc a.front b.front left));
   are = a.are ∙ (ap (λ (zs : List (List ℕ)). xs ++ zs) b.are ∙ sym (append_assoc xs ys (lines_of left)));
@@ -25,45 +25,45 @@ lines_read_in_turn {left = left} {xs = xs} {ys = ys} a b = record {
 }
 
 -- Reading no line leaves the rest of a text as it is.
-no_lines_read_from_text : (left : Option (List ℕ)) (room : ℕ) → LinesReadFrom left room [] left room
-no_lines_read_from_text None room = tt
-no_lines_read_from_text (Some text) room = no_lines_read text room
+no_lines_keep_rest : (left : Option (List ℕ)) (room : ℕ) → LinesReadFrom left room [] left room
+no_lines_keep_rest None room = tt
+no_lines_keep_rest (Some text) room = no_lines_keep_text text room
 
--- Lines read in turn are all read, if the reader names the text.
-lines_read_from_in_turn : (a b c : Option (List ℕ)) (room room1 room2 : ℕ) (xs ys : List (List ℕ)) → LinesReadFrom a room xs b room1 →
+-- If the reader names the text, two runs of lines read one after the other are read as one run.
+lines_read_from_join : (a b c : Option (List ℕ)) (room room1 room2 : ℕ) (xs ys : List (List ℕ)) → LinesReadFrom a room xs b room1 →
     LinesReadFrom b room1 ys c room2
     → LinesReadFrom a room (xs ++ ys) c room2
-lines_read_from_in_turn None b c room room1 room2 xs ys h k = tt
-lines_read_from_in_turn (Some a) None c room room1 room2 xs ys h k = absurd h
-lines_read_from_in_turn (Some a) (Some b) None room room1 room2 xs ys h k = absurd k
-lines_read_from_in_turn (Some a) (Some b) (Some c) room room1 room2 xs ys h k = lines_read_in_turn h k
+lines_read_from_join None b c room room1 room2 xs ys h k = tt
+lines_read_from_join (Some a) None c room room1 room2 xs ys h k = absurd h
+lines_read_from_join (Some a) (Some b) None room room1 room2 xs ys h k = absurd k
+lines_read_from_join (Some a) (Some b) (Some c) room room1 room2 xs ys h k = lines_read_join h k
 
 -- A source that gives no line stays as it is.
 pub source_gives_no_line : (s : SourceState) → SourceLines s [] s
-source_gives_no_line s = record { count = omega arith; takes = no_lines_read_from_text s.left s.room }
+source_gives_no_line s = record { count = omega arith; takes = no_lines_keep_rest s.left s.room }
 
--- Lines that a source gave, followed by lines that it gave, are all lines that it gave.
-pub source_lines_in_turn : {r s t : SourceState} {xs ys : List (List ℕ)} → SourceLines r xs s → SourceLines s ys t → SourceLines r (xs
+-- Two runs of lines that a source gave one after the other are one run of lines that it gave.
+pub source_lines_join : {r s t : SourceState} {xs ys : List (List ℕ)} → SourceLines r xs s → SourceLines s ys t → SourceLines r (xs
     ++ ys) t
-source_lines_in_turn {r = r} {s = s} {t = t} {xs = xs} {ys = ys} a b = record {
+source_lines_join {r = r} {s = s} {t = t} {xs = xs} {ys = ys} a b = record {
   count = omega (arith, a.count, b.count, length-append xs ys);
-  takes = lines_read_from_in_turn r.left s.left t.left r.room s.room t.room xs ys a.takes b.takes;
+  takes = lines_read_from_join r.left s.left t.left r.room s.room t.room xs ys a.takes b.takes;
 }
 
--- If the reader names a text, the lines are read from that text.
-lines_read_of_named_text : {text : List ℕ} (a b : Option (List ℕ)) (room room' : ℕ) (xs : List (List ℕ)) →
+-- If the reader names a text, the lines are read from that text, and the reader names the rest.
+named_text_is_read : {text : List ℕ} (a b : Option (List ℕ)) (room room' : ℕ) (xs : List (List ℕ)) →
     LinesReadFrom a room xs b room' → a ≡ Some text
     → (left : List ℕ) × (b ≡ Some left) × LinesRead text room xs left room'
-lines_read_of_named_text None b room room' xs h e = cc
-lines_read_of_named_text (Some a) None room room' xs h e = absurd h
-lines_read_of_named_text {text = text} (Some a) (Some b) room room' xs h e =
+named_text_is_read None b room room' xs h e = cc
+named_text_is_read (Some a) None room room' xs h e = absurd h
+named_text_is_read {text = text} (Some a) (Some b) room room' xs h e =
     let same : a ≡ text = cc in
     (b, refl, subst (λ (t : List ℕ). LinesRead t room xs b room') same h)
 
--- If the reader names its text, the lines that its source gave were read from that text.
-pub lines_taken_of_text : {text : List ℕ} (s s' : SourceState) (xs : List (List ℕ)) → SourceLines s xs s' → s.left ≡ Some text
+-- If the reader names its text, the lines that its source gave were read from that text, and it names the rest.
+pub source_reads_named_text : {text : List ℕ} (s s' : SourceState) (xs : List (List ℕ)) → SourceLines s xs s' → s.left ≡ Some text
     → (left : List ℕ) × (s'.left ≡ Some left) × LinesRead text s.room xs left s'.room
-lines_taken_of_text s s' xs g e = lines_read_of_named_text s.left s'.left s.room s'.room xs g.takes e
+source_reads_named_text s s' xs g e = named_text_is_read s.left s'.left s.room s'.room xs g.takes e
 
 -- Lines that were read from a text are at its front, and reading stops in the line after them.
 pub reading_stops_after : {text left : List ℕ} {xs : List (List ℕ)} {room : ℕ} (fault : ScriptFault) → LinesRead text 16777216 xs left room

@@ -7,19 +7,19 @@ use Rattle.std.specs.Str.{bytes_eq}
 use Rattle.dfu_sim.specs.declared.offering.Purpose.{Purpose}
 use Rattle.dfu_sim.specs.declared.offering.Purpose.TheVariants.{Install, Verify}
 use Rattle.dfu_link.specs.Words.{ok_of, hex_word_bytes, number_of, first_word, text_behind, words_of}
-use Rattle.dfu_link.specs.Fields.{small_of, count_of, attributes_of_word, unit_of_word, sector_of, objection_of, named_bytes}
+use Rattle.dfu_link.specs.Fields.{number_at_most, count_of, attributes_of_word, unit_of_word, sector_of, objection_of_word, named_bytes}
 use Rattle.dfu_link.specs.Keywords.{keyword_of, later_keyword_of, fate_keyword_of}
 use Rattle.dfu_sim.specs.Happening.{Fate}
 use Rattle.dfu_link.specs.LineContent.{ConfigLine, SetsDeviceIds, SetsDevice, SetsUnit, SetsSector, SetsPace, SetsCapacity, SetsImage, SetsCheck, EventLine, Offer, Upload, Abort, Go, Time, Reset, Cut, Refuse, LineContent, Blank, SetsConfig, SetsLimits, Does, GoesOn, Show, ExpectsText}
-use Rattle.dfu_link.specs.Lines.{◌>>=◌, word_field, number_field, short_at, hex_at, offered_file, identifier_at, line_ends, ids_content, device_content, unit_line, erase_of, pace_line, capacity_content, image_content, check_of, limits_content, offer_of, time_of, refuse_of, pass_of, slip_of, harmed_of, until_of, go_of, expect_of, by_keyword, is_comment, line_meaning, read_line, line_of}
+use Rattle.dfu_link.specs.Lines.{◌>>=◌, word_field, number_field, short_at, hex_at, offered_file, identifier_at, line_ends, ids_content, device_content, unit_content, erase_content, pace_content, capacity_content, image_content, check_content, limits_content, offer_content, time_of, refuse_content, pass_content, slip_content, harmed_content, until_content, go_content, expect_content, by_keyword, is_comment, line_meaning, read_line, line_of}
 use Rattle.dfu_link.specs.declared.scripting.fault.Field.TheVariants.{Times}
 use Rattle.dfu_link.specs.declared.scripting.fault.LineFault.{LineFault}
 use Rattle.dfu_link.specs.declared.scripting.fault.LineFault.TheVariants.{Long, Keyword}
 use Rattle.dfu_link.proofs.WordLaws.{bound_option_is_some, guarded_value_is_itself}
 use Rattle.dfu_sim.specs.Headline.{SessionBeginning, BeginningWithOffer, BeginningAsUpload}
-use Rattle.dfu_link.specs.Printed.{LineEffect, Nothing, FactoryImageEffect, Events, SomePassesEffect, ShowEffect, first_word_bytes, file_in, count_in, effect_of_go, effect_of_words, effect_of_line}
+use Rattle.dfu_link.specs.Printed.{LineEffect, Nothing, FactoryImageEffect, Events, SomePassesEffect, ShowEffect, first_word_bytes, file_in, first_word_number, effect_of_go, effect_of_words, effect_of_line}
 
--- Effects of meanings.
+-- Effects of a line by its meaning.
 
 -- The sessions that the events of a line may begin, one for each event.
 abbrev pub sessions_of_event_line : EventLine → List (Option SessionBeginning)
@@ -53,37 +53,37 @@ effect_of_content GoesOn = SomePassesEffect
 effect_of_content Show = ShowEffect
 effect_of_content (ExpectsText text) = Events []
 
--- Steps of reading.
+-- Steps of reading a line.
 
 abbrev same : {A : Type 0} → Result A LineFault → Result A LineFault → Type 0
 same a b = a ≡ b
 
-equal_ok_values : {A : Type 0} (x y : A) → same (Ok x) (Ok y) → x ≡ y
-equal_ok_values x y h = ap (λ (r : Result _ LineFault). unwrap_or (ok_of r) x) h
+ok_determines_value : {A : Type 0} (x y : A) → same (Ok x) (Ok y) → x ≡ y
+ok_determines_value x y h = ap (λ (r : Result _ LineFault). unwrap_or (ok_of r) x) h
 
 bound_result_is_ok : {A B P : Type 0} (x : Result A LineFault) (f : A → Result B LineFault) (y : B) → (x >>= f) ≡ Ok y
     → ((a : A) → x ≡ Ok a → f a ≡ Ok y → P) → P
 bound_result_is_ok (Err e) f y h k = absurd cc
 bound_result_is_ok (Ok a) f y h k = k a refl h
 
--- If a value was read and the next step gave a result, the value is there and its step gave the result.
+-- If two steps of reading gave a result, the first step read a value, and the second one gave the result for it.
 read_value_is_there : {A B P : Type 0} (x : Option A) (e : LineFault) (f : A → Result B LineFault) (y : B) → (ok_or x e >>= f) ≡ Ok y
     → ((a : A) → x ≡ Some a → f a ≡ Ok y → P) → P
 read_value_is_there None e f y h k = absurd cc
 read_value_is_there (Some a) e f y h k = k a refl h
 
-ok_result_of_true_test : {A : Type 0} (t : Bool) (e : LineFault) (x : Result A LineFault) (y : A) → cond t x (Err e) ≡ Ok y → x ≡ Ok y
-ok_result_of_true_test true e x y h = h
-ok_result_of_true_test false e x y h = absurd cc
+ok_choice_is_first : {A : Type 0} (t : Bool) (e : LineFault) (x : Result A LineFault) (y : A) → cond t x (Err e) ≡ Ok y → x ≡ Ok y
+ok_choice_is_first true e x y h = h
+ok_choice_is_first false e x y h = absurd cc
 
 -- A choice between readings gives a result by its first case, if the test holds, or else by the rest.
-cases_of_tested_value : {A K P : Type 0} (t : Bool) (k : K) (rest : Option K) (e : LineFault) (f : K → Result A LineFault) (y : A)
+choice_has_two_cases : {A K P : Type 0} (t : Bool) (k : K) (rest : Option K) (e : LineFault) (f : K → Result A LineFault) (y : A)
     → (ok_or (cond t (Some k) rest) e >>= f) ≡ Ok y → (t ≡ true → f k ≡ Ok y → P) → ((ok_or rest e >>= f) ≡ Ok y → P) → P
-cases_of_tested_value true k rest e f y h one other = one refl h
-cases_of_tested_value false k rest e f y h one other = other h
+choice_has_two_cases true k rest e f y h one other = one refl h
+choice_has_two_cases false k rest e f y h one other = other h
 
 ended_line_is_value : {A : Type 0} (x : A) (n : ℕ) (words : List (List ℕ)) (y : A) → line_ends x n words ≡ Ok y → x ≡ y
-ended_line_is_value x n [] y h = equal_ok_values x y h
+ended_line_is_value x n [] y h = ok_determines_value x y h
 ended_line_is_value x n (word ∷ words) y h = absurd cc
 
 -- A line that ends without a further word has the effect of its meaning.
@@ -97,7 +97,7 @@ unfolding hex_at
 hex_field_is_first_word n of [] file h = absurd cc
 hex_field_is_first_word n of (word ∷ words) file h = read_value_is_there (hex_word_bytes word) _ _ file h (λ x is made. ap (λ (f : List ℕ ×
     List (List ℕ)). f.0)
-    (sym (equal_ok_values (x, words) file made)) ∙ ap (λ (o : Option (List ℕ)). unwrap_or o []) (sym is))
+    (sym (ok_determines_value (x, words) file made)) ∙ ap (λ (o : Option (List ℕ)). unwrap_or o []) (sym is))
 
 offered_file_is_first_word : (given : Option (List ℕ)) (n of : ℕ) (words : List (List ℕ)) (file : List ℕ × List (List ℕ)) →
     offered_file given n of words ≡ Ok file
@@ -105,10 +105,10 @@ offered_file_is_first_word : (given : Option (List ℕ)) (n of : ℕ) (words : L
 unfolding offered_file named_bytes
 offered_file_is_first_word given n of [] file h = absurd cc
 offered_file_is_first_word given n of (word ∷ words) file h = read_value_is_there (named_bytes given word) _ _ file h (λ x is made.
-    ap (λ (f : List ℕ × List (List ℕ)). f.0) (sym (equal_ok_values (x, words) file made))
+    ap (λ (f : List ℕ × List (List ℕ)). f.0) (sym (ok_determines_value (x, words) file made))
     ∙ ap (λ (o : Option (List ℕ)). unwrap_or o []) (sym is))
 
--- Configuration lines.
+-- Configuration lines have no effect, but for `image`.
 
 ids_line_has_no_effect : (words : List (List ℕ)) (said : LineContent) → ids_content words ≡ Ok said → effect_of_content said ≡ Nothing
 unfolding ids_content
@@ -124,18 +124,18 @@ device_line_has_no_effect words said h = bound_result_is_ok (word_field _ attrib
     (λ l il hl. bound_result_is_ok (number_field 6 7 l.1) _ said hl (λ b ib hb. bound_result_is_ok (number_field 7 7 b.1) _ said hb
     (λ m im hm. ended_line_has_effect _ 7 m.1 said hm))))))
 
-unit_line_has_no_effect : (words : List (List ℕ)) (said : LineContent) → unit_line words ≡ Ok said → effect_of_content said ≡ Nothing
-unfolding unit_line
+unit_line_has_no_effect : (words : List (List ℕ)) (said : LineContent) → unit_content words ≡ Ok said → effect_of_content said ≡ Nothing
+unfolding unit_content
 unit_line_has_no_effect words said h = bound_result_is_ok (word_field _ unit_of_word 2 2 words) _ said h (λ u iu hu. ended_line_has_effect
     (SetsConfig (SetsUnit u.0)) 2 u.1 said hu)
 
-erase_line_has_no_effect : (words : List (List ℕ)) (said : LineContent) → erase_of words ≡ Ok said → effect_of_content said ≡ Nothing
-unfolding erase_of
+erase_line_has_no_effect : (words : List (List ℕ)) (said : LineContent) → erase_content words ≡ Ok said → effect_of_content said ≡ Nothing
+unfolding erase_content
 erase_line_has_no_effect words said h = bound_result_is_ok (word_field _ sector_of 2 2 words) _ said h (λ n is hn. ended_line_has_effect
     (SetsConfig (SetsSector n.0)) 2 n.1 said hn)
 
-pace_line_has_no_effect : (words : List (List ℕ)) (said : LineContent) → pace_line words ≡ Ok said → effect_of_content said ≡ Nothing
-unfolding pace_line
+pace_line_has_no_effect : (words : List (List ℕ)) (said : LineContent) → pace_content words ≡ Ok said → effect_of_content said ≡ Nothing
+unfolding pace_content
 pace_line_has_no_effect words said h = bound_result_is_ok (short_at 2 3 words) _ said h (λ e ie he. bound_result_is_ok (short_at 3 3 e.1) _
     said he
     (λ p ip hp. ended_line_has_effect (SetsConfig (SetsPace e.0 p.0)) 3 p.1 said hp))
@@ -153,8 +153,8 @@ image_line_sets_factory_image words said h = bound_result_is_ok (hex_at 2 2 word
     (SetsImage x.0)) 2 x.1 said hx
     ∙ ap FactoryImageEffect (hex_field_is_first_word 2 2 words x is))
 
-check_line_has_no_effect : (words : List (List ℕ)) (said : LineContent) → check_of words ≡ Ok said → effect_of_content said ≡ Nothing
-unfolding check_of
+check_line_has_no_effect : (words : List (List ℕ)) (said : LineContent) → check_content words ≡ Ok said → effect_of_content said ≡ Nothing
+unfolding check_content
 check_line_has_no_effect words said h = bound_result_is_ok (hex_at 2 2 words) _ said h (λ x is hx. ended_line_has_effect (SetsConfig
     (SetsCheck x.0)) 2 x.1 said hx)
 
@@ -164,12 +164,12 @@ limits_line_has_no_effect words said h = bound_result_is_ok (number_field 2 3 wo
     a.1) _ said ha
     (λ r ir hr. ended_line_has_effect (SetsLimits a.0 r.0) 3 r.1 said hr))
 
--- Event lines.
+-- Event lines: an offer and an upload may begin a session, and other events begin none.
 
 offer_line_begins_session : (given : Option (List ℕ)) (purpose : Purpose) (words : List (List ℕ)) (said : LineContent)
-    → offer_of given purpose words ≡ Ok said
+    → offer_content given purpose words ≡ Ok said
     → effect_of_content said ≡ Events (Some (BeginningWithOffer (file_in given words)) ∷ [])
-unfolding offer_of
+unfolding offer_content
 offer_line_begins_session given purpose words said h = bound_result_is_ok (offered_file given 2 2 words) _ said h
     (λ x is hx. ended_line_has_effect (Does (Offer purpose x.0)) 2 x.1 said hx
     ∙ ap (λ (file : List ℕ). Events (Some (BeginningWithOffer file) ∷ [])) (offered_file_is_first_word given 2 2 words x is))
@@ -180,81 +180,82 @@ unfolding time_of
 time_line_has_one_event words said h = bound_result_is_ok (number_field 2 2 words) _ said h (λ n is hn. ended_line_has_effect (Does (Time
     n.0)) 2 n.1 said hn)
 
-refuse_line_has_one_event : (words : List (List ℕ)) (said : LineContent) → refuse_of words ≡ Ok said → effect_of_content said
+refuse_line_has_one_event : (words : List (List ℕ)) (said : LineContent) → refuse_content words ≡ Ok said → effect_of_content said
     ≡ Events (None ∷ [])
-unfolding refuse_of
-refuse_line_has_one_event words said h = bound_result_is_ok (word_field _ objection_of 2 2 words) _ said h
+unfolding refuse_content
+refuse_line_has_one_event words said h = bound_result_is_ok (word_field _ objection_of_word 2 2 words) _ said h
     (λ why is hn. ended_line_has_effect (Does (Refuse why.0)) 2 why.1 said hn)
 
 count_field_is_count : (words : List (List ℕ)) (n : ℕ × List (List ℕ)) → word_field Times (count_of 1000000) 3 3 words ≡ Ok n → n.0
-    ≡ count_in words
-unfolding count_of small_of
+    ≡ first_word_number words
+unfolding count_of number_at_most
 count_field_is_count [] n h = absurd cc
-count_field_is_count (word ∷ words) n h = read_value_is_there (count_of 1000000 word) _ _ n h (λ x is made. bound_option_is_some (small_of
+count_field_is_count (word ∷ words) n h =
+    read_value_is_there (count_of 1000000 word) _ _ n h (λ x is made. bound_option_is_some (number_at_most
     1000000 word) _ x is
     (λ m im hm. bound_option_is_some (number_of word) _ m im (λ k ik hk. ap (λ (f : ℕ
-    × List (List ℕ)). f.0) (sym (equal_ok_values (x, words) n made))
+    × List (List ℕ)). f.0) (sym (ok_determines_value (x, words) n made))
     ∙ (sym (guarded_value_is_itself (nat_le 1 m) m x hm) ∙ (sym (guarded_value_is_itself (nat_le k 1000000) k m hk)
     ∙ ap (λ (o : Option ℕ). unwrap_or o 0) (sym ik))))))
 
-pass_line_has_counted_events : (words : List (List ℕ)) (said : LineContent) → pass_of words ≡ Ok said
-    → effect_of_content said ≡ Events (replicate (count_in words) None)
-unfolding pass_of
+pass_line_has_counted_events : (words : List (List ℕ)) (said : LineContent) → pass_content words ≡ Ok said
+    → effect_of_content said ≡ Events (replicate (first_word_number words) None)
+unfolding pass_content
 pass_line_has_counted_events words said h = bound_result_is_ok (word_field Times (count_of 1000000) 3 3 words) _ said h (λ n is hn.
     ended_line_has_effect _ 3 n.1 said hn
     ∙ ap (λ (times : ℕ). Events (replicate times None)) (count_field_is_count words n is))
 
-slip_line_has_one_event : (words : List (List ℕ)) (said : LineContent) → slip_of words ≡ Ok said → effect_of_content said
+slip_line_has_one_event : (words : List (List ℕ)) (said : LineContent) → slip_content words ≡ Ok said → effect_of_content said
     ≡ Events (None ∷ [])
-unfolding slip_of
+unfolding slip_content
 slip_line_has_one_event words said h = bound_result_is_ok (number_field 3 3 words) _ said h (λ n is hn. ended_line_has_effect _ 3 n.1 said
     hn)
 
-harmed_line_has_one_event : (f : Fate) (words : List (List ℕ)) (said : LineContent) → harmed_of f words ≡ Ok said
+harmed_line_has_one_event : (f : Fate) (words : List (List ℕ)) (said : LineContent) → harmed_content f words ≡ Ok said
     → effect_of_content said ≡ Events (None ∷ [])
-unfolding harmed_of
+unfolding harmed_content
 harmed_line_has_one_event f words said h = bound_result_is_ok (number_field 3 4 words) _ said h (λ n is hn. bound_result_is_ok (hex_at 4 4
     n.1) _ said hn
     (λ t it ht. ended_line_has_effect _ 4 t.1 said ht))
 
-until_line_has_some_passes : (words : List (List ℕ)) (said : LineContent) → until_of words ≡ Ok said → effect_of_content said
+until_line_has_some_passes : (words : List (List ℕ)) (said : LineContent) → until_content words ≡ Ok said → effect_of_content said
     ≡ SomePassesEffect
-unfolding until_of
+unfolding until_content
 until_line_has_some_passes words said h = read_value_is_there (first_word words) _ _ said h (λ w is hw. ended_line_has_effect GoesOn 3 w.1
-    said (ok_result_of_true_test _ _ _ said hw))
+    said (ok_choice_is_first _ _ _ said hw))
 
--- Words.
+-- Effect of a line by its first word.
 
--- The first word of a line is the given one, or another.
-cases_of_first_word : {K : Type 0} (brings : List (List ℕ) → LineEffect) (s : List ℕ) (k : K) (rest : Option K) (e : LineFault)
+-- If the effect is right for the given first word, and for any other one, it is right for the line.
+first_word_decides : {K : Type 0} (brings : List (List ℕ) → LineEffect) (s : List ℕ) (k : K) (rest : Option K) (e : LineFault)
     (f : K → Result LineContent LineFault) (word : List ℕ) (words : List (List ℕ)) (said : LineContent)
     → (ok_or (cond (bytes_eq word s) (Some k) rest) e >>= f) ≡ Ok said → (f k ≡ Ok said → effect_of_content said ≡ brings (s ∷ words))
     → ((ok_or rest e >>= f) ≡ Ok said → effect_of_content said ≡ brings (word ∷ words)) → effect_of_content said ≡ brings (word ∷ words)
-cases_of_first_word brings s k rest e f word words said h one other = cases_of_tested_value (bytes_eq word s) k rest e f said h
+first_word_decides brings s k rest e f word words said h one other = choice_has_two_cases (bytes_eq word s) k rest e f said h
     (λ is made. subst (λ (w : List ℕ). effect_of_content said ≡ brings (w ∷ words)) (sym ((bytes_eq-Decides word s).0 is)) (one made)) other
 
-go_line_has_effect : (words : List (List ℕ)) (said : LineContent) → go_of words ≡ Ok said → effect_of_content said ≡ effect_of_go words
-unfolding go_of fate_keyword_of
+go_line_has_effect : (words : List (List ℕ)) (said : LineContent) → go_content words ≡ Ok said → effect_of_content said ≡ effect_of_go words
+unfolding go_content fate_keyword_of
 go_line_has_effect [] said h = absurd cc
 go_line_has_effect (word ∷ words) said h =
-    cases_of_first_word effect_of_go (codes "pass") _ _ _ _ word words said h (pass_line_has_counted_events words said) (λ h.
-    cases_of_first_word effect_of_go (codes "lostout") _ _ _ _ word words said h (ended_line_has_effect _ 2 words said) (λ h.
-    cases_of_first_word effect_of_go (codes "lostback") _ _ _ _ word words said h (ended_line_has_effect _ 2 words said) (λ h.
-    cases_of_first_word effect_of_go (codes "twice") _ _ _ _ word words said h (ended_line_has_effect _ 2 words said) (λ h.
-    cases_of_first_word effect_of_go (codes "twicelostback") _ _ _ _ word words said h (ended_line_has_effect _ 2 words said) (λ h.
-    cases_of_first_word effect_of_go (codes "slip") _ _ _ _ word words said h (slip_line_has_one_event words said) (λ h.
-    cases_of_first_word effect_of_go (codes "cut") _ _ _ _ word words said h (harmed_line_has_one_event _ words said) (λ h.
-    cases_of_first_word effect_of_go (codes "fail") _ _ _ _ word words said h (harmed_line_has_one_event _ words said) (λ h.
-    cases_of_first_word effect_of_go (codes "lie") _ _ _ _ word words said h (harmed_line_has_one_event _ words said) (λ h.
-    cases_of_first_word effect_of_go (codes "until") _ _ _ _ word words said h (until_line_has_some_passes words said) (λ h. absurd
+    first_word_decides effect_of_go (codes "pass") _ _ _ _ word words said h (pass_line_has_counted_events words said) (λ h.
+    first_word_decides effect_of_go (codes "lostout") _ _ _ _ word words said h (ended_line_has_effect _ 2 words said) (λ h.
+    first_word_decides effect_of_go (codes "lostback") _ _ _ _ word words said h (ended_line_has_effect _ 2 words said) (λ h.
+    first_word_decides effect_of_go (codes "twice") _ _ _ _ word words said h (ended_line_has_effect _ 2 words said) (λ h.
+    first_word_decides effect_of_go (codes "twicelostback") _ _ _ _ word words said h (ended_line_has_effect _ 2 words said) (λ h.
+    first_word_decides effect_of_go (codes "slip") _ _ _ _ word words said h (slip_line_has_one_event words said) (λ h.
+    first_word_decides effect_of_go (codes "cut") _ _ _ _ word words said h (harmed_line_has_one_event _ words said) (λ h.
+    first_word_decides effect_of_go (codes "fail") _ _ _ _ word words said h (harmed_line_has_one_event _ words said) (λ h.
+    first_word_decides effect_of_go (codes "lie") _ _ _ _ word words said h (harmed_line_has_one_event _ words said) (λ h.
+    first_word_decides effect_of_go (codes "until") _ _ _ _ word words said h (until_line_has_some_passes words said) (λ h. absurd
     cc))))))))))
 
 ok_value_unless_fault : {A : Type 0} (t : Bool) (e : LineFault) (x y : A) → cond t (Err e) (Ok x) ≡ Ok y → x ≡ y
 ok_value_unless_fault true e x y h = absurd cc
-ok_value_unless_fault false e x y h = equal_ok_values x y h
+ok_value_unless_fault false e x y h = ok_determines_value x y h
 
-expect_line_has_no_events : (line : List ℕ) (said : LineContent) → expect_of line ≡ Ok said → effect_of_content said ≡ Events []
-unfolding expect_of
+expect_line_has_no_events : (line : List ℕ) (said : LineContent) → expect_content line ≡ Ok said → effect_of_content said ≡ Events []
+unfolding expect_content
 expect_line_has_no_events line said h = read_value_is_there (text_behind line) _ _ said h
     (λ text is made. ap effect_of_content (sym (ok_value_unless_fault (length text == 0) _ (ExpectsText text) said made)))
 
@@ -263,32 +264,32 @@ keyword_line_has_effect : (given : Option (List ℕ)) (line word : List ℕ) (wo
     → effect_of_content said ≡ effect_of_words given (word ∷ words)
 unfolding keyword_of later_keyword_of
 keyword_line_has_effect given line word words said h =
-    cases_of_first_word (effect_of_words given) (codes "ids") _ _ _ _ word words said h (ids_line_has_no_effect words said) (λ h.
-    cases_of_first_word (effect_of_words given) (codes "device") _ _ _ _ word words said h (device_line_has_no_effect words said) (λ h.
-    cases_of_first_word (effect_of_words given) (codes "unit") _ _ _ _ word words said h (unit_line_has_no_effect words said) (λ h.
-    cases_of_first_word (effect_of_words given) (codes "erase") _ _ _ _ word words said h (erase_line_has_no_effect words said) (λ h.
-    cases_of_first_word (effect_of_words given) (codes "pace") _ _ _ _ word words said h (pace_line_has_no_effect words said) (λ h.
-    cases_of_first_word (effect_of_words given) (codes "capacity") _ _ _ _ word words said h (capacity_line_has_no_effect words said) (λ h.
-    cases_of_first_word (effect_of_words given) (codes "image") _ _ _ _ word words said h (image_line_sets_factory_image words said) (λ h.
-    cases_of_first_word (effect_of_words given) (codes "limits") _ _ _ _ word words said h (limits_line_has_no_effect words said) (λ h.
-    cases_of_first_word (effect_of_words given) (codes "offer") _ _ _ _ word words said h (offer_line_begins_session given Install words
+    first_word_decides (effect_of_words given) (codes "ids") _ _ _ _ word words said h (ids_line_has_no_effect words said) (λ h.
+    first_word_decides (effect_of_words given) (codes "device") _ _ _ _ word words said h (device_line_has_no_effect words said) (λ h.
+    first_word_decides (effect_of_words given) (codes "unit") _ _ _ _ word words said h (unit_line_has_no_effect words said) (λ h.
+    first_word_decides (effect_of_words given) (codes "erase") _ _ _ _ word words said h (erase_line_has_no_effect words said) (λ h.
+    first_word_decides (effect_of_words given) (codes "pace") _ _ _ _ word words said h (pace_line_has_no_effect words said) (λ h.
+    first_word_decides (effect_of_words given) (codes "capacity") _ _ _ _ word words said h (capacity_line_has_no_effect words said) (λ h.
+    first_word_decides (effect_of_words given) (codes "image") _ _ _ _ word words said h (image_line_sets_factory_image words said) (λ h.
+    first_word_decides (effect_of_words given) (codes "limits") _ _ _ _ word words said h (limits_line_has_no_effect words said) (λ h.
+    first_word_decides (effect_of_words given) (codes "offer") _ _ _ _ word words said h (offer_line_begins_session given Install words
     said) (λ h.
-    cases_of_first_word (effect_of_words given) (codes "verify") _ _ _ _ word words said h (offer_line_begins_session given Verify words
+    first_word_decides (effect_of_words given) (codes "verify") _ _ _ _ word words said h (offer_line_begins_session given Verify words
     said) (λ h.
-    cases_of_first_word (effect_of_words given) (codes "upload") _ _ _ _ word words said h (ended_line_has_effect (Does Upload) 1 words
+    first_word_decides (effect_of_words given) (codes "upload") _ _ _ _ word words said h (ended_line_has_effect (Does Upload) 1 words
     said) (λ h.
-    cases_of_first_word (effect_of_words given) (codes "abort") _ _ _ _ word words said h (ended_line_has_effect (Does Abort) 1 words said)
+    first_word_decides (effect_of_words given) (codes "abort") _ _ _ _ word words said h (ended_line_has_effect (Does Abort) 1 words said)
     (λ h.
-    cases_of_first_word (effect_of_words given) (codes "go") _ _ _ _ word words said h (go_line_has_effect words said) (λ h.
-    cases_of_first_word (effect_of_words given) (codes "time") _ _ _ _ word words said h (time_line_has_one_event words said) (λ h.
-    cases_of_first_word (effect_of_words given) (codes "reset") _ _ _ _ word words said h (ended_line_has_effect (Does Reset) 1 words said)
+    first_word_decides (effect_of_words given) (codes "go") _ _ _ _ word words said h (go_line_has_effect words said) (λ h.
+    first_word_decides (effect_of_words given) (codes "time") _ _ _ _ word words said h (time_line_has_one_event words said) (λ h.
+    first_word_decides (effect_of_words given) (codes "reset") _ _ _ _ word words said h (ended_line_has_effect (Does Reset) 1 words said)
     (λ h.
-    cases_of_first_word (effect_of_words given) (codes "cut") _ _ _ _ word words said h (ended_line_has_effect (Does Cut) 1 words said) (λ
+    first_word_decides (effect_of_words given) (codes "cut") _ _ _ _ word words said h (ended_line_has_effect (Does Cut) 1 words said) (λ
     h.
-    cases_of_first_word (effect_of_words given) (codes "show") _ _ _ _ word words said h (ended_line_has_effect Show 1 words said) (λ h.
-    cases_of_first_word (effect_of_words given) (codes "expect") _ _ _ _ word words said h (expect_line_has_no_events line said) (λ h.
-    cases_of_first_word (effect_of_words given) (codes "check") _ _ _ _ word words said h (check_line_has_no_effect words said) (λ h.
-    cases_of_first_word (effect_of_words given) (codes "refuse") _ _ _ _ word words said h (refuse_line_has_one_event words said) (λ h.
+    first_word_decides (effect_of_words given) (codes "show") _ _ _ _ word words said h (ended_line_has_effect Show 1 words said) (λ h.
+    first_word_decides (effect_of_words given) (codes "expect") _ _ _ _ word words said h (expect_line_has_no_events line said) (λ h.
+    first_word_decides (effect_of_words given) (codes "check") _ _ _ _ word words said h (check_line_has_no_effect words said) (λ h.
+    first_word_decides (effect_of_words given) (codes "refuse") _ _ _ _ word words said h (refuse_line_has_one_event words said) (λ h.
     absurd cc))))))))))))))))))))
 
 -- A comment has no effect.
@@ -303,14 +304,14 @@ first_word_has_effect : (given : Option (List ℕ)) (c : Bool) (line word : List
     is_comment word ≡ c
     → cond c (Ok Blank) (ok_or (keyword_of word) Keyword >>= λ k. by_keyword given k line words) ≡ Ok said
     → effect_of_content said ≡ effect_of_words given (word ∷ words)
-first_word_has_effect given true line word words said is h = ap effect_of_content (sym (equal_ok_values Blank said h))
+first_word_has_effect given true line word words said is h = ap effect_of_content (sym (ok_determines_value Blank said h))
     ∙ sym (comment_line_has_no_effect given word words is)
 first_word_has_effect given false line word words said is h = keyword_line_has_effect given line word words said h
 
 line_words_have_effect : (given : Option (List ℕ)) (line : List ℕ) (words : List (List ℕ)) (said : LineContent) →
     line_meaning given line words ≡ Ok said
     → effect_of_content said ≡ effect_of_words given words
-line_words_have_effect given line [] said h = ap effect_of_content (sym (equal_ok_values Blank said h))
+line_words_have_effect given line [] said h = ap effect_of_content (sym (ok_determines_value Blank said h))
 line_words_have_effect given line (word ∷ words) said h = first_word_has_effect given (is_comment word) line word words said refl h
 
 short_line_is_ok : (t : Bool) (x : Result LineContent LineFault) (said : LineContent) → ok_of (cond t x (Err Long)) ≡ Some said → x

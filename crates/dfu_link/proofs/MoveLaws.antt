@@ -13,14 +13,14 @@ use Rattle.dfu_link.specs.LineContent.{LineContent}
 use Rattle.dfu_link.specs.Lines.{line_of}
 use Rattle.dfu_link.specs.ScriptRun.{Settings, nothing, line_prepares_next, settings_after_line, link_at_rest, ScriptPoint, LineActs, LinesRun, stays, line_runs_next}
 use Rattle.dfu_link.specs.Expecting.{Expectation}
-use Rattle.dfu_link.specs.inside.Expected.{PrintsNext}
+use Rattle.dfu_link.specs.inside.Expected.{PrintEnds}
 use Rattle.dfu_link.specs.inside.Source.{SourceState, SourceLine}
-use Rattle.dfu_link.specs.inside.Moving.{LineDone, LinesDone, SourceExhausted, IsUnarmed, Prepared}
-use Rattle.dfu_link.proofs.GivenLaws.{source_gives_no_line, source_lines_in_turn}
+use Rattle.dfu_link.specs.inside.Moving.{LineDone, LinesDone, SourceExhausted, IsUnarmed, LinesPrepared}
+use Rattle.dfu_link.proofs.GivenLaws.{source_gives_no_line, source_lines_join}
 
--- No line was done, and nothing changed.
-pub no_line_done : (p : ScriptPoint) (s : SourceState) (old : Option (List ℕ)) → LinesDone p s old p s old
-no_line_done p s old = record {
+-- A source that gave no line leaves no line done, and nothing changed.
+pub no_line_is_done : (p : ScriptPoint) (s : SourceState) (old : Option (List ℕ)) → LinesDone p s old p s old
+no_line_is_done p s old = record {
   done = [];
   shown = [];
   gives = source_gives_no_line s;
@@ -28,22 +28,22 @@ no_line_done p s old = record {
   told = Appends-nil old;
 }
 
--- If lines were done, and the next line of the source was done, all of them were done.
-pub one_line_done : {p q r : ScriptPoint} {s t u : SourceState} {old mid new : Option (List ℕ)} {n : ℕ} {line : List ℕ}
+-- If lines were done, and then the next line of the source, all of these lines were done.
+pub next_line_joins : {p q r : ScriptPoint} {s t u : SourceState} {old mid new : Option (List ℕ)} {n : ℕ} {line : List ℕ}
     → LinesDone p s old q t mid
     → SourceLine t u → n ≡ u.number → line ≡ u.line → LineDone n q line mid r new → LinesDone p s old r u new
-one_line_done {q = q} {r = r} {s = s} {t = t} {u = u} {old = old} {mid = mid} {new = new} {n = n} m given at is did =
+next_line_joins {q = q} {r = r} {s = s} {t = t} {u = u} {old = old} {mid = mid} {new = new} {n = n} m given at is did =
     let number : n ≡ s.number + 1 + length m.done = omega (arith, at, given.gives.count, m.gives.count) in
     let step = subst (λ (xs : List ℕ). LineDone n q xs mid r new) is did in
     record {
       done = m.done ++ u.line ∷ [];
       shown = m.shown ++ step.out;
-      gives = source_lines_in_turn m.gives given.gives;
+      gives = source_lines_join m.gives given.gives;
       runs = line_runs_next u.line m.runs step.is (subst (λ (k : ℕ). LineActs k q step.said step.out r) number step.acts);
       told = Appends-trans old mid new m.shown step.out m.told step.told;
     }
 
--- A run of lines followed by a run of more lines is a run of all of them.
+-- A run of lines followed by a run of more lines is one run of all of them.
 pub runs_of_lines_join : (k j : ℕ) (p q r : ScriptPoint) (xs ys : List (List ℕ)) (a b : List ℕ) → j ≡ k + length xs → LinesRun k p xs a q
     → LinesRun j q ys b r → LinesRun k p (xs ++ ys) (a ++ b) r
 runs_of_lines_join k j p q r xs ys a b at run stays = subst (λ (ls : List (List ℕ)). LinesRun k p ls (a ++ []) q) (sym (append-nil xs))
@@ -56,24 +56,24 @@ runs_of_lines_join k j p q r xs ys a b at run (line_runs_next {q = mid} {lines =
     subst (λ (zs : List (List ℕ)). LinesRun k p zs (a ++ (o ++ more)) r) (append_assoc xs ls (line ∷ []))
     (subst (λ (c : List ℕ). LinesRun k p (xs ++ ls ++ line ∷ []) c r) (append_assoc a o more) both)
 
--- Lines that were done, followed by lines that were done, were all done.
-pub lines_done_in_turn : {p q r : ScriptPoint} {s t u : SourceState} {old mid new : Option (List ℕ)} → LinesDone p s old q t mid
+-- Two runs of lines that were done one after the other are one run of done lines.
+pub lines_done_join : {p q r : ScriptPoint} {s t u : SourceState} {old mid new : Option (List ℕ)} → LinesDone p s old q t mid
     → LinesDone q t mid r u new
     → LinesDone p s old r u new
-lines_done_in_turn {p = p} {q = q} {r = r} {s = s} {t = t} {old = old} {mid = mid} {new = new} m n = record {
+lines_done_join {p = p} {q = q} {r = r} {s = s} {t = t} {old = old} {mid = mid} {new = new} m n = record {
   done = m.done ++ n.done;
   shown = m.shown ++ n.shown;
-  gives = source_lines_in_turn m.gives n.gives;
+  gives = source_lines_join m.gives n.gives;
   runs = runs_of_lines_join (s.number + 1) (t.number + 1) p q r m.done n.done m.shown n.shown (omega (arith, m.gives.count)) m.runs n.runs;
   told = Appends-trans old mid new m.shown n.shown m.told n.told;
 }
 
--- If all lines were done, and the line of the image is out, nothing is left of the source.
-pub source_exhausted_after_image : {p q : ScriptPoint} {s t : SourceState} {old mid new : Option (List ℕ)} {x : Option Expectation} {done :
+-- If all lines were done, and the line of the image was written, nothing is left of the source.
+pub image_after_lines_exhausts : {p q : ScriptPoint} {s t : SourceState} {old mid new : Option (List ℕ)} {x : Option Expectation} {done :
     Unit {0}}
-    → LinesDone p s old q t mid → IsAtEnd t.left → PrintsNext q.next mid (image_line q.at.device) x new (Ok done)
+    → LinesDone p s old q t mid → IsAtEnd t.left → PrintEnds q.next mid (image_line q.at.device) x new (Ok done)
     → SourceExhausted p s old new
-source_exhausted_after_image {p = p} {q = q} {s = s} {t = t} {old = old} {mid = mid} {new = new} m ended prints = record {
+image_after_lines_exhausts {p = p} {q = q} {s = s} {t = t} {old = old} {mid = mid} {new = new} m ended prints = record {
   done = m.done;
   last = t;
   gives = m.gives;
@@ -85,16 +85,16 @@ source_exhausted_after_image {p = p} {q = q} {s = s} {t = t} {old = old} {mid = 
   told = Appends-trans old mid new m.shown (image_line q.at.device) m.told prints.ok.told;
 }
 
--- If lines were done and the source is exhausted afterwards, it is exhausted after all of them.
-pub all_lines_then_end : {p q : ScriptPoint} {s t : SourceState} {old mid new : Option (List ℕ)} → LinesDone p s old q t mid
+-- If lines were done and then the source was exhausted, it is exhausted after all of these lines.
+pub lines_then_end_exhaust : {p q : ScriptPoint} {s t : SourceState} {old mid new : Option (List ℕ)} → LinesDone p s old q t mid
     → SourceExhausted q t mid new
     → SourceExhausted p s old new
-all_lines_then_end {p = p} {q = q} {s = s} {t = t} {old = old} {mid = mid} {new = new} m e =
+lines_then_end_exhaust {p = p} {q = q} {s = s} {t = t} {old = old} {mid = mid} {new = new} m e =
     let image = image_line e.end.at.device in
     record {
       done = m.done ++ e.done;
       last = e.last;
-      gives = source_lines_in_turn m.gives e.gives;
+      gives = source_lines_join m.gives e.gives;
       ended = e.ended;
       shown = m.shown ++ e.shown;
       end = e.end;
@@ -106,27 +106,27 @@ all_lines_then_end {p = p} {q = q} {s = s} {t = t} {old = old} {mid = mid} {new 
           (Appends-trans old mid new m.shown (e.shown ++ image) m.told e.told);
     }
 
--- Lines that set something.
+-- Lines that change the settings.
 
 -- Without lines the settings stay as they are.
-pub no_line_prepared : (x : Settings) (s : SourceState) → Prepared x s x s
-no_line_prepared x s = record { done = []; gives = source_gives_no_line s; prepares = nothing }
+pub no_lines_keep_settings : (x : Settings) (s : SourceState) → LinesPrepared x s x s
+no_lines_keep_settings x s = record { done = []; gives = source_gives_no_line s; prepares = nothing }
 
--- If settings were prepared, and the next line sets something, the settings that it makes were prepared.
-pub one_more_line_prepared : {x y z : Settings} {s t u : SourceState} {line : List ℕ} (w : LineContent) → Prepared x s y t → SourceLine t u
+-- If settings were prepared, and the next line changes them, the new settings are prepared.
+pub next_line_prepares : {x y z : Settings} {s t u : SourceState} {line : List ℕ} (w : LineContent) → LinesPrepared x s y t → SourceLine t u
     → line ≡ u.line
-    → line_of y.given line ≡ Some w → settings_after_line y w ≡ Some z → Prepared x s z u
-one_more_line_prepared {y = y} {u = u} w p given same is does = record {
+    → line_of y.given line ≡ Some w → settings_after_line y w ≡ Some z → LinesPrepared x s z u
+next_line_prepares {y = y} {u = u} w p given same is does = record {
   done = p.done ++ u.line ∷ [];
-  gives = source_lines_in_turn p.gives given.gives;
+  gives = source_lines_join p.gives given.gives;
   prepares = line_prepares_next u.line p.prepares (ap (line_of y.given) (sym same) ∙ is) does;
 }
 
 -- A device with no session.
 
 -- A link made over an unarmed device begins with the device as it is.
-pub unarmed_world_at_rest : {x : WorldView} (d : DeviceView) → x ≡ record { bench = link_at_rest (armed_device d Whole); up = [] } →
+pub unarmed_world_is_at_rest : {x : WorldView} (d : DeviceView) → x ≡ record { bench = link_at_rest (armed_device d Whole); up = [] } →
     IsUnarmed d
     → x.bench ≡ link_at_rest d
-unarmed_world_at_rest d link unarmed = ap (λ (y : WorldView). y.bench) link
+unarmed_world_is_at_rest d link unarmed = ap (λ (y : WorldView). y.bench) link
     ∙ ap (λ (f : Fuse). link_at_rest (armed_device d f)) (sym unarmed)

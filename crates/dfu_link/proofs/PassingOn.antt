@@ -1,7 +1,7 @@
 -- Passes until the host reports: the turns of the loop for `go until report`.
 use Rattle.std.proofs.Common.{◌≡◌, ◌≢◌, ℕ, ◌+◌, ◌<◌, List, [], ◌∷◌, ◌++◌, length, Option, Some, None, Result, Ok, Err, refl, sym, ap, ◌∙◌, subst, arith}
 use Rattle.std.specs.Prelude.{replicate}
-use Rattle.dfu_suffix.specs.Writing.{IsOutInPart}
+use Rattle.dfu_suffix.specs.Writing.{IsPartlyWritten}
 use Rattle.dfu_host.specs.declared.limits.Limits.{Limits}
 use Rattle.dfu_host.specs.declared.report.Report.{Report}
 use Rattle.dfu_host.specs.declared.report.Report.TheVariants as report
@@ -14,130 +14,130 @@ use Rattle.dfu_link.specs.Texts.{outcome_line, answer_line}
 use Rattle.dfu_link.specs.LineContent.{GoesOn}
 use Rattle.dfu_link.specs.ScriptRun.{checked_event, EventsPlayed, no_event_played, LineActs, goes_on}
 use Rattle.dfu_link.specs.Expecting.{Expectation, MeetsExpectation, expectation_left}
-use Rattle.dfu_link.specs.inside.Expected.{point_of_parts, TextPrinted, PrintsNext}
+use Rattle.dfu_link.specs.inside.Expected.{point_of_parts, TextPrinted, PrintEnds}
 use Rattle.dfu_link.specs.declared.scripting.fault.ScriptFault.{ScriptFault}
 use Rattle.dfu_link.specs.Falls.{stops_in_until_report}
-use Rattle.dfu_link.specs.inside.Moving.{SilentPasses, LineCarriedOut, LineHasStopped, LineOutcome}
-use Rattle.dfu_link.proofs.WriteLaws.{text_broke_after}
-use Rattle.dfu_link.proofs.ExpectLaws.{empty_text_printed, texts_printed_in_turn, failed_print_after_text}
+use Rattle.dfu_link.specs.inside.Moving.{SilentPasses, LineCarriedOut, LineFailsByMeaning, LineOutcome}
+use Rattle.dfu_link.proofs.WriteLaws.{second_text_breaks_both}
+use Rattle.dfu_link.proofs.ExpectLaws.{empty_text_is_printed, printed_texts_join, text_then_fault_fails}
 use Rattle.dfu_link.proofs.ToldLines.{outcome_line_is_answer_line}
 use Rattle.dfu_link.proofs.FallLaws.{stopped_line_fails}
-use Rattle.dfu_link.proofs.PlayLaws.{replicate_one_more_at_end, one_more_event_played}
+use Rattle.dfu_link.proofs.PlayLaws.{one_more_copy_is_at_end, next_event_is_played}
 
 abbrev passes : Happening
 passes = Goes Pass no_write_harmed
 
 -- Before the first pass, no pass was made and nothing was printed.
-pub no_silent_passes : (z : List ℕ) (b : LinkView) (e : Option Expectation) (old : Option (List ℕ)) → SilentPasses z b e old b e old
-no_silent_passes z b e old = record {
+pub no_passes_are_silent : (z : List ℕ) (b : LinkView) (e : Option Expectation) (old : Option (List ℕ)) → SilentPasses z b e old b e old
+no_passes_are_silent z b e old = record {
   times = 0;
   plays = no_event_played;
-  prints = empty_text_printed e old;
+  prints = empty_text_is_printed e old;
 }
 
 -- If the host passed silently, and passes once more without a printed text, all of these passes are silent.
-pub one_more_silent_pass : {check : List ℕ} {b : LinkView} {c c' : WorldView} (r : Result (Option Report) LinkFault) {old new : Option
+pub silent_pass_is_added : {check : List ℕ} {b : LinkView} {c c' : WorldView} (r : Result (Option Report) LinkFault) {old new : Option
     (List ℕ)}
     {x y : Option Expectation} → SilentPasses check b x old c.bench y new → WorldEventResult c (checked_event check c.bench passes) c' r
     → BenchMatchesFlash c'.bench → r ≡ Ok None → SilentPasses check b x old c'.bench y new
-one_more_silent_pass {check = check} {b = b} {c = c} {c' = c'} r before come active e =
+silent_pass_is_added {check = check} {b = b} {c = c} {c' = c'} r before come active e =
     let n = before.times in
     let more : EventsPlayed check b (replicate n passes ++ passes ∷ []) (outcome_line r c'.up) c'.bench =
-    one_more_event_played check b c c' (replicate n passes) passes [] r
+    next_event_is_played check b c c' (replicate n passes) passes [] r
     before.plays come active in
     let text : outcome_line r c'.up ≡ [] = ap (λ (x : Result (Option Report) LinkFault). outcome_line x c'.up) e in
     record {
       times = n + 1;
-      plays = subst (λ (hs : List Happening). EventsPlayed check b hs [] c'.bench) (sym (replicate_one_more_at_end n passes))
+      plays = subst (λ (hs : List Happening). EventsPlayed check b hs [] c'.bench) (sym (one_more_copy_is_at_end n passes))
           (subst (λ (out : List ℕ). EventsPlayed check b (replicate n passes ++ passes ∷ []) out c'.bench) text more);
       prints = before.prints;
     }
 
 -- A report and a refusal each print a text.
-pub something : (r : Result (Option Report) LinkFault) (up : List ℕ) → r ≢ Ok None → outcome_line r up ≢ []
-something (Ok None) up other = absurd (other refl)
-something (Ok (Some report.Installed)) up other = λ e. cc
-something (Ok (Some report.Unconfirmed)) up other = λ e. cc
-something (Ok (Some report.Aborted)) up other = λ e. cc
-something (Ok (Some report.GaveUp)) up other = λ e. cc
-something (Ok (Some (report.Refused code))) up other = λ e. cc
-something (Ok (Some report.RestartsSpent)) up other = λ e. cc
-something (Ok (Some report.Uploaded)) up other = λ e. cc
-something (Ok (Some report.TooManyBlocks)) up other = λ e. cc
-something (Ok (Some report.NoMemory)) up other = λ e. cc
-something (Ok (Some report.Verified)) up other = λ e. cc
-something (Ok (Some report.Different)) up other = λ e. cc
-something (Err link.HostBusy) up other = λ e. cc
-something (Err link.NoHost) up other = λ e. cc
-something (Err (link.BadOffer fault)) up other = λ e. cc
-something (Err link.NoMemory) up other = λ e. cc
+pub answer_has_text : (r : Result (Option Report) LinkFault) (up : List ℕ) → r ≢ Ok None → outcome_line r up ≢ []
+answer_has_text (Ok None) up other = absurd (other refl)
+answer_has_text (Ok (Some report.Installed)) up other = λ e. cc
+answer_has_text (Ok (Some report.Unconfirmed)) up other = λ e. cc
+answer_has_text (Ok (Some report.Aborted)) up other = λ e. cc
+answer_has_text (Ok (Some report.GaveUp)) up other = λ e. cc
+answer_has_text (Ok (Some (report.Refused code))) up other = λ e. cc
+answer_has_text (Ok (Some report.RestartsSpent)) up other = λ e. cc
+answer_has_text (Ok (Some report.Uploaded)) up other = λ e. cc
+answer_has_text (Ok (Some report.TooManyBlocks)) up other = λ e. cc
+answer_has_text (Ok (Some report.NoMemory)) up other = λ e. cc
+answer_has_text (Ok (Some report.Verified)) up other = λ e. cc
+answer_has_text (Ok (Some report.Different)) up other = λ e. cc
+answer_has_text (Err link.HostBusy) up other = λ e. cc
+answer_has_text (Err link.NoHost) up other = λ e. cc
+answer_has_text (Err (link.BadOffer fault)) up other = λ e. cc
+answer_has_text (Err link.NoMemory) up other = λ e. cc
 
--- Two lists of which the second has a byte are not empty in a row.
-nonempty_rest_is_not_empty : (front rest : List ℕ) → front ++ rest ≡ [] → 0 < length rest → ⊥
-nonempty_rest_is_not_empty [] [] e some = absurd (omega (arith, some))
-nonempty_rest_is_not_empty [] (x ∷ xs) e some = absurd cc
-nonempty_rest_is_not_empty (x ∷ xs) rest e some = absurd cc
+-- Two joined lists are not empty if the second has a byte.
+list_with_rest_is_not_empty : (front rest : List ℕ) → front ++ rest ≡ [] → 0 < length rest → ⊥
+list_with_rest_is_not_empty [] [] e some = absurd (omega (arith, some))
+list_with_rest_is_not_empty [] (x ∷ xs) e some = absurd cc
+list_with_rest_is_not_empty (x ∷ xs) rest e some = absurd cc
 
--- A text of which a part is out is not empty.
-text_out_in_part_not_empty : {old new : Option (List ℕ)} {text : List ℕ} → IsOutInPart old new text → text ≢ []
-text_out_in_part_not_empty part = λ e. absurd (nonempty_rest_is_not_empty part.front part.rest (sym part.whole ∙ e) part.left)
+-- A text that was written in part is not empty.
+partly_written_is_not_empty : {old new : Option (List ℕ)} {text : List ℕ} → IsPartlyWritten old new text → text ≢ []
+partly_written_is_not_empty part = λ e. absurd (list_with_rest_is_not_empty part.front part.rest (sym part.whole ∙ e) part.left)
 
--- After silent passes one more prints a text, which is as expected.
-printed_pass_after_silent_ones : {b : LinkView} {c c' : WorldView} (g : Option (List ℕ)) (check : List ℕ) (limits : Limits)
+-- After silent passes, one more pass prints a text, which is as expected.
+pass_prints_after_silent_ones : {b : LinkView} {c c' : WorldView} (g : Option (List ℕ)) (check : List ℕ) (limits : Limits)
     (r : Result (Option Report) LinkFault) {old mid : Option (List ℕ)}
     {x y : Option Expectation} (k : ℕ) (next : Option Expectation) → MeetsExpectation next (outcome_line r c'.up)
     → SilentPasses check b x old c.bench y mid → WorldEventResult c (checked_event check c.bench passes) c' r → BenchMatchesFlash c'.bench →
     outcome_line r c'.up ≢ []
     → LineActs k (point_of_parts g check limits next b) GoesOn (outcome_line r c'.up)
     (point_of_parts g check limits (expectation_left next (outcome_line r c'.up)) c'.bench)
-printed_pass_after_silent_ones {b = b} {c = c} {c' = c'} g check limits r k next meets silent come active some =
+pass_prints_after_silent_ones {b = b} {c = c} {c' = c'} g check limits r k next meets silent come active some =
     let same : outcome_line r c'.up ≡ answer_line come.answer = outcome_line_is_answer_line c c' r come in
     subst (λ (text : List ℕ). LineActs k (point_of_parts g check limits next b) GoesOn text
     (point_of_parts g check limits (expectation_left next text) c'.bench)) (sym same)
     (goes_on silent.times silent.plays come.comes active (λ e. some (same ∙ e))
     (subst (λ (text : List ℕ). MeetsExpectation next text) same meets))
 
--- If the text of the last pass is out, `go until report` is done.
-until_report_carried_out : {b : LinkView} {c c' : WorldView} (g : Option (List ℕ)) (check : List ℕ) (limits : Limits)
+-- If the text of the last pass was written, `go until report` is done.
+until_report_is_carried_out : {b : LinkView} {c c' : WorldView} (g : Option (List ℕ)) (check : List ℕ) (limits : Limits)
     (r : Result (Option Report) LinkFault)
     {old mid new : Option (List ℕ)} {x y z : Option Expectation} → SilentPasses check b x old c.bench y mid
     → WorldEventResult c (checked_event check c.bench passes) c' r → BenchMatchesFlash c'.bench → r ≢ Ok None
     → TextPrinted y mid (outcome_line r c'.up) z new
     → LineCarriedOut (point_of_parts g check limits x b) GoesOn old (point_of_parts g check limits z c'.bench) new
-until_report_carried_out {b = b} {c' = c'} g check limits r {x = x} silent come active other prints =
-    let all = texts_printed_in_turn silent.prints prints in
+until_report_is_carried_out {b = b} {c' = c'} g check limits r {x = x} silent come active other prints =
+    let all = printed_texts_join silent.prints prints in
     record {
       out = outcome_line r c'.up;
       acts = λ k. subst (λ (e : Option Expectation). LineActs k (point_of_parts g check limits x b) GoesOn (outcome_line r c'.up)
           (point_of_parts g check limits e c'.bench))
-          (sym all.left) (printed_pass_after_silent_ones g check limits r k x all.meets silent come active (something r c'.up other));
+          (sym all.left) (pass_prints_after_silent_ones g check limits r k x all.meets silent come active (answer_has_text r c'.up other));
       told = all.told;
     }
 
 -- If the writer stopped in the text of the last pass, `go until report` stopped.
-until_report_stopped : {b : LinkView} {c c' : WorldView} (g : Option (List ℕ)) (check : List ℕ) (limits : Limits)
+until_report_is_stopped : {b : LinkView} {c c' : WorldView} (g : Option (List ℕ)) (check : List ℕ) (limits : Limits)
     (r : Result (Option Report) LinkFault)
     {old mid new : Option (List ℕ)} {x y z : Option Expectation} {f : ScriptFault} → SilentPasses check b x old c.bench y mid
     → WorldEventResult c (checked_event check c.bench passes) c' r → BenchMatchesFlash c'.bench
-    → PrintsNext y mid (outcome_line r c'.up) z new (Err f)
-    → LineHasStopped (point_of_parts g check limits x b) GoesOn old new f
-until_report_stopped {b = b} {c' = c'} g check limits r {old = old} {mid = mid} {new = new} {x = x} {f = f} silent come active prints k
+    → PrintEnds y mid (outcome_line r c'.up) z new (Err f)
+    → LineFailsByMeaning (point_of_parts g check limits x b) GoesOn old new f
+until_report_is_stopped {b = b} {c' = c'} g check limits r {old = old} {mid = mid} {new = new} {x = x} {f = f} silent come active prints k
     line e =
     let before = silent.prints in
     stopped_line_fails (point_of_parts g check limits x b) k line f
-    (stops_in_until_report e (printed_pass_after_silent_ones g check limits r 0 None tt silent come active (text_out_in_part_not_empty
+    (stops_in_until_report e (pass_prints_after_silent_ones g check limits r 0 None tt silent come active (partly_written_is_not_empty
     prints.err))
-    (text_broke_after old mid new [] (outcome_line r c'.up) before.told prints.err)
-    (failed_print_after_text (outcome_line r c'.up) new f before prints.fault))
+    (second_text_breaks_both old mid new [] (outcome_line r c'.up) before.told prints.err)
+    (text_then_fault_fails (outcome_line r c'.up) new f before prints.fault))
 
 -- `go until report` ends as the writing of the last pass's text does: done, or stopped within that text.
-pub until_report_by_written_text : {b : LinkView} {c c' : WorldView} (g : Option (List ℕ)) (check : List ℕ) (limits : Limits)
+pub until_report_ends_as_text : {b : LinkView} {c c' : WorldView} (g : Option (List ℕ)) (check : List ℕ) (limits : Limits)
     (r : Result (Option Report) LinkFault) {old mid new : Option (List ℕ)} {x y z : Option Expectation} (done : Result Unit ScriptFault)
     → SilentPasses check b x old c.bench y mid → WorldEventResult c (checked_event check c.bench passes) c' r → BenchMatchesFlash c'.bench
     → r ≢ Ok None
-    → PrintsNext y mid (outcome_line r c'.up) z new done
+    → PrintEnds y mid (outcome_line r c'.up) z new done
     → LineOutcome (point_of_parts g check limits x b) GoesOn old (point_of_parts g check limits z c'.bench) new done
-until_report_by_written_text g check limits r (Ok u) silent come active other prints =
-    record { ok = until_report_carried_out g check limits r silent come active other prints.ok; fault = tt }
-until_report_by_written_text g check limits r (Err f) silent come active other prints =
-    record { ok = tt; fault = until_report_stopped g check limits r silent come active prints }
+until_report_ends_as_text g check limits r (Ok u) silent come active other prints =
+    record { ok = until_report_is_carried_out g check limits r silent come active other prints.ok; fault = tt }
+until_report_ends_as_text g check limits r (Err f) silent come active other prints =
+    record { ok = tt; fault = until_report_is_stopped g check limits r silent come active prints }

@@ -17,52 +17,52 @@ use Rattle.dfu_link.specs.Texts.{outcome_line, answer_line}
 use Rattle.dfu_link.specs.ScriptRun.{checked_event, EventsPlayed, no_event_played, event_played_next}
 use Rattle.dfu_link.specs.Expecting.{Expectation}
 use Rattle.dfu_link.specs.Falls.{StoppedAmongEvents}
-use Rattle.dfu_link.specs.inside.Expected.{PrintsNext}
-use Rattle.dfu_link.specs.inside.Moving.{HasPlayed, PlaysEvents}
-use Rattle.dfu_link.proofs.WriteLaws.{text_broke_after}
-use Rattle.dfu_link.proofs.ExpectLaws.{empty_text_printed, texts_printed_in_turn, failed_print_after_text}
+use Rattle.dfu_link.specs.inside.Expected.{PrintEnds}
+use Rattle.dfu_link.specs.inside.Moving.{PlayIsDone, PlayEnds}
+use Rattle.dfu_link.proofs.WriteLaws.{second_text_breaks_both}
+use Rattle.dfu_link.proofs.ExpectLaws.{empty_text_is_printed, printed_texts_join, text_then_fault_fails}
 use Rattle.dfu_link.proofs.ToldLines.{outcome_line_is_answer_line}
 
 -- n + 1 copies are n copies, and a last one.
-replicate_successor_at_end : {A : Type 0} (n : ℕ) (x : A) → replicate (suc n) x ≡ replicate n x ++ x ∷ []
-replicate_successor_at_end zero x = refl
-replicate_successor_at_end (suc n) x = ap (λ (xs : List _). x ∷ xs) (replicate_successor_at_end n x)
+successor_copies_end_in_copy : {A : Type 0} (n : ℕ) (x : A) → replicate (suc n) x ≡ replicate n x ++ x ∷ []
+successor_copies_end_in_copy zero x = refl
+successor_copies_end_in_copy (suc n) x = ap (λ (xs : List _). x ∷ xs) (successor_copies_end_in_copy n x)
 
 -- n + 1 copies are n copies, and a last one.
-pub replicate_one_more_at_end : {A : Type 0} (n : ℕ) (x : A) → replicate (n + 1) x ≡ replicate n x ++ x ∷ []
-replicate_one_more_at_end n x = ap (λ (k : ℕ). replicate k x) (add-one n) ∙ replicate_successor_at_end n x
+pub one_more_copy_is_at_end : {A : Type 0} (n : ℕ) (x : A) → replicate (n + 1) x ≡ replicate n x ++ x ∷ []
+one_more_copy_is_at_end n x = ap (λ (k : ℕ). replicate k x) (add-one n) ∙ successor_copies_end_in_copy n x
 
--- If events were played, and another event comes, the list with that event was played.
-pub one_more_event_played : (z : List ℕ) (b : LinkView) (c c' : WorldView) (events : List Happening) (e : Happening) (out : List ℕ)
+-- If events were played, and then one more event, the list with that event was played.
+pub next_event_is_played : (z : List ℕ) (b : LinkView) (c c' : WorldView) (events : List Happening) (e : Happening) (out : List ℕ)
     (r : Result (Option Report) LinkFault) → EventsPlayed z b events out c.bench → WorldEventResult c (checked_event z c.bench e) c' r
     → BenchMatchesFlash c'.bench
     → EventsPlayed z b (events ++ e ∷ []) (out ++ outcome_line r c'.up) c'.bench
-one_more_event_played z b c c' events e out r p h active =
+next_event_is_played z b c c' events e out r p h active =
     subst (λ (text : List ℕ). EventsPlayed z b (events ++ e ∷ []) (out ++ text) c'.bench) (sym (outcome_line_is_answer_line c c' r h))
     (event_played_next e p h.comes active)
 
--- Of no events nothing is printed.
-pub no_events_played : (z : List ℕ) (b : LinkView) (x : Option Expectation) (h : Option (List ℕ)) → HasPlayed z b x [] h b x h
-no_events_played z b x h = record {
+-- The playing of no events changes nothing, and prints nothing.
+pub no_event_is_played : (z : List ℕ) (b : LinkView) (x : Option Expectation) (h : Option (List ℕ)) → PlayIsDone z b x [] h b x h
+no_event_is_played z b x h = record {
   out = [];
   plays = no_event_played;
-  prints = empty_text_printed x h;
+  prints = empty_text_is_printed x h;
 }
 
--- If events were played, the writing of the next one's text decides how all of them end.
-event_result_after_played : (done : Result Unit ScriptFault) (e : Happening) {check : List ℕ} {b c c' : LinkView} {events : List Happening}
+-- If events were played, the playing of all of them and the next event ends as the printing of its text does.
+next_event_ends_play : (done : Result Unit ScriptFault) (e : Happening) {check : List ℕ} {b c c' : LinkView} {events : List Happening}
     {answer : Result Answered LinkFault} {x y z : Option Expectation} {old mid new : Option (List ℕ)}
-    → HasPlayed check b x events old c y mid → EventResult c (checked_event check c e) c' answer
-    → BenchMatchesFlash c' → PrintsNext y mid (answer_line answer) z new done → PlaysEvents check b x (events ++ e ∷ []) old c' z new done
-event_result_after_played (Ok it) e {answer = answer} before come active prints = record {
+    → PlayIsDone check b x events old c y mid → EventResult c (checked_event check c e) c' answer
+    → BenchMatchesFlash c' → PrintEnds y mid (answer_line answer) z new done → PlayEnds check b x (events ++ e ∷ []) old c' z new done
+next_event_ends_play (Ok it) e {answer = answer} before come active prints = record {
   ok = record {
     out = before.out ++ answer_line answer;
     plays = event_played_next e before.plays come active;
-    prints = texts_printed_in_turn before.prints prints.ok;
+    prints = printed_texts_join before.prints prints.ok;
   };
   fault = tt;
 }
-event_result_after_played (Err f) e {c' = c'} {events = events} {answer = answer} {old = old} {mid = mid} {new = new} before come active
+next_event_ends_play (Err f) e {c' = c'} {events = events} {answer = answer} {old = old} {mid = mid} {new = new} before come active
     prints = record {
       ok = tt;
       fault = record {
@@ -72,32 +72,32 @@ event_result_after_played (Err f) e {c' = c'} {events = events} {answer = answer
         after = c';
         out = before.out ++ answer_line answer;
         plays = event_played_next e before.plays come active;
-        broken_text_in_part = text_broke_after old mid new before.out (answer_line answer) before.prints.told prints.err;
-        fails = failed_print_after_text (answer_line answer) new f before.prints prints.fault;
+        broken_text_in_part = second_text_breaks_both old mid new before.out (answer_line answer) before.prints.told prints.err;
+        fails = text_then_fault_fails (answer_line answer) new f before.prints prints.fault;
       };
     }
 
--- If events were played and one more comes, the printing of its text decides how all of them end.
-pub one_more_event_printed : (e : Happening) {check : List ℕ} {b : LinkView} {c c' : WorldView} {events : List Happening}
+-- If events were played, and one more comes, the playing of all of them ends as the printing of its text does.
+pub next_print_ends_play : (e : Happening) {check : List ℕ} {b : LinkView} {c c' : WorldView} {events : List Happening}
     (r : Result (Option Report) LinkFault) {x y z : Option Expectation} {old mid new : Option (List ℕ)} {done : Result Unit ScriptFault}
-    → HasPlayed check b x events old c.bench y mid → WorldEventResult c (checked_event check c.bench e) c' r → BenchMatchesFlash c'.bench
-    → PrintsNext y mid (outcome_line r c'.up) z new done
-    → PlaysEvents check b x (events ++ e ∷ []) old c'.bench z new done
-one_more_event_printed e {c = c} {c' = c'} r {y = y} {z = z} {mid = mid} {new = new} {done = done} before come active prints =
-    event_result_after_played done e before come.comes active
-    (subst (λ (text : List ℕ). PrintsNext y mid text z new done) (outcome_line_is_answer_line c c' r come) prints)
+    → PlayIsDone check b x events old c.bench y mid → WorldEventResult c (checked_event check c.bench e) c' r → BenchMatchesFlash c'.bench
+    → PrintEnds y mid (outcome_line r c'.up) z new done
+    → PlayEnds check b x (events ++ e ∷ []) old c'.bench z new done
+next_print_ends_play e {c = c} {c' = c'} r {y = y} {z = z} {mid = mid} {new = new} {done = done} before come active prints =
+    next_event_ends_play done e before come.comes active
+    (subst (λ (text : List ℕ). PrintEnds y mid text z new done) (outcome_line_is_answer_line c c' r come) prints)
 
 -- If events were played, and the next one prints nothing, the list with that event was played and nothing more is written.
-pub one_more_silent_event : (e : Happening) {check : List ℕ} {b : LinkView} {c c' : WorldView} {events : List Happening}
+pub silent_event_is_played : (e : Happening) {check : List ℕ} {b : LinkView} {c c' : WorldView} {events : List Happening}
     (r : Result (Option Report) LinkFault) {x y : Option Expectation} {old new : Option (List ℕ)}
-    → HasPlayed check b x events old c.bench y new → WorldEventResult c (checked_event check c.bench e) c' r → BenchMatchesFlash c'.bench
+    → PlayIsDone check b x events old c.bench y new → WorldEventResult c (checked_event check c.bench e) c' r → BenchMatchesFlash c'.bench
     → r ≡ Ok None
-    → HasPlayed check b x (events ++ e ∷ []) old c'.bench y new
-one_more_silent_event e {c' = c'} r {y = y} {new = new} before come active none =
-    let prints : PrintsNext y new (outcome_line r c'.up) y new (Ok tt) =
-    subst (λ (x : Result (Option Report) LinkFault). PrintsNext y new (outcome_line x c'.up) y new (Ok tt)) (sym none)
-    (record { ok = empty_text_printed y new; err = tt; fault = tt }) in
-    (one_more_event_printed e r before come active prints).ok
+    → PlayIsDone check b x (events ++ e ∷ []) old c'.bench y new
+silent_event_is_played e {c' = c'} r {y = y} {new = new} before come active none =
+    let prints : PrintEnds y new (outcome_line r c'.up) y new (Ok tt) =
+    subst (λ (x : Result (Option Report) LinkFault). PrintEnds y new (outcome_line x c'.up) y new (Ok tt)) (sym none)
+    (record { ok = empty_text_is_printed y new; err = tt; fault = tt }) in
+    (next_print_ends_play e r before come active prints).ok
 
 -- An offer while a session is live is refused with HostBusy.
 offer_in_session_is_refused : (b : LinkView) (purpose : Purpose) (file : List ℕ) (limits : Limits) → IsLive b.session
@@ -108,10 +108,10 @@ offer_in_session_is_refused b purpose file limits live = refuses live
 pub offer_in_session_is_printed : (check : List ℕ) {b : LinkView} (purpose : Purpose) (file : List ℕ) (limits : Limits) {e e' : Option
     Expectation}
     {old new : Option (List ℕ)}
-    {done : Result Unit ScriptFault} → IsLive b.session → BenchMatchesFlash b → PrintsNext e old (answer_line (Err HostBusy)) e' new done
-    → PlaysEvents check b e (Offers purpose file limits ∷ []) old b e' new done
+    {done : Result Unit ScriptFault} → IsLive b.session → BenchMatchesFlash b → PrintEnds e old (answer_line (Err HostBusy)) e' new done
+    → PlayEnds check b e (Offers purpose file limits ∷ []) old b e' new done
 offer_in_session_is_printed check {b = b} purpose file limits {e = e} {old = old} {done = done} live active prints =
-    event_result_after_played done (Offers purpose file limits) (no_events_played check b e old) (offer_in_session_is_refused b purpose
+    next_event_ends_play done (Offers purpose file limits) (no_event_is_played check b e old) (offer_in_session_is_refused b purpose
     file limits live) active prints
 
 -- n equal events are k of them, one more, and the rest, if k is less than n.
@@ -123,10 +123,10 @@ replicate_splits_at_turn (suc k) (suc n) x h =
     (rest.0, ap (λ (xs : List _). x ∷ xs) rest.1)
 
 -- A stop at turn k of n equal events is a stop among all n of them.
-pub stopped_at_turn_of_many : (k n : ℕ) (e : Happening) {check : List ℕ} {b : LinkView} {x : Option Expectation} {old new : Option (List ℕ)}
+pub stop_at_turn_stops_all : (k n : ℕ) (e : Happening) {check : List ℕ} {b : LinkView} {x : Option Expectation} {old new : Option (List ℕ)}
     {f : ScriptFault} → k < n
     → StoppedAmongEvents check b x (replicate k e ++ e ∷ []) old new f → StoppedAmongEvents check b x (replicate n e) old new f
-stopped_at_turn_of_many k n e lt stopped =
+stop_at_turn_stops_all k n e lt stopped =
     let rest = replicate_splits_at_turn k n e lt in
     record {
       events_played_before = stopped.events_played_before;
@@ -140,7 +140,7 @@ stopped_at_turn_of_many k n e lt stopped =
       fails = stopped.fails;
     }
 
--- An offer is played as it is, whatever the program checks.
-pub offer_unchanged_by_check : (check : List ℕ) (b : LinkView) {event : Happening} {purpose : Purpose} {file : List ℕ} {limits : Limits}
+-- A program's check changes no offer.
+pub check_keeps_offer : (check : List ℕ) (b : LinkView) {event : Happening} {purpose : Purpose} {file : List ℕ} {limits : Limits}
     → event ≡ Offers purpose file limits → checked_event check b event ≡ event
-offer_unchanged_by_check check b is = ap (λ (e : Happening). checked_event check b e) is ∙ sym is
+check_keeps_offer check b is = ap (λ (e : Happening). checked_event check b e) is ∙ sym is

@@ -20,11 +20,11 @@ use Rattle.dfu_sim.specs.declared.fault.OfferFault.TheVariants as offer
 use Rattle.dfu_sim.specs.declared.fault.LinkFault.{LinkFault}
 use Rattle.dfu_sim.specs.declared.fault.LinkFault.TheVariants as link
 use Rattle.dfu_link.specs.Words.{has_no_newline}
-use Rattle.dfu_link.specs.Texts.{offer_fault_name, refusal_line, state_text}
+use Rattle.dfu_link.specs.Texts.{offer_fault_name, refusal_line}
 use Rattle.dfu_link.specs.Printed.{refused_event_line}
-use Rattle.dfu_link.proofs.LineLaws.{no_newline_in_both}
+use Rattle.dfu_link.proofs.LineLaws.{joined_have_no_newline}
 
--- No name of a fault, a state or a code has a newline, because each name computes to its letters.
+-- The name of a suffix's fault has no newline.
 suffix_fault_name_is_one_line : (fault : SuffixFault) → has_no_newline (suffix_fault_name fault) ≡ true
 suffix_fault_name_is_one_line suffix.TooShort = refl
 suffix_fault_name_is_one_line fault = refl
@@ -39,19 +39,19 @@ offer_fault_name_is_one_line : (fault : OfferFault) → has_no_newline (offer_fa
 offer_fault_name_is_one_line (offer.Suffix fault) = suffix_fault_name_is_one_line fault
 offer_fault_name_is_one_line (offer.Host fault) = host_fault_name_is_one_line fault
 
--- A refusal's line is a reason without a newline.
+-- The line of a refusal is that of a refused event, with a reason that has no newline.
 pub record Refusal (fault : LinkFault) : Type 0 where
   pub reason : List ℕ
   pub reason_is_one_line : has_no_newline reason ≡ true
   pub is : refusal_line fault ≡ refused_event_line reason
 
--- Each refusal prints a reason without a newline.
+-- The line of each refusal has a reason without a newline.
 pub refusal : (fault : LinkFault) → Refusal fault
 refusal link.HostBusy = record { reason = codes "HostBusy"; reason_is_one_line = refl; is = refl }
 refusal link.NoHost = record { reason = codes "NoHost"; reason_is_one_line = refl; is = refl }
 refusal (link.BadOffer fault) = record {
   reason = codes "BadOffer " ++ offer_fault_name fault;
-  reason_is_one_line = no_newline_in_both (codes "BadOffer ") (offer_fault_name fault) refl (offer_fault_name_is_one_line fault);
+  reason_is_one_line = joined_have_no_newline (codes "BadOffer ") (offer_fault_name fault) refl (offer_fault_name_is_one_line fault);
   is = refl;
 }
 refusal link.NoMemory = record { reason = codes "NoMemory"; reason_is_one_line = refl; is = refl }
@@ -70,15 +70,11 @@ code_name_is_one_line c = refl
 abbrev pub state_words : DeviceView → List ℕ
 state_words device = (state_name (state_of device.stage) ++ codes " status ") ++ (code_name (code_of device.stage) ++ codes " ")
 
--- The state text of a device is the word `state ` and the words of the state.
-pub state_is : (device : DeviceView) → state_text device ≡ codes "state " ++ state_words device
-state_is device = refl
-
 -- The words of the state have no newline.
 pub state_words_are_one_line : (device : DeviceView) → has_no_newline (state_words device) ≡ true
 state_words_are_one_line device =
     let name = state_name (state_of device.stage) in
     let code = code_name (code_of device.stage) in
-    no_newline_in_both (name ++ codes " status ") (code ++ codes " ")
-    (no_newline_in_both name (codes " status ") (state_name_is_one_line (state_of device.stage)) refl)
-    (no_newline_in_both code (codes " ") (code_name_is_one_line (code_of device.stage)) refl)
+    joined_have_no_newline (name ++ codes " status ") (code ++ codes " ")
+    (joined_have_no_newline name (codes " status ") (state_name_is_one_line (state_of device.stage)) refl)
+    (joined_have_no_newline code (codes " ") (code_name_is_one_line (code_of device.stage)) refl)

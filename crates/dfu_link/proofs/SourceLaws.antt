@@ -9,25 +9,25 @@ use Rattle.std.specs.Io.KnownBytes.{Consumes, IsAtEnd, Keeps, prepend_known}
 use Rattle.dfu_link.specs.Words.{lines_of, has_no_newline, is_newline}
 use Rattle.dfu_link.specs.Lines.{read_line, line_of}
 use Rattle.dfu_link.specs.TextLimit.{ExceedsLimit, ReadingIsStopped, NoLineRead}
-use Rattle.dfu_link.specs.inside.Source.{source_state, LinesReadFrom, PieceRead, NextLineOrEnd, SourceLine, StopsSource}
+use Rattle.dfu_link.specs.inside.Source.{source_state, LinesReadFrom, PieceRead, NextLineOrEnd, SourceLine, SourceStops}
 use Rattle.dfu_link.specs.declared.scripting.fault.ScriptFault.TheVariants.{BadLine}
-use Rattle.dfu_link.proofs.LineLaws.{no_newline_if_none_found, no_newline_before_first_one, no_newline_in_both, lines_of_text_with_newline, lines_of_text_without_newline, first_line_not_shorter, newline_within_longer_prefix}
+use Rattle.dfu_link.proofs.LineLaws.{no_newline_if_none_found, no_newline_before_first_one, joined_have_no_newline, newline_ends_first_line, text_without_newline_is_line, first_line_is_not_shorter, longer_prefix_has_newline}
 
--- Pieces.
+-- Pieces of a line.
 
--- The bytes at hand after n of them were taken are the bytes without the first n.
-pub bytes_at_hand_after_advance : (xs : List ℕ) (a e n : ℕ) → n ≤ length (slice_range xs a e) → slice_range xs (a + n) e
+-- The bytes at hand after n of them were taken are those before without the first n.
+pub advance_drops_bytes_at_hand : (xs : List ℕ) (a e n : ℕ) → n ≤ length (slice_range xs a e) → slice_range xs (a + n) e
     ≡ drop n (slice_range xs a e)
-bytes_at_hand_after_advance xs a e n le =
+advance_drops_bytes_at_hand xs a e n le =
     let whole : n + (e - (a + n)) ≡ e - a = omega (arith, le, length-take (e - a) (drop a xs)) in
     ap (take (e - (a + n))) (sym (drop-drop n a xs)) ∙ sym (drop-take n (e - (a + n)) (drop a xs))
     ∙ ap (λ k. drop n (take k (drop a xs))) whole
 
--- The bytes left after a piece are those before it without the piece's bytes.
-pub bytes_left_after_advance : (given : Option (List ℕ)) (ready ready' : List ℕ) (n : ℕ) → ready' ≡ drop n ready
+-- The bytes that are left after a piece was taken are those before without the bytes of the piece.
+pub advance_consumes_bytes : (given : Option (List ℕ)) (ready ready' : List ℕ) (n : ℕ) → ready' ≡ drop n ready
     → Consumes (prepend_known ready given) (prepend_known ready' given) (take n ready)
-bytes_left_after_advance None ready ready' n e = tt
-bytes_left_after_advance (Some r) ready ready' n e = ap (λ (xs : List ℕ). xs ++ r) (sym (take-append-drop n ready))
+advance_consumes_bytes None ready ready' n e = tt
+advance_consumes_bytes (Some r) ready ready' n e = ap (λ (xs : List ℕ). xs ++ r) (sym (take-append-drop n ready))
     ∙ (append_assoc (take n ready) (drop n ready) r ∙ ap (λ (xs : List ℕ). take n ready ++ (xs ++ r)) (sym e))
 
 -- A piece with a newline ends the line.
@@ -52,10 +52,10 @@ piece_with_newline_ends_line left left' line line' ready window k n w p taken lo
     }
 
 -- A piece without a newline continues the line.
-pub piece_without_newline_read : (left left' : Option (List ℕ)) (line line' ready window : List ℕ) (k : ℕ) → window ≡ take k ready
+pub plain_piece_continues_line : (left left' : Option (List ℕ)) (line line' ready window : List ℕ) (k : ℕ) → window ≡ take k ready
     → position is_newline window ≡ None → Consumes left left' (take (length window) ready) → line' ≡ line ++ window
     → length line + k ≤ 65537 → 0 < k → 0 < length ready → PieceRead left line (length window) false left' line'
-piece_without_newline_read left left' line line' ready window k w p taken longer le some ready_some =
+plain_piece_continues_line left left' line line' ready window k w p taken longer le some ready_some =
     let size : length window ≡ min k (length ready) = ap length w ∙ length-take k ready in
     let same : take (length window) ready ≡ window = ap (λ (m : ℕ). take m ready) size ∙ (take_min k ready ∙ sym w) in
     record {
@@ -68,39 +68,39 @@ piece_without_newline_read left left' line line' ready window k w p taken longer
       taken = subst (λ (xs : List ℕ). Consumes left left' xs) same taken;
     }
 
--- A line so far.
+-- The part of a line that was read so far.
 
--- These bytes of a line were read so far, with no newline in them, and the line goes on.
+-- These bytes of a line were read so far: they have no newline, so the line continues.
 pub record LineReadSoFar (left : Option (List ℕ)) (room : ℕ) (left' : Option (List ℕ)) (room' : ℕ) (line : List ℕ) : Type 0 where
   pub given : Consumes left left' line
   pub rooms : room ≡ length line + room'
   pub no_end : has_no_newline line ≡ true
   pub short : length line ≤ 65536
 
--- A line that was read so far stays so after the reader gave more bytes.
-pub line_so_far_after_refill : {left left1 left2 : Option (List ℕ)} {room room' : ℕ} {line : List ℕ} →
+-- Reading more bytes from the reader keeps the part of the line that was read so far.
+pub refill_keeps_line_so_far : {left left1 left2 : Option (List ℕ)} {room room' : ℕ} {line : List ℕ} →
     LineReadSoFar left room left1 room' line
     → Keeps left1 left2 → LineReadSoFar left room left2 room' line
-line_so_far_after_refill {left = left} {left1 = left1} {left2 = left2} {line = line} r kept = record {
+refill_keeps_line_so_far {left = left} {left1 = left1} {left2 = left2} {line = line} r kept = record {
   given = Consumes-kept left left1 left2 line r.given kept;
   rooms = r.rooms;
   no_end = r.no_end;
   short = r.short;
 }
 
--- A line that was read so far, followed by a piece without a newline, was read so far.
-pub line_so_far_with_piece : {left left1 left2 : Option (List ℕ)} {room room1 : ℕ} {line line' : List ℕ} {bytes : ℕ}
+-- A piece without a newline continues the part of the line that was read so far.
+pub piece_extends_line : {left left1 left2 : Option (List ℕ)} {room room1 : ℕ} {line line' : List ℕ} {bytes : ℕ}
     → LineReadSoFar left room left1 room1 line → PieceRead left1 line bytes false left2 line' → bytes ≤ room1 → length line' ≤ 65536
     → LineReadSoFar left room left2 (room1 - bytes) line'
-line_so_far_with_piece {left = left} {left1 = left1} {left2 = left2} {line = line} r t le short = record {
+piece_extends_line {left = left} {left1 = left1} {left2 = left2} {line = line} r t le short = record {
   given = subst (λ (xs : List ℕ). Consumes left left2 xs) (sym t.longer)
       (Consumes-trans left left1 left2 line t.piece r.given t.taken);
   rooms = omega (arith, r.rooms, le, t.count, ap length t.longer, length-append line t.piece);
-  no_end = ap has_no_newline t.longer ∙ no_newline_in_both line t.piece r.no_end t.no_end;
+  no_end = ap has_no_newline t.longer ∙ joined_have_no_newline line t.piece r.no_end t.no_end;
   short = short;
 }
 
--- The end of a line.
+-- A newline ends a line.
 
 line_ends_at_newline : (a b : Option (List ℕ)) (room room' : ℕ) (line : List ℕ) → has_no_newline line ≡ true → room
     ≡ length line + 1 + room'
@@ -109,24 +109,24 @@ line_ends_at_newline None b room room' line none rooms h = (tt, tt)
 line_ends_at_newline (Some a) None room room' line none rooms h = absurd h
 line_ends_at_newline (Some a) (Some b) room room' line none rooms h =
     let whole : a ≡ line ++ 10 ∷ b = h ∙ append_assoc line (10 ∷ []) b in
-    let within = newline_within_longer_prefix line b room (omega (arith, rooms)) in (
+    let within = longer_prefix_has_newline line b room (omega (arith, rooms)) in (
       record {
         front = line ++ 10 ∷ [];
         split = h;
-        are = ap lines_of whole ∙ lines_of_text_with_newline line b none;
+        are = ap lines_of whole ∙ newline_ends_first_line line b none;
         rooms = omega (arith, rooms, length-append line (10 ∷ []));
       },
       λ over. grind (arith, over.no_end ∙ refl, ap (λ (xs : List ℕ). has_no_newline (take room xs)) whole, within),
     )
 
 -- A line is given once its newline was read.
-pub line_read_to_newline : {left left1 left2 : Option (List ℕ)} {room room1 : ℕ} (n : ℕ) (x : List ℕ) {line line' : List ℕ} {bytes : ℕ}
+pub newline_gives_line : {left left1 left2 : Option (List ℕ)} {room room1 : ℕ} (n : ℕ) (x : List ℕ) {line line' : List ℕ} {bytes : ℕ}
     → LineReadSoFar left room left1 room1 line → PieceRead left1 line bytes true left2 line' → bytes ≤ room1
     → SourceLine (source_state left room n x) (source_state left2 (room1 - bytes) (n + 1) line')
-line_read_to_newline {left = left} {left1 = left1} {left2 = left2} {room = room} {room1 = room1} n x {line = line} {line' = line'} {bytes =
+newline_gives_line {left = left} {left1 = left1} {left2 = left2} {room = room} {room1 = room1} n x {line = line} {line' = line'} {bytes =
     bytes} r t
     le =
-    let none : has_no_newline line' ≡ true = ap has_no_newline t.longer ∙ no_newline_in_both line t.piece r.no_end t.no_end in
+    let none : has_no_newline line' ≡ true = ap has_no_newline t.longer ∙ joined_have_no_newline line t.piece r.no_end t.no_end in
     let size = ap length t.longer ∙ length-append line t.piece in
     let same : line ++ (t.piece ++ 10 ∷ []) ≡ line' ++ 10 ∷ [] = sym (append_assoc line t.piece (10 ∷ []))
     ∙ ap (λ (xs : List ℕ). xs ++ 10 ∷ []) (sym t.longer) in
@@ -150,32 +150,32 @@ line_ends_with_text (Some a) (Some b) room room' line none some rooms h e =
       record {
         front = line;
         split = h;
-        are = ap lines_of whole ∙ (lines_of_text_without_newline line some none ∙ ap (λ (xs : List ℕ). line ∷ lines_of xs) (sym e));
+        are = ap lines_of whole ∙ (text_without_newline_is_line line some none ∙ ap (λ (xs : List ℕ). line ∷ lines_of xs) (sym e));
         rooms = rooms;
       },
       λ over. absurd (omega (arith, over.over, rooms, ap length whole)),
     )
 
--- A text of which nothing was taken is at its end if it is there afterwards.
-end_reached_without_bytes : (a b : Option (List ℕ)) → Consumes a b [] → IsAtEnd b → IsAtEnd a
-end_reached_without_bytes None b h e = tt
-end_reached_without_bytes (Some a) None h e = absurd h
-end_reached_without_bytes (Some a) (Some b) h e = h ∙ e
+-- If nothing was taken of a text and it is at its end, it was at its end before.
+no_bytes_keep_end : (a b : Option (List ℕ)) → Consumes a b [] → IsAtEnd b → IsAtEnd a
+no_bytes_keep_end None b h e = tt
+no_bytes_keep_end (Some a) None h e = absurd h
+no_bytes_keep_end (Some a) (Some b) h e = h ∙ e
 
 -- A list of no length is empty.
-pub empty_list_of_no_length : (xs : List ℕ) → (length xs == 0) ≡ true → xs ≡ []
-empty_list_of_no_length [] h = refl
-empty_list_of_no_length (b ∷ bs) h = absurd (grind (arith, h))
+pub zero_length_is_empty : (xs : List ℕ) → (length xs == 0) ≡ true → xs ≡ []
+zero_length_is_empty [] h = refl
+zero_length_is_empty (b ∷ bs) h = absurd (grind (arith, h))
 
 -- At the end of the text the bytes read so far are the last line, unless they are none.
-pub last_line_at_end_of_text : (left left' : Option (List ℕ)) (room room' n : ℕ) (x line : List ℕ) →
+pub end_gives_last_line : (left left' : Option (List ℕ)) (room room' n : ℕ) (x line : List ℕ) →
     LineReadSoFar left room left' room' line → IsAtEnd left'
     → (some : Bool) → some ≡ not (length line == 0) → NextLineOrEnd (source_state left room n x) some (source_state left' room' (n + 1)
     line)
-last_line_at_end_of_text left left' room room' n x [] r e true h = cc
-last_line_at_end_of_text left left' room room' n x [] r e false h = end_reached_without_bytes left left' r.given e
-last_line_at_end_of_text left left' room room' n x (b ∷ bs) r e false h = absurd (grind (arith, h))
-last_line_at_end_of_text left left' room room' n x (b ∷ bs) r e true h =
+end_gives_last_line left left' room room' n x [] r e true h = cc
+end_gives_last_line left left' room room' n x [] r e false h = no_bytes_keep_end left left' r.given e
+end_gives_last_line left left' room room' n x (b ∷ bs) r e false h = absurd (grind (arith, h))
+end_gives_last_line left left' room room' n x (b ∷ bs) r e true h =
     let both = line_ends_with_text left left' room room' (b ∷ bs) r.no_end (omega arith) r.rooms r.given e in
     record {
       gives = record { count = refl; takes = both.0 };
@@ -183,7 +183,7 @@ last_line_at_end_of_text left left' room room' n x (b ∷ bs) r e true h =
       less = omega (arith, r.rooms);
     }
 
--- Reading that gives no line.
+-- A line of over 65,536 bytes is not of the language.
 
 too_long_line_is_no_line : (given : Option (List ℕ)) (line : List ℕ) → 65536 < length line → line_of given line ≡ None
 unfolding line_of read_line
@@ -197,7 +197,7 @@ too_long_line_stops_reading : (g a b : Option (List ℕ)) (room n : ℕ) (line :
 too_long_line_stops_reading g None b room n line h size none le = tt
 too_long_line_stops_reading g (Some a) None room n line h size none le = absurd h
 too_long_line_stops_reading g (Some a) (Some b) room n line h size none le =
-    let long = first_line_not_shorter line b (omega (arith, size)) none in
+    let long = first_line_is_not_shorter line b (omega (arith, size)) none in
     let is : lines_of a ≡ long.0 ∷ long.1 = ap lines_of h ∙ long.2 in (
       λ over. absurd (omega (arith, over.short, size, le)),
       subst (λ (ls : List (List ℕ)). NoLineRead g (n + 1) ls (BadLine (n + 1))) (sym is)
@@ -208,12 +208,12 @@ too_long_line_stops_reading g (Some a) (Some b) room n line h size none le =
 pub source_stops_at_too_long_line : {left left1 left2 : Option (List ℕ)} {room room1 : ℕ} (n : ℕ) (x : List ℕ) {line line' : List ℕ} {bytes
     : ℕ}
     → LineReadSoFar left room left1 room1 line → PieceRead left1 line bytes false left2 line' → bytes ≤ room1 → 65536 < length line'
-    → (g : Option (List ℕ)) → StopsSource g (source_state left room n x) (BadLine (n + 1))
+    → (g : Option (List ℕ)) → SourceStops g (source_state left room n x) (BadLine (n + 1))
 source_stops_at_too_long_line {left = left} {left1 = left1} {left2 = left2} {room = room} n x {line = line} {line' = line'} r t le long g =
     let size = ap length t.longer ∙ length-append line t.piece in
     let given : Consumes left left2 line' = subst (λ (xs : List ℕ). Consumes left left2 xs) (sym t.longer)
     (Consumes-trans left left1 left2 line t.piece r.given t.taken) in
-    let none : has_no_newline line' ≡ true = ap has_no_newline t.longer ∙ no_newline_in_both line t.piece r.no_end t.no_end in
+    let none : has_no_newline line' ≡ true = ap has_no_newline t.longer ∙ joined_have_no_newline line t.piece r.no_end t.no_end in
     too_long_line_stops_reading g left left2 room n line' given (omega (arith, long, t.short)) none (omega (
       arith,
       r.rooms,

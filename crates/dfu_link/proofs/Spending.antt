@@ -1,4 +1,4 @@
--- A session that reports nothing after an action has one action less.
+-- A session that reports nothing after an action has fewer actions left.
 use Rattle.std.proofs.Common.{◌≡◌, ℕ, zero, suc, pred, ◌<◌, Bool, true, false, Option, None, Result, Ok, refl, sym, ap, ◌∙◌, subst, arith}
 use Rattle.dfu_host.specs.declared.report.Report.{Report}
 use Rattle.dfu_host.specs.declared.report.Report.TheVariants.{Unconfirmed, Aborted, RestartsSpent}
@@ -18,12 +18,12 @@ abbrev pub actions_left_of_session : Session → ℕ
 actions_left_of_session NoLiveSession = 0
 actions_left_of_session (HostSession h) = h.actions
 
--- A host that reports nothing is live, and not done.
-stays_live : (h : HostState) (phase : Phase) → (settled_session h phase).answer.report ≡ None
+-- A host that reports nothing stays live.
+silent_host_stays_live : (h : HostState) (phase : Phase) → (settled_session h phase).answer.report ≡ None
     → ((settled_session h phase).session ≡ HostSession h) × (IsOverPhase phase → ⊥)
-stays_live h (Over r) e = absurd cc
-stays_live h (OverUploaded kept) e = absurd cc
-stays_live h phase e = (refl, λ over. over)
+silent_host_stays_live h (Over r) e = absurd cc
+silent_host_stays_live h (OverUploaded kept) e = absurd cc
+silent_host_stays_live h phase e = (refl, λ over. over)
 
 -- A host that goes on after an action has fewer actions left.
 spent_action_leaves_fewer : (n : ℕ) (phase : Phase) → (IsOverPhase (phase_in_budget (pred n) phase) → ⊥) → pred n < n
@@ -46,14 +46,14 @@ leaving_leaves_fewer_actions : (h : HostState) (phase : Phase) (behind : Bool) �
 leaving_leaves_fewer_actions h phase true on = spent_action_leaves_fewer h.actions (host_row h.task (Last Unconfirmed) WasReset) on
 leaving_leaves_fewer_actions h phase false on = restart_leaves_fewer_actions h phase h.restarts on
 
--- A live host that goes on after it heard something has fewer actions left.
+-- A live host that goes on after it heard a result has fewer actions left.
 heard_host_has_fewer_actions : (h : HostState) (phase : Phase) (heard : Heard) → (IsOverPhase (host_after_result h phase heard).phase → ⊥)
     → (host_after_result h phase heard).actions < h.actions
 heard_host_has_fewer_actions h phase Restarted on = restart_leaves_fewer_actions h phase h.restarts on
 heard_host_has_fewer_actions h phase Left on = leaving_leaves_fewer_actions h phase (is_behind_close h.task.goal phase) on
 heard_host_has_fewer_actions h phase heard on = spent_action_leaves_fewer h.actions (host_row h.task phase heard) on
 
--- A host that goes on after it heard something in a phase has fewer actions left.
+-- A host that goes on after it heard a result in a phase has fewer actions left.
 phase_leaves_fewer_actions : (h : HostState) (phase : Phase) (heard : Heard) → h.phase ≡ phase →
     (IsOverPhase (host_after_phase h phase heard).phase → ⊥)
     → (host_after_phase h phase heard).actions < h.actions
@@ -61,11 +61,11 @@ phase_leaves_fewer_actions h (Over r) heard e on = absurd (on (subst IsOverPhase
 phase_leaves_fewer_actions h (OverUploaded kept) heard e on = absurd (on (subst IsOverPhase (sym e) tt))
 phase_leaves_fewer_actions h phase heard e on = heard_host_has_fewer_actions h phase heard on
 
--- A session without a report after its host heard something has fewer actions left.
+-- If a host reports nothing after it heard a result, its session has fewer actions left than the host had.
 silent_outcome_has_fewer_actions : (h : HostState) (heard : Heard) → (host_outcome h heard).answer.report ≡ None
     → actions_left_of_session (host_outcome h heard).session < h.actions
 silent_outcome_has_fewer_actions h heard e =
-    let live = stays_live (after h heard) (after h heard).phase e in
+    let live = silent_host_stays_live (after h heard) (after h heard).phase e in
     subst (λ (s : Session). actions_left_of_session s < h.actions) (sym live.0) (phase_leaves_fewer_actions h h.phase heard refl live.1)
 
 -- Equal results have equal values.
@@ -87,7 +87,7 @@ silent_event_leaves_fewer {b = b} {b' = b'} (happens {answer = answer} means pla
     heard none))
 
 -- An action that is not refused and reports nothing leaves the session fewer actions.
-pub silent_action_leaves_fewer : {w w' : WorldView} {fate : Fate} {harm : WriteHarm} (host_after_result : Result (Option Report) LinkFault)
-    → WorldEventResult w (Goes fate harm) w' host_after_result → host_after_result ≡ Ok None →
+pub silent_action_leaves_fewer : {w w' : WorldView} {fate : Fate} {harm : WriteHarm} (result : Result (Option Report) LinkFault)
+    → WorldEventResult w (Goes fate harm) w' result → result ≡ Ok None →
     actions_left_of_session w'.bench.session < actions_left_of_session w.bench.session
-silent_action_leaves_fewer host_after_result come e = silent_event_leaves_fewer come.comes (sym come.told ∙ e)
+silent_action_leaves_fewer result come e = silent_event_leaves_fewer come.comes (sym come.told ∙ e)

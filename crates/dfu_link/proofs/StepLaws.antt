@@ -13,10 +13,10 @@ use Rattle.dfu_link.specs.ScriptRun.{ScriptPoint, events_of_line, LineActs, skip
 use Rattle.dfu_link.specs.Expecting.{Expectation}
 use Rattle.dfu_link.specs.Falls.{in_events}
 use Rattle.dfu_link.specs.inside.Expected.{point_of_parts, TextPrinted}
-use Rattle.dfu_link.specs.inside.Moving.{PlaysEvents, LineCarriedOut, LineOutcome, LineDone}
+use Rattle.dfu_link.specs.inside.Moving.{PlayEnds, LineCarriedOut, LineOutcome, LineDone}
 use Rattle.dfu_link.proofs.FallLaws.{stopped_line_fails}
 
--- A line without a meaning changes nothing.
+-- A blank line changes nothing.
 pub blank_line_is_done : {k : ℕ} {p : ScriptPoint} {line : List ℕ} {old : Option (List ℕ)} → line_of p.given line ≡ Some Blank
     → LineDone k p line old p old
 blank_line_is_done {old = old} e = record {
@@ -48,7 +48,7 @@ acting_line_is_done {k = k} {said = said} e a = record { said = said; is = e; ou
 -- The events of a line carry the line out.
 events_carry_out_line : (r : Result Unit ScriptFault) {g : Option (List ℕ)} {check : List ℕ} {l : Limits} {x x' : Option Expectation} {b b'
     : LinkView}
-    {old new : Option (List ℕ)} (d : EventLine) → PlaysEvents check b x (events_of_line l d) old b' x' new r
+    {old new : Option (List ℕ)} (d : EventLine) → PlayEnds check b x (events_of_line l d) old b' x' new r
     → LineOutcome (point_of_parts g check l x b) (Does d) old (point_of_parts g check l x' b') new r
 events_carry_out_line (Ok done) {g = g} {check = check} {l = l} {x = x} {b = b} {b' = b'} d p = record {
   ok = record {
@@ -64,17 +64,17 @@ events_carry_out_line (Err f) {g = g} {check = check} {l = l} {x = x} {b = b} d 
     record { ok = tt; fault = λ k line e. stopped_line_fails (point_of_parts g check l x b) k line f (in_events e p.fault) }
 
 -- An event line is carried out by playing its events.
-pub event_line_carried_out : {r : Result Unit ScriptFault} {g : Option (List ℕ)} {check : List ℕ} {l : Limits} {x x' : Option Expectation}
+pub event_line_is_done : {r : Result Unit ScriptFault} {g : Option (List ℕ)} {check : List ℕ} {l : Limits} {x x' : Option Expectation}
     {b b' : LinkView}
     {old new : Option (List ℕ)} {said : LineContent} {events : List Happening} (d : EventLine) → said ≡ Does d → events ≡ events_of_line l d
-    → PlaysEvents check b x events old b' x' new r → LineOutcome (point_of_parts g check l x b) said old (point_of_parts g check l x' b')
+    → PlayEnds check b x events old b' x' new r → LineOutcome (point_of_parts g check l x b) said old (point_of_parts g check l x' b')
     new r
-event_line_carried_out {r = r} {g = g} {check = check} {l = l} {x = x} {x' = x'} {b = b} {b' = b'} {old = old} {new = new} d is same
+event_line_is_done {r = r} {g = g} {check = check} {l = l} {x = x} {x' = x'} {b = b} {b' = b'} {old = old} {new = new} d is same
     events_played_before =
     subst (λ (y : LineContent). LineOutcome (point_of_parts g check l x b) y old (point_of_parts g check l x' b') new r) (sym is)
-    (events_carry_out_line r d (subst (λ (es : List Happening). PlaysEvents check b x es old b' x' new r) same events_played_before))
+    (events_carry_out_line r d (subst (λ (es : List Happening). PlayEnds check b x es old b' x' new r) same events_played_before))
 
--- A `show` prints the line of the device.
+-- A `show` line is done once the line of the device was printed.
 pub show_line_is_done : {k : ℕ} {g : Option (List ℕ)} {check : List ℕ} {l : Limits} {x x' : Option Expectation} {b : LinkView} {line : List
     ℕ}
     {old new : Option (List ℕ)} → line_of g line ≡ Some Show → TextPrinted x old (show_line b.device) x' new
@@ -89,7 +89,7 @@ show_line_is_done {k = k} {g = g} {check = check} {l = l} {x = x} {b = b} e prin
   told = prints.told;
 }
 
--- An `expect` has its line expected.
+-- An `expect` line is done once its text is expected, if no text was expected before.
 pub expect_line_is_done : {k : ℕ} {g : Option (List ℕ)} {check : List ℕ} {l : Limits} {x x' : Option Expectation} {b : LinkView}
     {line text : List ℕ}
     {old : Option (List ℕ)} → line_of g line ≡ Some (ExpectsText text) → x ≡ None → x' ≡ Some (record { number = k; text = text })

@@ -10,24 +10,24 @@ use Rattle.dfu_sim.specs.EventResults.{report_of_result, upload_of_result, Bytes
 use Rattle.dfu_sim.specs.declared.fault.LinkFault.{LinkFault}
 use Rattle.dfu_link.specs.Texts.{uploaded_line, outcome_line, answer_line}
 
--- A report prints the same line for the bytes of the last upload as for the bytes that came with it.
-outcome_line_of_given_bytes : (report : Option Report) (gave : Option (List ℕ)) (up up' : List ℕ) → BytesMatchReport report gave → up'
+-- A report prints the same line with the bytes of the last upload as with the bytes that its answer gave.
+given_bytes_print_outcome_line : (report : Option Report) (gave : Option (List ℕ)) (up up' : List ℕ) → BytesMatchReport report gave → up'
     ≡ uploaded_after gave up
     → outcome_line (Ok report) up' ≡ outcome_line (Ok report) (unwrap_or gave [])
-outcome_line_of_given_bytes None gave up up' whole e = refl
-outcome_line_of_given_bytes (Some Uploaded) (Some bytes) up up' whole e = ap uploaded_line e
-outcome_line_of_given_bytes (Some Uploaded) None up up' whole e = elim whole [ ]
-outcome_line_of_given_bytes (Some r) gave up up' whole e = refl
+given_bytes_print_outcome_line None gave up up' whole e = refl
+given_bytes_print_outcome_line (Some Uploaded) (Some bytes) up up' whole e = ap uploaded_line e
+given_bytes_print_outcome_line (Some Uploaded) None up up' whole e = elim whole [ ]
+given_bytes_print_outcome_line (Some r) gave up up' whole e = refl
 
 -- The line of a caller's answer is the line of the result.
-answer_line_of_result : (answer : Result Answered LinkFault) (up up' : List ℕ) → BytesOnlyWithUploaded answer
+result_prints_answer_line : (answer : Result Answered LinkFault) (up up' : List ℕ) → BytesOnlyWithUploaded answer
     → up' ≡ uploaded_after (upload_of_result answer) up
     → outcome_line (report_of_result answer) up' ≡ answer_line answer
-answer_line_of_result (Ok answer) up up' whole e = outcome_line_of_given_bytes answer.report answer.gave up up' whole e
-answer_line_of_result (Err fault) up up' whole e = refl
+result_prints_answer_line (Ok answer) up up' whole e = given_bytes_print_outcome_line answer.report answer.gave up up' whole e
+result_prints_answer_line (Err fault) up up' whole e = refl
 
 -- The line of a caller's answer is the line of the event's result.
 pub outcome_line_is_answer_line : (c c' : WorldView) {e : Happening} (r : Result (Option Report) LinkFault) (h : WorldEventResult c e c' r)
     → outcome_line r c'.up ≡ answer_line h.answer
 outcome_line_is_answer_line c c' r h = ap (λ (x : Result (Option Report) LinkFault). outcome_line x c'.up) h.told
-    ∙ answer_line_of_result h.answer c.up c'.up h.whole h.up_is
+    ∙ result_prints_answer_line h.answer c.up c'.up h.whole h.up_is

@@ -3,50 +3,50 @@ use Rattle.std.proofs.Common.{◌≡◌, ℕ, ◌+◌, ◌++◌, List, [], lengt
 use Rattle.std.proofs.lemmas.List.{append-nil}
 use Rattle.std.specs.Prelude.{Bool, Result, Ok, Err, IfSome, OnOk, IfErr}
 use Rattle.std.specs.Io.KnownBytes.{IsAtEnd, prepend_known}
-use Rattle.dfu_suffix.proofs.ReadLaws.{fact_of_some_value}
+use Rattle.dfu_suffix.proofs.ReadLaws.{each_value_gives_if_some}
 use Rattle.dfu_device.specs.DeviceView.{DeviceView}
 use Rattle.dfu_link.specs.Words.{lines_of}
 use Rattle.dfu_link.specs.Texts.{image_line}
 use Rattle.dfu_link.specs.TextLimit.{ReadingIsStopped, NoLineRead}
-use Rattle.dfu_link.specs.ScriptRun.{Settings, initial_settings, SettingsPrepared, DeviceStarts, link_at_rest, ScriptPoint, initial_point, HasToStart, SetsUp, LinesRun, WroteRun}
-use Rattle.dfu_link.specs.Falls.{NextLineFails, LinesFail, StartFails, ScriptFails, ScriptEnding, no_memory, fails_in_setting, at_start, in_run}
+use Rattle.dfu_link.specs.ScriptRun.{Settings, initial_settings, SettingsPrepared, DeviceStarts, link_at_rest, ScriptPoint, initial_point, DeviceMustStart, IsPrologue, LinesRun, RunIsOut}
+use Rattle.dfu_link.specs.Falls.{NextLineFails, LinesFail, StartFails, ScriptFails, ScriptEnding, no_memory, fails_in_setting, start_fails, run_fails}
 use Rattle.dfu_link.specs.inside.Source.{SourceState, NextLineOrEnd, LinesRead, SourceLines}
-use Rattle.dfu_link.specs.inside.Moving.{SourceExhausted, MovesThenFails, LinesConfigured, StopsSetting, CannotConfigure}
+use Rattle.dfu_link.specs.inside.Moving.{SourceExhausted, LinesDoneThenFailure, LinesConfigured, SettingLineFails, IsConfigureFault}
 use Rattle.dfu_link.specs.declared.scripting.fault.ScriptFault.{ScriptFault}
 use Rattle.dfu_link.specs.declared.scripting.fault.ScriptFault.TheVariants.{BadLine, LateConfig, BadConfig, Expected, NonePrinted, TooLarge, NoMemory, Read, Write}
-use Rattle.dfu_link.proofs.GivenLaws.{holds_for_value, lines_taken_of_text, lines_read_in_turn, reading_stops_after}
+use Rattle.dfu_link.proofs.GivenLaws.{value_has_property, source_reads_named_text, lines_read_join, reading_stops_after}
 
--- A source has taken nothing of the text.
+-- A source that has taken nothing of the text.
 record IsFresh (text : List ℕ) (s : SourceState) : Type 0 where
   pub left : s.left ≡ Some text
   pub room : s.room ≡ 16777216
   pub number : s.number ≡ 0
 
--- A property of each text that is still whole holds of the text that a reader names, if it names one.
+-- A property that each unread text has is a property of the text that a reader names, if it names one.
 whole_text_has_property : (given : Option (List ℕ)) (s : SourceState) (P : List ℕ → Type 0)
     → (s.left ≡ prepend_known [] given) × (s.room ≡ 16777216) × (s.number ≡ 0) → ((text : List ℕ) → IsFresh text s → P text)
     → IfSome given P
-whole_text_has_property given s P (left, room, number) holds = fact_of_some_value given P (λ text e. holds text (record {
+whole_text_has_property given s P (left, room, number) holds = each_value_gives_if_some given P (λ text e. holds text (record {
   left = left ∙ ap (prepend_known []) e;
   room = room;
   number = number;
 }))
 
 -- A source that has taken nothing of its text yet gives lines that are read from the front of the text.
-lines_read_of_fresh_source : {text : List ℕ} {s s' : SourceState} {xs : List (List ℕ)} → IsFresh text s → SourceLines s xs s'
+fresh_source_reads_front : {text : List ℕ} {s s' : SourceState} {xs : List (List ℕ)} → IsFresh text s → SourceLines s xs s'
     → (left : List ℕ) × (s'.left ≡ Some left) × LinesRead text 16777216 xs left s'.room
-lines_read_of_fresh_source {text = text} {s = s} {s' = s'} {xs = xs} fresh gives =
-    let t = lines_taken_of_text s s' xs gives fresh.left in
+fresh_source_reads_front {text = text} {s = s} {s' = s'} {xs = xs} fresh gives =
+    let t = source_reads_named_text s s' xs gives fresh.left in
     (t.0, t.1, subst (λ (room : ℕ). LinesRead text room xs t.0 s'.room) fresh.room t.2)
 
--- If the next line sets nothing, because reading stops, the script fails with that fault.
+-- If a setting line fails, or reading stops there, the script fails with that fault.
 setting_fault_ends_script : {g : Option (List ℕ)} {text : List ℕ} {s : SourceState} {x : Settings} (old : Option (List ℕ)) (f : ScriptFault)
     → IsFresh text s
-    → x ≡ initial_settings g → StopsSetting x s f → ScriptFails g text old old f
+    → x ≡ initial_settings g → SettingLineFails x s f → ScriptFails g text old old f
 setting_fault_ends_script {text = text} old f fresh e stops =
     let p = stops.prepared in
-    let t = lines_read_of_fresh_source fresh p.gives in
-    let here = holds_for_value stops.at.left
+    let t = fresh_source_reads_front fresh p.gives in
+    let here = value_has_property stops.at.left
     (λ left. ReadingIsStopped stops.at.room left f × NoLineRead stops.to.given (stops.at.number + 1) (lines_of left) f) t.0 t.1
     stops.stops in
     fails_in_setting (record {
@@ -59,11 +59,11 @@ setting_fault_ends_script {text = text} old f fresh e stops =
       stops = reading_stops_after f t.2 here.0;
     }) refl
 
--- A script whose settings cannot be read fails.
+-- If the settings of a script cannot be completed, it fails with that fault.
 configure_fault_ends_script : {g : Option (List ℕ)} {text : List ℕ} {s : SourceState} {x : Settings} (old : Option (List ℕ)) (f :
     ScriptFault)
     → IsFresh text s
-    → x ≡ initial_settings g → CannotConfigure x s f → ScriptFails g text old old f
+    → x ≡ initial_settings g → IsConfigureFault x s f → ScriptFails g text old old f
 configure_fault_ends_script old NoMemory fresh e falls = no_memory refl
 configure_fault_ends_script old (BadLine n) fresh e falls = setting_fault_ends_script old (BadLine n) fresh e falls
 configure_fault_ends_script old (LateConfig n) fresh e falls = setting_fault_ends_script old (LateConfig n) fresh e falls
@@ -74,40 +74,40 @@ configure_fault_ends_script old Write fresh e falls = setting_fault_ends_script 
 configure_fault_ends_script old (Expected n) fresh e falls = setting_fault_ends_script old (Expected n) fresh e falls
 configure_fault_ends_script old (NonePrinted n) fresh e falls = setting_fault_ends_script old (NonePrinted n) fresh e falls
 
--- If the settings of a script cannot be read, the script fails with that fault.
+-- If the reader names a text, and its settings cannot be completed, the script fails with that fault.
 pub configure_fault_fails_script : {g : Option (List ℕ)} (given old : Option (List ℕ)) (f : ScriptFault) {x : Settings} (s : SourceState)
-    → (s.left ≡ prepend_known [] given) × (s.room ≡ 16777216) × (s.number ≡ 0) → x ≡ initial_settings g → CannotConfigure x s f
+    → (s.left ≡ prepend_known [] given) × (s.room ≡ 16777216) × (s.number ≡ 0) → x ≡ initial_settings g → IsConfigureFault x s f
     → IfSome given (λ text. ScriptFails g text old old f)
 configure_fault_fails_script {g = g} given old f s first e falls =
     whole_text_has_property given s (λ text. ScriptFails g text old old f) first (λ text fresh. configure_fault_ends_script old f fresh e
     falls)
 
--- The lines before the first action set up the device that is about to start.
-abbrev sets_up : {g : Option (List ℕ)} {text : List ℕ} {s s' : SourceState} {x y : Settings} {more : Bool}
+-- The lines before the first acting line are the prologue of the script.
+abbrev lines_before_start_set_up_device : {g : Option (List ℕ)} {text : List ℕ} {s s' : SourceState} {x y : Settings} {more : Bool}
     → (fresh : IsFresh text s) → x ≡ initial_settings g
-    → (c : LinesConfigured x s y more s') → SetsUp g text y (lines_of (lines_read_of_fresh_source fresh c.prepared.gives).0)
-sets_up {y = y} fresh e c =
-    let t = lines_read_of_fresh_source fresh c.prepared.gives in
+    → (c : LinesConfigured x s y more s') → IsPrologue g text y (lines_of (fresh_source_reads_front fresh c.prepared.gives).0)
+lines_before_start_set_up_device {y = y} fresh e c =
+    let t = fresh_source_reads_front fresh c.prepared.gives in
     record {
       before = c.prepared.done;
       split = t.2.are;
       prepares = subst (λ (z : Settings). SettingsPrepared z c.prepared.done y) e c.prepared.prepares;
-      ready = holds_for_value c.at.left (λ left. HasToStart y (lines_of left)) t.0 t.1 c.ready;
+      ready = value_has_property c.at.left (λ left. DeviceMustStart y (lines_of left)) t.0 t.1 c.ready;
     }
 
--- A script whose device does not start fails.
+-- If the device that was set up does not start, the script fails with that fault.
 start_fault_ends_script : {g : Option (List ℕ)} {text : List ℕ} {s s' : SourceState} {x y : Settings} {more : Bool}
     (old : Option (List ℕ)) (f : ScriptFault)
     → IsFresh text s → x ≡ initial_settings g → LinesConfigured x s y more s' → StartFails y f → ScriptFails g text old old f
 start_fault_ends_script old NoMemory fresh e c falls = no_memory refl
 start_fault_ends_script old BadConfig fresh e c falls =
-    let t = lines_read_of_fresh_source fresh c.prepared.gives in
-    at_start (sets_up fresh e c) falls
-    (reading_stops_after BadConfig t.2 (holds_for_value c.at.left (λ left. ReadingIsStopped c.at.room left BadConfig) t.0 t.1 c.reached))
+    let t = fresh_source_reads_front fresh c.prepared.gives in
+    start_fails (lines_before_start_set_up_device fresh e c) falls
+    (reading_stops_after BadConfig t.2 (value_has_property c.at.left (λ left. ReadingIsStopped c.at.room left BadConfig) t.0 t.1 c.reached))
     refl
 start_fault_ends_script old f fresh e c falls = absurd falls
 
--- If the device that was set up cannot start, the script fails with that fault.
+-- If the reader names a text, and the device that it sets up does not start, the script fails with that fault.
 pub start_fault_fails_script : {g : Option (List ℕ)} (given old : Option (List ℕ)) (f : ScriptFault) {s s' : SourceState} {x y : Settings}
     {more : Bool}
     → (s.left ≡ prepend_known [] given) × (s.room ≡ 16777216) × (s.number ≡ 0) → x ≡ initial_settings g → LinesConfigured x s y more s'
@@ -116,19 +116,19 @@ start_fault_fails_script {g = g} given old f {s = s} first e c falls =
     whole_text_has_property given s (λ text. ScriptFails g text old old f) first (λ text fresh. start_fault_ends_script old f fresh e c
     falls)
 
--- At the end of a text the rest is empty.
-rest_empty_at_end : (a : Option (List ℕ)) → IsAtEnd a → IfSome a (λ left. left ≡ [])
-rest_empty_at_end None h = tt
-rest_empty_at_end (Some left) h = h
+-- At the end of a text, the rest is empty, if the reader names it.
+rest_is_empty_at_end : (a : Option (List ℕ)) → IsAtEnd a → IfSome a (λ left. left ≡ [])
+rest_is_empty_at_end None h = tt
+rest_is_empty_at_end (Some left) h = h
 
 -- The lines that were done are all lines of the text after its setting lines.
 done_lines_are_all_left : {text : List ℕ} {s s' : SourceState} {x y : Settings} {more : Bool} {old new : Option (List ℕ)} {p : ScriptPoint}
     → (fresh : IsFresh text s) → (c : LinesConfigured x s y more s') → (ends : SourceExhausted p c.at old new)
-    → ends.done ≡ lines_of (lines_read_of_fresh_source fresh c.prepared.gives).0
+    → ends.done ≡ lines_of (fresh_source_reads_front fresh c.prepared.gives).0
 done_lines_are_all_left fresh c ends =
-    let t = lines_read_of_fresh_source fresh c.prepared.gives in
-    let u = lines_taken_of_text c.at ends.last ends.done ends.gives t.1 in
-    let empty : u.0 ≡ [] = holds_for_value ends.last.left (λ left. left ≡ []) u.0 u.1 (rest_empty_at_end ends.last.left ends.ended) in
+    let t = fresh_source_reads_front fresh c.prepared.gives in
+    let u = source_reads_named_text c.at ends.last ends.done ends.gives t.1 in
+    let empty : u.0 ≡ [] = value_has_property ends.last.left (λ left. left ≡ []) u.0 u.1 (rest_is_empty_at_end ends.last.left ends.ended) in
     sym (u.2.are ∙ (ap (λ (zs : List ℕ). ends.done ++ lines_of zs) empty ∙ append-nil ends.done))
 
 -- A script whose source is exhausted ran whole.
@@ -137,13 +137,13 @@ exhausted_source_ends_script : {g : Option (List ℕ)} {text : List ℕ} {s s' :
     (d : DeviceView)
     → IsFresh text s → x ≡ initial_settings g → (c : LinesConfigured x s y more s') → DeviceStarts y d
     → SourceExhausted (initial_point y (link_at_rest d)) c.at old new
-    → WroteRun g text old new
+    → RunIsOut g text old new
 exhausted_source_ends_script {text = text} {y = y} d fresh e c starts ends =
-    let t = lines_read_of_fresh_source fresh c.prepared.gives in
-    let u = lines_taken_of_text c.at ends.last ends.done ends.gives t.1 in
+    let t = fresh_source_reads_front fresh c.prepared.gives in
+    let u = source_reads_named_text c.at ends.last ends.done ends.gives t.1 in
     let number : c.at.number + 1 ≡ 1 + length c.prepared.done = omega (arith, c.prepared.gives.count, fresh.number) in
-    let empty : u.0 ≡ [] = holds_for_value ends.last.left (λ left. left ≡ []) u.0 u.1 (rest_empty_at_end ends.last.left ends.ended) in
-    let all = lines_read_in_turn t.2 u.2 in
+    let empty : u.0 ≡ [] = value_has_property ends.last.left (λ left. left ≡ []) u.0 u.1 (rest_is_empty_at_end ends.last.left ends.ended) in
+    let all = lines_read_join t.2 u.2 in
     let whole : text ≡ all.front = all.split ∙ (ap (λ (zs : List ℕ). all.front ++ zs) empty ∙ append-nil all.front) in
     let lines = done_lines_are_all_left fresh c ends in
     record {
@@ -152,7 +152,7 @@ exhausted_source_ends_script {text = text} {y = y} d fresh e c starts ends =
         small = omega (arith, all.rooms, ap length whole);
         settings = y;
         after = lines_of t.0;
-        sets_up = sets_up fresh e c;
+        lines_before_start_set_up_device = lines_before_start_set_up_device fresh e c;
         first = d;
         starts = starts;
         shown = ends.shown;
@@ -167,17 +167,17 @@ exhausted_source_ends_script {text = text} {y = y} d fresh e c starts ends =
       told = ends.told;
     }
 
--- A script that fails in a line after the start fails.
+-- If a line after the start fails, the script fails with that fault.
 failed_line_ends_script : {g : Option (List ℕ)} {text : List ℕ} {s s' : SourceState} {x y : Settings} {more : Bool} {old new : Option (List
     ℕ)}
     (d : DeviceView)
     (f : ScriptFault) → IsFresh text s → x ≡ initial_settings g → (c : LinesConfigured x s y more s') → DeviceStarts y d
-    → MovesThenFails (initial_point y (link_at_rest d)) c.at old new f → ScriptFails g text old new f
+    → LinesDoneThenFailure (initial_point y (link_at_rest d)) c.at old new f → ScriptFails g text old new f
 failed_line_ends_script {y = y} {new = new} d f fresh e c starts falls =
     let m = falls.moves in
-    let t = lines_read_of_fresh_source fresh c.prepared.gives in
-    let u = lines_taken_of_text c.at falls.at m.done m.gives t.1 in
-    let here = holds_for_value falls.at.left (λ left. ReadingIsStopped falls.at.room left f
+    let t = fresh_source_reads_front fresh c.prepared.gives in
+    let u = source_reads_named_text c.at falls.at m.done m.gives t.1 in
+    let here = value_has_property falls.at.left (λ left. ReadingIsStopped falls.at.room left f
     × NextLineFails falls.to (falls.at.number + 1) (lines_of left)
     falls.mid new f) u.0 u.1 falls.falls in
     let number : c.at.number + 1 ≡ 1 + length c.prepared.done = omega (arith, c.prepared.gives.count, fresh.number) in
@@ -193,7 +193,7 @@ failed_line_ends_script {y = y} {new = new} d f fresh e c starts falls =
       falls = subst (λ (n : ℕ). NextLineFails falls.to n (lines_of u.0) falls.mid new f)
           (omega (arith, m.gives.count, c.prepared.gives.count, fresh.number)) here.1;
     } in
-    in_run (sets_up fresh e c) starts runs (reading_stops_after f (lines_read_in_turn t.2 u.2) here.0)
+    run_fails (lines_before_start_set_up_device fresh e c) starts runs (reading_stops_after f (lines_read_join t.2 u.2) here.0)
 
 -- A script whose device starts ends as the lines after that do: all of them are done, or one fails.
 pub script_ends_after_start : (r : Result Unit ScriptFault) {g : Option (List ℕ)} (given old new : Option (List ℕ)) (d : DeviceView) {s s'
@@ -201,10 +201,10 @@ pub script_ends_after_start : (r : Result Unit ScriptFault) {g : Option (List �
     {x y : Settings} {more : Bool} → (s.left ≡ prepend_known [] given) × (s.room ≡ 16777216) × (s.number ≡ 0) → x ≡ initial_settings g
     → LinesConfigured x s y more s' → DeviceStarts y d
     → OnOk r ((t : SourceState) → NextLineOrEnd t more s' → SourceExhausted (initial_point y (link_at_rest d)) t old new)
-    → IfErr r (λ f. (t : SourceState) → NextLineOrEnd t more s' → MovesThenFails (initial_point y (link_at_rest d)) t old new f)
+    → IfErr r (λ f. (t : SourceState) → NextLineOrEnd t more s' → LinesDoneThenFailure (initial_point y (link_at_rest d)) t old new f)
     → IfSome given (λ text. ScriptEnding g text old new r)
 script_ends_after_start (Ok it) {g = g} given old new d {s = s} first e c starts ends falls =
-    whole_text_has_property given s (λ text. WroteRun g text old new) first (λ text fresh. exhausted_source_ends_script d fresh e c starts
+    whole_text_has_property given s (λ text. RunIsOut g text old new) first (λ text fresh. exhausted_source_ends_script d fresh e c starts
     (ends c.at c.next))
 script_ends_after_start (Err f) {g = g} given old new d {s = s} first e c starts ends falls =
     whole_text_has_property given s (λ text. ScriptFails g text old new f) first (λ text fresh. failed_line_ends_script d f fresh e c

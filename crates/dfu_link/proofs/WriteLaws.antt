@@ -1,20 +1,20 @@
--- Texts that are written in turn, and the prefixes that are out.
+-- Texts that are written in turn, and the prefixes of them that were written.
 use Rattle.std.proofs.Common.{◌≡◌, ℕ, List, [], ◌++◌, length-append, Option, sym, ap, ◌∙◌, subst, arith}
 use Rattle.std.proofs.lemmas.List.{append_assoc}
 use Rattle.std.specs.Io.KnownBytes.{Appends}
 use Rattle.std.specs.Prelude.{Result, Ok, Err, IsErrAnd}
 use Rattle.std.proofs.KnownBytes.{Appends-nil, Appends-trans}
-use Rattle.dfu_suffix.specs.Writing.{IsOutInPart}
+use Rattle.dfu_suffix.specs.Writing.{IsPartlyWritten}
 use Rattle.dfu_link.specs.declared.scripting.fault.ScriptFault.{ScriptFault}
-use Rattle.dfu_link.specs.inside.Expected.{TextWritten}
+use Rattle.dfu_link.specs.inside.Expected.{WriteEnds}
 
--- An empty text is out without any write.
-pub no_text_written : (old : Option (List ℕ)) → TextWritten [] old old (Ok tt)
-no_text_written old = record { ok = Appends-nil old; err = tt; fault = tt }
+-- An empty text is written without any write.
+pub no_text_is_written : (old : Option (List ℕ)) → WriteEnds [] old old (Ok tt)
+no_text_is_written old = record { ok = Appends-nil old; err = tt; fault = tt }
 
--- If a text broke off, the same text with more bytes after it broke off too.
-pub broken_text_goes_on : (old new : Option (List ℕ)) (xs ys : List ℕ) → IsOutInPart old new xs → IsOutInPart old new (xs ++ ys)
-broken_text_goes_on old new xs ys b =
+-- If the writing of a text broke off, writing the same text with more bytes after it broke off too.
+pub longer_text_breaks_off : (old new : Option (List ℕ)) (xs ys : List ℕ) → IsPartlyWritten old new xs → IsPartlyWritten old new (xs ++ ys)
+longer_text_breaks_off old new xs ys b =
     record {
       front = b.front;
       rest = b.rest ++ ys;
@@ -24,9 +24,9 @@ broken_text_goes_on old new xs ys b =
     }
 
 -- If one text is written whole and the next one breaks off, then the two taken as one text break off.
-pub text_broke_after : (old mid new : Option (List ℕ)) (xs ys : List ℕ) → Appends old mid xs → IsOutInPart mid new ys
-    → IsOutInPart old new (xs ++ ys)
-text_broke_after old mid new xs ys h b =
+pub second_text_breaks_both : (old mid new : Option (List ℕ)) (xs ys : List ℕ) → Appends old mid xs → IsPartlyWritten mid new ys
+    → IsPartlyWritten old new (xs ++ ys)
+second_text_breaks_both old mid new xs ys h b =
     record {
       front = xs ++ b.front;
       rest = b.rest;
@@ -35,33 +35,34 @@ text_broke_after old mid new xs ys h b =
       told = Appends-trans old mid new xs b.front h b.told;
     }
 
--- A text that is out, followed by the writing of another, is the writing of both.
-written_texts_joined : (r : Result Unit ScriptFault) (old mid new : Option (List ℕ)) (xs ys : List ℕ) → Appends old mid xs →
-    TextWritten ys mid new r
-    → TextWritten (xs ++ ys) old new r
-written_texts_joined (Ok done) old mid new xs ys h k = record { ok = Appends-trans old mid new xs ys h k.ok; err = tt; fault = tt }
-written_texts_joined (Err f) old mid new xs ys h k = record { ok = tt; err = text_broke_after old mid new xs ys h k.err; fault = k.fault }
+-- Writing a text after another one that was written whole is the writing of both joined.
+written_texts_join : (r : Result Unit ScriptFault) (old mid new : Option (List ℕ)) (xs ys : List ℕ) → Appends old mid xs →
+    WriteEnds ys mid new r
+    → WriteEnds (xs ++ ys) old new r
+written_texts_join (Ok done) old mid new xs ys h k = record { ok = Appends-trans old mid new xs ys h k.ok; err = tt; fault = tt }
+written_texts_join (Err f) old mid new xs ys h k =
+    record { ok = tt; err = second_text_breaks_both old mid new xs ys h k.err; fault = k.fault }
 
--- If a text is out, the writing of a second text after it ends as the writing of both texts would.
-pub both_texts_written : {old mid new : Option (List ℕ)} {xs ys text : List ℕ} {done : Unit {0}} {r : Result Unit ScriptFault}
-    → TextWritten xs old mid (Ok done) → TextWritten ys mid new r → text ≡ xs ++ ys → TextWritten text old new r
-both_texts_written {old = old} {mid = mid} {new = new} {xs = xs} {ys = ys} {r = r} h k e =
-    subst (λ (zs : List ℕ). TextWritten zs old new r) (sym e) (written_texts_joined r old mid new xs ys h.ok k)
+-- If a text was written, the writing of a second text after it ends as the writing of both texts would.
+pub both_texts_are_written : {old mid new : Option (List ℕ)} {xs ys text : List ℕ} {done : Unit {0}} {r : Result Unit ScriptFault}
+    → WriteEnds xs old mid (Ok done) → WriteEnds ys mid new r → text ≡ xs ++ ys → WriteEnds text old new r
+both_texts_are_written {old = old} {mid = mid} {new = new} {xs = xs} {ys = ys} {r = r} h k e =
+    subst (λ (zs : List ℕ). WriteEnds zs old new r) (sym e) (written_texts_join r old mid new xs ys h.ok k)
 
--- A failure in a text is a failure in that text followed by another.
+-- A failure while writing a text is a failure while writing that text followed by another.
 first_text_stops_both : (r : Result Unit ScriptFault) (old new : Option (List ℕ)) (xs ys : List ℕ) (f : ScriptFault) →
-    TextWritten xs old new (Err f)
-    → IsErrAnd r (λ e. e ≡ f) → TextWritten (xs ++ ys) old new r
+    WriteEnds xs old new (Err f)
+    → IsErrAnd r (λ e. e ≡ f) → WriteEnds (xs ++ ys) old new r
 first_text_stops_both (Ok done) old new xs ys f h same = absurd same
 first_text_stops_both (Err e) old new xs ys f h same = record {
   ok = tt;
-  err = broken_text_goes_on old new xs ys h.err;
+  err = longer_text_breaks_off old new xs ys h.err;
   fault = same
       ∙ h.fault;
 }
 
 -- If the writer failed in a text, it failed in that text followed by any other.
 pub both_texts_fail : {old new : Option (List ℕ)} {xs text : List ℕ} {f : ScriptFault} {r : Result Unit ScriptFault} (ys : List ℕ)
-    → TextWritten xs old new (Err f) → IsErrAnd r (λ e. e ≡ f) → text ≡ xs ++ ys → TextWritten text old new r
+    → WriteEnds xs old new (Err f) → IsErrAnd r (λ e. e ≡ f) → text ≡ xs ++ ys → WriteEnds text old new r
 both_texts_fail {old = old} {new = new} {xs = xs} {f = f} {r = r} ys h same e =
-    subst (λ (zs : List ℕ). TextWritten zs old new r) (sym e) (first_text_stops_both r old new xs ys f h same)
+    subst (λ (zs : List ℕ). WriteEnds zs old new r) (sym e) (first_text_stops_both r old new xs ys f h same)

@@ -14,18 +14,18 @@ pub record HasExpectedFront (e : Expectation) (text : List ℕ) : Type 0 where
   pub rest : List ℕ
   pub is : text ≡ (e.text ++ 10 ∷ []) ++ rest
 
--- A text meets the expectation if no line is expected, if the text is empty, or if it begins with the expected line.
+-- A text meets the expectation: no line is expected, the text is empty, or it begins with the expected line.
 abbrev pub MeetsExpectation : Option Expectation → (text : List ℕ) → Type 0
 MeetsExpectation None text = Unit {0}
 MeetsExpectation (Some e) [] = Unit {0}
 MeetsExpectation (Some e) (byte ∷ bytes) = HasExpectedFront e (byte ∷ bytes)
 
--- Expectation that is left once a text was printed: none, if the text has a byte.
+-- Expectation after a text was printed: unchanged if the text is empty, else none.
 abbrev pub expectation_left : Option Expectation → (text : List ℕ) → Option Expectation
 expectation_left e [] = e
 expectation_left e (byte ∷ bytes) = None
 
--- The text is not the expected line, and it is out except its last byte.
+-- The text is not the expected line, and all of it but its last byte was written.
 pub record IsUnexpected (e : Expectation) (text : List ℕ) (old new : Option (List ℕ)) : Type 0 where
   pub front : List ℕ
   pub last : ℕ
@@ -33,10 +33,10 @@ pub record IsUnexpected (e : Expectation) (text : List ℕ) (old new : Option (L
   pub other : text ≢ e.text ++ 10 ∷ []
   pub told : Appends old new front
 
--- Reason for which a text is not out whole: the writer failed; or the expected line differs from the text; or there was no memory to
--- compare the two.
-abbrev pub FailsToPrint : Option Expectation → (text : List ℕ) → (old new : Option (List ℕ)) → ScriptFault → Type 0
-FailsToPrint e text old new Write = Unit {0}
-FailsToPrint (Some e) text old new NoMemory = Unit {0}
-FailsToPrint (Some e) text old new (Expected n) = (n ≡ e.number) × IsUnexpected e text old new
-FailsToPrint e text old new fault = ⊥
+-- The fault is a reason for which a text was not written whole: the writer failed; or a line is expected, and it differs from the text, or
+-- there was no memory to compare them.
+abbrev pub IsPrintFault : Option Expectation → (text : List ℕ) → (old new : Option (List ℕ)) → ScriptFault → Type 0
+IsPrintFault e text old new Write = Unit {0}
+IsPrintFault (Some e) text old new NoMemory = Unit {0}
+IsPrintFault (Some e) text old new (Expected n) = (n ≡ e.number) × IsUnexpected e text old new
+IsPrintFault e text old new fault = ⊥

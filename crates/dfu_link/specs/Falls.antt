@@ -1,26 +1,26 @@
--- A script that ends with a fault, and the text that is out then.
+-- Scripts that end with a fault, and the text that was written by then.
 use Rattle.std.specs.Prelude.{◌≡◌, ◌≢◌, ◌⊎◌, ℕ, ◌+◌, ◌%◌, ◌<◌, List, [], ◌∷◌, ◌++◌, length, Option, Some, None, Result, Ok, Err}
 use Rattle.std.specs.Io.KnownBytes.{Appends}
 use Rattle.dfu_slots.specs.Units.{IsMultiple}
 use Rattle.dfu_device.specs.declared.config.ConfigFault.{ConfigFault}
-use Rattle.dfu_device.specs.Setting.{FirstFault}
+use Rattle.dfu_device.specs.Setting.{IsFirstFault}
 use Rattle.dfu_device.specs.DeviceView.{DeviceView}
 use Rattle.dfu_sim.specs.declared.offering.Purpose.{Purpose}
 use Rattle.dfu_sim.specs.LinkView.{NoLiveSession, LinkView}
 use Rattle.dfu_sim.specs.Happening.{Happening}
-use Rattle.dfu_suffix.specs.Writing.{IsOutInPart}
+use Rattle.dfu_suffix.specs.Writing.{IsPartlyWritten}
 use Rattle.dfu_link.specs.Texts.{image_line, show_line}
 use Rattle.dfu_link.specs.Words.{lines_of}
 use Rattle.dfu_link.specs.LineContent.{ConfigLine, EventLine, Offer, HasTear, SetsConfig, Does, GoesOn, Show, ExpectsText}
 use Rattle.dfu_link.specs.Lines.{line_of}
-use Rattle.dfu_link.specs.Expecting.{Expectation, FailsToPrint}
+use Rattle.dfu_link.specs.Expecting.{Expectation, IsPrintFault}
 use Rattle.dfu_link.specs.TextLimit.{NoLineRead, ReadingStopsAfter}
-use Rattle.dfu_link.specs.ScriptRun.{Settings, initial_settings, SettingsPrepared, DeviceStarts, link_at_rest, EventsPlayed, ScriptPoint, initial_point, events_of_line, LineActs, LinesRun, SetsUp, WroteRun}
+use Rattle.dfu_link.specs.ScriptRun.{Settings, initial_settings, SettingsPrepared, DeviceStarts, link_at_rest, EventsPlayed, ScriptPoint, initial_point, events_of_line, LineActs, LinesRun, IsPrologue, RunIsOut}
 use Rattle.dfu_link.specs.declared.scripting.fault.ScriptFault.{ScriptFault}
 use Rattle.dfu_link.specs.declared.scripting.fault.ScriptFault.TheVariants.{BadLine, LateConfig, BadConfig, Expected, NonePrinted, TooLarge, NoMemory, Read, Write}
 
--- A stop among events, if the device's program takes only images that begin with `check`, and the line of `next` is expected: some events
--- were played, and a prefix of their text is out, but not all of it.
+-- A script stopped among events: the first of them were played, and a prefix of their text was written, but not all of it. The device's
+-- program takes only images that begin with `check`, and the line of `next` is expected.
 pub record StoppedAmongEvents (check : List ℕ) (b : LinkView) (next : Option Expectation) (events : List Happening)
     (old new : Option (List ℕ))
     (fault : ScriptFault)
@@ -31,73 +31,72 @@ pub record StoppedAmongEvents (check : List ℕ) (b : LinkView) (next : Option E
   pub after : LinkView
   pub out : List ℕ
   pub plays : EventsPlayed check b events_played_before out after
-  pub broken_text_in_part : IsOutInPart old new out
-  pub fails : FailsToPrint next out old new fault
+  pub broken_text_in_part : IsPartlyWritten old new out
+  pub fails : IsPrintFault next out old new fault
 
--- A stop in what a line prints: among its events, in the text of `go until report`, or in the line of `show`.
-pub data StopsInLine (p : ScriptPoint) (line : List ℕ) (old new : Option (List ℕ)) (fault : ScriptFault) : Type 0 where
+-- A script stops while a line prints: among the line's events, in the text of `go until report`, or in the line of `show`.
+pub data PrintingStops (p : ScriptPoint) (line : List ℕ) (old new : Option (List ℕ)) (fault : ScriptFault) : Type 0 where
   in_events : {events : EventLine} → line_of p.given line ≡ Some (Does events)
       → StoppedAmongEvents p.check p.at p.next (events_of_line p.limits events) old new fault
-      → StopsInLine p line old new fault
+      → PrintingStops p line old new fault
   stops_in_until_report : {out : List ℕ} {q : ScriptPoint} → line_of p.given line ≡ Some GoesOn →
       LineActs 0 (record p { next = None }) GoesOn out q
-      → IsOutInPart old new out → FailsToPrint p.next out old new fault → StopsInLine p line old new fault
-  stops_in_show : line_of p.given line ≡ Some Show → IsOutInPart old new (show_line p.at.device)
-      → FailsToPrint p.next (show_line p.at.device) old new fault
-      → StopsInLine p line old new fault
+      → IsPartlyWritten old new out → IsPrintFault p.next out old new fault → PrintingStops p line old new fault
+  stops_in_show : line_of p.given line ≡ Some Show → IsPartlyWritten old new (show_line p.at.device)
+      → IsPrintFault p.next (show_line p.at.device) old new fault
+      → PrintingStops p line old new fault
 
--- A line that sets something about the device.
+-- The line sets something about the device.
 pub record IsSettingLine (given : Option (List ℕ)) (line : List ℕ) : Type 0 where
   pub setting : ConfigLine
   pub says : line_of given line ≡ Some (SetsConfig setting)
 
--- A line that offers a file.
+-- The line offers a file.
 pub record IsOfferLine (given : Option (List ℕ)) (line : List ℕ) : Type 0 where
   pub purpose : Purpose
   pub file : List ℕ
   pub says : line_of given line ≡ Some (Does (Offer purpose file))
 
--- A line that expects the next printed line.
+-- The line expects a text as the next printed line.
 pub record IsExpectLine (given : Option (List ℕ)) (line : List ℕ) : Type 0 where
   pub text : List ℕ
   pub says : line_of given line ≡ Some (ExpectsText text)
 
--- A line that needs memory: for the file that it offers while no session is live, for the tear of a harmed write, or for the line that it
+-- The line needs memory: for the file that it offers while no session is live, for the tear of a harmed write, or for the line that it
 -- expects.
-pub data NeedsMemory (p : ScriptPoint) (line : List ℕ) : Type 0 where
-  needs_file_memory : IsOfferLine p.given line → p.at.session ≡ NoLiveSession → NeedsMemory p line
-  needs_tear_memory : {events : EventLine} → line_of p.given line ≡ Some (Does events) → HasTear events → NeedsMemory p line
-  for_text : IsExpectLine p.given line → NeedsMemory p line
+pub data LineNeedsMemory (p : ScriptPoint) (line : List ℕ) : Type 0 where
+  needs_file_memory : IsOfferLine p.given line → p.at.session ≡ NoLiveSession → LineNeedsMemory p line
+  needs_tear_memory : {events : EventLine} → line_of p.given line ≡ Some (Does events) → HasTear events → LineNeedsMemory p line
+  needs_text_memory : IsExpectLine p.given line → LineNeedsMemory p line
 
--- A line that expects a line while line n of the script still expects one.
+-- The line expects a text while line n of the script still expects one.
 pub record IsSecondExpectation (p : ScriptPoint) (line : List ℕ) (n : ℕ) : Type 0 where
   pub first : Expectation
   pub is : p.next ≡ Some first
   pub number : n ≡ first.number
   pub second : IsExpectLine p.given line
 
--- Line k fails with `fault` once the device is started. If the line is not of the language, sets something, or lacks memory, nothing of it
--- is out. It also fails if it expects a line before the last expected one was printed, or if the script stops in what the line prints.
+-- Line k fails with `fault` after the device has started. It is not of the language, it sets something about the device, it lacks memory,
+-- or it expects a text before the last expected one was printed, and nothing is written; or the printing of its text stops.
 abbrev pub LineFails : ScriptPoint → ℕ → List ℕ → Option (List ℕ) → Option (List ℕ) → ScriptFault → Type 0
 LineFails p k line old new (BadLine n) = (n ≡ k) × (line_of p.given line ≡ None) × (new ≡ old)
 LineFails p k line old new (LateConfig n) = (n ≡ k) × IsSettingLine p.given line × (new ≡ old)
-LineFails p k line old new NoMemory = (NeedsMemory p line × (new ≡ old)) ⊎ StopsInLine p line old new NoMemory
-LineFails p k line old new Write = StopsInLine p line old new Write
-LineFails p k line old new (Expected n) = StopsInLine p line old new (Expected n)
+LineFails p k line old new NoMemory = (LineNeedsMemory p line × (new ≡ old)) ⊎ PrintingStops p line old new NoMemory
+LineFails p k line old new Write = PrintingStops p line old new Write
+LineFails p k line old new (Expected n) = PrintingStops p line old new (Expected n)
 LineFails p k line old new (NonePrinted n) = IsSecondExpectation p line n × (new ≡ old)
 LineFails p k line old new fault = ⊥
 
--- The script fails in `lines`, of which the first is line k. If the text goes over its limit or the reader fails, nothing more is out. Else
--- the first line fails, or, if none is left, the writer fails in the line of the image.
+-- The script fails with `lines` left, the first of them line k. The text exceeds its limit, or the reader fails, and nothing more is
+-- written; or the first line fails; or no line is left, and the printing of the line of the image fails.
 abbrev pub NextLineFails : ScriptPoint → ℕ → List (List ℕ) → Option (List ℕ) → Option (List ℕ) → ScriptFault → Type 0
 NextLineFails p k lines old new TooLarge = new ≡ old
 NextLineFails p k lines old new Read = new ≡ old
 NextLineFails p k [] old new fault =
-    FailsToPrint p.next (image_line p.at.device) old new fault × IsOutInPart old new (image_line p.at.device)
+    IsPrintFault p.next (image_line p.at.device) old new fault × IsPartlyWritten old new (image_line p.at.device)
 NextLineFails p k (line ∷ lines) old new fault = LineFails p k line old new fault
 
--- The script fails in one of `lines`, of which the first is line k: the lines before it run, what they print is out, and then the next line
--- fails.
+-- The script fails in one of `lines`, the first of which is line k: the lines before the failing one ran, and their text was written.
 pub record LinesFail (p : ScriptPoint) (k : ℕ) (lines : List (List ℕ)) (old new : Option (List ℕ)) (fault : ScriptFault) : Type 0 where
   pub done : List (List ℕ)
   pub rest : List (List ℕ)
@@ -109,7 +108,7 @@ pub record LinesFail (p : ScriptPoint) (k : ℕ) (lines : List (List ℕ)) (old 
   pub told : Appends old mid shown
   pub falls : NextLineFails end (k + length done) rest mid new fault
 
--- The setting lines fail: some of them set something, and the next one fails.
+-- The setting lines fail: the first of them prepare settings, and after them no line of the language is read.
 pub record SettingFails (given : Option (List ℕ)) (text : List ℕ) (fault : ScriptFault) : Type 0 where
   pub done : List (List ℕ)
   pub rest : List (List ℕ)
@@ -119,34 +118,36 @@ pub record SettingFails (given : Option (List ℕ)) (text : List ℕ) (fault : S
   pub falls : NoLineRead settings.given (1 + length done) rest fault
   pub stops : ReadingStopsAfter text done fault
 
--- No device can be set up with these settings: the setting has a fault, the room has no whole units or no whole sectors, or the image is
--- larger than the room.
-pub data CannotStart (s : Settings) : Type 0 where
-  refused : (fault : ConfigFault) → FirstFault fault s.device → CannotStart s
-  room_not_whole : ¬ IsMultiple s.grain.unit s.capacity → CannotStart s
-  cuts_sector : 0 < s.grain.sector → s.capacity % s.grain.sector ≢ 0 → CannotStart s
-  too_large : s.capacity < length s.image → CannotStart s
+-- No device can be set up with these settings: the setting has a fault, the capacity is no multiple of the unit or of the sector, or it is
+-- less than the image.
+pub data NoDeviceStarts (s : Settings) : Type 0 where
+  refused : (fault : ConfigFault) → IsFirstFault fault s.device → NoDeviceStarts s
+  room_not_whole : ¬ IsMultiple s.grain.unit s.capacity → NoDeviceStarts s
+  cuts_sector : 0 < s.grain.sector → s.capacity % s.grain.sector ≢ 0 → NoDeviceStarts s
+  too_large : s.capacity < length s.image → NoDeviceStarts s
 
--- Reason for which a device does not start: BadConfig if none can be set up, NoMemory if there is no memory.
+-- The fault is a reason for which a device does not start: BadConfig if none can be set up, NoMemory if there is no memory.
 abbrev pub StartFails : Settings → ScriptFault → Type 0
-StartFails s BadConfig = CannotStart s
+StartFails s BadConfig = NoDeviceStarts s
 StartFails s NoMemory = Unit {0}
 StartFails s fault = ⊥
 
--- A script fails. There was no memory for a line, the image or the device, and nothing is out; or a setting line fails, or no device can be
--- set up, and nothing is out; or the device starts, and a line after the start fails.
+-- A script fails. There is no memory for a line, the image or the device, a setting line fails, or no device can be set up, and nothing is
+-- written; or the device starts, and the script fails at a line after that or at its end.
 pub data ScriptFails (given : Option (List ℕ)) (text : List ℕ) (old new : Option (List ℕ)) : ScriptFault → Type 0 where
   no_memory : new ≡ old → ScriptFails given text old new NoMemory
   fails_in_setting : {fault : ScriptFault} → SettingFails given text fault → new ≡ old → ScriptFails given text old new fault
-  at_start : {settings : Settings} {after : List (List ℕ)} (sets_up : SetsUp given text settings after) → CannotStart settings
-      → ReadingStopsAfter text sets_up.before BadConfig → new ≡ old → ScriptFails given text old new BadConfig
-  in_run : {settings : Settings} {after : List (List ℕ)} {first : DeviceView} {fault : ScriptFault}
-      (sets_up : SetsUp given text settings after)
+  start_fails : {settings : Settings} {after : List (List ℕ)} (lines_before_start_set_up_device : IsPrologue given text settings after)
+      → NoDeviceStarts settings
+      → ReadingStopsAfter text lines_before_start_set_up_device.before BadConfig → new ≡ old → ScriptFails given text old new BadConfig
+  run_fails : {settings : Settings} {after : List (List ℕ)} {first : DeviceView} {fault : ScriptFault}
+      (lines_before_start_set_up_device : IsPrologue given text settings after)
       → DeviceStarts settings first
-      → (falls : LinesFail (initial_point settings (link_at_rest first)) (1 + length sets_up.before) after old new fault)
-      → ReadingStopsAfter text (sets_up.before ++ falls.done) fault → ScriptFails given text old new fault
+      → (falls : LinesFail (initial_point settings (link_at_rest first))
+      (1 + length lines_before_start_set_up_device.before) after old new fault)
+      → ReadingStopsAfter text (lines_before_start_set_up_device.before ++ falls.done) fault → ScriptFails given text old new fault
 
 -- Ending of a script: with Ok all of it ran, and with a fault it failed with that fault.
 abbrev pub ScriptEnding : (given : Option (List ℕ)) → (text : List ℕ) → (old new : Option (List ℕ)) → Result Unit ScriptFault → Type 0
-ScriptEnding given text old new (Ok done) = WroteRun given text old new
+ScriptEnding given text old new (Ok done) = RunIsOut given text old new
 ScriptEnding given text old new (Err fault) = ScriptFails given text old new fault

@@ -6,7 +6,8 @@ use Rattle.dfu_link.specs.declared.scripting.words.Keyword.TheVariants as key
 use Rattle.dfu_link.specs.declared.scripting.words.FateKeyword.{FateKeyword}
 use Rattle.dfu_link.specs.declared.scripting.words.FateKeyword.TheVariants as fate
 
--- The keyword that the first word of a line is, unless it is a comment or a word of the device and its medium.
+-- The keyword that the first word of a line is, if it is one from `limits` on; None for `ids`, `device`, `unit`, `erase`, `pace`,
+-- `capacity` and `image`, and for a word that is no keyword.
 unfoldable pub later_keyword_of : List ℕ → Option Keyword
 later_keyword_of w =
     if bytes_eq w (codes "limits") then Some key.Limits
@@ -24,7 +25,7 @@ later_keyword_of w =
     else if bytes_eq w (codes "refuse") then Some key.Refuse
     else None
 
--- The keyword that the first word of a line is, unless it is a comment.
+-- The keyword that the first word of a line is; None if it is no keyword.
 unfoldable pub keyword_of : List ℕ → Option Keyword
 keyword_of w =
     if bytes_eq w (codes "ids") then Some key.Ids
@@ -36,7 +37,7 @@ keyword_of w =
     else if bytes_eq w (codes "image") then Some key.Image
     else later_keyword_of w
 
--- The word after `go`: the name of a fate, or `until`.
+-- The keyword that the word after `go` is, the name of a fate or `until`; None if it is neither.
 unfoldable pub fate_keyword_of : List ℕ → Option FateKeyword
 fate_keyword_of w =
     if bytes_eq w (codes "pass") then Some fate.Pass

@@ -24,7 +24,7 @@ use Rattle.dfu_link.specs.declared.scripting.line.EventLine.TheVariants as event
 abbrev pub hex_bytes : HexText → List ℕ
 hex_bytes text = unwrap_or (hex_word_bytes text.text.now) []
 
--- The bytes that are given to a script, if any are.
+-- The bytes that are given to a script as FILE, if any are.
 abbrev pub given_bytes : Option (Bor (List ℕ)) → Option (List ℕ)
 given_bytes None = None
 given_bytes (Some bytes) = Some bytes.now
@@ -60,14 +60,14 @@ pub data EventLine : Type 0 where
   Cut : EventLine
   Refuse : (why : Objection) → EventLine
 
--- An event line that harms a write, and so has a tear.
+-- The event line harms a write, and so has a tear.
 abbrev pub HasTear : EventLine → Type 0
 HasTear (Go CutInWrite h times) = Unit {0}
 HasTear (Go Fail h times) = Unit {0}
 HasTear (Go Lie h times) = Unit {0}
 HasTear d = ⊥
 
--- Meaning of a line: none, a setting, the limits of later sessions, events, passes until the host reports, a view of the device, or the
+-- Meaning of a line: none, a setting, the limits of later sessions, events, passes until one prints a line, a view of the device, or the
 -- line that must be printed next.
 pub data LineContent : Type 0 where
   Blank : LineContent
@@ -95,7 +95,8 @@ harm_fate kind.Cut = CutInWrite
 harm_fate kind.Fail = Fail
 harm_fate kind.Lie = Lie
 
--- Meaning of a line that harms a write: the first `writes` writes work, and the next one leaves the first bytes of the tear.
+-- Meaning of a line that harms a write of one action: `writes` writes work, and the next one is harmed, and leaves the first bytes of the
+-- tear.
 abbrev pub harmed_line : kinds.HarmKind → (writes : ℕ) → HexText → LineContent
 harmed_line h writes text = Does (Go (harm_fate h) (harmed writes (hex_bytes text)) 1)
 

@@ -7,7 +7,7 @@ use Rattle.dfu_sim.specs.declared.offering.Purpose.{Purpose}
 use Rattle.dfu_sim.specs.declared.offering.Purpose.TheVariants.{Install, Verify}
 use Rattle.dfu_sim.specs.Happening.{Fate, Pass, LostOut, LostBack, Twice, TwiceLostBack, Slip, CutInWrite, Fail, Lie, no_write_harmed, harmed}
 use Rattle.dfu_link.specs.Words.{ok_of, hex_word_bytes, number_of, first_word, text_behind, words_of}
-use Rattle.dfu_link.specs.Fields.{small_of, count_of, attributes_of_word, unit_of_word, sector_of, objection_of, named_bytes}
+use Rattle.dfu_link.specs.Fields.{number_at_most, count_of, attributes_of_word, unit_of_word, sector_of, objection_of_word, named_bytes}
 use Rattle.dfu_link.specs.LineContent.{LineContent, Blank, SetsConfig, SetsLimits, Does, GoesOn, Show, ExpectsText, SetsDeviceIds, SetsDevice, SetsUnit, SetsSector, SetsPace, SetsCapacity, SetsImage, SetsCheck, Offer, Upload, Abort, Go, Time, Reset, Cut, Refuse}
 use Rattle.dfu_link.specs.Keywords.{keyword_of, fate_keyword_of}
 use Rattle.dfu_link.specs.declared.scripting.words.Keyword.{Keyword}
@@ -23,13 +23,14 @@ use Rattle.dfu_link.specs.declared.scripting.fault.LineFault.TheVariants as wron
 abbrev pub LineResult : Type 0 → Type 0
 LineResult A = Result A LineFault
 
--- A reading step after another: if the first step fails, its fault is the fault of the line.
+-- Two steps of reading in a row: if the first step fails, its fault is the result.
 infixl 10 ◌>>=◌
 abbrev pub ◌>>=◌ : {A B : Type 0} → LineResult A → (A → LineResult B) → LineResult B
 (Ok x) >>= f = f x
 (Err e) >>= f = Err e
 
--- The code's reading of a line, seen for its meaning, is the reading of the grammar; a line that the code refuses has the grammar's fault.
+-- The code reads a line as the grammar does: its value, seen by `view`, is the grammar's, and a line that the code refuses has the
+-- grammar's fault.
 abbrev pub ReadMatches : {X Y : Type 0} → (X → Y) → LineResult X → LineResult Y → Type 0
 ReadMatches view (Ok x) read = read ≡ Ok (view x)
 ReadMatches view (Err e) read = read ≡ Err e
@@ -39,37 +40,37 @@ abbrev pub word_field : {A : Type 0} → Field → (List ℕ → Option A) → (
 word_field f read n of words =
     ok_or (first_word words) (wrong.Count of) >>= λ w. ok_or (read w.0) (wrong.Word f n) >>= λ x. Ok (x, w.1)
 
--- A number.
+-- Reads word n of a line as a number.
 unfoldable pub number_field : (n of : ℕ) → List (List ℕ) → LineResult (ℕ × List (List ℕ))
 number_field n of words = word_field a.Number number_of n of words
 
--- A number of at most 65,535.
+-- Reads word n of a line as a number of at most 65,535.
 unfoldable pub short_at : (n of : ℕ) → List (List ℕ) → LineResult (ℕ × List (List ℕ))
-short_at n of words = word_field a.Short (small_of 65535) n of words
+short_at n of words = word_field a.Short (number_at_most 65535) n of words
 
--- Hexadecimal text.
+-- Reads word n of a line as hexadecimal text.
 unfoldable pub hex_at : (n of : ℕ) → List (List ℕ) → LineResult (List ℕ × List (List ℕ))
 hex_at n of words = word_field a.Bytes hex_word_bytes n of words
 
--- Fault of word n if it names no file.
-abbrev pub no_file : List ℕ → (n : ℕ) → LineFault
-no_file word n = if bytes_eq word (codes "FILE") then wrong.NoFile else wrong.Word a.Bytes n
+-- Fault of word n, which names no file: NoFile for FILE, and the wrong form for any other word.
+abbrev pub no_file_fault : List ℕ → (n : ℕ) → LineFault
+no_file_fault word n = if bytes_eq word (codes "FILE") then wrong.NoFile else wrong.Word a.Bytes n
 
--- The bytes of a file that is offered.
+-- Reads word n of a line as the bytes of the file that it offers.
 unfoldable pub offered_file : Option (List ℕ) → (n of : ℕ) → List (List ℕ) → LineResult (List ℕ × List (List ℕ))
 offered_file given n of words =
-    ok_or (first_word words) (wrong.Count of) >>= λ w. ok_or (named_bytes given w.0) (no_file w.0 n) >>= λ x. Ok (x, w.1)
+    ok_or (first_word words) (wrong.Count of) >>= λ w. ok_or (named_bytes given w.0) (no_file_fault w.0 n) >>= λ x. Ok (x, w.1)
 
--- Four hexadecimal digits.
+-- Reads word n of a line as four hexadecimal digits.
 unfoldable pub identifier_at : (n of : ℕ) → List (List ℕ) → LineResult (ℕ × List (List ℕ))
 identifier_at n of words = word_field a.Identifier identifier_in n of words
 
--- A line is a comment if its first word begins with `#`.
+-- A line with this first word is a comment: the word begins with `#`.
 abbrev pub is_comment : List ℕ → Bool
 is_comment [] = false
 is_comment (byte ∷ bytes) = byte == 35
 
--- The value, if the line has no further word. Else the fault says that the line must have `of` words, or that a comment needs a line.
+-- The value, if the line has no further word; else a fault: a comment follows, or the line must have `of` words.
 abbrev pub line_ends : {A : Type 0} → A → (of : ℕ) → List (List ℕ) → LineResult A
 line_ends x of [] = Ok x
 line_ends x of (word ∷ words) = Err (if is_comment word then wrong.Comment else wrong.Count of)
@@ -93,26 +94,26 @@ device_content words = do
   manifest ← number_field 7 7 busy.1
   line_ends (SetsConfig (SetsDevice (functional_of attributes.0 detach.0 transfer.0 0x0110) least.0 busy.0 manifest.0)) 7 manifest.1
 
--- After `unit`: how many bytes the medium writes at a time.
-unfoldable pub unit_line : List (List ℕ) → LineResult LineContent
-unit_line words = do
+-- After `unit`: the number of bytes that the medium writes at a time.
+unfoldable pub unit_content : List (List ℕ) → LineResult LineContent
+unit_content words = do
   unit ← word_field a.Unit unit_of_word 2 2 words
   line_ends (SetsConfig (SetsUnit unit.0)) 2 unit.1
 
--- After `erase`: how many bytes the medium erases at a time.
-unfoldable pub erase_of : List (List ℕ) → LineResult LineContent
-erase_of words = do
+-- After `erase`: the number of bytes that the medium erases at a time.
+unfoldable pub erase_content : List (List ℕ) → LineResult LineContent
+erase_content words = do
   sector ← word_field a.Sector sector_of 2 2 words
   line_ends (SetsConfig (SetsSector sector.0)) 2 sector.1
 
--- After `pace`: how many milliseconds an erase and a program of 256 bytes take.
-unfoldable pub pace_line : List (List ℕ) → LineResult LineContent
-pace_line words = do
+-- After `pace`: the milliseconds of an erase, and of a program of 256 bytes.
+unfoldable pub pace_content : List (List ℕ) → LineResult LineContent
+pace_content words = do
   erase ← short_at 2 3 words
   program ← short_at 3 3 erase.1
   line_ends (SetsConfig (SetsPace erase.0 program.0)) 3 program.1
 
--- After `capacity`: how many bytes an image may have.
+-- After `capacity`: the most bytes of an image.
 unfoldable pub capacity_content : List (List ℕ) → LineResult LineContent
 capacity_content words = do
   n ← word_field a.Capacity (count_of 1048576) 2 2 words
@@ -125,8 +126,8 @@ image_content words = do
   line_ends (SetsConfig (SetsImage image.0)) 2 image.1
 
 -- After `check`: the bytes.
-unfoldable pub check_of : List (List ℕ) → LineResult LineContent
-check_of words = do
+unfoldable pub check_content : List (List ℕ) → LineResult LineContent
+check_content words = do
   front ← hex_at 2 2 words
   line_ends (SetsConfig (SetsCheck front.0)) 2 front.1
 
@@ -138,8 +139,8 @@ limits_content words = do
   line_ends (SetsLimits actions.0 restarts.0) 3 restarts.1
 
 -- After `offer` and `verify`: the bytes of the file.
-unfoldable pub offer_of : (given : Option (List ℕ)) → Purpose → List (List ℕ) → LineResult LineContent
-offer_of given purpose words = do
+unfoldable pub offer_content : (given : Option (List ℕ)) → Purpose → List (List ℕ) → LineResult LineContent
+offer_content given purpose words = do
   file ← offered_file given 2 2 words
   line_ends (Does (Offer purpose file.0)) 2 file.1
 
@@ -149,60 +150,60 @@ time_of words = do
   ms ← number_field 2 2 words
   line_ends (Does (Time ms.0)) 2 ms.1
 
--- After `refuse`: why.
-unfoldable pub refuse_of : List (List ℕ) → LineResult LineContent
-refuse_of words = do
-  why ← word_field a.Objection objection_of 2 2 words
+-- After `refuse`: the objection.
+unfoldable pub refuse_content : List (List ℕ) → LineResult LineContent
+refuse_content words = do
+  why ← word_field a.Objection objection_of_word 2 2 words
   line_ends (Does (Refuse why.0)) 2 why.1
 
--- After `go pass`: how often, 1 to 1,000,000 times.
-unfoldable pub pass_of : List (List ℕ) → LineResult LineContent
-pass_of words = do
+-- After `go pass`: the number of times, 1 to 1,000,000.
+unfoldable pub pass_content : List (List ℕ) → LineResult LineContent
+pass_content words = do
   times ← word_field a.Times (count_of 1000000) 3 3 words
   line_ends (Does (Go Pass no_write_harmed times.0)) 3 times.1
 
 -- After `go slip`: the milliseconds.
-unfoldable pub slip_of : List (List ℕ) → LineResult LineContent
-slip_of words = do
+unfoldable pub slip_content : List (List ℕ) → LineResult LineContent
+slip_content words = do
   ms ← number_field 3 3 words
   line_ends (Does (Go (Slip ms.0) no_write_harmed 1)) 3 ms.1
 
--- After `go cut`, `go fail` and `go lie`: how many writes work, and the tear.
-unfoldable pub harmed_of : Fate → List (List ℕ) → LineResult LineContent
-harmed_of f words = do
+-- After `go cut`, `go fail` and `go lie`: the number of writes that work, and the tear.
+unfoldable pub harmed_content : Fate → List (List ℕ) → LineResult LineContent
+harmed_content f words = do
   writes ← number_field 3 4 words
   tear ← hex_at 4 4 writes.1
   line_ends (Does (Go f (harmed writes.0 tear.0) 1)) 4 tear.1
 
 -- After `go until`: the word `report`.
-unfoldable pub until_of : List (List ℕ) → LineResult LineContent
-until_of words = do
+unfoldable pub until_content : List (List ℕ) → LineResult LineContent
+until_content words = do
   word ← ok_or (first_word words) (wrong.Count 3)
   if bytes_eq word.0 (codes "report") then line_ends GoesOn 3 word.1 else Err (wrong.Word a.Report 3)
 
 -- Meaning of a line by the word of its fate, or by `until`.
 abbrev pub content_by_fate : FateKeyword → List (List ℕ) → LineResult LineContent
-content_by_fate fate.Pass words = pass_of words
+content_by_fate fate.Pass words = pass_content words
 content_by_fate fate.LostOut words = line_ends (Does (Go LostOut no_write_harmed 1)) 2 words
 content_by_fate fate.LostBack words = line_ends (Does (Go LostBack no_write_harmed 1)) 2 words
 content_by_fate fate.Twice words = line_ends (Does (Go Twice no_write_harmed 1)) 2 words
 content_by_fate fate.TwiceLostBack words = line_ends (Does (Go TwiceLostBack no_write_harmed 1)) 2 words
-content_by_fate fate.Slip words = slip_of words
-content_by_fate fate.Cut words = harmed_of CutInWrite words
-content_by_fate fate.Fail words = harmed_of Fail words
-content_by_fate fate.Lie words = harmed_of Lie words
-content_by_fate fate.Until words = until_of words
+content_by_fate fate.Slip words = slip_content words
+content_by_fate fate.Cut words = harmed_content CutInWrite words
+content_by_fate fate.Fail words = harmed_content Fail words
+content_by_fate fate.Lie words = harmed_content Lie words
+content_by_fate fate.Until words = until_content words
 
 -- After `go`: a fate, or `until`.
-unfoldable pub go_of : List (List ℕ) → LineResult LineContent
-go_of words = do
+unfoldable pub go_content : List (List ℕ) → LineResult LineContent
+go_content words = do
   word ← ok_or (first_word words) wrong.NoFate
   k ← ok_or (fate_keyword_of word.0) wrong.Fate
   content_by_fate k word.1
 
--- `expect`: the line that is to be printed next, which has a byte.
-unfoldable pub expect_of : List ℕ → LineResult LineContent
-expect_of line = do
+-- After `expect` and one space: the line that must be printed next, of at least one byte.
+unfoldable pub expect_content : List ℕ → LineResult LineContent
+expect_content line = do
   text ← ok_or (text_behind line) wrong.NoText
   if length text == 0 then Err wrong.NoText else Ok (ExpectsText text)
 
@@ -210,26 +211,26 @@ expect_of line = do
 abbrev pub by_keyword : (given : Option (List ℕ)) → Keyword → (line : List ℕ) → List (List ℕ) → LineResult LineContent
 by_keyword given key.Ids line words = ids_content words
 by_keyword given key.Device line words = device_content words
-by_keyword given key.Unit line words = unit_line words
-by_keyword given key.Erase line words = erase_of words
-by_keyword given key.Pace line words = pace_line words
+by_keyword given key.Unit line words = unit_content words
+by_keyword given key.Erase line words = erase_content words
+by_keyword given key.Pace line words = pace_content words
 by_keyword given key.Capacity line words = capacity_content words
 by_keyword given key.Image line words = image_content words
 by_keyword given key.Limits line words = limits_content words
-by_keyword given key.Offer line words = offer_of given Install words
-by_keyword given key.Verify line words = offer_of given Verify words
+by_keyword given key.Offer line words = offer_content given Install words
+by_keyword given key.Verify line words = offer_content given Verify words
 by_keyword given key.Upload line words = line_ends (Does Upload) 1 words
 by_keyword given key.Abort line words = line_ends (Does Abort) 1 words
-by_keyword given key.Go line words = go_of words
+by_keyword given key.Go line words = go_content words
 by_keyword given key.Time line words = time_of words
 by_keyword given key.Reset line words = line_ends (Does Reset) 1 words
 by_keyword given key.Cut line words = line_ends (Does Cut) 1 words
 by_keyword given key.Show line words = line_ends Show 1 words
-by_keyword given key.Expect line words = expect_of line
-by_keyword given key.Check line words = check_of words
-by_keyword given key.Refuse line words = refuse_of words
+by_keyword given key.Expect line words = expect_content line
+by_keyword given key.Check line words = check_content words
+by_keyword given key.Refuse line words = refuse_content words
 
--- Meaning of a line by its words; without words and for a comment there is none.
+-- Meaning of a line by its words, or its fault: Blank for no words and for a comment.
 abbrev pub line_meaning : (given : Option (List ℕ)) → (line : List ℕ) → List (List ℕ) → LineResult LineContent
 line_meaning given line [] = Ok Blank
 line_meaning given line (word ∷ words) =

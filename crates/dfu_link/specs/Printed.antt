@@ -2,7 +2,7 @@
 use Rattle.std.specs.Prelude.{Result, Ok, Err, ◌≡◌, ◌⊎◌, ℕ, List, [], ◌∷◌, ◌++◌, Option, Some, None, true, unwrap_or, codes, replicate, if◌then◌else◌}
 use Rattle.std.specs.Str.{bytes_eq}
 use Rattle.std.specs.Io.KnownBytes.{Appends}
-use Rattle.dfu_suffix.specs.Writing.{IsOutInPart}
+use Rattle.dfu_suffix.specs.Writing.{IsPartlyWritten}
 use Rattle.dfu_device.specs.DeviceView.{DeviceView}
 use Rattle.dfu_host.specs.declared.report.Report.{Report}
 use Rattle.dfu_link.specs.Words.{hex_word_bytes, number_of, has_no_newline, lines_of, words_of}
@@ -13,10 +13,10 @@ use Rattle.dfu_sim.specs.Headline.{WasOffered, SessionBeginning, BeginningWithOf
 use Rattle.dfu_slots.specs.Image.{Active}
 use Rattle.dfu_link.specs.declared.scripting.fault.ScriptFault.{ScriptFault}
 
--- Effect of a line.
+-- Effects of lines.
 
--- Effect of a line. A line sets the image that a device has at first; or it lets events come, each of which may begin a session; or it lets
--- some number of events come that begin none; or it shows the device. Any other line has no effect.
+-- Effect of a line. A line sets the image that a device has at first; or it brings events, each of which may begin a session; or it brings
+-- some number of events that begin none; or it shows the device. Any other line has no effect.
 pub data LineEffect : Type 0 where
   Nothing : LineEffect
   FactoryImageEffect : (image : List ℕ) → LineEffect
@@ -24,27 +24,28 @@ pub data LineEffect : Type 0 where
   SomePassesEffect : LineEffect
   ShowEffect : LineEffect
 
--- The bytes that the first word of a list spells.
+-- The bytes that the first word of a list spells; no bytes if it spells none, or if there is no word.
 abbrev pub first_word_bytes : List (List ℕ) → List ℕ
 first_word_bytes [] = []
 first_word_bytes (word ∷ words) = unwrap_or (hex_word_bytes word) []
 
--- The file that the first word of a list means: FILE means the given bytes, any other word the bytes that it spells.
+-- The file that the first word of a list means: FILE means the given bytes, any other word the bytes that it spells; no bytes if there are
+-- none.
 abbrev pub file_in : (given : Option (List ℕ)) → List (List ℕ) → List ℕ
 file_in given [] = []
 file_in given (word ∷ words) = unwrap_or (if bytes_eq word (codes "FILE") then given else hex_word_bytes word) []
 
--- The number that the first word of a list spells.
-abbrev pub count_in : List (List ℕ) → ℕ
-count_in [] = 0
-count_in (word ∷ words) = unwrap_or (number_of word) 0
+-- The number that the first word of a list spells; 0 if it spells none, or if there is no word.
+abbrev pub first_word_number : List (List ℕ) → ℕ
+first_word_number [] = 0
+first_word_number (word ∷ words) = unwrap_or (number_of word) 0
 
--- Effect of a line by the words after `go`: some passes, a counted number of passes, or one event of another fate.
+-- Effect of a line by the words after `go`: some passes, a counted number of passes, or one event of another fate; none without words.
 abbrev pub effect_of_go : List (List ℕ) → LineEffect
 effect_of_go [] = Nothing
 effect_of_go (word ∷ words) =
     if bytes_eq word (codes "until") then SomePassesEffect
-    else if bytes_eq word (codes "pass") then Events (replicate (count_in words) None)
+    else if bytes_eq word (codes "pass") then Events (replicate (first_word_number words) None)
     else Events (None ∷ [])
 
 -- Effect of a line by its words. An offer and an upload may begin a session. An abort, a time, a reset, a cut and a refusal are one event
@@ -77,7 +78,7 @@ pub record IsKnownImage (factory : List ℕ) (past : List SessionBeginning) (b :
   pub active : Active b.device.slots.medium image
   pub known : (image ≡ factory) ⊎ WasOffered past image
 
--- The sessions that have begun after an event, the last one first.
+-- The sessions that have begun by the end of an event, the last one first.
 abbrev pub sessions_after : Option SessionBeginning → List SessionBeginning → List SessionBeginning
 sessions_after None past = past
 sessions_after (Some begun) past = begun ∷ past
@@ -129,7 +130,7 @@ pub data LinesPrint (given : Option (List ℕ)) (factory : List ℕ) (past : Lis
 
 -- Whole scripts.
 
--- A line needs the device if it lets events come, also none as `expect`, or shows the device.
+-- A line with this effect needs the device: it is an event line, `expect` or `show`.
 abbrev pub NeedsDevice : LineEffect → Type 0
 NeedsDevice Nothing = ⊥
 NeedsDevice (FactoryImageEffect image) = ⊥
@@ -137,31 +138,32 @@ NeedsDevice (Events events) = Unit {0}
 NeedsDevice SomePassesEffect = Unit {0}
 NeedsDevice ShowEffect = Unit {0}
 
--- The device starts before the first line that needs it, or after all lines. Its factory image is the one set last before the start, or
--- `image` if no line sets one.
-pub data StartsWith (given : Option (List ℕ)) : (image : List ℕ) (lines after : List (List ℕ)) (factory : List ℕ) → Type 0 where
-  at_end : {image : List ℕ} → StartsWith given image [] [] image
+-- The device starts before the first line that needs it, with which `after` begins; or after all lines, if none needs it. Its factory image
+-- is the one set last before the start, or `image` if no line sets one.
+pub data IsStartPoint (given : Option (List ℕ)) : (image : List ℕ) (lines after : List (List ℕ)) (factory : List ℕ) → Type 0 where
+  starts_at_end : {image : List ℕ} → IsStartPoint given image [] [] image
   starts_at_line : {image line : List ℕ} {lines : List (List ℕ)} → NeedsDevice (effect_of_line given line)
-      → StartsWith given image (line ∷ lines) (line ∷ lines) image
-  after_nothing : {image line factory : List ℕ} {lines after : List (List ℕ)} → effect_of_line given line ≡ Nothing
-      → StartsWith given image lines after factory → StartsWith given image (line ∷ lines) after factory
+      → IsStartPoint given image (line ∷ lines) (line ∷ lines) image
+  after_other_line : {image line factory : List ℕ} {lines after : List (List ℕ)} → effect_of_line given line ≡ Nothing
+      → IsStartPoint given image lines after factory → IsStartPoint given image (line ∷ lines) after factory
   starts_after_image_line : {image set line factory : List ℕ} {lines after : List (List ℕ)} → effect_of_line given line
       ≡ FactoryImageEffect set
-      → StartsWith given set lines after factory → StartsWith given image (line ∷ lines) after factory
+      → IsStartPoint given set lines after factory → IsStartPoint given image (line ∷ lines) after factory
 
--- After the start the lines `done` of a text were done. The headline held at the start, with no session, and the image at the end is known.
+-- The lines `done` ran after the start, with the text that they print. The headline held at the start, with no session, and the image at
+-- the end is known.
 pub record TextPrints (given : Option (List ℕ)) (text : List ℕ) (after done : List (List ℕ)) (printed : List ℕ)
     (past : List SessionBeginning)
     (end : LinkView) (image : List ℕ) : Type 0 where
   pub factory : List ℕ
-  pub starts : StartsWith given (0 ∷ []) (lines_of text) after factory
+  pub starts : IsStartPoint given (0 ∷ []) (lines_of text) after factory
   pub first : DeviceView
   pub holds : HeadlineInvariant factory [] None (link_at_rest first)
   pub lines : LinesPrint given factory [] (link_at_rest first) done printed past end
   pub known : IsKnownImage factory past end image
 
 -- A whole script was written: the text of its lines, and then the line of a known image.
-pub record WrotePrinted (given : Option (List ℕ)) (text : List ℕ) (old new : Option (List ℕ)) : Type 0 where
+pub record WholeIsPrinted (given : Option (List ℕ)) (text : List ℕ) (old new : Option (List ℕ)) : Type 0 where
   pub after : List (List ℕ)
   pub printed : List ℕ
   pub past : List SessionBeginning
@@ -170,34 +172,34 @@ pub record WrotePrinted (given : Option (List ℕ)) (text : List ℕ) (old new :
   pub prints : TextPrints given text after after printed past end image
   pub told : Appends old new (printed ++ line_of_image image)
 
--- A script stopped before the first line of `lines`, or before the line of the image if none is left. Nothing of that line is out, or a
--- prefix of its text, or of the text of its first events.
+-- A script stopped before the first line of `lines`, or before the line of the image if none is left. Nothing of that line's text was
+-- written, or a prefix of it, or of the text of its first events.
 pub data PartPrints (given : Option (List ℕ)) (factory : List ℕ) (past : List SessionBeginning) (b : LinkView) (image : List ℕ) :
     List (List ℕ) → (old new : Option (List ℕ)) → Type 0 where
   part_of_nothing : {lines : List (List ℕ)} {old : Option (List ℕ)} → PartPrints given factory past b image lines old old
   in_events : {line : List ℕ} {lines : List (List ℕ)} {old new : Option (List ℕ)} {come : List (Option SessionBeginning)} {printed : List ℕ}
       {past' : List SessionBeginning} {b' : LinkView} (left : List (Option SessionBeginning))
       → effect_of_line given line ≡ Events (come ++ left)
-      → EventsPrint factory past b come printed past' b' → IsOutInPart old new printed
+      → EventsPrint factory past b come printed past' b' → IsPartlyWritten old new printed
       → PartPrints given factory past b image (line ∷ lines) old new
   part_of_line_text : {line : List ℕ} {lines : List (List ℕ)} {old new : Option (List ℕ)} {printed : List ℕ} {past' : List SessionBeginning}
       {b' : LinkView}
-      → LinePrints factory past b (effect_of_line given line) printed past' b' → IsOutInPart old new printed
+      → LinePrints factory past b (effect_of_line given line) printed past' b' → IsPartlyWritten old new printed
       → PartPrints given factory past b image (line ∷ lines) old new
-  part_of_image_line : {old new : Option (List ℕ)} → IsOutInPart old new (line_of_image image) →
+  part_of_image_line : {old new : Option (List ℕ)} → IsPartlyWritten old new (line_of_image image) →
       PartPrints given factory past b image [] old new
 
--- A script stopped. Nothing is out, and no device was started; or the text of the lines that were done is out, with a part of the next
+-- A script stopped. Nothing was written, and no device was started; or the text of the lines that ran was written, with a part of the next
 -- line's text.
-pub data StopsPrinted (given : Option (List ℕ)) (text : List ℕ) (old new : Option (List ℕ)) : Type 0 where
-  stopped_before_start : new ≡ old → StopsPrinted given text old new
+pub data PartIsPrinted (given : Option (List ℕ)) (text : List ℕ) (old new : Option (List ℕ)) : Type 0 where
+  stopped_before_start : new ≡ old → PartIsPrinted given text old new
   stopped_after_start : {after done rest : List (List ℕ)} {printed image : List ℕ} {past : List SessionBeginning} {end : LinkView} {mid :
       Option
       (List ℕ)}
       → (prints : TextPrints given text after done printed past end image) → after ≡ done ++ rest → Appends old mid printed
-      → PartPrints given prints.factory past end image rest mid new → StopsPrinted given text old new
+      → PartPrints given prints.factory past end image rest mid new → PartIsPrinted given text old new
 
--- The text by how the script ended: with Ok the whole text, and with a fault as far as it went.
+-- The text that was written is, with Ok, that of the whole script, and with a fault, the text up to the place at which the script stopped.
 abbrev pub HasPrinted : (given : Option (List ℕ)) → (text : List ℕ) → (old new : Option (List ℕ)) → Result Unit ScriptFault → Type 0
-HasPrinted given text old new (Ok done) = WrotePrinted given text old new
-HasPrinted given text old new (Err fault) = StopsPrinted given text old new
+HasPrinted given text old new (Ok done) = WholeIsPrinted given text old new
+HasPrinted given text old new (Err fault) = PartIsPrinted given text old new

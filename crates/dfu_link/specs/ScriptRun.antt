@@ -25,9 +25,9 @@ use Rattle.dfu_link.specs.LineContent.{ConfigLine, SetsDeviceIds, SetsDevice, Se
 use Rattle.dfu_link.specs.Lines.{line_of}
 use Rattle.dfu_link.specs.Expecting.{Expectation, MeetsExpectation, expectation_left}
 
--- Settings before the first event line or `show`: the device, how its medium is written and erased, how many bytes an image may have, and
--- the image at first. Set are also the bytes with which an image begins that the device's program takes, and the limits of sessions. The
--- bytes that FILE means are given, if any are, and no line sets them.
+-- Settings before the first event line, `show` or `expect`: the device, the unit, sectors and pace of its medium, the largest image, the
+-- image at first, the first bytes of each image that the device's program takes, and the limits of sessions. The caller may give the bytes
+-- that FILE means; no line sets them.
 pub record Settings : Type 0 where
   pub device : Setting
   pub grain : Grain
@@ -76,21 +76,21 @@ settings_with s (SetsCapacity n) = record s { capacity = n }
 settings_with s (SetsImage bytes) = record s { image = bytes }
 settings_with s (SetsCheck bytes) = record s { check = bytes }
 
--- Settings after a line before the first event line or `show`.
+-- Settings after a line that sets something, or is blank; None for an event line, `show` and `expect`.
 abbrev pub settings_after_line : Settings → LineContent → Option Settings
 settings_after_line s Blank = Some s
 settings_after_line s (SetsConfig x) = Some (settings_with s x)
 settings_after_line s (SetsLimits actions restarts) = Some (record s { limits = record { actions = actions; restarts = restarts } })
 settings_after_line s said = None
 
--- Settings that lines make, one line after the other.
+-- Settings after lines that prepare the device, one line after the other.
 pub data SettingsPrepared : Settings → List (List ℕ) → Settings → Type 0 where
   nothing : {s : Settings} → SettingsPrepared s [] s
   line_prepares_next : {s t t' : Settings} {lines : List (List ℕ)} (line : List ℕ) {said : LineContent} →
       SettingsPrepared s lines t → line_of t.given line ≡ Some said → settings_after_line t said ≡ Some t' → SettingsPrepared s (lines
       ++ line ∷ []) t'
 
--- A line that acts, because it is an event line, `show` or `expect`.
+-- The line acts: it is an event line, `show` or `expect`.
 abbrev pub IsActingLine : Option LineContent → Type 0
 IsActingLine (Some (Does events)) = Unit {0}
 IsActingLine (Some GoesOn) = Unit {0}
@@ -98,17 +98,17 @@ IsActingLine (Some Show) = Unit {0}
 IsActingLine (Some (ExpectsText text)) = Unit {0}
 IsActingLine said = ⊥
 
--- The device must start, before the next line or because none is left.
-abbrev pub HasToStart : Settings → List (List ℕ) → Type 0
-HasToStart s [] = Unit {0}
-HasToStart s (line ∷ lines) = IsActingLine (line_of s.given line)
+-- The device must start: the next line acts, or no line is left.
+abbrev pub DeviceMustStart : Settings → List (List ℕ) → Type 0
+DeviceMustStart s [] = Unit {0}
+DeviceMustStart s (line ∷ lines) = IsActingLine (line_of s.given line)
 
 -- A blank medium of two slots, with its grain and with room for images of `capacity` bytes. The medium is not armed.
 abbrev pub blank_slots : Grain → ℕ → MediumState
 blank_slots grain capacity = blank_medium grain (2 * (2 * gate_room grain + capacity))
 
--- The device starts: its setting is allowed, the room has whole units and sectors, the image fits, and the device is in appIDLE on a blank
--- medium that was formatted with the image, which is the active image of its bytes.
+-- The device starts: its setting is allowed, the capacity is a multiple of the unit and of the sector, the image fits, and the device is in
+-- appIDLE on a blank medium that was formatted with the image, which is the active image of its bytes.
 pub record DeviceStarts (s : Settings) (d : DeviceView) : Type 0 where
   pub config : d.config ≡ record s.device { functional = functional_of_this_version s.device.functional }
   pub allowed : IsAllowedSetting d.config
@@ -129,7 +129,7 @@ has_front [] bytes = true
 has_front (x ∷ front) [] = false
 has_front (x ∷ front) (byte ∷ bytes) = if x == byte then has_front front bytes else false
 
--- A program that takes only images that begin with `check` accepts what the device has taken: an image that begins so, or no image.
+-- A program that takes only images that begin with `check` accepts the image that was taken: it begins so, or there is none.
 abbrev pub is_accepted : (check : List ℕ) → Option (List ℕ) → Bool
 is_accepted check None = true
 is_accepted check (Some taken) = has_front check taken
@@ -208,30 +208,30 @@ pub data LinesRun (k : ℕ) : ScriptPoint → List (List ℕ) → List ℕ → S
       LinesRun k p lines out q → line_of q.given line ≡ Some said → LineActs (k + length lines) q said more q'
       → LinesRun k p (lines ++ line ∷ []) (out ++ more) q'
 
--- The lines before `after` set the settings, and the device must start before `after`.
-pub record SetsUp (given : Option (List ℕ)) (text : List ℕ) (settings : Settings) (after : List (List ℕ)) : Type 0 where
+-- The lines of the text before `after` are its prologue: they prepare the settings, and the device must start before `after`.
+pub record IsPrologue (given : Option (List ℕ)) (text : List ℕ) (settings : Settings) (after : List (List ℕ)) : Type 0 where
   pub before : List (List ℕ)
   pub split : lines_of text ≡ before ++ after
   pub prepares : SettingsPrepared (initial_settings given) before settings
-  pub ready : HasToStart settings after
+  pub ready : DeviceMustStart settings after
 
--- A run of a whole script of at most 16,777,216 bytes: the setting lines, the start of the device, the acting lines, and the line of the
--- image, which is as expected.
+-- The text `out` is that of a run of a whole script, of at most 16,777,216 bytes: the setting lines, the start of the device, the lines
+-- after it, and the line of the image, which is as expected.
 pub record IsScriptRun (given : Option (List ℕ)) (text out : List ℕ) : Type 0 where
   pub small : length text ≤ 16777216
   pub settings : Settings
   pub after : List (List ℕ)
-  pub sets_up : SetsUp given text settings after
+  pub lines_before_start_set_up_device : IsPrologue given text settings after
   pub first : DeviceView
   pub starts : DeviceStarts settings first
   pub shown : List ℕ
   pub end : ScriptPoint
-  pub runs : LinesRun (1 + length sets_up.before) (initial_point settings (link_at_rest first)) after shown end
+  pub runs : LinesRun (1 + length lines_before_start_set_up_device.before) (initial_point settings (link_at_rest first)) after shown end
   pub meets : MeetsExpectation end.next (image_line end.at.device)
   pub out_is : out ≡ shown ++ image_line end.at.device
 
--- A text was written that a run of the script prints.
-pub record WroteRun (given : Option (List ℕ)) (text : List ℕ) (old new : Option (List ℕ)) : Type 0 where
+-- The written text is that of a run of the script.
+pub record RunIsOut (given : Option (List ℕ)) (text : List ℕ) (old new : Option (List ℕ)) : Type 0 where
   pub out : List ℕ
   pub run : IsScriptRun given text out
   pub told : Appends old new out

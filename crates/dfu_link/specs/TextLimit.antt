@@ -13,8 +13,8 @@ pub record HasFrontLines (text : List ℕ) (lines : List (List ℕ)) : Type 0 wh
   pub are : lines_of text ≡ lines ++ lines_of left
   pub within : length front ≤ 16777216
 
--- The rest of a text exceeds its limit of `room` bytes in its first line: the line doesn't end within them, and `room` is at most the
--- 65,536 bytes of a line.
+-- The rest of a text exceeds its limit of `room` bytes in its first line: it is longer, its first line doesn't end within them, and `room`
+-- is at most the 65,536 bytes of a line.
 pub record ExceedsLimit (room : ℕ) (left : List ℕ) : Type 0 where
   pub over : room < length left
   pub short : room ≤ 65536

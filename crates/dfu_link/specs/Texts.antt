@@ -32,23 +32,23 @@ offer_fault_name (offer.Host fault) = host_fault_name fault
 abbrev pub uploaded_line : List ℕ → List ℕ
 uploaded_line bytes = codes "report uploaded " ++ (hex_text bytes ++ 10 ∷ [])
 
--- The line of a report's name alone.
-abbrev pub named_line : Report → List ℕ
-named_line r = codes "report " ++ report_name r ++ 10 ∷ []
+-- The line of a report that has its name alone.
+abbrev pub report_name_line : Report → List ℕ
+report_name_line r = codes "report " ++ report_name r ++ 10 ∷ []
 
 -- The line of a report, with the uploaded bytes if the report is Uploaded.
 abbrev pub report_line : Report → (uploaded : List ℕ) → List ℕ
-report_line report.Installed uploaded = named_line report.Installed
-report_line report.Unconfirmed uploaded = named_line report.Unconfirmed
-report_line report.Aborted uploaded = named_line report.Aborted
-report_line report.GaveUp uploaded = named_line report.GaveUp
+report_line report.Installed uploaded = report_name_line report.Installed
+report_line report.Unconfirmed uploaded = report_name_line report.Unconfirmed
+report_line report.Aborted uploaded = report_name_line report.Aborted
+report_line report.GaveUp uploaded = report_name_line report.GaveUp
 report_line (report.Refused code) uploaded = codes "report refused " ++ code_name code ++ 10 ∷ []
-report_line report.RestartsSpent uploaded = named_line report.RestartsSpent
+report_line report.RestartsSpent uploaded = report_name_line report.RestartsSpent
 report_line report.Uploaded uploaded = uploaded_line uploaded
-report_line report.TooManyBlocks uploaded = named_line report.TooManyBlocks
-report_line report.NoMemory uploaded = named_line report.NoMemory
-report_line report.Verified uploaded = named_line report.Verified
-report_line report.Different uploaded = named_line report.Different
+report_line report.TooManyBlocks uploaded = report_name_line report.TooManyBlocks
+report_line report.NoMemory uploaded = report_name_line report.NoMemory
+report_line report.Verified uploaded = report_name_line report.Verified
+report_line report.Different uploaded = report_name_line report.Different
 
 -- The line of a refused event.
 abbrev pub refusal_line : LinkFault → List ℕ

@@ -1,5 +1,5 @@
-//! Scripts of the link of a host and a device of USB device firmware upgrade (USB DFU 1.1): what each line
-//! does, what is printed of it, and a trace of each action.
+//! Scripts of the link of a host and a device of USB device firmware upgrade (USB DFU 1.1): the acts of each
+//! line, the text that it prints, and a trace of each action.
 //!
 //! Each call does the lines of a text one by one, and takes memory. The link itself is that of `dfu_sim`, whose
 //! calls and definitions this crate passes on.

@@ -1,5 +1,4 @@
-//! Scripts: a text of lines that sets up a device, lets events come to the link of that device and a
-//! host, and writes what comes of them.
+//! Scripts: a text of lines that sets up a device, brings events to the link of that device and a host, and prints their results.
 
 mod event_parts;
 pub(crate) mod expectation;

@@ -1,4 +1,4 @@
--- Fields of a line, one after the other.
+-- Fields of a line, added one by one.
 use Rattle.std.specs.Prelude.{◌≡◌, ℕ, ◌+◌, ◌<◌, List, ◌++◌, length, drop, get_or}
 use Rattle.std.specs.Borrow.{Bor}
 use Rattle.std.proofs.Common.{arith, sym, ap, ◌∙◌, suc, drop-cons}
@@ -6,17 +6,17 @@ use Rattle.std.proofs.lemmas.List.{drop_all}
 use Rattle.dfu_output.specs.declared.fields.Value.{Value}
 use Rattle.dfu_output.specs.Fields.{value_text, text_with_fields}
 
--- Once a field is added, the fields behind it are left.
-pub fields_after_next : (fields : List (Bor (List ℕ) × Value)) (i : ℕ) (d : Bor (List ℕ) × Value) (text more : List ℕ) → i < length fields
+-- A text with the fields from index `i` on is the text and field `i`, with the fields after it.
+pub next_field_is_added : (fields : List (Bor (List ℕ) × Value)) (i : ℕ) (d : Bor (List ℕ) × Value) (text more : List ℕ) → i < length fields
     → more ≡ text ++ ((get_or fields i d).0.now ++ value_text (get_or fields i d).1)
     → text_with_fields text (drop i fields) ≡ text_with_fields more (drop (i + 1) fields)
-fields_after_next fields i d text more lt is =
+next_field_is_added fields i d text more lt is =
     let next : suc i ≡ i + 1 = omega arith in
     ap (text_with_fields text) (drop-cons fields i d lt)
     ∙ ap (λ (t : List ℕ). text_with_fields t (drop (suc i) fields)) (sym is)
     ∙ ap (λ (n : ℕ). text_with_fields more (drop n fields)) next
 
--- Behind the last field, the text is whole.
-pub fields_all_added : (fields : List (Bor (List ℕ) × Value)) (i : ℕ) (text : List ℕ) → length fields < i + 1
+-- A text with the fields from index `i` on is the text itself, if there are at most `i` fields.
+pub no_fields_leave_text : (fields : List (Bor (List ℕ) × Value)) (i : ℕ) (text : List ℕ) → length fields < i + 1
     → text_with_fields text (drop i fields) ≡ text
-fields_all_added fields i text le = ap (text_with_fields text) (drop_all i fields (omega (arith, le)))
+no_fields_leave_text fields i text le = ap (text_with_fields text) (drop_all i fields (omega (arith, le)))

@@ -4,8 +4,8 @@ use Rattle.std.proofs.Common.{subst}
 use Rattle.dfu_conformance.specs.declared.log.Line.{Line}
 use Rattle.dfu_conformance.specs.Line.{LineMeaning}
 
--- The meaning of a line is that of an equal line.
-pub reading_of_line : (interface : ℕ) (given text : List ℕ) (o p : Option Line) → given ≡ text → o ≡ p → LineMeaning interface given o
+-- Equal lines have equal meanings.
+pub equal_lines_agree : (interface : ℕ) (given text : List ℕ) (o p : Option Line) → given ≡ text → o ≡ p → LineMeaning interface given o
     → LineMeaning interface text p
-reading_of_line interface given text o p same is says =
+equal_lines_agree interface given text o p same is says =
     subst (λ (x : Option Line). LineMeaning interface text x) is (subst (λ (t : List ℕ). LineMeaning interface t o) same says)

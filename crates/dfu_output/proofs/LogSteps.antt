@@ -1,4 +1,4 @@
--- Lemmas for one more byte of a log: the event that its line holds goes on with the course, or is a departure.
+-- Lemmas for one more byte of a log: the event of the line that it ends continues the course, or is a departure.
 use Rattle.std.specs.Prelude.{◌≡◌, ℕ, ◌+◌, ◌<◌, ◌≤◌, ◌||◌, List, [], ◌∷◌, ◌++◌, length, Bool, true, false, Option, Some, None, cond}
 use Rattle.std.proofs.Common.{sym, ap, ◌∙◌, subst, arith, refl, append_assoc, length-append}
 use Rattle.std.specs.List.{list_any}
@@ -11,13 +11,13 @@ use Rattle.dfu_conformance.specs.declared.log.Line.TheVariants as line
 use Rattle.dfu_conformance.specs.Line.{LineMeaning}
 use Rattle.dfu_conformance.specs.MayAnswer.{CanAnswer, CandidatesExact, PlainCandidatesExact}
 use Rattle.dfu_conformance.specs.Verdict.{ArePlacesAfter, EventDeparts}
-use Rattle.dfu_output.specs.judge.Course.{LogCourse, goes_on, departs, LineEndLeads, line_says_event, CourseOfText, goes, ends, course_line_ended, course_after_departure, course_after_event}
+use Rattle.dfu_output.specs.judge.Course.{LogCourse, goes_on, departs, LineEndLeadsTo, line_says_event, CourseOfText, goes, ends, course_after_line, course_after_departure, course_after_event}
 use Rattle.dfu_output.specs.judge.Texts.{is_single}
 use Rattle.dfu_conformance.specs.declared.log.LineFault.{LineFault}
 use Rattle.dfu_output.specs.declared.judge.fault.LogFault.{LogFault}
 use Rattle.dfu_output.specs.declared.judge.fault.LogFault.TheVariants.{BadLine, TooLarge, NoMemory, Read, Write}
-use Rattle.dfu_output.specs.judge.Lines.{LinesState, BytesInLine, ByteInLine, is_end, ByteEndsLine, ByteAccepted, IsBadLine, CannotRead}
-use Rattle.dfu_output.specs.judge.Judging.{CannotJudge}
+use Rattle.dfu_output.specs.judge.Lines.{LinesState, BytesInLine, ByteInLine, is_end, ByteEndsLine, ByteAccepted, IsBadLine, ByteRefused}
+use Rattle.dfu_output.specs.judge.Judging.{CannotJudgeByte}
 use Rattle.dfu_output.specs.judge.inside.JudgeState.{JudgingState, IsStateAfter, LogEventResult, JudgedText}
 
 neither_of_two_holds : (x y : Bool) → (x || y) ≡ false → (x ≡ false) × (y ≡ false)
@@ -27,13 +27,14 @@ neither_of_two_holds true y none = absurd cc
 next_event_is_counted : (events : List LogEvent) (e : LogEvent) (n : ℕ) → n ≡ length events → n + 1 ≡ length (events ++ e ∷ [])
 next_event_is_counted events e n is = omega (arith, is, length-append events (e ∷ []))
 
--- An event that a device without habits may have answered goes on with the course.
-pub event_goes_on : (s : JudgingState) (w v : List (List ℕ)) (n : ℕ) (text : List ℕ) (c : LogCourse) (e : LogEvent) (at : List Bool)
+-- If a device without habits may have answered an event and all events since the last departure, the event continues the course.
+pub event_continues_course : (s : JudgingState) (w v : List (List ℕ)) (n : ℕ) (text : List ℕ) (c : LogCourse) (e : LogEvent)
+    (at : List Bool)
     → IsStateAfter s text c
     → CandidatesExact w (c.events ++ e ∷ []) → CanAnswer 0 (c.since ++ e ∷ []) × PlainCandidatesExact v (c.since ++ e ∷ [])
     → ArePlacesAfter 0 (c.since ++ e ∷ []) at → n ≡ s.single + cond (is_single at) 1 0
     → LogEventResult text c e None (record s { whole = w; since = v; events = s.events + 1; single = n })
-event_goes_on s w v n text c e at is held plain places single = record {
+event_continues_course s w v n text c e at is held plain places single = record {
   next = course_after_event c e at;
   comes = goes_on at plain.0 places;
   at = record {
@@ -48,7 +49,7 @@ event_goes_on s w v n text c e at is held plain places single = record {
   out = sym (append-nil c.out);
 }
 
--- An event that no device without habits may have answered is a departure.
+-- If no device without habits may have answered an event and all events since the last departure, the event is a departure.
 pub event_departs : (s : JudgingState) (w v : List (List ℕ)) (text : List ℕ) (c : LogCourse) (e : LogEvent) (d : Departure)
     → IsStateAfter s text c
     → CandidatesExact w (c.events ++ e ∷ []) → d.event ≡ e → EventDeparts c.since d v
@@ -68,16 +69,16 @@ event_departs s w v text c e d is held same off = record {
   out = ap (λ (k : ℕ). c.out ++ Rattle.dfu_output.specs.judge.Texts.departure_text k d) (sym is.number);
 }
 
--- A byte that was accepted with a line is accepted with an equal one.
-pub taken_at_line_end : (interface : ℕ) (s t : LinesState) (byte : ℕ) (o p : Option Line) → o ≡ p → ByteAccepted interface s t byte o
+-- A byte that was accepted with the meaning of a line is accepted with an equal meaning.
+pub equal_meaning_accepts : (interface : ℕ) (s t : LinesState) (byte : ℕ) (o p : Option Line) → o ≡ p → ByteAccepted interface s t byte o
     → ByteAccepted interface s t byte p
-taken_at_line_end interface s t byte o p same took = subst (λ (x : Option Line). ByteAccepted interface s t byte x) same took
+equal_meaning_accepts interface s t byte o p same took = subst (λ (x : Option Line). ByteAccepted interface s t byte x) same took
 
--- Behind the byte that ends a line, the state is that of the ended line.
-pub state_at_line_end : (interface byte : ℕ) (s : JudgingState) (lines : LinesState) (text : List ℕ) (c : LogCourse) (says : Line)
+-- After the byte that ends a line, the state is that of the course after the line.
+pub state_follows_line_end : (interface byte : ℕ) (s : JudgingState) (lines : LinesState) (text : List ℕ) (c : LogCourse) (says : Line)
     → IsStateAfter s text c
-    → ByteEndsLine interface s.lines lines byte says → IsStateAfter (record s { lines = lines }) (text ++ 10 ∷ []) (course_line_ended c)
-state_at_line_end interface byte s lines text c says is e = record {
+    → ByteEndsLine interface s.lines lines byte says → IsStateAfter (record s { lines = lines }) (text ++ 10 ∷ []) (course_after_line c)
+state_follows_line_end interface byte s lines text c says is e = record {
   whole = is.whole;
   since = is.since;
   line = e.line;
@@ -87,51 +88,51 @@ state_at_line_end interface byte s lines text c says is e = record {
   single = is.single;
 }
 
--- The line that was ended has the meaning that was taken.
-pub meaning_of_ended_line : (interface byte : ℕ) (s : JudgingState) (lines : LinesState) (text : List ℕ) (c : LogCourse) (says : Line)
+-- The line that the byte ended has the meaning that was returned.
+pub ended_line_has_meaning : (interface byte : ℕ) (s : JudgingState) (lines : LinesState) (text : List ℕ) (c : LogCourse) (says : Line)
     → IsStateAfter s text c
     → ByteEndsLine interface s.lines lines byte says → LineMeaning interface c.line (Some says)
-meaning_of_ended_line interface byte s lines text c says is e = subst (λ (t : List ℕ). LineMeaning interface t (Some says)) is.line e.said
+ended_line_has_meaning interface byte s lines text c says is e = subst (λ (t : List ℕ). LineMeaning interface t (Some says)) is.line e.said
 
--- A text that is judged up to a byte 0Ah is judged up to the byte, if the byte is 0Ah.
-line_feed_judged_text : (interface byte : ℕ) (text : List ℕ) (c : LogCourse) (o : Option Departure) (s : JudgingState) → byte ≡ 10
+-- A text that was judged with 0Ah as its last byte was judged with any byte that equals 0Ah.
+equal_last_byte_is_judged : (interface byte : ℕ) (text : List ℕ) (c : LogCourse) (o : Option Departure) (s : JudgingState) → byte ≡ 10
     → JudgedText interface (text ++ 10 ∷ []) c o s → JudgedText interface (text ++ byte ∷ []) c o s
-line_feed_judged_text interface byte text c o s end took = subst (λ (k : ℕ). JudgedText interface (text ++ k ∷ []) c o s) (sym end) took
+equal_last_byte_is_judged interface byte text c o s end took = subst (λ (k : ℕ). JudgedText interface (text ++ k ∷ []) c o s) (sym end) took
 
--- A line end at which an event came leads to the state after the event.
-pub event_judged_at_line_end : (interface byte : ℕ) (s t : JudgingState) (lines : LinesState) (text : List ℕ) (c : LogCourse) (e : LogEvent)
+-- After the byte that ends a line with an event, the text is judged, with the state and the departure, if any, of the event.
+pub line_end_judges_event : (interface byte : ℕ) (s t : JudgingState) (lines : LinesState) (text : List ℕ) (c : LogCourse) (e : LogEvent)
     (o : Option Departure) → IsStateAfter s text c → CourseOfText interface text c → ByteEndsLine interface s.lines lines byte (line.Came e)
-    → LogEventResult (text ++ 10 ∷ []) (course_line_ended c) e o t → JudgedText interface (text ++ byte ∷ []) c o t
-event_judged_at_line_end interface byte s t lines text c e o is judged end came = line_feed_judged_text interface byte text c o t end.end
+    → LogEventResult (text ++ 10 ∷ []) (course_after_line c) e o t → JudgedText interface (text ++ byte ∷ []) c o t
+line_end_judges_event interface byte s t lines text c e o is judged end came = equal_last_byte_is_judged interface byte text c o t end.end
     (record {
       next = came.next;
-      judged = ends judged (line_says_event e (meaning_of_ended_line interface byte s lines text c (line.Came e) is end) came.comes);
+      judged = ends judged (line_says_event e (ended_line_has_meaning interface byte s lines text c (line.Came e) is end) came.comes);
       at = came.at;
       out = came.out;
     })
 
--- A line end that says nothing of the device is passed over.
-pub line_passed_over : (interface byte : ℕ) (s : JudgingState) (lines : LinesState) (text : List ℕ) (c : LogCourse) (says : Line)
+-- The end of a line without an event of the device is judged without a departure.
+pub eventless_line_is_judged : (interface byte : ℕ) (s : JudgingState) (lines : LinesState) (text : List ℕ) (c : LogCourse) (says : Line)
     (o : Option Line)
-    → (LineMeaning interface c.line (Some says) → LineEndLeads interface c (course_line_ended c)) → IsStateAfter s text c
+    → (LineMeaning interface c.line (Some says) → LineEndLeadsTo interface c (course_after_line c)) → IsStateAfter s text c
     → CourseOfText interface text c
     → o ≡ Some says → ByteAccepted interface s.lines lines byte o
     → JudgedText interface (text ++ byte ∷ []) c None (record s { lines = lines })
-line_passed_over interface byte s lines text c says o leads is judged same took =
-    let end : ByteEndsLine interface s.lines lines byte says = taken_at_line_end interface s.lines lines byte o (Some says) same took in
-    line_feed_judged_text interface byte text c None (record s { lines = lines }) end.end (record {
-      next = course_line_ended c;
-      judged = ends judged (leads (meaning_of_ended_line interface byte s lines text c says is end));
-      at = state_at_line_end interface byte s lines text c says is end;
+eventless_line_is_judged interface byte s lines text c says o leads is judged same took =
+    let end : ByteEndsLine interface s.lines lines byte says = equal_meaning_accepts interface s.lines lines byte o (Some says) same took in
+    equal_last_byte_is_judged interface byte text c None (record s { lines = lines }) end.end (record {
+      next = course_after_line c;
+      judged = ends judged (leads (ended_line_has_meaning interface byte s lines text c says is end));
+      at = state_follows_line_end interface byte s lines text c says is end;
       out = sym (append-nil c.out);
     })
 
--- A byte that goes to its line is judged without a departure.
-pub byte_judged_in_line : (interface byte : ℕ) (s : JudgingState) (lines : LinesState) (text : List ℕ) (c : LogCourse) →
+-- A byte added to the open line is judged without a departure.
+pub byte_in_line_is_judged : (interface byte : ℕ) (s : JudgingState) (lines : LinesState) (text : List ℕ) (c : LogCourse) →
     IsStateAfter s text c
     → CourseOfText interface text c → ByteInLine s.lines lines byte
     → JudgedText interface (text ++ byte ∷ []) c None (record s { lines = lines })
-byte_judged_in_line interface byte s lines text c is judged g = record {
+byte_in_line_is_judged interface byte s lines text c is judged g = record {
   next = record c { line = c.line ++ byte ∷ [] };
   judged = goes byte judged g.inner (subst (λ (x : List ℕ). length x < 262158) is.line g.short);
   at = record {
@@ -146,28 +147,29 @@ byte_judged_in_line interface byte s lines text c is judged g = record {
   out = sym (append-nil c.out);
 }
 
-bytes_course_in_line : (interface : ℕ) (bytes text : List ℕ) (c : LogCourse) → CourseOfText interface text c → list_any is_end bytes ≡ false
+-- Bytes without 0Ah, for which the open line has room, extend the course by themselves.
+bytes_extend_course : (interface : ℕ) (bytes text : List ℕ) (c : LogCourse) → CourseOfText interface text c → list_any is_end bytes ≡ false
     → length c.line + length bytes ≤ 262158 → CourseOfText interface (text ++ bytes) (record c { line = c.line ++ bytes })
-bytes_course_in_line interface [] text c judged inner short =
+bytes_extend_course interface [] text c judged inner short =
     subst (λ (t : List ℕ). CourseOfText interface t (record c { line = c.line ++ [] })) (sym (append-nil text))
     (subst (λ (l : List ℕ). CourseOfText interface text (record c { line = l })) (sym (append-nil c.line)) judged)
-bytes_course_in_line interface (byte ∷ bytes) text c judged inner short =
+bytes_extend_course interface (byte ∷ bytes) text c judged inner short =
     let parts = neither_of_two_holds (is_end byte) (list_any is_end bytes) inner in
     let one = goes byte judged (eqb-false byte 10 parts.0) (omega (arith, short)) in
-    let rest = bytes_course_in_line interface bytes (text ++ byte ∷ []) (record c { line = c.line ++ byte ∷ [] }) one parts.1
+    let rest = bytes_extend_course interface bytes (text ++ byte ∷ []) (record c { line = c.line ++ byte ∷ [] }) one parts.1
     (omega (arith, short, length-append c.line (byte ∷ []))) in
     subst (λ (t : List ℕ). CourseOfText interface t (record c { line = c.line ++ byte ∷ bytes })) (append_assoc text (byte ∷ []) bytes)
     (subst (λ (l : List ℕ). CourseOfText interface ((text ++ byte ∷ []) ++ bytes) (record c { line = l }))
     (append_assoc c.line (byte ∷ []) bytes) rest)
 
--- Bytes that go to their line are judged without a departure.
-pub bytes_judged_in_line : (interface : ℕ) (bytes : List ℕ) (s : JudgingState) (lines : LinesState) (text : List ℕ) (c : LogCourse)
+-- Bytes added to the open line are judged without a departure.
+pub bytes_in_line_are_judged : (interface : ℕ) (bytes : List ℕ) (s : JudgingState) (lines : LinesState) (text : List ℕ) (c : LogCourse)
     → IsStateAfter s text c
     → CourseOfText interface text c → BytesInLine s.lines lines bytes
     → JudgedText interface (text ++ bytes) c None (record s { lines = lines })
-bytes_judged_in_line interface bytes s lines text c is judged g = record {
+bytes_in_line_are_judged interface bytes s lines text c is judged g = record {
   next = record c { line = c.line ++ bytes };
-  judged = bytes_course_in_line interface bytes text c judged g.inner (subst (λ (x : List ℕ). length x + length bytes
+  judged = bytes_extend_course interface bytes text c judged g.inner (subst (λ (x : List ℕ). length x + length bytes
       ≤ 262158) is.line g.short);
   at = record {
     whole = is.whole;
@@ -181,17 +183,18 @@ bytes_judged_in_line interface bytes s lines text c is judged g = record {
   out = sym (append-nil c.out);
 }
 
-bad_line_of_equal_text : (interface : ℕ) (line text rest : List ℕ) (why : LineFault) → line ≡ text → IsBadLine interface line rest why
+-- A text that equals a bad line is a bad line.
+equal_text_is_bad_line : (interface : ℕ) (line text rest : List ℕ) (why : LineFault) → line ≡ text → IsBadLine interface line rest why
     → IsBadLine interface text rest why
-bad_line_of_equal_text interface line text rest why same bad = subst (λ (t : List ℕ). IsBadLine interface t rest why) same bad
+equal_text_is_bad_line interface line text rest why same bad = subst (λ (t : List ℕ). IsBadLine interface t rest why) same bad
 
--- A byte that the lines don't take, for this fault, can't be judged, for the same fault.
+-- A byte that isn't accepted because of a fault can't be judged because of that fault.
 pub unread_byte_is_unjudged : (interface : ℕ) (s : JudgingState) (text : List ℕ) (c : LogCourse) (rest : List ℕ) (fault : LogFault)
     → IsStateAfter s text c
-    → CannotRead interface s.lines rest fault → CannotJudge interface text c rest fault
+    → ByteRefused interface s.lines rest fault → CannotJudgeByte interface text c rest fault
 unread_byte_is_unjudged interface s text c rest (BadLine n why) is (number, bad) = (
   number ∙ ap (λ (k : ℕ). k + 1) is.number,
-  bad_line_of_equal_text interface s.lines.line c.line rest why is.line bad,
+  equal_text_is_bad_line interface s.lines.line c.line rest why is.line bad,
 )
 unread_byte_is_unjudged interface s text c rest TooLarge is none = omega (arith, is.room, none)
 unread_byte_is_unjudged interface s text c rest NoMemory is why_not = absurd why_not

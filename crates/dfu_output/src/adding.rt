@@ -1,8 +1,8 @@
-//! `dfu add`: a file with a suffix, and the line for it.
+//! `dfu add`: writes a file with a suffix, and a line about it.
 
 ghost use Rattle.std.specs.Prelude.{◌≡◌, IfOk, None};
 ghost use Rattle.std.specs.String.{string_bytes};
-ghost use Rattle.dfu_output.specs.AddText.{HasAddFault, WritesAdd, wrote_line};
+ghost use Rattle.dfu_output.specs.AddText.{HasAddFault, WritesAddLine, wrote_line};
 
 use crate::exit::{Exit, fault_text, write_out};
 use crate::fields::Value::Number;
@@ -12,7 +12,7 @@ use dfu_wire::Ids;
 use std::alloc::{AllocError, Global};
 use std::io::{Read, Write};
 
-/// Returns the line for a file that was made: `wrote N`, with `count`, the number of its bytes.
+/// Returns the line for a file that was written: `wrote N`, N being `count`, the number of its bytes.
 ///
 /// # Errors
 ///
@@ -24,13 +24,12 @@ pub fn wrote_line(alloc: Global, count: u32) -> Result<String, AllocError>
     line_of(alloc, "wrote", &[(" ", Number(count as u64))])
 }
 
-/// Writes to `file` what the reader gives and a suffix for it, and one line to `out`: `wrote N`
-/// with Done, N being the number of bytes in `file`; `refused NAME` with Refused; `fault Read` or
-/// `fault Write`, of `file`, with Fault. After `fault Write` a prefix of the text is in `file`, not
-/// all of it, and after any other line but `wrote N` nothing is. But if there is no memory for the
-/// line `wrote N`, it is `refused NoMemory`, and `file` is whole.
+/// Writes the bytes of the reader and a suffix for them to `file`, and one line to `out`: `wrote N` with Done, N being the number of bytes
+/// in `file`; `refused NAME` with Refused; or `fault Read`, or `fault Write` of `file`, with Fault. After `fault Write` a prefix of the
+/// bytes is in `file`, not all of them; after any other refusal or fault, none. But if there is no memory for the line `wrote N`, it is
+/// `refused NoMemory`, and `file` is complete.
 ///
-/// If `out` fails, it returns Fault, and a prefix of the line is out, not all of it.
+/// If `out` fails, the exit is Fault, and a prefix of the line is written, not all of it.
 pub fn add_text<R: Read + Drop, F: Write, W: Write>(
     alloc: Global,
     reader: R,
@@ -38,14 +37,14 @@ pub fn add_text<R: Read + Drop, F: Write, W: Write>(
     file: &mut F,
     out: &mut W,
 ) -> Exit
-    ensures { WritesAdd (R.remaining reader) ids (F.contents file.old) (F.contents file.new) (W.contents out.old)
+    ensures { WritesAddLine (R.remaining reader) ids (F.contents file.old) (F.contents file.new) (W.contents out.old)
         (W.contents out.new) result }
 {
     let (exit, _) = add_with_fault(alloc, reader, ids, file, out);
     exit
 }
 
-/// Does what `add_text` does, and returns the end, and the fault whose line was to be written, if there is one.
+/// Adds a suffix as `add_text` does. Returns the exit, and the fault whose line was to be written, if there is one.
 pub fn add_with_fault<R: Read + Drop, F: Write, W: Write>(
     alloc: Global,
     reader: R,
@@ -53,7 +52,7 @@ pub fn add_with_fault<R: Read + Drop, F: Write, W: Write>(
     file: &mut F,
     out: &mut W,
 ) -> (Exit, Option<SuffixFault>)
-    ensures line { WritesAdd (R.remaining reader) ids (F.contents file.old) (F.contents file.new) (W.contents out.old)
+    ensures line { WritesAddLine (R.remaining reader) ids (F.contents file.old) (F.contents file.new) (W.contents out.old)
         (W.contents out.new) result.0 }
     ensures fault { HasAddFault (R.remaining reader) ids (F.contents file.old) (F.contents file.new) result.1 }
     ensures done { result.0 ≡ Exit.Done → result.1 ≡ None }

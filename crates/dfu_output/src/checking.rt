@@ -1,9 +1,9 @@
-//! `dfu check`: the line for a file.
+//! `dfu check`: checks a file, and writes a line about it.
 
 ghost use Rattle.std.specs.Prelude.{◌≡◌, IfOk, None};
 ghost use Rattle.std.specs.String.{string_bytes};
 ghost use Rattle.dfu_output.specs.AnswerLines.{ok_line};
-ghost use Rattle.dfu_output.specs.CheckText.{HasCheckFault, HasFindings, WritesCheck};
+ghost use Rattle.dfu_output.specs.CheckText.{HasCheckFault, HasFindings, WritesCheckLine};
 
 use crate::exit::{Exit, fault_text, write_out};
 use crate::fields::Value::{Hex4, Hex8, Number};
@@ -12,6 +12,8 @@ use dfu_suffix::{Findings, SuffixFault, Summary, check_with};
 use std::alloc::{AllocError, Global};
 use std::io::{Read, Write};
 
+/// Returns the line for the valid file that `summary` describes: `ok payload P suffix S device DDDD product PPPP vendor VVVV dfu BBBB crc
+/// CCCCCCCC`.
 #[tactic(auto, unfolding(crate::specs::AnswerLines::ok_line))]
 fn ok_line(alloc: Global, summary: &Summary) -> Result<String, AllocError>
     ensures { IfOk result (λ t. string_bytes t ≡ ok_line summary.now) }
@@ -28,30 +30,28 @@ fn ok_line(alloc: Global, summary: &Summary) -> Result<String, AllocError>
     line_of(alloc, "ok", &fields)
 }
 
-/// Checks what the reader gives, and writes one line: `ok payload P suffix S device DDDD product
-/// PPPP vendor VVVV dfu BBBB crc CCCCCCCC` with Done, `refused NAME` with Refused, or
-/// `fault Read` with Fault. Memory is taken only for the line of a file: if that is refused,
+/// Checks the bytes of the reader, and writes one line: `ok payload P suffix S device DDDD product PPPP vendor VVVV dfu BBBB crc CCCCCCCC`
+/// with Done, `refused NAME` with Refused, or `fault Read` with Fault. Memory is allocated only for the line `ok ..`: if that is refused,
 /// the line is `refused NoMemory`.
 ///
-/// If the writer fails, it returns Fault; a prefix of the line is out, not all of it, and nothing
-/// more is written.
+/// If the writer fails, the exit is Fault; a prefix of the line is written, not all of it, and nothing more.
 pub fn check_text<R: Read + Drop, W: Write>(alloc: Global, reader: R, writer: &mut W) -> Exit
-    ensures { WritesCheck (R.remaining reader) (W.contents writer.old) (W.contents writer.new) result }
+    ensures { WritesCheckLine (R.remaining reader) (W.contents writer.old) (W.contents writer.new) result }
 {
     let mut findings = Findings::new();
     let (exit, _) = check_with_fault(alloc, reader, writer, &mut findings);
     exit
 }
 
-/// Does what `check_text` does, and returns the end and the fault whose line was to be written. Writes to `findings` what the reason of
-/// BadLength or BadCrc is made of. After TooShort, TooLarge and Read the findings say nothing.
+/// Checks the bytes as `check_text` does. Returns the exit, and the fault whose line was to be written, if there is one. Stores in
+/// `findings` the numbers for the reason of BadLength or BadCrc. After TooShort, TooLarge and Read, the findings mean nothing.
 pub fn check_with_fault<R: Read + Drop, W: Write>(
     alloc: Global,
     reader: R,
     writer: &mut W,
     findings: &mut Findings,
 ) -> (Exit, Option<SuffixFault>)
-    ensures line { WritesCheck (R.remaining reader) (W.contents writer.old) (W.contents writer.new) result.0 }
+    ensures line { WritesCheckLine (R.remaining reader) (W.contents writer.old) (W.contents writer.new) result.0 }
     ensures fault { HasCheckFault (R.remaining reader) result.1 }
     ensures findings { HasFindings (R.remaining reader) result.1 findings.new }
     ensures done { result.0 ≡ Exit.Done → result.1 ≡ None }

@@ -1,4 +1,4 @@
-//! The interfaces for upgrades of a configuration descriptor and those that follow it (USB 2.0, sections 9.5 and 9.6).
+//! The DFU interfaces of a configuration descriptor and of the descriptors after it (USB 2.0, sections 9.5 and 9.6).
 
 ghost use Rattle.std.specs.Prelude.{◌≡◌, ◌++◌, ◌≤◌, IfOk, IfErr, OnOk, length, slice_index, Ok, Err};
 ghost use Rattle.std.specs.String.{string_bytes};
@@ -16,6 +16,7 @@ const INTERFACE: u8 = 4;
 // The type of a functional descriptor.
 const FUNCTIONAL: u8 = 0x21;
 
+// Returns the name of the mode of a DFU interface, by its bInterfaceProtocol.
 fn mode_name(protocol: u8) -> &'static str
     ensures { result.now ≡ mode_name protocol }
 {
@@ -26,6 +27,7 @@ fn mode_name(protocol: u8) -> &'static str
     }
 }
 
+// Returns the line for a DFU interface: `interface N alternate N mode MODE string N`.
 #[tactic(auto, unfolding(crate::specs::Configuration::interface_line))]
 fn interface_line(
     alloc: Global,
@@ -45,7 +47,7 @@ fn interface_line(
     line_of(alloc, "interface", &fields)
 }
 
-// Adds what a descriptor gives, and returns whether the next one is within an interface for upgrades.
+// Adds the text of a descriptor, and returns true if the next descriptor belongs to a DFU interface; or returns the descriptor's fault.
 fn add(
     alloc: Global,
     line: &mut String,
@@ -79,6 +81,7 @@ fn add(
     }
 }
 
+// Returns the line for a configuration: `configuration N`, N being `value`, its bConfigurationValue.
 #[tactic(auto, unfolding(crate::specs::Configuration::configuration_line))]
 fn configuration_line(alloc: Global, value: u8) -> Result<String, AllocError>
     ensures { IfOk result (λ t. string_bytes t ≡ configuration_line value) }
@@ -86,7 +89,7 @@ fn configuration_line(alloc: Global, value: u8) -> Result<String, AllocError>
     line_of(alloc, "configuration ", &[("", Number(value as u64))])
 }
 
-// Adds what the descriptors in a row give.
+// Adds the texts of successive descriptors, up to the first fault, which it returns.
 fn walk(alloc: Global, line: &mut String, bytes: &[u8]) -> Result<Result<(), WireFault>, AllocError>
     ensures { IfOk result (λ r. DescriptorsTextAdded bytes.now (string_bytes line.old) (string_bytes line.new) r) }
 {
@@ -110,14 +113,14 @@ fn walk(alloc: Global, line: &mut String, bytes: &[u8]) -> Result<Result<(), Wir
     Ok(Ok(()))
 }
 
-/// The text for a configuration descriptor and those that follow it; or the first fault:
+/// Returns the text of a configuration descriptor and of the descriptors after it, or the first fault:
 ///
 /// 1. `Short`: there are fewer than nine bytes.
 /// 2. `WrongType`: the second byte is not 02h.
 /// 3. `WrongLength`: the first byte is not 9.
 /// 4. `Short`, `Long`: there are fewer bytes than wTotalLength says, or more.
-/// 5. Of the first descriptor that can't be read, in their order: `WrongLength`, if it says that it has fewer than two bytes, or
-///    an interface has fewer than nine; `Short`, if it ends after the last byte; or the fault of a functional descriptor.
+/// 5. The fault of the first bad descriptor after it: `WrongLength`, if its first byte is below 2, or it is an interface and has fewer than
+///    nine bytes; `Short`, if it ends after the last byte; or its own fault, if it is the functional descriptor of a DFU interface.
 pub(crate) fn configuration_text(
     alloc: Global,
     bytes: &[u8],

@@ -1,4 +1,4 @@
-//! Exit of a command, and the lines that end it.
+//! Exits of commands, and the lines of faults.
 
 ghost use Rattle.std.specs.Prelude.{◌≡◌, max};
 ghost use Rattle.dfu_output.specs.AnswerLines.{bad_words_line, fault_line, fault_exit};
@@ -9,12 +9,12 @@ use dfu_suffix::{SuffixFault, write_whole};
 use std::alloc::Global;
 use std::io::Write;
 
-/// The end of a command, which is the exit status of the program.
+/// Exit of a command, which decides the exit status of the program.
 #[derive(Clone, Copy)]
 pub enum Exit {
     /// The command did what was asked: status 0.
     Done,
-    /// The input was refused by name: status 1.
+    /// The input was refused, and the line names the reason: status 1.
     Refused,
     /// The words of the command line weren't understood: status 2.
     BadWords,
@@ -35,7 +35,7 @@ impl Exit {
         }
     }
 
-    /// Returns the end of the two that has the higher status.
+    /// Returns the worse of two exits: the one with the higher status.
     pub fn worse(self, other: Exit) -> Exit
         ensures { exit_status result ≡ max (exit_status self) (exit_status other) }
     {
@@ -47,17 +47,17 @@ impl Exit {
     }
 }
 
-/// The end of a command, and the line for standard error that says the reason, if there is one.
+/// Exit of a command, and the line for standard error that gives the reason, if there is one.
 #[derive(Drop)]
 pub struct Outcome {
-    /// The end of the command.
+    /// Exit of the command.
     pub exit: Exit,
-    /// Reason, as a line, if the answer's own line doesn't say it and the reason is wanted.
+    /// Line with the reason, if one is wanted and the printed line doesn't say it.
     pub reason: Option<String>,
 }
 
-/// Returns the lines of `first` and `second`, as far as there is memory for them; None if there is neither.
-fn both(alloc: Global, first: Option<String>, second: Option<String>) -> Option<String> {
+/// Returns the lines of `first` and then those of `second`, as far as there is memory for them; None if both are None.
+fn joined_lines(alloc: Global, first: Option<String>, second: Option<String>) -> Option<String> {
     match (first, second) {
         (Some(first), Some(second)) => {
             let mut lines = String::new(alloc);
@@ -71,21 +71,20 @@ fn both(alloc: Global, first: Option<String>, second: Option<String>) -> Option<
 }
 
 impl Outcome {
-    /// Returns the outcome of two files, of which `next` is that of the second: the worse end, and the reasons of both, as far as there is
-    /// memory for them.
+    /// Returns the outcome of two files, this one and `next`: the worse exit, and the reasons of both, as far as there is memory for them.
     pub fn and(self, alloc: Global, next: Outcome) -> Outcome
         ensures { exit_status result.exit ≡ max (exit_status self.exit) (exit_status next.exit) }
     {
         let Outcome { exit, reason } = self;
         Outcome {
             exit: exit.worse(next.exit),
-            reason: both(alloc, reason, next.reason),
+            reason: joined_lines(alloc, reason, next.reason),
         }
     }
 }
 
-/// Writes a text whole, and then ends as `exit` says; if the writer fails, with Fault.
-// Many commands call it: once in the program is enough.
+/// Writes a whole text, and returns `exit`; or Fault, if the writer fails.
+// Not inlined, so that the program has it once: many commands call it.
 #[inline(never)]
 pub fn write_out<W: Write>(writer: &mut W, text: &[u8], exit: Exit) -> Exit
     ensures { TextIsOut (W.contents writer.old) (W.contents writer.new) text.now exit result }
@@ -96,6 +95,7 @@ pub fn write_out<W: Write>(writer: &mut W, text: &[u8], exit: Exit) -> Exit
     }
 }
 
+/// Returns the line for `fault`: `fault NAME` for Read and Write, and `refused NAME` for any other fault.
 #[tactic(auto, unfolding(crate::specs::AnswerLines::fault_line))]
 pub(crate) fn fault_line(fault: SuffixFault) -> &'static str
     ensures { result.now ≡ fault_line fault }
@@ -106,6 +106,7 @@ pub(crate) fn fault_line(fault: SuffixFault) -> &'static str
     )
 }
 
+/// Returns the exit for `fault`: Fault for Read and Write, and Refused for any other fault.
 fn fault_exit(fault: SuffixFault) -> Exit
     ensures { result ≡ fault_exit fault }
 {
@@ -115,17 +116,17 @@ fn fault_exit(fault: SuffixFault) -> Exit
     }
 }
 
-/// Writes the line of a fault: `fault NAME` for Read and Write, and else `refused NAME`.
+/// Writes the line of a fault: `fault NAME` for Read and Write, and `refused NAME` for any other fault.
 ///
-/// It returns Fault for Read and Write, else Refused; if the writer fails, Fault, and a prefix of
-/// the line is out, not all of it.
+/// Returns Fault for Read and Write, and Refused for any other fault. If the writer fails, it returns Fault, and a prefix of the line is
+/// written, not all of it.
 pub fn fault_text<W: Write>(fault: SuffixFault, writer: &mut W) -> Exit
     ensures { TextIsOut (W.contents writer.old) (W.contents writer.new) (fault_line fault) (fault_exit fault) result }
 {
     write_out(writer, fault_line(fault).as_bytes(), fault_exit(fault))
 }
 
-/// Writes the line for words that aren't understood.
+/// Writes the line `bad words` for a command line that isn't understood, and returns BadWords; or Fault, if the writer fails.
 pub fn bad_words<W: Write>(writer: &mut W) -> Exit
     ensures { TextIsOut (W.contents writer.old) (W.contents writer.new) bad_words_line Exit.BadWords result }
 {

@@ -1,5 +1,5 @@
-//! Lines of fields: labels, each with a value after it; and the numbers of these values. Functions that are called often aren't inlined,
-//! which keeps the program small.
+//! Lines of fields, each a label and a value, and the digits of numbers. Functions that are called often aren't inlined, to keep the
+//! program small.
 
 ghost use Rattle.std.specs.Prelude.{◌≡◌, ◌++◌, ◌∷◌, [], IfOk, OnOk};
 ghost use Rattle.std.specs.String.{string_bytes};
@@ -8,7 +8,7 @@ ghost use Rattle.dfu_output.specs.Fields.{value_text, text_with_fields};
 
 use std::alloc::{AllocError, Global};
 
-/// The value of a field.
+/// Value of a field, in the form in which it is written.
 #[derive(Clone, Copy)]
 pub(crate) enum Value<'v> {
     /// The text as it is.
@@ -25,24 +25,24 @@ pub(crate) enum Value<'v> {
     Hex8(u64),
 }
 
-/// A label, and the value after it.
+/// A field: a label, and the value after it.
 pub(crate) type Field<'v> = (&'v str, Value<'v>);
 
-/// Returns two lower-case hexadecimal digits of `n`.
+/// Returns `n` in two lower-case hexadecimal digits.
 pub(crate) fn hex2(alloc: Global, n: u8) -> Result<String, AllocError>
     ensures { IfOk result (λ t. string_bytes t ≡ hex_padded 2 n) }
 {
     format!(in alloc; "{n:02x}")
 }
 
-/// Returns four lower-case hexadecimal digits of `n`.
+/// Returns `n` in four lower-case hexadecimal digits.
 pub(crate) fn hex4(alloc: Global, n: u16) -> Result<String, AllocError>
     ensures { IfOk result (λ t. string_bytes t ≡ hex_padded 4 n) }
 {
     format!(in alloc; "{n:04x}")
 }
 
-/// Returns eight lower-case hexadecimal digits of `n`, or nine for 2^32.
+/// Returns `n` in eight lower-case hexadecimal digits, or in nine for 2^32.
 pub(crate) fn hex8(alloc: Global, n: u64) -> Result<String, AllocError>
     ensures { IfOk result (λ t. string_bytes t ≡ hex_padded 8 n) }
 {
@@ -66,7 +66,7 @@ pub fn field(line: &mut String, label: &str, value: &str) -> Result<(), AllocErr
     push(line, value)
 }
 
-/// Adds a label and a value that was made for it to a line.
+/// Adds a label and an owned value to a line.
 #[inline(never)]
 pub fn made_field(line: &mut String, label: &str, value: String) -> Result<(), AllocError>
     ensures { OnOk result (string_bytes line.new ≡ string_bytes line.old ++ (label.now ++ string_bytes value)) }
@@ -121,7 +121,7 @@ pub(crate) fn text_of(alloc: Global, fields: &[Field<'_>]) -> Result<String, All
     Ok(text)
 }
 
-/// Returns the line that begins with `first`, goes on with `fields`, and ends with a line feed.
+/// Returns the line of `first`, `fields` and a line feed.
 ///
 /// # Errors
 ///

@@ -1,4 +1,4 @@
-//! The lines that `dfu judge` prints of a log.
+//! Lines that `dfu judge` prints about a log.
 
 mod dfuse;
 mod fault;

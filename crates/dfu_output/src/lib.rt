@@ -1,9 +1,10 @@
-//! The lines that the program `dfu` prints, and how a command ends.
+//! The lines that the program `dfu` prints, and the exits of its commands.
 //!
-//! `check_text`, `add_text`, `show_text` and `judge_text` are the commands over readers and writers. The crate opens no file.
+//! `check_text`, `add_text` and `judge_text` are the commands over a reader and writers, and `show_text` is one over a text and a writer.
+//! The crate opens no file.
 #![tactic(auto)]
 
-/// The text of a value of an enum, by a table of its variants and their texts.
+/// Text of an enum's value, by a table of variants and texts.
 macro_rules! named {
     ($value:expr, $kind:ident, $($variant:ident $text:literal),+) => {
         match $value {
@@ -12,7 +13,7 @@ macro_rules! named {
     };
 }
 
-/// The line `refused NAME` of a value of an enum, NAME being that of its variant, and the lines of others.
+/// Line of an enum's value: `refused NAME`, NAME being its variant, or, for each `$other`, the line beside it.
 macro_rules! refused {
     ($value:expr, $kind:ident, $($variant:ident)+ $(, $other:ident $line:literal)*) => {
         match $value {
@@ -38,8 +39,8 @@ pub use checking::{check_text, check_with_fault};
 pub use exit::{Exit, Outcome, bad_words, fault_text, write_out};
 pub use fields::{field, made_field, push};
 pub use image_output::{
-    FormatChoice, fill_in, format_in, format_name, image_line, looks_like, not_image_line,
-    refused_line, why, why_not,
+    FormatChoice, fill_in, format_choice_in, format_name, image_line, looks_like_hint,
+    not_image_line, refused_line, why, why_not,
 };
 pub use judge::{
     LogFault, LogLines, dfuse_departure_text, is_single, judge_text, judge_with_fault, stop_text,

@@ -1,14 +1,14 @@
-//! Reasons of an answer whose line doesn't say it: the line for standard error, and what is in it.
+//! Lines for standard error that give a reason.
 
 ghost use Rattle.std.specs.Prelude.{◌≡◌, ◌∷◌, [], IfOk, MatchOption, chars};
 ghost use Rattle.std.specs.String.{string_bytes};
 ghost use Rattle.dfu_output.specs.ReasonLines.{name_before, reason_line};
-ghost use Rattle.dfu_output.specs.ShownText.{visible_character, visible_of};
+ghost use Rattle.dfu_output.specs.ShownText.{visible_character, visible_prefix};
 
 use crate::fields::{field, push};
 use std::alloc::{AllocError, Global};
 
-/// Largest number of characters that are shown of a text.
+/// Largest number of characters of a name that are shown.
 const SHOWN_CHARACTERS: u32 = 4096;
 
 /// Returns `letter` as a terminal may show it: `?` for a control character.
@@ -32,7 +32,7 @@ fn first_of(text: &str) -> Option<(char, &str)>
 /// Returns at most the first 4,096 characters of `text`, with `?` for each control character, so that the result is one line and no
 /// terminal obeys it.
 fn shown(alloc: Global, text: &str) -> Result<String, AllocError>
-    ensures { IfOk result (λ t. string_bytes t ≡ visible_of 4096 text.now) }
+    ensures { IfOk result (λ t. string_bytes t ≡ visible_prefix 4096 text.now) }
 {
     let mut line = String::new(alloc);
     let mut rest = text;
@@ -48,7 +48,7 @@ fn shown(alloc: Global, text: &str) -> Result<String, AllocError>
     Ok(line)
 }
 
-/// Returns the line of a reason, `dfu: LABELNAME: WHY`: `label` and `name`, as a terminal may show it, say what the reason is of, and
+/// Returns the line of a reason, `dfu: LABELNAME: WHY`: `label` and `name` are the subject, with `name` as a terminal may show it, and
 /// `why` is the reason.
 ///
 /// # Errors
@@ -66,8 +66,8 @@ pub fn reason_line(alloc: Global, label: &str, name: &str, why: &str) -> Result<
     Ok(line)
 }
 
-/// Returns the text in front of a line of file `name`, one of several: the name as a terminal may show it, at most 4,096 characters of it,
-/// and a colon.
+/// Returns the text before each line of file `name`, one of several: at most 4,096 characters of the name, as a terminal may show them, a
+/// colon and a space.
 ///
 /// # Errors
 ///

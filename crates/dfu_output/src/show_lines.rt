@@ -12,6 +12,8 @@ use dfu_wire::{Functional, Request, Setup, State, Status, WireFault};
 use hex::FromHexError;
 use std::alloc::{AllocError, Global};
 
+/// Returns the line for a functional descriptor: `functional download Y upload Y tolerant Y will-detach Y detach N transfer N version
+/// HHHH`.
 #[tactic(auto, unfolding(crate::specs::ShowLines::functional_line))]
 pub(crate) fn functional_line(alloc: Global, f: &Functional) -> Result<String, AllocError>
     ensures { IfOk result (λ t. string_bytes t ≡ functional_line f.now) }
@@ -28,6 +30,7 @@ pub(crate) fn functional_line(alloc: Global, f: &Functional) -> Result<String, A
     line_of(alloc, "functional", &fields)
 }
 
+/// Returns the line for `status` and `string`, its sixth byte: `status CODE poll N state STATE string N`.
 #[tactic(auto, unfolding(crate::specs::ShowLines::status_line))]
 pub(crate) fn status_line(alloc: Global, status: &Status, string: u8) -> Result<String, AllocError>
     ensures { IfOk result (λ t. string_bytes t ≡ status_line status.now string) }
@@ -41,6 +44,7 @@ pub(crate) fn status_line(alloc: Global, status: &Status, string: u8) -> Result<
     line_of(alloc, "status", &fields)
 }
 
+/// Returns the line for `state`: `state STATE`.
 #[tactic(auto, unfolding(crate::specs::ShowLines::state_line))]
 pub(crate) fn state_line(alloc: Global, state: State) -> Result<String, AllocError>
     ensures { IfOk result (λ t. string_bytes t ≡ state_line state) }
@@ -48,6 +52,7 @@ pub(crate) fn state_line(alloc: Global, state: State) -> Result<String, AllocErr
     line_of(alloc, "state ", &[("", Text(state.name()))])
 }
 
+/// Returns the line for `setup`, and for `asked`, its request: `setup REQUEST kind HH number HH value N index N length N`.
 #[tactic(auto, unfolding(crate::specs::ShowLines::setup_line))]
 pub(crate) fn setup_line(alloc: Global, setup: &Setup, asked: Request) -> Result<String, AllocError>
     ensures { IfOk result (λ t. string_bytes t ≡ setup_line setup.now asked) }
@@ -63,6 +68,7 @@ pub(crate) fn setup_line(alloc: Global, setup: &Setup, asked: Request) -> Result
     line_of(alloc, "setup", &fields)
 }
 
+/// Returns the line for bytes that can't be decoded because of `fault`: `refused NAME`, NAME being the fault.
 #[tactic(auto, unfolding(crate::specs::ShowLines::wire_line))]
 pub(crate) fn wire_line(fault: WireFault) -> &'static str
     ensures { result.now ≡ wire_line fault }
@@ -72,6 +78,7 @@ pub(crate) fn wire_line(fault: WireFault) -> &'static str
     )
 }
 
+/// Returns the line for a text that gives no bytes: `refused NoMemory` if memory ran out, and `refused BadHex` if it isn't hexadecimal.
 pub(crate) fn bad_hex_line(error: FromHexError) -> &'static str
     ensures { result.now ≡ bad_hex_line error }
 {

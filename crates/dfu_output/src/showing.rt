@@ -1,9 +1,9 @@
-//! `dfu show`: the fields of bytes that go over the wire.
+//! `dfu show`: decodes bytes of the wire, and writes their fields.
 
 ghost use Rattle.std.specs.Prelude.{◌≡◌, codes};
 ghost use Rattle.dfu_output.specs.Output.{TextIsOut};
 ghost use Rattle.dfu_output.specs.AnswerLines.{bad_words_line};
-ghost use Rattle.dfu_output.specs.ShowText.{WritesFunctional, WritesStatus, WritesState, WritesSetup, WritesConfiguration, WritesBytes, IsNoKind, ReadsStateBytes, ReadsSetup};
+ghost use Rattle.dfu_output.specs.ShowText.{WritesFunctionalLine, WritesStatusLine, WritesStateLine, WritesSetupLine, WritesConfigurationText, WritesAboutHexText, IsUnknownKind, DecodesStateBytes, DecodesSetupBytes};
 
 use crate::configuration::configuration_text;
 use crate::exit::{Exit, bad_words, fault_text, write_out};
@@ -15,7 +15,7 @@ use dfu_wire::{Functional, Request, Setup, State, Status, WireFault};
 use std::alloc::Global;
 use std::io::Write;
 
-/// Writes, by the call named `$write`, what the bytes of a hexadecimal text are; or the line of a text that isn't hexadecimal.
+/// Decodes a hexadecimal text, and passes its bytes to `$write`; or writes the line for a text that gives no bytes.
 macro_rules! decoded {
     ($hex:ident, $write:ident($alloc:ident, $writer:ident)) => {
         match hex::decode($alloc, $hex) {
@@ -25,8 +25,9 @@ macro_rules! decoded {
     };
 }
 
+/// Decodes `bytes` as a functional descriptor, and writes the line for it, for the first fault, or for a lack of memory.
 fn write_functional<W: Write>(alloc: Global, bytes: &[u8], writer: &mut W) -> Exit
-    ensures { WritesFunctional bytes.now (W.contents writer.old) (W.contents writer.new) result }
+    ensures { WritesFunctionalLine bytes.now (W.contents writer.old) (W.contents writer.new) result }
 {
     match Functional::decode(bytes) {
         Ok(functional) => match functional_line(alloc, &functional) {
@@ -37,8 +38,9 @@ fn write_functional<W: Write>(alloc: Global, bytes: &[u8], writer: &mut W) -> Ex
     }
 }
 
+/// Decodes `bytes` as a status, and writes the line for it, for the first fault, or for a lack of memory.
 fn write_status<W: Write>(alloc: Global, bytes: &[u8], writer: &mut W) -> Exit
-    ensures { WritesStatus bytes.now (W.contents writer.old) (W.contents writer.new) result }
+    ensures { WritesStatusLine bytes.now (W.contents writer.old) (W.contents writer.new) result }
 {
     match Status::decode(bytes) {
         Ok(status) => match status_line(alloc, &status, bytes[5]) {
@@ -49,9 +51,9 @@ fn write_status<W: Write>(alloc: Global, bytes: &[u8], writer: &mut W) -> Exit
     }
 }
 
-// The state that the answer to GETSTATE has.
+// Decodes the one byte of an answer to GETSTATE.
 fn state_in(bytes: &[u8]) -> Result<State, WireFault>
-    ensures { ReadsStateBytes bytes.now result }
+    ensures { DecodesStateBytes bytes.now result }
 {
     match *bytes {
         [] => Err(WireFault::Short),
@@ -60,8 +62,9 @@ fn state_in(bytes: &[u8]) -> Result<State, WireFault>
     }
 }
 
+/// Decodes `bytes` as a state, and writes the line for it, for the first fault, or for a lack of memory.
 fn write_state<W: Write>(alloc: Global, bytes: &[u8], writer: &mut W) -> Exit
-    ensures { WritesState bytes.now (W.contents writer.old) (W.contents writer.new) result }
+    ensures { WritesStateLine bytes.now (W.contents writer.old) (W.contents writer.new) result }
 {
     match state_in(bytes) {
         Ok(state) => match state_line(alloc, state) {
@@ -72,16 +75,18 @@ fn write_state<W: Write>(alloc: Global, bytes: &[u8], writer: &mut W) -> Exit
     }
 }
 
-/// A setup, and what it asks for, whichever interface it is for.
+/// A setup, and the request for which it asks if its interface is taken as 0.
 #[derive(Clone, Copy)]
-pub(crate) struct AskedBy {
+pub(crate) struct RequestedSetup {
+    /// The setup, as its bytes say it.
     pub(crate) setup: Setup,
+    /// The request for which it asks.
     pub(crate) asked: Request,
 }
 
-// The setup that eight bytes are, and what it asks for at any interface.
-fn setup_in(bytes: &[u8]) -> Result<AskedBy, WireFault>
-    ensures { ReadsSetup bytes.now result }
+// Decodes the eight bytes of a setup, and the request for which it asks if its interface is taken as 0.
+fn setup_in(bytes: &[u8]) -> Result<RequestedSetup, WireFault>
+    ensures { DecodesSetupBytes bytes.now result }
 {
     let Ok(bytes) = <&[u8; 8]>::try_from(bytes) else {
         return Err(if bytes.len() < 8 {
@@ -92,11 +97,12 @@ fn setup_in(bytes: &[u8]) -> Result<AskedBy, WireFault>
     };
     let setup = Setup::decode(bytes);
     let asked = Setup { index: 0, ..setup }.request();
-    Ok(AskedBy { setup, asked })
+    Ok(RequestedSetup { setup, asked })
 }
 
+/// Decodes `bytes` as a setup, and writes the line for it, for the first fault, or for a lack of memory.
 fn write_setup<W: Write>(alloc: Global, bytes: &[u8], writer: &mut W) -> Exit
-    ensures { WritesSetup bytes.now (W.contents writer.old) (W.contents writer.new) result }
+    ensures { WritesSetupLine bytes.now (W.contents writer.old) (W.contents writer.new) result }
 {
     match setup_in(bytes) {
         Ok(by) => match setup_line(alloc, &by.setup, by.asked) {
@@ -107,8 +113,9 @@ fn write_setup<W: Write>(alloc: Global, bytes: &[u8], writer: &mut W) -> Exit
     }
 }
 
+/// Decodes `bytes` as a configuration, and writes its lines, or the line for the first fault or for a lack of memory.
 fn write_configuration<W: Write>(alloc: Global, bytes: &[u8], writer: &mut W) -> Exit
-    ensures { WritesConfiguration bytes.now (W.contents writer.old) (W.contents writer.new) result }
+    ensures { WritesConfigurationText bytes.now (W.contents writer.old) (W.contents writer.new) result }
 {
     match configuration_text(alloc, bytes) {
         Ok(Ok(text)) => write_out(writer, text.as_bytes(), Exit::Done),
@@ -117,65 +124,70 @@ fn write_configuration<W: Write>(alloc: Global, bytes: &[u8], writer: &mut W) ->
     }
 }
 
+/// Decodes `hex`, and then its bytes as a functional descriptor, and writes the line for the result.
 fn show_functional<W: Write>(alloc: Global, hex: &str, writer: &mut W) -> Exit
-    ensures { WritesBytes WritesFunctional hex.now (W.contents writer.old) (W.contents writer.new) result }
+    ensures { WritesAboutHexText WritesFunctionalLine hex.now (W.contents writer.old) (W.contents writer.new) result }
 {
     decoded!(hex, write_functional(alloc, writer))
 }
 
+/// Decodes `hex`, and then its bytes as a status, and writes the line for the result.
 fn show_status<W: Write>(alloc: Global, hex: &str, writer: &mut W) -> Exit
-    ensures { WritesBytes WritesStatus hex.now (W.contents writer.old) (W.contents writer.new) result }
+    ensures { WritesAboutHexText WritesStatusLine hex.now (W.contents writer.old) (W.contents writer.new) result }
 {
     decoded!(hex, write_status(alloc, writer))
 }
 
+/// Decodes `hex`, and then its bytes as a state, and writes the line for the result.
 fn show_state<W: Write>(alloc: Global, hex: &str, writer: &mut W) -> Exit
-    ensures { WritesBytes WritesState hex.now (W.contents writer.old) (W.contents writer.new) result }
+    ensures { WritesAboutHexText WritesStateLine hex.now (W.contents writer.old) (W.contents writer.new) result }
 {
     decoded!(hex, write_state(alloc, writer))
 }
 
+/// Decodes `hex`, and then its bytes as a setup, and writes the line for the result.
 fn show_setup<W: Write>(alloc: Global, hex: &str, writer: &mut W) -> Exit
-    ensures { WritesBytes WritesSetup hex.now (W.contents writer.old) (W.contents writer.new) result }
+    ensures { WritesAboutHexText WritesSetupLine hex.now (W.contents writer.old) (W.contents writer.new) result }
 {
     decoded!(hex, write_setup(alloc, writer))
 }
 
+/// Decodes `hex`, and then its bytes as a configuration, and writes the lines for the result.
 fn show_configuration<W: Write>(alloc: Global, hex: &str, writer: &mut W) -> Exit
-    ensures { WritesBytes WritesConfiguration hex.now (W.contents writer.old) (W.contents writer.new) result }
+    ensures { WritesAboutHexText WritesConfigurationText hex.now (W.contents writer.old) (W.contents writer.new) result }
 {
     decoded!(hex, write_configuration(alloc, writer))
 }
 
-/// Writes a line for the bytes that `hex` has, two hexadecimal digits of either case each; for a configuration one for each interface for
-/// upgrades and each functional descriptor too.
+/// Decodes the bytes of `hex`, two hexadecimal digits of either case each, and writes a line for them; for a configuration, also a line for
+/// each DFU interface and for each functional descriptor.
 ///
 /// - `kind` is not one of those below: `bad words`, with BadWords.
-/// - `hex` has an odd count of digits, or another letter: `refused BadHex`, with Refused.
+/// - `hex` has an odd count of digits, or another character: `refused BadHex`, with Refused.
 /// - The bytes don't decode: `refused NAME`, NAME being the first fault, with Refused.
 /// - Else, with Done, Y being `yes` or `no`:
 ///   - `functional download Y upload Y tolerant Y will-detach Y detach N transfer N version HHHH`, a functional descriptor;
 ///   - `status CODE poll N state STATE string N`, an answer to GETSTATUS;
 ///   - `state STATE`, an answer to GETSTATE;
-///   - `setup REQUEST kind HH number HH value N index N length N`, the eight bytes of a setup: REQUEST is what it asks for at any
-///     interface, `other-class` or `not-dfu`;
-///   - `configuration N`, a configuration descriptor with all that follows it, and then `interface N alternate N mode MODE string N`, MODE
-///     being `run-time`, `dfu` or `other`, and `functional ..` as above, in the order of the bytes.
+///   - `setup REQUEST kind HH number HH value N index N length N`, the eight bytes of a setup: REQUEST is its request at any interface,
+///     `other-class` or `not-dfu`;
+///   - `configuration N`, a configuration descriptor with all descriptors after it, and then `interface N alternate N mode MODE string N`,
+///     MODE being `run-time`, `dfu` or `other`, and `functional ..` as above, in the order of the bytes.
 ///
-/// They are looked for in this order. If an allocation is refused, the line is `refused NoMemory`, with Refused. If the writer fails,
-/// it returns Fault, and a prefix of the text is out, not all of it.
+/// The first case that applies decides. If an allocation is refused, the line is `refused NoMemory`, with Refused. If the writer fails, the
+/// exit is Fault, and a prefix of the text is written, not all of it.
 pub fn show_text<W: Write>(alloc: Global, kind: &str, hex: &str, writer: &mut W) -> Exit
     ensures functional { kind.now ≡ codes "functional"
-        → WritesBytes WritesFunctional hex.now (W.contents writer.old) (W.contents writer.new) result }
+        → WritesAboutHexText WritesFunctionalLine hex.now (W.contents writer.old) (W.contents writer.new) result }
     ensures status { kind.now ≡ codes "status"
-        → WritesBytes WritesStatus hex.now (W.contents writer.old) (W.contents writer.new) result }
+        → WritesAboutHexText WritesStatusLine hex.now (W.contents writer.old) (W.contents writer.new) result }
     ensures state { kind.now ≡ codes "state"
-        → WritesBytes WritesState hex.now (W.contents writer.old) (W.contents writer.new) result }
+        → WritesAboutHexText WritesStateLine hex.now (W.contents writer.old) (W.contents writer.new) result }
     ensures setup { kind.now ≡ codes "setup"
-        → WritesBytes WritesSetup hex.now (W.contents writer.old) (W.contents writer.new) result }
+        → WritesAboutHexText WritesSetupLine hex.now (W.contents writer.old) (W.contents writer.new) result }
     ensures configuration { kind.now ≡ codes "configuration"
-        → WritesBytes WritesConfiguration hex.now (W.contents writer.old) (W.contents writer.new) result }
-    ensures other { IsNoKind kind.now → TextIsOut (W.contents writer.old) (W.contents writer.new) bad_words_line Exit.BadWords result }
+        → WritesAboutHexText WritesConfigurationText hex.now (W.contents writer.old) (W.contents writer.new) result }
+    ensures other { IsUnknownKind kind.now → TextIsOut (W.contents writer.old) (W.contents writer.new) bad_words_line Exit.BadWords result }
 {
     match kind {
         "functional" => show_functional(alloc, hex, writer),

@@ -1,4 +1,4 @@
--- Places on a part of virtual bytes.
+-- Places of virtual bytes on a part.
 use Rattle.std.specs.Prelude.{ℕ, ◌+◌, ◌-◌, ◌*◌, ◌%◌, nat_lt, ◌==◌, ◌||◌, ◌&&◌, Option, Some, None, if◌then◌else◌}
 use Rattle.dfu_places.specs.declared.region.Span.{Span}
 use Rattle.dfu_places.specs.declared.placement.Placement.{Placement}
@@ -12,12 +12,12 @@ slot_len p = 2 * p.sector + p.first.data.len
 abbrev pub virtual_len : Placement → ℕ
 virtual_len p = 2 * slot_len p
 
--- Rank of the thing in which a virtual byte lies, and its distance from the first byte of that.
+-- Spot of a virtual byte: the rank of its thing, and the byte's offset in the thing.
 pub record Spot : Type 0 where
   pub rank : ℕ
   pub offset : ℕ
 
--- Spot of a byte of a slot, whose things have ranks from this one on.
+-- Spot of a byte of a slot, whose things have ranks from `first` on.
 abbrev pub spot_in : ℕ → ℕ → ℕ → Spot
 spot_in sector first at =
     if nat_lt at sector then record { rank = first; offset = at }
@@ -28,15 +28,16 @@ spot_in sector first at =
 abbrev pub spot_of : Placement → ℕ → Spot
 spot_of p at = if nat_lt at (slot_len p) then spot_in p.sector 0 at else spot_in p.sector 3 (at - slot_len p)
 
--- Address of the virtual bytes from this place on, if they all lie in one thing and are there.
+-- Address of the `len` virtual bytes from `at` on, if they all lie in one thing and on the part; else None.
 abbrev pub found : Placement → ℕ → ℕ → Option ℕ
 found p at len =
     let spot = spot_of p at in
     if nat_lt (bytes_at p spot.rank) (spot.offset + len) then None else Some ((span_at p spot.rank).at + spot.offset)
 
--- Sectors that are erased in place of the virtual one that begins at this place, if one does: all of a gate or a header, or a part of data.
-abbrev pub erased_spot : Placement → Spot → Option Span
-erased_spot p spot =
+-- Span that is erased for the virtual sector that begins at a spot: all of a gate or a header, or a part of the data; None if none begins
+-- there.
+abbrev pub erased_at_spot : Placement → Spot → Option Span
+erased_at_spot p spot =
     let span = span_at p spot.rank in
     if spot.rank == 2 || spot.rank == 5
     then if (spot.offset % p.sector == 0) && nat_lt spot.offset span.len
@@ -44,5 +45,6 @@ erased_spot p spot =
     else None
     else if spot.offset == 0 then Some span else None
 
+-- Span that is erased for the virtual sector that begins at a virtual byte; None if none begins there.
 abbrev pub erased : Placement → ℕ → Option Span
-erased p at = erased_spot p (spot_of p at)
+erased p at = erased_at_spot p (spot_of p at)

@@ -1,4 +1,4 @@
--- What a plan has, and why there is none.
+-- Areas of a plan, and the refusals without one.
 use Rattle.std.specs.Prelude.{List, Option, Some, None}
 use Rattle.dfu_places.specs.declared.region.Span.{Span}
 use Rattle.dfu_places.specs.declared.region.Region.{Region}
@@ -9,17 +9,18 @@ use Rattle.dfu_places.specs.declared.refusal.Refusal.{Refusal}
 use Rattle.dfu_places.specs.declared.refusal.Refusal.TheVariants.{BadRegions, BadSector, BadCapacity, Unequal, NotWhole, NoRoom, InBootloader, Shared, NoPlacement}
 use Rattle.dfu_places.specs.Regions.{AreRegions}
 
--- A run area is there exactly in three areas.
-abbrev pub RunIsThere : Areas → Option Span → Type 0
-RunIsThere Two None = Unit {0}
-RunIsThere Two (Some span) = ⊥
-RunIsThere Three None = ⊥
-RunIsThere Three (Some span) = Unit {0}
+-- A run area is present exactly if there are three areas.
+abbrev pub RunMatchesAreas : Areas → Option Span → Type 0
+RunMatchesAreas Two None = Unit {0}
+RunMatchesAreas Two (Some span) = ⊥
+RunMatchesAreas Three None = ⊥
+RunMatchesAreas Three (Some span) = Unit {0}
 
+-- A placement has a run area exactly if its plan has three areas.
 abbrev pub HasAreas : Areas → Placement → Type 0
-HasAreas areas p = RunIsThere areas p.run
+HasAreas areas p = RunMatchesAreas areas p.run
 
--- The regions are wrong, or no placement was found on them.
+-- Refusals of a plan: the regions are not in order, or they are and no placement was found.
 abbrev pub IsPlanRefusal : List Region → Refusal → Type 0
 IsPlanRefusal regions BadRegions = ¬ AreRegions 0 regions
 IsPlanRefusal regions NoPlacement = AreRegions 0 regions

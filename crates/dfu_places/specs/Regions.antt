@@ -11,14 +11,14 @@ end_of s = s.at + s.len
 abbrev pub region_end : Region → ℕ
 region_end r = r.at + r.sector * r.count
 
--- A region has sectors, begins there or later, and ends below 2^32.
+-- A region has sectors, begins at `from` or later, and ends below 2^32.
 pub record IsRegion (from : ℕ) (r : Region) : Type 0 where
   pub sector : 0 < r.sector
   pub count : 0 < r.count
   pub after : from ≤ r.at
   pub bound : region_end r < 2 ^ 32
 
--- Regions are in the order of their addresses, from there on, and none overlaps the one before it.
+-- Regions have sectors, are in the order of their addresses, from `from` on, do not overlap, and end below 2^32.
 abbrev pub AreRegions : ℕ → List Region → Type 0
 AreRegions from [] = Unit {0}
 AreRegions from (r ∷ rest) = IsRegion from r × AreRegions (region_end r) rest
@@ -27,8 +27,8 @@ AreRegions from (r ∷ rest) = IsRegion from r × AreRegions (region_end r) rest
 abbrev pub IsApart : Span → Span → Type 0
 IsApart a b = (end_of a ≤ b.at) ⊎ (end_of b ≤ a.at)
 
--- A span lies in the region, from the beginning of a sector on, and each of its parts is of whole sectors.
-pub record IsSplit (part : ℕ) (s : Span) (r : Region) : Type 0 where
+-- A span lies in a region that ends below 2^32, begins where a sector does, and each of its parts of `part` bytes is of whole sectors.
+pub record IsWholeInRegion (part : ℕ) (s : Span) (r : Region) : Type 0 where
   pub sector : 0 < r.sector
   pub after : r.at ≤ s.at
   pub edge : (s.at - r.at) % r.sector ≡ 0
@@ -36,14 +36,14 @@ pub record IsSplit (part : ℕ) (s : Span) (r : Region) : Type 0 where
   pub within : end_of s ≤ region_end r
   pub bound : region_end r < 2 ^ 32
 
--- A span lies so in one of the regions.
+-- A span lies in one of the regions, begins where a sector does, and each of its parts of `part` bytes is of whole sectors.
 pub record IsWhole (regions : List Region) (part : ℕ) (s : Span) : Type 0 where
   pub region : Region
   pub has : Contains regions region
-  pub split : IsSplit part s region
+  pub split : IsWholeInRegion part s region
 
--- A span is one sector of the part: that of a region.
-pub record IsPartSector (regions : List Region) (x : Span) : Type 0 where
+-- A span is one sector of a region of the part.
+pub record IsSectorOfPart (regions : List Region) (x : Span) : Type 0 where
   pub region : Region
   pub has : Contains regions region
   pub after : region.at ≤ x.at

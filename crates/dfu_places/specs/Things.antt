@@ -1,4 +1,4 @@
--- Things that a placement gives a place, by their ranks.
+-- Things to which a placement gives a place, by their ranks: gates, headers, data, and a run area.
 use Rattle.std.specs.Prelude.{ℕ, ◌+◌, ◌==◌, ◌||◌, min, Option, Some, None, if◌then◌else◌}
 use Rattle.dfu_slots.specs.Units.{gate_size}
 use Rattle.dfu_places.specs.declared.region.Span.{Span}
@@ -7,20 +7,21 @@ use Rattle.dfu_places.specs.declared.placement.Needs.{Needs}
 use Rattle.dfu_places.specs.declared.refusal.Thing.{Thing}
 use Rattle.dfu_places.specs.declared.refusal.Thing.TheVariants.{FirstGate, FirstHeader, FirstData, SecondGate, SecondHeader, SecondData, RunArea}
 
--- The run area, or the empty span.
+-- Run area, or the empty span at 0 without one.
 abbrev pub run_span : Option Span → Span
 run_span (Some span) = span
 run_span None = record { at = 0; len = 0 }
 
--- Number of things of a placement.
+-- Number of things with or without a run area.
 abbrev pub things_with : Option Span → ℕ
 things_with (Some span) = 7
 things_with None = 6
 
+-- Number of things of a placement.
 abbrev pub things : Placement → ℕ
 things p = things_with p.run
 
--- Ranks of the things.
+-- Rank of a thing: its number in the order of the enum, from 0 on.
 abbrev pub rank : Thing → ℕ
 rank FirstGate = 0
 rank FirstHeader = 1
@@ -30,7 +31,7 @@ rank SecondHeader = 4
 rank SecondData = 5
 rank RunArea = 6
 
--- Span of the thing of a rank.
+-- Span of the thing of a rank: the run area, or the empty span, from 6 on.
 unfoldable pub span_at : Placement → ℕ → Span
 span_at p i =
     if i == 0 then p.first.gate
@@ -41,21 +42,21 @@ span_at p i =
     else if i == 5 then p.second.data
     else run_span p.run
 
--- Bytes of a thing that are erased together: a virtual sector of data, else all.
+-- Number of a thing's bytes that are erased at a time: a virtual sector of data, else all.
 unfoldable pub part_at : Placement → ℕ → ℕ
 part_at p i = if i == 2 || i == 5 then p.sector else (span_at p i).len
 
--- Fewest bytes that a thing has: a gate its unit, a header its unit and the marks.
+-- Smallest number of bytes that a thing must have: a gate its unit, a header its unit and the marks, each other thing one byte.
 unfoldable pub room_at : Needs → ℕ → ℕ
 room_at needs i =
     if i == 0 || i == 3 then gate_size needs.unit
     else if i == 1 || i == 4 then gate_size needs.unit + needs.marks
     else 1
 
--- Number of a thing's bytes that virtual ones stand for: of a gate and a header no more than a virtual sector.
+-- Number of a thing's bytes that virtual bytes stand for: of a gate and a header no more than a virtual sector.
 unfoldable pub bytes_at : Placement → ℕ → ℕ
 bytes_at p i = if i == 2 || i == 5 then (span_at p i).len else min (span_at p i).len p.sector
 
--- Number of those that the store uses: the units of a gate and of a header and the marks behind that, and all data.
-abbrev pub used_at : Needs → Placement → ℕ → ℕ
-used_at needs p i = if i == 2 || i == 5 then (span_at p i).len else room_at needs i
+-- Number of a thing's bytes that the store uses: the unit of a gate, the unit of a header and the marks behind it, and all data.
+abbrev pub thing_used_bytes : Needs → Placement → ℕ → ℕ
+thing_used_bytes needs p i = if i == 2 || i == 5 then (span_at p i).len else room_at needs i

@@ -1,4 +1,4 @@
-//! Places on a part of virtual bytes.
+//! Places of virtual bytes on a part.
 ghost use Rattle.std.specs.Prelude.{◌≡◌, ◌^◌, ◌<◌, ◌≤◌, ◌+◌, ◌*◌};
 ghost use Rattle.dfu_places.specs.Placement.{IsPlaced, IsSectorSize};
 ghost use Rattle.dfu_places.specs.Finding.{slot_len, virtual_len, spot_in, spot_of, found, erased};
@@ -6,14 +6,14 @@ ghost use Rattle.dfu_places.specs.Finding.{slot_len, virtual_len, spot_in, spot_
 use crate::placement::{bytes_at, span_at};
 use crate::{Placement, Span};
 
-/// Thing in which a virtual byte lies, by its rank, and the byte's distance from the first one of that.
+/// Spot of a virtual byte: the rank of its thing, and the byte's offset in the thing.
 #[derive(Clone, Copy, Drop)]
 pub(crate) struct Spot {
     pub rank: u32,
     pub offset: u32,
 }
 
-// Returns the virtual bytes of a slot.
+// Returns the number of virtual bytes of a slot.
 fn slot_len(placement: &Placement) -> u32
     requires { IsPlaced placement.now }
     ensures value { result ≡ slot_len placement.now }
@@ -22,7 +22,7 @@ fn slot_len(placement: &Placement) -> u32
     2 * placement.sector + placement.first.data.len
 }
 
-/// Returns the bytes of the virtual flash: DFU_MEDIUM_SIZE of the unit, the virtual sector and the bytes of the data.
+/// Returns the number of bytes of the virtual flash: DFU_MEDIUM_SIZE of the unit, the virtual sector and the bytes of the data.
 pub fn virtual_len(placement: &Placement) -> u32
     requires { IsPlaced placement.now }
     ensures { result ≡ virtual_len placement.now }
@@ -70,8 +70,9 @@ fn spot_of(placement: &Placement, at: u32) -> Spot
     }
 }
 
-#[tactic(auto, using(crate::proofs::Places::end_fits, crate::proofs::Places::bytes_le))]
-/// Returns the address of the `len` virtual bytes from `at` on; None exactly if they do not all lie in one thing, or are not there.
+#[tactic(auto, using(crate::proofs::Places::slot_thing_ends_below_bound, crate::proofs::Places::virtual_bytes_fit_thing))]
+/// Returns the address of the `len` virtual bytes from `at` on; None exactly if they do not all lie in one thing, or not all are on the
+/// part.
 pub fn find(placement: &Placement, at: u32, len: u32) -> Option<u32>
     requires { IsPlaced placement.now }
     ensures { result ≡ found placement.now at len }
@@ -84,9 +85,9 @@ pub fn find(placement: &Placement, at: u32, len: u32) -> Option<u32>
     }
 }
 
-#[tactic(auto, using(crate::proofs::Places::end_fits, crate::proofs::Places::bytes_le))]
-/// Returns the sectors that are erased in place of the virtual one that begins at `at`: all of a gate or a header, or a part of the data;
-/// None exactly if no virtual sector begins there.
+#[tactic(auto, using(crate::proofs::Places::slot_thing_ends_below_bound, crate::proofs::Places::virtual_bytes_fit_thing))]
+/// Returns the sectors of the part that are erased for the virtual sector that begins at `at`: all of a gate or a header, or a part of the
+/// data; None exactly if no virtual sector begins there.
 pub fn erased(placement: &Placement, at: u32) -> Option<Span>
     requires { IsPlaced placement.now }
     ensures { result ≡ erased placement.now at }

@@ -18,7 +18,7 @@ pub struct SlotPlaces {
 }
 
 /// Places of two slots, and of a run area. The slot store sees a *virtual* flash, in which all sectors have `sector` bytes: for each slot a
-/// sector for the gate, one for the header, and the data. Virtual bytes of a gate or a header that are not there are never used.
+/// sector for the gate, one for the header, and the data. Virtual bytes of a gate or a header that are not on the part are never used.
 #[derive(Clone, Copy, Drop)]
 pub struct Placement {
     /// Bytes of a virtual sector: a multiple of 256, up to 262,144. Each virtual sector of data is whole sectors of the part.
@@ -31,7 +31,7 @@ pub struct Placement {
     pub run: Option<Span>,
 }
 
-/// What a placement must have room for.
+/// Bootloader, unit and marks for which a placement must have room.
 #[derive(Clone, Copy, Drop)]
 pub struct Needs {
     /// Bytes of the bootloader, whose sectors nothing else may have.
@@ -42,7 +42,7 @@ pub struct Needs {
     pub marks: u32,
 }
 
-// Returns the run area, or else the empty span.
+// Returns the run area, or the empty span at 0 without one.
 fn run_span(run: Option<Span>) -> Span
     ensures { result ≡ run_span run }
 {
@@ -82,7 +82,7 @@ pub(crate) fn span_at(placement: &Placement, i: u32) -> Span
     }
 }
 
-/// Returns the bytes of a thing that are erased together: a virtual sector of data, else all.
+/// Returns the number of a thing's bytes that are erased at a time: a virtual sector of data, else all.
 #[tactic(auto, unfolding(crate::specs::Things::part_at))]
 pub(crate) fn part_at(placement: &Placement, i: u32) -> u32
     ensures { result ≡ part_at placement.now i }
@@ -94,7 +94,7 @@ pub(crate) fn part_at(placement: &Placement, i: u32) -> u32
     }
 }
 
-/// Returns the bytes of a thing that virtual ones stand for: of a gate and a header no more than a virtual sector.
+/// Returns the number of a thing's bytes that virtual bytes stand for: of a gate and a header no more than a virtual sector.
 #[tactic(auto, unfolding(crate::specs::Things::bytes_at))]
 pub(crate) fn bytes_at(placement: &Placement, i: u32) -> u32
     ensures { result ≡ bytes_at placement.now i }
@@ -107,7 +107,7 @@ pub(crate) fn bytes_at(placement: &Placement, i: u32) -> u32
     }
 }
 
-// Returns the bytes of a gate or of a header's unit: 16, or a unit if that is more.
+// Returns the number of bytes of a gate's or a header's unit: 16, or a unit of the part if that is more.
 fn gate_size(unit: Unit) -> u32
     ensures value { result ≡ gate_size unit }
     ensures most { result ≤ 256 }
@@ -115,7 +115,8 @@ fn gate_size(unit: Unit) -> u32
     unit.size().max(16)
 }
 
-/// Returns the fewest bytes that a thing has.
+/// Returns the smallest number of bytes that a thing must have: a gate its unit, a header its unit and the marks, each other thing one
+/// byte.
 #[tactic(auto, unfolding(crate::specs::Things::room_at))]
 pub(crate) fn room_at(needs: Needs, i: u32) -> u64
     ensures { result ≡ room_at needs i }

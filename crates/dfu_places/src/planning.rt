@@ -1,4 +1,4 @@
-//! Plans: the placement with the largest image.
+//! Plan of a placement with the largest data.
 ghost use Rattle.std.specs.Prelude.{◌<◌, ◌≤◌, IfOk, IfErr, IfSome};
 ghost use Rattle.dfu_places.specs.Placement.{IsPlacement};
 ghost use Rattle.dfu_places.specs.Planning.{HasAreas, IsPlanRefusal};
@@ -25,7 +25,7 @@ struct Sizes {
     len: u32,
 }
 
-// Returns the number of areas that the sectors have room for, side by side.
+// Returns the number of areas that the sectors have room for, side by side; 0 if a virtual sector is not of whole sectors.
 fn areas_in(free: Free, sizes: Sizes) -> u32 {
     if free.sector == 0 || sizes.len == 0 || sizes.sector % free.sector != 0 {
         return 0;
@@ -33,7 +33,7 @@ fn areas_in(free: Free, sizes: Sizes) -> u32 {
     free.sector.saturating_mul(free.count) / sizes.len
 }
 
-// Returns an area, by its number from 0 on.
+// Returns an area, by its number from 0 on; None if the regions have no room for so many.
 fn area(regions: &[Region], needs: Needs, sizes: Sizes, number: u32) -> Option<Span> {
     let mut before = 0u32;
     for j in 0..regions.len() {
@@ -50,7 +50,7 @@ fn area(regions: &[Region], needs: Needs, sizes: Sizes, number: u32) -> Option<S
     None
 }
 
-// Returns the virtual sector for data in sectors of so many bytes: these, or 256 if they are a part of that; 0 if the store takes neither.
+// Returns the virtual sector for data in sectors of `sector` bytes: that size, or 256 if it divides 256; 0 if the store supports neither.
 fn virtual_sector(sector: u32) -> u32 {
     if sector == 0 || sector > MAX_SECTOR {
         0
@@ -63,7 +63,8 @@ fn virtual_sector(sector: u32) -> u32 {
     }
 }
 
-// Returns the larger data of two plans, if the second one has so many areas.
+// Returns the sizes with `bytes` of data, down to whole virtual sectors and to the largest capacity, if these are more than in `best` and
+// the regions have room for so many areas of them; else `best`.
 fn larger(
     regions: &[Region],
     needs: Needs,
@@ -86,7 +87,7 @@ fn larger(
     }
 }
 
-// Returns the largest data of so many areas, which fill the rest of one region, a half of it or a third; 0 bytes if there are none.
+// Returns the sizes with the largest data in so many areas, of those in `best` and of all, a half and a third of each region's rest.
 fn largest(regions: &[Region], needs: Needs, areas: u32, sector: u32, best: Sizes) -> Sizes
     requires { 0 < sector }
 {
@@ -101,7 +102,7 @@ fn largest(regions: &[Region], needs: Needs, areas: u32, sector: u32, best: Size
     best
 }
 
-// Returns the sizes with the largest data, of virtual sectors as large as those of one of the regions.
+// Returns the sizes with the largest data, tried with the virtual sector of each region; both are 0 if nothing fits.
 fn best_sizes(regions: &[Region], needs: Needs, areas: u32) -> Sizes {
     let mut best = Sizes { sector: 0, len: 0 };
     for region in regions {
@@ -113,7 +114,7 @@ fn best_sizes(regions: &[Region], needs: Needs, areas: u32) -> Sizes {
     best
 }
 
-// Returns the places of a slot: the first one's number is 0, the second one's 1.
+// Returns the places of a slot: 0 is the number of the first slot, 1 that of the second. None if a thing of it finds no room.
 fn slot(regions: &[Region], needs: Needs, sizes: Sizes, number: u32) -> Option<SlotPlaces>
     requires { number ≤ 1 }
 {
@@ -124,7 +125,7 @@ fn slot(regions: &[Region], needs: Needs, sizes: Sizes, number: u32) -> Option<S
     })
 }
 
-// Returns the placement of a plan, unchecked.
+// Returns the placement of a plan, unchecked; None if one of its things finds no room.
 fn placed(regions: &[Region], needs: Needs, areas: Areas) -> Option<Placement>
     ensures { IfSome result (HasAreas areas) }
 {
@@ -140,10 +141,10 @@ fn placed(regions: &[Region], needs: Needs, areas: Areas) -> Option<Placement>
     })
 }
 
-/// Plans the placement with the largest data on a part with these regions. Gates and headers take the smallest free sectors, from the
-/// smallest on; areas lie in what is left, each in one region. A larger image may be possible by hand.
+/// Plans the placement with the largest data on a part with these regions. Gates and headers take the smallest free sectors first; areas
+/// lie in the rest, each in one region. A placement made by hand may allow a larger image.
 ///
-/// What comes is what `check` accepts. `BadRegions`: as `check` says it. `NoPlacement`: the sectors are too few, or too unequal.
+/// The result is a placement that `check` accepts. `BadRegions`: as in `check`. `NoPlacement`: the sectors are too few, or too unequal.
 pub fn plan(regions: &[Region], needs: Needs, areas: Areas) -> Result<Placement, Refusal>
     ensures ok { IfOk result (IsPlacement regions.now needs) }
     ensures areas { IfOk result (HasAreas areas) }

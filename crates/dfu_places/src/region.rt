@@ -1,25 +1,25 @@
 //! Regions of a part, and spans of its bytes.
 ghost use Rattle.std.specs.Prelude.{◌≡◌, ◌+◌, ◌*◌, ◌^◌, ◌≤◌, ◌<◌, ◌↔◌, IsTrue, IfSome, IfNone};
-ghost use Rattle.dfu_places.specs.Regions.{end_of, region_end, IsRegion, AreRegions, IsApart, IsSplit, IsWhole};
+ghost use Rattle.dfu_places.specs.Regions.{end_of, region_end, IsRegion, AreRegions, IsApart, IsWholeInRegion, IsWhole};
 
 /// Bytes of a part: `len` of them from the address `at` on.
 #[derive(Clone, Copy, Drop)]
 pub struct Span {
     /// Address of the first byte.
     pub at: u32,
-    /// Bytes.
+    /// Number of bytes.
     pub len: u32,
 }
 
 /// Sectors of one size, side by side. A part is a list of regions in the order of their addresses; memory of another kind, as FRAM, is one
-/// more region, whose sectors are what its driver writes to FFh at once.
+/// more region, whose sectors are the bytes that its driver sets to FFh at once.
 #[derive(Clone, Copy, Drop)]
 pub struct Region {
     /// Address of the first byte.
     pub at: u32,
     /// Bytes of a sector, which are erased together.
     pub sector: u32,
-    /// Sectors.
+    /// Number of sectors.
     pub count: u32,
 }
 
@@ -31,7 +31,7 @@ pub(crate) fn end_of(span: Span) -> u64
     span.at as u64 + span.len as u64
 }
 
-/// Returns the address behind a region's last byte; None if it is 2^32 or more.
+/// Returns the address behind a region's last byte; None exactly if it is 2^32 or more.
 pub(crate) fn region_end(region: Region) -> Option<u32>
     ensures value { IfSome result (λ end. end ≡ region_end region) }
     ensures none { IfNone result (2 ^ 32 ≤ region_end region) }
@@ -66,9 +66,10 @@ pub(crate) fn are_regions(regions: &[Region]) -> bool
     true
 }
 
-// Returns whether a span lies in the region, from the beginning of a sector on, and each of its parts is of whole sectors.
+// Returns whether a span lies in the region, which ends below 2^32, begins where a sector does, and each of its parts of `part` bytes is
+// of whole sectors.
 fn is_split(region: Region, part: u32, span: Span) -> bool
-    ensures { IsTrue result ↔ IsSplit part span region }
+    ensures { IsTrue result ↔ IsWholeInRegion part span region }
 {
     if region.sector == 0 || region.at > span.at {
         return false;
@@ -82,7 +83,7 @@ fn is_split(region: Region, part: u32, span: Span) -> bool
     }
 }
 
-/// Returns whether a span lies in one of the regions, from the beginning of a sector on, and each of its parts is of whole sectors.
+/// Returns whether a span lies in one region, begins where a sector does, and each of its parts of `part` bytes consists of whole sectors.
 pub(crate) fn is_whole(regions: &[Region], part: u32, span: Span) -> bool
     ensures { IsTrue result ↔ IsWhole regions.now part span }
 {

@@ -1,13 +1,13 @@
--- The regions of a part, as they are read.
+-- A part, as read from a table.
 use Rattle.std.specs.Prelude.{ℕ, List, []}
 use Rattle.dfu_places.specs.declared.region.Region.{Region}
 
--- Regions of a part, the note of the first one, and the address behind the last one.
+-- Regions of a part, the note of the first one, and the address after the last one: an empty note and 0 if there are no regions.
 pub record PartRead : Type 0 where
   pub regions : List Region
   pub note : List ℕ
   pub end : ℕ
 
--- A part before its first region.
-abbrev pub no_regions : PartRead
-no_regions = record { regions = []; note = []; end = 0 }
+-- A part without regions.
+abbrev pub part_without_regions : PartRead
+part_without_regions = record { regions = []; note = []; end = 0 }

@@ -4,7 +4,7 @@ use Rattle.std.specs.Fmt.{decimal, digits, format_spec, padded_integral}
 use Rattle.dfu_plan.specs.declared.pieces.Piece.{Piece}
 use Rattle.dfu_plan.specs.declared.pieces.Piece.TheVariants.{Word, Number, Hex}
 
--- A number in lower-case hexadecimal digits, of which there are eight at least.
+-- A number in lower-case hexadecimal digits, at least eight of them.
 abbrev pub hexadecimal : ℕ → List ℕ
 hexadecimal number = padded_integral (format_spec 32 0 4 8 (2 ^ 64 - 1)) false [] (digits 16 false number)
 
@@ -14,7 +14,7 @@ piece_text (Word word) = word.now
 piece_text (Number number) = decimal number
 piece_text (Hex number) = hexadecimal number
 
--- Texts, one after the other.
+-- Texts, joined in order.
 abbrev pub texts_joined : List (List ℕ) → List ℕ
 texts_joined [] = []
 texts_joined (text ∷ texts) = text ++ texts_joined texts

@@ -2,7 +2,7 @@
 use Rattle.std.specs.Prelude.{ℕ, ◌+◌, ◌-◌, ◌*◌, ◌^◌, ◌==◌, ◌&&◌, ◌||◌, nat_lt, nat_le, Bool, List, length, take, drop, slice_index, Option, Some, None, if◌then◌else◌}
 use Rattle.std.specs.List.{fold}
 
--- Value of a digit of either case; 16 for a byte that is no digit.
+-- Value of a hexadecimal digit of either case; 16 for any other byte.
 abbrev pub size_digit : ℕ → ℕ
 size_digit byte =
     if nat_le 48 byte && nat_le byte 57 then byte - 48
@@ -10,35 +10,36 @@ size_digit byte =
     else if nat_le 65 byte && nat_le byte 70 then byte - 55
     else 16
 
--- The number with a digit more, if the byte is a digit of the base, and the number stays below 2^32.
-unfoldable pub size_number_next : (base : ℕ) → Option ℕ → (byte : ℕ) → Option ℕ
-size_number_next base None byte = None
-size_number_next base (Some number) byte =
+-- The number with one more digit; None if there is no number, the byte is no digit of the base, or the result is not below 2^32.
+unfoldable pub number_with_digit : (base : ℕ) → Option ℕ → (byte : ℕ) → Option ℕ
+number_with_digit base None byte = None
+number_with_digit base (Some number) byte =
     if nat_lt (size_digit byte) base && nat_lt (number * base + size_digit byte) (2 ^ 32) then Some (number * base + size_digit byte)
     else None
 
--- The number that all bytes say in a base: one digit at least.
+-- The number that `digits` spell in a base; None if there are none, or if they spell no number below 2^32.
 unfoldable pub size_number : (base : ℕ) → List ℕ → Option ℕ
-size_number base digits = if length digits == 0 then None else fold (size_number_next base) (Some 0) digits
+size_number base digits = if length digits == 0 then None else fold (number_with_digit base) (Some 0) digits
 
--- A number of KiB in bytes, if it is below 2^32.
-unfoldable pub thousands : Option ℕ → Option ℕ
-thousands None = None
-thousands (Some number) = if nat_lt (number * 1024) (2 ^ 32) then Some (number * 1024) else None
+-- The number of bytes in a number of KiB; None if there is no number, or the bytes are not below 2^32.
+unfoldable pub bytes_of_kib : Option ℕ → Option ℕ
+bytes_of_kib None = None
+bytes_of_kib (Some number) = if nat_lt (number * 1024) (2 ^ 32) then Some (number * 1024) else None
 
--- A word begins with `0x`.
-abbrev pub is_hexadecimal : List ℕ → Bool
-is_hexadecimal word =
+-- A word begins with `0x` or `0X`.
+abbrev pub has_hex_prefix : List ℕ → Bool
+has_hex_prefix word =
     nat_le 2 (length word) && ((slice_index word 0 == 48) && ((slice_index word 1 == 120) || (slice_index word 1 == 88)))
 
--- A word ends in `K`.
-abbrev pub is_in_kib : List ℕ → Bool
-is_in_kib word =
+-- A word ends in `k` or `K`.
+abbrev pub ends_in_k : List ℕ → Bool
+ends_in_k word =
     nat_le 1 (length word) && ((slice_index word (length word - 1) == 107) || (slice_index word (length word - 1) == 75))
 
--- The number in a word: `0x` and hexadecimal digits, decimal digits and `K`, or decimal digits.
+-- The number in a word: hexadecimal digits after `0x` or `0X`, decimal digits before `k` or `K`, which are KiB, or decimal digits. None if
+-- the word is none of these, or its number is not below 2^32.
 unfoldable pub size_in : List ℕ → Option ℕ
 size_in word =
-    if is_hexadecimal word then size_number 16 (drop 2 word)
-    else if is_in_kib word then thousands (size_number 10 (take (length word - 1) word))
+    if has_hex_prefix word then size_number 16 (drop 2 word)
+    else if ends_in_k word then bytes_of_kib (size_number 10 (take (length word - 1) word))
     else size_number 10 word

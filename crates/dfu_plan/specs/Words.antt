@@ -6,41 +6,41 @@ use Rattle.std.specs.List.{position, position_or_len}
 abbrev pub is_space_or_tab : ℕ → Bool
 is_space_or_tab byte = (byte == 32) || (byte == 9)
 
--- A byte belongs to a word if it is no blank.
+-- A byte is no blank, so it belongs to a word.
 abbrev pub is_in_word : ℕ → Bool
 is_in_word byte = not (is_space_or_tab byte)
 
 -- A byte is a line feed.
-abbrev pub is_feed : ℕ → Bool
-is_feed byte = byte == 10
+abbrev pub is_line_feed_byte : ℕ → Bool
+is_line_feed_byte byte = byte == 10
 
--- The text before a place and from it on; the text and nothing if there is no place.
+-- A text split at an index; without an index, the text and an empty one.
 abbrev pub cut_at : Option ℕ → List ℕ → List ℕ × List ℕ
 cut_at None text = (text, [])
 cut_at (Some at) text = (take at text, drop at text)
 
--- The text behind the blanks at its front.
-abbrev pub behind_blanks : List ℕ → List ℕ
-behind_blanks text = (cut_at (position is_in_word text) text).1
+-- The text after its leading blanks.
+abbrev pub without_front_blanks : List ℕ → List ℕ
+without_front_blanks text = (cut_at (position is_in_word text) text).1
 
--- The first word, which is empty if there is none, and the text behind it.
+-- The first word, empty if there is none, and the text after it.
 abbrev pub next_word : List ℕ → List ℕ × List ℕ
-next_word text = cut_at (position is_space_or_tab (behind_blanks text)) (behind_blanks text)
+next_word text = cut_at (position is_space_or_tab (without_front_blanks text)) (without_front_blanks text)
 
 -- The first line of a text, without its line feed.
 abbrev pub first_line : List ℕ → List ℕ
-first_line text = take (position_or_len is_feed text) text
+first_line text = take (position_or_len is_line_feed_byte text) text
 
--- The text behind its first line.
-abbrev pub lines_behind : List ℕ → List ℕ
-lines_behind text = drop (position_or_len is_feed text + 1) text
+-- The text after its first line and the line feed; empty if there is no line feed.
+abbrev pub lines_after_first : List ℕ → List ℕ
+lines_after_first text = drop (position_or_len is_line_feed_byte text + 1) text
 
--- A byte more at the front of the first line.
-abbrev pub with_byte : ℕ → List (List ℕ) → List (List ℕ)
-with_byte byte [] = (byte ∷ []) ∷ []
-with_byte byte (line ∷ lines) = (byte ∷ line) ∷ lines
+-- Lines with one more byte at the front of the first line; a line of this byte alone if there are none.
+abbrev pub with_front_byte : ℕ → List (List ℕ) → List (List ℕ)
+with_front_byte byte [] = (byte ∷ []) ∷ []
+with_front_byte byte (line ∷ lines) = (byte ∷ line) ∷ lines
 
 -- The lines of a text: a line feed ends each, but the last one may lack it.
 unfoldable pub table_lines : List ℕ → List (List ℕ)
 table_lines [] = []
-table_lines (byte ∷ bytes) = if byte == 10 then [] ∷ table_lines bytes else with_byte byte (table_lines bytes)
+table_lines (byte ∷ bytes) = if byte == 10 then [] ∷ table_lines bytes else with_front_byte byte (table_lines bytes)

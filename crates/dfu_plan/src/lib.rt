@@ -1,4 +1,4 @@
-//! The placement of gates, headers and data on a part whose sectors are unequal, as `dfu plan` prints it.
+//! The placement of gates, headers and data on a part with unequal sectors, as `dfu plan` prints it.
 #![tactic(auto)]
 
 mod part;

@@ -1,8 +1,8 @@
-//! The regions of one part in a table of parts.
+//! Lookup of a part in a table of parts.
 
 ghost use Rattle.std.specs.Prelude.{◌≡◌, IfOk, Ok};
 ghost use Rattle.dfu_places.specs.Regions.{region_end};
-ghost use Rattle.dfu_plan.specs.Parts.{IsPartResult, known_part, part_in, part_with_line, part_with_row};
+ghost use Rattle.dfu_plan.specs.Parts.{IsPartResult, part_if_known, part_in, part_with_line, part_with_row};
 
 use crate::row::{Row, RowFault, row_in};
 use crate::words::next_line;
@@ -11,7 +11,7 @@ use std::alloc::{AllocError, Global};
 use std::marker::Model;
 use thiserror::Error;
 
-/// Faults for which a table gives no regions of a part.
+/// Faults of looking up a part in a table.
 #[derive(Debug, Drop, Error)]
 pub enum PartFault {
     /// The line with this number, from 1 on, is neither empty, a comment nor a region, or its region is out of order.
@@ -30,14 +30,14 @@ pub enum PartFault {
     NoMemory,
 }
 
-/// Regions of a part.
+/// A part: its regions, the note of the first one, and the address after the last one.
 #[derive(Drop)]
 pub struct Part {
     /// The regions, in the order of their addresses, none of which overlaps another.
     pub regions: Vec<Region>,
-    /// Note of the first region: where the numbers are from. Empty if there is none.
+    /// Note of the first region, the source of the numbers; empty if there is none.
     pub note: Vec<u8>,
-    /// Address behind the last region; 0 if there are no regions.
+    /// Address after the last region; 0 if there are no regions.
     pub end: u64,
 }
 
@@ -49,14 +49,14 @@ impl Model for Part {
     ghost view = { λ p. record { regions = p.regions.items; note = p.note.items; end = p.end } };
 }
 
-/// Address behind a region.
+/// Returns the address after a region.
 fn region_end(region: Region) -> u64
     ensures { result ≡ region_end region }
 {
     region.at as u64 + region.sector as u64 * region.count as u64
 }
 
-/// The part with the region of a row, if the row names the part.
+/// Returns the part, with the region of a row added if the row names the part; Order if that region begins before the part's end.
 #[tactic(auto, using(std::proofs::lemmas::Bool::Decides::nat_tests), unfolding(crate::specs::Parts::part_with_row))]
 fn part_with_row(
     part: Part,
@@ -90,7 +90,7 @@ fn part_with_row(
     }))
 }
 
-/// The part with the region of a line, if the line names the part.
+/// Returns the part, with the region of a line added if the line names the part; or the fault of the line.
 fn part_with_line(
     part: Part,
     name: &[u8],
@@ -104,10 +104,10 @@ fn part_with_line(
     }
 }
 
-/// The part, if a line named it.
+/// Returns the part if it has a region; else UnknownPart.
 #[tactic(auto, using(std::proofs::lemmas::Bool::Decides::nat_tests))]
-fn known_part(part: Part) -> Result<Part, PartFault>
-    ensures { result ≡ known_part (Ok part) }
+fn part_if_known(part: Part) -> Result<Part, PartFault>
+    ensures { result ≡ part_if_known (Ok part) }
 {
     if part.regions.len() == 0 {
         return Err(PartFault::UnknownPart);
@@ -115,11 +115,11 @@ fn known_part(part: Part) -> Result<Part, PartFault>
     Ok(part)
 }
 
-/// The regions of a part in a table of parts. Each line of the table is read, those of other parts too.
+/// Returns the regions of a part in a table of parts. Each line is read up to the first wrong one, even if it names another part.
 ///
 /// # Errors
 ///
-/// BadLine at the first wrong line, UnknownPart if no line names the part, and NoMemory if an allocation was refused.
+/// BadLine at the first wrong line; UnknownPart if each line is right, but none names the part; NoMemory if an allocation was refused.
 pub fn part_in(alloc: Global, table: &[u8], name: &[u8]) -> Result<Part, PartFault>
     ensures { IsPartResult (part_in name.now table.now) result }
 {
@@ -140,5 +140,5 @@ pub fn part_in(alloc: Global, table: &[u8], name: &[u8]) -> Result<Part, PartFau
         };
         rest = behind;
     }
-    known_part(part)
+    part_if_known(part)
 }

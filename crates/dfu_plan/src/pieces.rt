@@ -1,4 +1,4 @@
-//! Texts of pieces: words, decimal numbers and hexadecimal ones.
+//! Texts made of pieces: words, decimal numbers and hexadecimal numbers.
 
 ghost use Rattle.std.specs.Prelude.{◌≡◌, ◌++◌, IfOk, OnOk};
 ghost use Rattle.std.specs.List.{flat_map};
@@ -10,15 +10,15 @@ use std::alloc::{AllocError, Global};
 /// Piece of a text.
 #[derive(Clone, Copy)]
 pub(crate) enum Piece<'t> {
-    /// This text.
+    /// The text as it is.
     Word(&'t str),
     /// A number in decimal digits.
     Number(u32),
-    /// A number in eight lower-case hexadecimal digits.
+    /// A number in lower-case hexadecimal digits, at least eight of them.
     Hex(u64),
 }
 
-/// A number in eight lower-case hexadecimal digits.
+/// Returns a number in lower-case hexadecimal digits, at least eight of them.
 fn hexadecimal(alloc: Global, number: u64) -> Result<String, AllocError>
     ensures { IfOk result (λ t. string_bytes t ≡ hexadecimal number) }
 {

@@ -1,33 +1,33 @@
 //! A line of a table of parts: the name of a part, and one of its regions.
 
 ghost use Rattle.std.specs.Prelude.{◌≡◌, None, Some, MatchOption};
-ghost use Rattle.dfu_plan.specs.Rows.{is_comment_line, is_name, is_name_byte, is_printable, is_printable_line, note_at, positive, region_of, row_at, row_in};
+ghost use Rattle.dfu_plan.specs.Rows.{is_rowless_line, has_only_name_bytes, is_name_byte, is_printable, is_printable_line, note_after_count, positive_number, region_of, row_of_words, row_in};
 
 use crate::sizes::size_in;
-use crate::words::{behind_blanks, is_space_or_tab, next_word};
+use crate::words::{is_space_or_tab, next_word, without_front_blanks};
 use dfu_places::Region;
 use std::fmt;
 use std::marker::Model;
 use thiserror::Error;
 
-/// Faults of a line of a table of parts, in the order in which they are looked for.
+/// Faults of a line of a table of parts, in the order in which they are checked.
 #[derive(Clone, Copy, Drop, Error)]
 pub enum RowFault {
-    /// It has a byte that is neither printable ASCII nor a tab.
+    /// The line has a byte that is neither printable ASCII nor a tab.
     Unprintable,
-    /// Its first word has another byte than letters, digits, `-`, `_`, `.` and `+`.
+    /// The first word has a byte other than letters, digits, `-`, `_`, `.` and `+`.
     Name,
-    /// Its second word is no address.
+    /// The second word is no address.
     Address,
-    /// Its third word is no size of a sector, which is 1 byte at least.
+    /// The third word is no size of a sector: no size, or 0.
     Sector,
-    /// Its fourth word is no number of sectors, which is 1 at least.
+    /// The fourth word is no number of sectors: no number, or 0.
     Count,
-    /// The region ends behind address FFFFFFFEh.
+    /// The region ends after address FFFFFFFEh.
     PastTheEnd,
-    /// Behind its fourth word something else than `#` and a note stands.
+    /// The fourth word is followed by something other than `#` and a note.
     Trailing,
-    /// The region begins before the end of the one before it, of the same part.
+    /// The region begins before the end of the region before it of the part.
     Order,
 }
 
@@ -37,7 +37,7 @@ impl fmt::Debug for RowFault {
     }
 }
 
-/// The names, in the order of the enum.
+/// Names of the faults, in the order of the enum.
 static NAMES: [&str; 8] = [
     "Unprintable",
     "Name",
@@ -49,7 +49,7 @@ static NAMES: [&str; 8] = [
     "Order",
 ];
 
-/// The texts, in the order of the enum.
+/// Texts of the faults, in the order of the enum.
 static TEXTS: [&str; 8] = [
     "it has a character that isn't printable ASCII",
     "its first word isn't a name of letters, digits, - _ . and +",
@@ -67,14 +67,14 @@ impl fmt::Display for RowFault {
     }
 }
 
-/// A region of a part, as a line states it.
+/// A region of a part, as read from a line.
 #[derive(Drop)]
 pub struct Row<'t> {
     /// Name of the part.
     pub name: &'t [u8],
     /// The region.
     pub region: Region,
-    /// Note behind `#`: where the numbers are from. Empty if there is none.
+    /// Note after `#`, the source of the numbers; empty if there is none.
     pub note: &'t [u8],
 }
 
@@ -93,40 +93,40 @@ fn is_printable(byte: u8) -> bool
     byte >= b' ' && byte <= b'~' || byte == b'\t'
 }
 
-/// Returns whether all bytes of a line are printable ASCII or tabs.
+/// Returns whether each byte of a line is printable ASCII or a tab.
 fn is_printable_line(line: &[u8]) -> bool
     ensures { result ≡ is_printable_line line.now }
 {
     line.iter().all(|byte| is_printable(*byte))
 }
 
-/// Returns whether a byte may stand in the name of a part.
+/// Returns whether a byte may be part of the name of a part.
 fn is_name_byte(byte: u8) -> bool
     ensures { result ≡ is_name_byte byte }
 {
     byte.is_ascii_alphanumeric() || byte == b'-' || byte == b'_' || byte == b'.' || byte == b'+'
 }
 
-/// Returns whether a word may be the name of a part.
-fn is_name(word: &[u8]) -> bool
-    ensures { result ≡ is_name word.now }
+/// Returns whether each byte of a word may be part of the name of a part.
+fn has_only_name_bytes(word: &[u8]) -> bool
+    ensures { result ≡ has_only_name_bytes word.now }
 {
     word.iter().all(|byte| is_name_byte(*byte))
 }
 
-/// Returns whether a line without the blanks at its front states nothing: it is empty, or begins with `#`.
-fn is_comment_line(text: &[u8]) -> bool
-    ensures { result ≡ is_comment_line text.now }
+/// Returns whether a line, without its leading blanks, is empty or a comment, which begins with `#`.
+fn is_rowless_line(text: &[u8]) -> bool
+    ensures { result ≡ is_rowless_line text.now }
 {
     text.is_empty() || text[0] == b'#'
 }
 
-/// The note behind the number of sectors, if nothing else stands there.
-#[tactic(auto, using(std::proofs::lemmas::Bool::Decides::nat_tests), unfolding(crate::specs::Rows::note_at))]
-fn note_at(text: &[u8]) -> Option<&[u8]>
-    ensures { MatchOption result (note_at text.now ≡ None) (λ note. note_at text.now ≡ Some note.now) }
+/// Returns the note behind `#` after the number of sectors, empty if only blanks follow the number; None if anything else follows.
+#[tactic(auto, using(std::proofs::lemmas::Bool::Decides::nat_tests), unfolding(crate::specs::Rows::note_after_count))]
+fn note_after_count(text: &[u8]) -> Option<&[u8]>
+    ensures { MatchOption result (note_after_count text.now ≡ None) (λ note. note_after_count text.now ≡ Some note.now) }
 {
-    let text = behind_blanks(text);
+    let text = without_front_blanks(text);
     if text.is_empty() {
         return Some(text);
     }
@@ -134,12 +134,12 @@ fn note_at(text: &[u8]) -> Option<&[u8]>
         return None;
     }
     let (_, note) = text.split_at(1);
-    Some(behind_blanks(note))
+    Some(without_front_blanks(note))
 }
 
-/// A number from 1 on.
-fn positive(number: Option<u32>) -> Option<u32>
-    ensures { result ≡ positive number }
+/// Returns the number, if there is one and it is at least 1; else None.
+fn positive_number(number: Option<u32>) -> Option<u32>
+    ensures { result ≡ positive_number number }
 {
     match number {
         Some(0) | None => None,
@@ -147,7 +147,7 @@ fn positive(number: Option<u32>) -> Option<u32>
     }
 }
 
-/// The region that three words state, or the fault of the first wrong one.
+/// Returns the region of three words; or the fault of the first wrong word, or PastTheEnd.
 #[tactic(auto, using(std::proofs::lemmas::Bool::Decides::nat_tests), unfolding(crate::specs::Rows::region_of))]
 fn region_of(at: &[u8], sector: &[u8], count: &[u8]) -> Result<Region, RowFault>
     ensures { result ≡ region_of at.now sector.now count.now }
@@ -155,10 +155,10 @@ fn region_of(at: &[u8], sector: &[u8], count: &[u8]) -> Result<Region, RowFault>
     let Some(at) = size_in(at) else {
         return Err(RowFault::Address);
     };
-    let Some(sector) = positive(size_in(sector)) else {
+    let Some(sector) = positive_number(size_in(sector)) else {
         return Err(RowFault::Sector);
     };
-    let Some(count) = positive(size_in(count)) else {
+    let Some(count) = positive_number(size_in(count)) else {
         return Err(RowFault::Count);
     };
     if at as u64 + sector as u64 * count as u64 > u32::MAX as u64 {
@@ -167,41 +167,41 @@ fn region_of(at: &[u8], sector: &[u8], count: &[u8]) -> Result<Region, RowFault>
     Ok(Region { at, sector, count })
 }
 
-/// The row that the words of a line state.
-#[tactic(auto, using(std::proofs::lemmas::Bool::Decides::nat_tests), unfolding(crate::specs::Rows::row_at))]
-fn row_at(line: &[u8]) -> Result<Row<'_>, RowFault>
-    ensures { result ≡ row_at line.now }
+/// Returns the row that the words of a line make, or the first fault.
+#[tactic(auto, using(std::proofs::lemmas::Bool::Decides::nat_tests), unfolding(crate::specs::Rows::row_of_words))]
+fn row_of_words(line: &[u8]) -> Result<Row<'_>, RowFault>
+    ensures { result ≡ row_of_words line.now }
 {
     let (name, rest) = next_word(line);
     let (at, rest) = next_word(rest);
     let (sector, rest) = next_word(rest);
     let (count, rest) = next_word(rest);
-    if !is_name(name) {
+    if !has_only_name_bytes(name) {
         return Err(RowFault::Name);
     }
     let region = match region_of(at, sector, count) {
         Ok(region) => region,
         Err(fault) => return Err(fault),
     };
-    match note_at(rest) {
+    match note_after_count(rest) {
         Some(note) => Ok(Row { name, region, note }),
         None => Err(RowFault::Trailing),
     }
 }
 
-/// The row that a line of a table states: the name of a part, the address of a region, the size of its sectors, and their number, with
-/// blanks between them, and behind them `#` and a note, or nothing. None if the line is empty or begins with `#`.
+/// Returns the row on a line of a table: the name of a part, the address of a region, the size of its sectors, and their number, with
+/// blanks between them, and after them `#` and a note, or nothing. None if the line, after leading blanks, is empty or begins with `#`.
 #[tactic(auto, using(std::proofs::lemmas::Bool::Decides::nat_tests), unfolding(crate::specs::Rows::row_in))]
 pub fn row_in(line: &[u8]) -> Result<Option<Row<'_>>, RowFault>
     ensures { result ≡ row_in line.now }
 {
-    if is_comment_line(behind_blanks(line)) {
+    if is_rowless_line(without_front_blanks(line)) {
         return Ok(None);
     }
     if !is_printable_line(line) {
         return Err(RowFault::Unprintable);
     }
-    match row_at(line) {
+    match row_of_words(line) {
         Ok(row) => Ok(Some(row)),
         Err(fault) => Err(fault),
     }

@@ -1,9 +1,9 @@
-//! Sizes and addresses in words: decimal digits, decimal digits and `K`, or `0x` and hexadecimal digits.
+//! Sizes and addresses in words: decimal digits, decimal digits before `k` or `K`, or hexadecimal digits after `0x` or `0X`.
 
 ghost use Rattle.std.specs.Prelude.{◌≡◌, ◌≤◌, ◌<◌, ◌^◌, IfSome};
-ghost use Rattle.dfu_plan.specs.Sizes.{size_digit, size_number, size_number_next, size_in, thousands};
+ghost use Rattle.dfu_plan.specs.Sizes.{size_digit, size_number, number_with_digit, size_in, bytes_of_kib};
 
-/// The value of a digit, or 16.
+/// Returns the value of a hexadecimal digit, or 16 for any other byte.
 fn size_digit(byte: u8) -> u64
     ensures value { result ≡ size_digit byte }
     ensures small { result ≤ 16 }
@@ -16,11 +16,12 @@ fn size_digit(byte: u8) -> u64
     }
 }
 
-/// The number with one digit more; none if the byte is no digit in this base, or the number is over 4,294,967,295.
-#[tactic(auto, using(std::proofs::lemmas::Bool::Decides::nat_tests), unfolding(crate::specs::Sizes::size_number_next))]
-fn size_number_next(base: u64, number: Option<u32>, byte: u8) -> Option<u32>
+/// Returns the number with one more digit; None if there is no number, the byte is no digit in this base, or the result is over
+/// 4,294,967,295.
+#[tactic(auto, using(std::proofs::lemmas::Bool::Decides::nat_tests), unfolding(crate::specs::Sizes::number_with_digit))]
+fn number_with_digit(base: u64, number: Option<u32>, byte: u8) -> Option<u32>
     requires base { base ≤ 16 }
-    ensures { result ≡ size_number_next base number byte }
+    ensures { result ≡ number_with_digit base number byte }
 {
     let Some(number) = number else {
         return None;
@@ -33,7 +34,7 @@ fn size_number_next(base: u64, number: Option<u32>, byte: u8) -> Option<u32>
     None
 }
 
-/// The number that all bytes say in this base: one digit at least.
+/// Returns the number that `digits` spell in this base; None if there are none, or if they spell no number up to 4,294,967,295.
 #[tactic(auto, using(std::proofs::lemmas::Bool::Decides::nat_tests), unfolding(crate::specs::Sizes::size_number))]
 fn size_number(base: u64, digits: &[u8]) -> Option<u32>
     requires base { base ≤ 16 }
@@ -44,15 +45,15 @@ fn size_number(base: u64, digits: &[u8]) -> Option<u32>
     }
     let mut number = Some(0);
     for byte in digits {
-        number = size_number_next(base, number, *byte);
+        number = number_with_digit(base, number, *byte);
     }
     number
 }
 
-/// A number of KiB in bytes.
-#[tactic(auto, using(std::proofs::lemmas::Bool::Decides::nat_tests), unfolding(crate::specs::Sizes::thousands))]
-fn thousands(number: Option<u32>) -> Option<u32>
-    ensures { result ≡ thousands number }
+/// Returns the number of bytes in a number of KiB; None if there is no number, or the bytes are over 4,294,967,295.
+#[tactic(auto, using(std::proofs::lemmas::Bool::Decides::nat_tests), unfolding(crate::specs::Sizes::bytes_of_kib))]
+fn bytes_of_kib(number: Option<u32>) -> Option<u32>
+    ensures { result ≡ bytes_of_kib number }
 {
     match number {
         Some(number) if number < 4_194_304 => Some(number * 1024),
@@ -60,7 +61,8 @@ fn thousands(number: Option<u32>) -> Option<u32>
     }
 }
 
-/// The number in the word of a size or an address, as `32k`, `32K`, `0x8000` or `32768`, up to 4,294,967,295; none if it is no such word.
+/// Returns the number in the word of a size or an address, such as `32k`, `32K`, `0x8000` or `32768`, up to 4,294,967,295; None for any
+/// other word.
 #[tactic(auto, using(std::proofs::lemmas::Bool::Decides::nat_tests), unfolding(crate::specs::Sizes::size_in))]
 pub fn size_in(word: &[u8]) -> Option<u32>
     ensures { result ≡ size_in word.now }
@@ -72,7 +74,7 @@ pub fn size_in(word: &[u8]) -> Option<u32>
     }
     if length >= 1 && (word[length - 1] == b'k' || word[length - 1] == b'K') {
         let (digits, _) = word.split_at(length - 1);
-        return thousands(size_number(10, digits));
+        return bytes_of_kib(size_number(10, digits));
     }
     size_number(10, word)
 }

@@ -1,4 +1,4 @@
-//! The table of parts that is built in: the file share/parts.txt, to the byte.
+//! The built-in table of parts, byte for byte the file share/parts.txt.
 
 /// Text of the table.
 pub const PARTS: &str = "\

@@ -2,30 +2,30 @@
 
 ghost use Rattle.std.specs.Prelude.{◌≡◌, ◌++◌, ◌<◌, ◌^◌, IfOk, OnOk};
 ghost use Rattle.std.specs.String.{string_bytes};
-ghost use Rattle.dfu_plan.specs.PlanText.{areas_of, data_line, first_lines, head_text, lines_text, note_line, place_line, places_text, plan_objects, plan_text, run_line, run_text, second_lines};
+ghost use Rattle.dfu_plan.specs.PlanText.{area_count, data_line, first_slot_lines, head_text, plan_lines, note_line, place_line, places_text, plan_objects, plan_text, run_line, run_text, second_slot_lines};
 
 use crate::pieces::Piece::{Hex, Number, Word};
 use crate::pieces::push_pieces;
 use dfu_places::{Placement, SlotPlaces, Span};
 use std::alloc::{AllocError, Global};
 
-/// A placement, and what it was made for.
+/// A placement, and the part and the bootloader that it is made for.
 #[derive(Clone, Copy)]
 pub struct Plan<'p> {
     /// Name of the part.
     pub part: &'p str,
-    /// Note of where its sectors are from; empty if there is none.
+    /// Note on the source of its sectors; empty if there is none.
     pub note: &'p str,
-    /// Bytes of the bootloader.
+    /// Address and length of the bootloader.
     pub boot: Span,
-    /// The placement.
+    /// The placement on the part.
     pub placement: Placement,
 }
 
 /// Form of the lines of a plan.
 #[derive(Clone, Copy)]
 pub(crate) enum Form {
-    /// Words.
+    /// Lines of words.
     Words,
     /// JSON objects (RFC 8259).
     Objects,
@@ -34,8 +34,8 @@ pub(crate) enum Form {
 }
 
 /// Returns the number of areas of a placement.
-fn areas_of(placement: &Placement) -> u32
-    ensures { result ≡ areas_of placement.now.run }
+fn area_count(placement: &Placement) -> u32
+    ensures { result ≡ area_count placement.now.run }
 {
     match placement.run {
         Some(_) => 3,
@@ -43,7 +43,7 @@ fn areas_of(placement: &Placement) -> u32
     }
 }
 
-/// Adds the line of the part, the bootloader and the largest image; in C what stands before the places.
+/// Adds the line of the part, the bootloader, the areas, the largest image and the sector; in C, the text before the places.
 #[rattlefmt::skip]
 #[tactic(auto, unfolding(crate::specs::PlanText::head_text))]
 fn push_head(alloc: Global, text: &mut String, form: Form, plan: &Plan<'_>, areas: u32) -> Result<(), AllocError>
@@ -72,7 +72,7 @@ fn push_head(alloc: Global, text: &mut String, form: Form, plan: &Plan<'_>, area
     }
 }
 
-/// Adds the note of where the sectors are from, if there is one.
+/// Adds the note on the source of the sectors, if there is one.
 #[tactic(auto, unfolding(crate::specs::PlanText::note_line))]
 fn push_note(alloc: Global, text: &mut String, note: &str) -> Result<(), AllocError>
     ensures { OnOk result (string_bytes text.new ≡ string_bytes text.old ++ note_line note.now) }
@@ -83,7 +83,7 @@ fn push_note(alloc: Global, text: &mut String, note: &str) -> Result<(), AllocEr
     push_pieces(alloc, text, &[Word("sectors "), Word(note), Word("\n")])
 }
 
-/// Adds the line of a place: its name, where it lies on the part, and where in the virtual flash.
+/// Adds the line of a place: its name, its address and length on the part, and, but not in C, its address in the virtual flash.
 #[rattlefmt::skip]
 #[tactic(auto, unfolding(crate::specs::PlanText::place_line))]
 fn push_place(alloc: Global, text: &mut String, form: Form, name: &str, span: Span, place: u64) -> Result<(), AllocError>
@@ -106,7 +106,7 @@ fn push_place(alloc: Global, text: &mut String, form: Form, name: &str, span: Sp
     }
 }
 
-/// Adds the line of the data of a slot. In C their bytes stand before all places, and `end` stands behind their address.
+/// Adds the line of the data of a slot. In C, the line lacks their length, which is printed before all places, and `end` ends it.
 #[rattlefmt::skip]
 fn push_data<'t>(alloc: Global, text: &mut String, form: Form, name: &'t str, end: &'t str, span: Span, place: u64) -> Result<(), AllocError>
     ensures { OnOk result (string_bytes text.new ≡ string_bytes text.old ++ data_line form name.now end.now span place) }
@@ -128,14 +128,14 @@ fn push_first(
     sector: u64,
 ) -> Result<(), AllocError>
     requires { sector < 2 ^ 32 }
-    ensures { OnOk result (string_bytes text.new ≡ string_bytes text.old ++ first_lines form slot sector) }
+    ensures { OnOk result (string_bytes text.new ≡ string_bytes text.old ++ first_slot_lines form slot sector) }
 {
     push_place(alloc, text, form, "first gate", slot.gate, 0)?;
     push_place(alloc, text, form, "first header", slot.header, sector)?;
     push_data(alloc, text, form, "first data", ",", slot.data, 2 * sector)
 }
 
-/// Adds the lines of the second slot, which begins at a place of the virtual flash.
+/// Adds the lines of the second slot, which begins at `place` of the virtual flash.
 fn push_second(
     alloc: Global,
     text: &mut String,
@@ -146,7 +146,7 @@ fn push_second(
 ) -> Result<(), AllocError>
     requires place { place < 2 ^ 35 }
     requires sector { sector < 2 ^ 32 }
-    ensures { OnOk result (string_bytes text.new ≡ string_bytes text.old ++ second_lines form slot place sector) }
+    ensures { OnOk result (string_bytes text.new ≡ string_bytes text.old ++ second_slot_lines form slot place sector) }
 {
     push_place(alloc, text, form, "second gate", slot.gate, place)?;
     push_place(
@@ -183,10 +183,10 @@ fn push_places(
     push_second(alloc, text, form, placement.second, half, sector)
 }
 
-/// Adds the line of a run area. The virtual flash has no place for it.
+/// Adds the line of a run area, which has no place in the virtual flash.
 #[rattlefmt::skip]
 #[tactic(auto, unfolding(crate::specs::PlanText::run_line))]
-fn push_area(alloc: Global, text: &mut String, form: Form, span: Span) -> Result<(), AllocError>
+fn push_run_line(alloc: Global, text: &mut String, form: Form, span: Span) -> Result<(), AllocError>
     ensures { OnOk result (string_bytes text.new ≡ string_bytes text.old ++ run_line form span) }
 {
     let at = Hex(span.at as u64);
@@ -209,7 +209,7 @@ fn push_run(
     ensures { OnOk result (string_bytes text.new ≡ string_bytes text.old ++ run_text form run) }
 {
     match run {
-        Some(span) => push_area(alloc, text, form, span),
+        Some(span) => push_run_line(alloc, text, form, span),
         None => Ok(()),
     }
 }
@@ -221,9 +221,9 @@ fn push_lines(
     form: Form,
     plan: &Plan<'_>,
 ) -> Result<(), AllocError>
-    ensures { OnOk result (string_bytes text.new ≡ string_bytes text.old ++ lines_text form plan.now) }
+    ensures { OnOk result (string_bytes text.new ≡ string_bytes text.old ++ plan_lines form plan.now) }
 {
-    push_head(alloc, text, form, plan, areas_of(&plan.placement))?;
+    push_head(alloc, text, form, plan, area_count(&plan.placement))?;
     push_places(alloc, text, form, &plan.placement)?;
     push_run(alloc, text, form, plan.placement.run)
 }
@@ -237,12 +237,12 @@ fn push_plan(alloc: Global, text: &mut String, plan: &Plan<'_>) -> Result<(), Al
     push_lines(alloc, text, Form::Arguments, plan)
 }
 
-/// Returns the text of a plan: a line for the part, with the largest image, a line for each place, the note of where the sectors are from,
+/// Returns the text of a plan: a line for the part, with the largest image, a line for each place, the note on the source of the sectors,
 /// and the initialiser of the places in C.
 ///
 /// # Errors
 ///
-/// There is no memory for it.
+/// AllocError if there is no memory for the text.
 pub fn plan_text(alloc: Global, plan: &Plan<'_>) -> Result<String, AllocError>
     ensures { IfOk result (λ t. string_bytes t ≡ plan_text plan.now) }
 {
@@ -255,7 +255,7 @@ pub fn plan_text(alloc: Global, plan: &Plan<'_>) -> Result<String, AllocError>
 ///
 /// # Errors
 ///
-/// There is no memory for it.
+/// AllocError if there is no memory for the text.
 pub fn plan_objects(alloc: Global, plan: &Plan<'_>) -> Result<String, AllocError>
     ensures { IfOk result (λ t. string_bytes t ≡ plan_objects plan.now) }
 {

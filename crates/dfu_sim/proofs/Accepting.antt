@@ -13,41 +13,40 @@ use Rattle.dfu_sim.specs.EventResults.{EventMeaning, EventResult, refuses, happe
 use Rattle.dfu_sim.specs.Headline.{WasOffered, IsWaiting}
 use Rattle.dfu_sim.specs.Accepting.{MayPlaceImage, LinkStep, HeedsCheckAtStep, image_of_world, LinkImagesAccepted, OfferedImagesAccepted}
 use Rattle.dfu_sim.proofs.Placing.{HasNoWaitingImage}
-use Rattle.dfu_sim.proofs.Placed.{play_places_image}
+use Rattle.dfu_sim.proofs.Placed.{play_places_waiting}
 use Rattle.dfu_sim.proofs.Projected.{bytes_show}
 
--- On a bench an event leaves the image as it was; or it puts the waiting image in place, which only some events may do, and none waits
--- then.
-abbrev PlacedOnBench : Happening → LinkView → LinkView → Type 0
-PlacedOnBench h b b' = (image_of b'.device.slots ≡ image_of b.device.slots)
+-- On a bench an event leaves the image as it was; or it puts the waiting image in place, as only some events may, and no image waits then.
+abbrev EventPlacesOnBench : Happening → LinkView → LinkView → Type 0
+EventPlacesOnBench h b b' = (image_of b'.device.slots ≡ image_of b.device.slots)
     ⊎ (MayPlaceImage h × IsWaiting b.device.stage (image_of b'.device.slots) × HasNoWaitingImage b'.device.stage)
 
--- If an event means another one that may put an image in place, the event may do so too.
-meaning_may_place : (s : Setting) (h e : Happening) → EventMeaning s h e → MayPlaceImage e → MayPlaceImage h
-meaning_may_place s (Offers purpose file limits) e m may = subst MayPlaceImage m.2 may
-meaning_may_place s (Uploads limits) e m may = subst MayPlaceImage m.1 may
-meaning_may_place s Aborts e m may = subst MayPlaceImage m may
-meaning_may_place s (Goes fate harm) e m may = tt
-meaning_may_place s (Passes ms) e m may = tt
-meaning_may_place s Resets e m may = subst MayPlaceImage m may
-meaning_may_place s Cuts e m may = subst MayPlaceImage m may
-meaning_may_place s (Refuses why) e m may = subst MayPlaceImage m may
+-- If an event means another one that may put an image in place, the event may put one in place too.
+event_may_place_as_its_meaning : (s : Setting) (h e : Happening) → EventMeaning s h e → MayPlaceImage e → MayPlaceImage h
+event_may_place_as_its_meaning s (Offers purpose file limits) e m may = subst MayPlaceImage m.2 may
+event_may_place_as_its_meaning s (Uploads limits) e m may = subst MayPlaceImage m.1 may
+event_may_place_as_its_meaning s Aborts e m may = subst MayPlaceImage m may
+event_may_place_as_its_meaning s (Goes fate harm) e m may = tt
+event_may_place_as_its_meaning s (Passes ms) e m may = tt
+event_may_place_as_its_meaning s Resets e m may = subst MayPlaceImage m may
+event_may_place_as_its_meaning s Cuts e m may = subst MayPlaceImage m may
+event_may_place_as_its_meaning s (Refuses why) e m may = subst MayPlaceImage m may
 
--- The result of an event puts at most the waiting image in place, on a bench.
-event_result_places_image : (h : Happening) (b b' : LinkView) (told : Result Answered LinkFault) → EventResult b h b' told →
-    PlacedOnBench h b b'
-event_result_places_image h b b' told (refuses why) = inl refl
-event_result_places_image h b b' told (happens {event = e} {answer = answer} means play) =
-    elim (play_places_image (profile b.device) (link_of_bench b) (link_of_bench b') e answer (bytes_show b b' e answer play).play) [
+-- The result of an event puts no image in place on the bench, except the waiting one.
+event_result_places_waiting : (h : Happening) (b b' : LinkView) (told : Result Answered LinkFault) → EventResult b h b' told →
+    EventPlacesOnBench h b b'
+event_result_places_waiting h b b' told (refuses why) = inl refl
+event_result_places_waiting h b b' told (happens {event = e} {answer = answer} means play) =
+    elim (play_places_waiting (profile b.device) (link_of_bench b) (link_of_bench b') e answer (bytes_show b b' e answer play).play) [
       | inl same ↦ inl same
-      | inr placed ↦ inr (meaning_may_place b.device.config h e means placed.0, placed.1, placed.2)
+      | inr placed ↦ inr (event_may_place_as_its_meaning b.device.config h e means placed.0, placed.1, placed.2)
     ]
 
--- After a step the image is the one before, or one that the check accepts.
+-- If the program heeds its check at a step, the image after it is the one before, or one that the check accepts.
 step_image_was_accepted : (check : List ℕ → Bool) (w : WorldView) (s : LinkStep) → WorldEventResult w s.happening s.after s.told →
     HeedsCheckAtStep check w s
     → (image_of_world s.after ≡ image_of_world w) ⊎ (check (image_of_world s.after) ≡ true)
-step_image_was_accepted check w s come heeds = elim (event_result_places_image s.happening w.bench s.after.bench come.answer come.comes) [
+step_image_was_accepted check w s come heeds = elim (event_result_places_waiting s.happening w.bench s.after.bench come.answer come.comes) [
   | inl same ↦ inl same
   | inr placed ↦ elim (heeds placed.0 (image_of_world s.after) placed.1) [
     | inl accepted ↦ inr accepted
@@ -68,8 +67,8 @@ link_images_were_accepted check w w' (s ∷ rest) came heeds = elim (link_images
 
 module _ (only : (s : SlotsState) (image : List ℕ) → Active s.medium image → image ≡ image_of s) where
   -- If the program heeds its check, the image is the factory image or an offered payload that the check accepts.
-  pub offered_images_accepted : OfferedImagesAccepted
-  offered_images_accepted check w w' steps factory image past report first came heeds says active =
+  pub offered_images_are_accepted : OfferedImagesAccepted
+  offered_images_are_accepted check w w' steps factory image past report first came heeds says active =
       let shown : image ≡ image_of_world w' = only w'.bench.device.slots image active in
       let known : says.image ≡ image_of_world w' = only w'.bench.device.slots says.image says.active in
       let begun : factory ≡ image_of_world w = only w.bench.device.slots factory first in

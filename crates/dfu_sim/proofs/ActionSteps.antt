@@ -5,12 +5,12 @@ use Rattle.dfu_device.specs.Outcome.{Situation, Luck}
 use Rattle.dfu_host.specs.Blocks.{blocks, first_blocks}
 use Rattle.dfu_host.specs.Phases.{Goal, LoadGoal, FetchGoal, VerifyGoal, CompareGoal, Task, Phase, Deed}
 use Rattle.dfu_host.specs.Table.{deed, host_row, goal_after_reset}
-use Rattle.dfu_host.specs.Host.{HostState, IsOnPhase}
+use Rattle.dfu_host.specs.Host.{HostState, IsLivePhase}
 use Rattle.dfu_sim.specs.Session.{Machine, LiveSession, LoadingPayload, AreFirstBlocks, IsInPlaceReport, TakesOrInstalls, takes_nothing, takes, installs, MayDrop, drops_nothing, drops, Kind, ActionKind, MachineStep, goes}
 use Rattle.dfu_sim.specs.Happening.{Fate}
 use Rattle.dfu_sim.specs.Delivery.{Delivery, delivery_of}
 use Rattle.dfu_sim.specs.Opening.{task_for}
-use Rattle.dfu_sim.specs.Play.{Link, uploaded_after, PlayResult, ActionResult, action_result, go_result}
+use Rattle.dfu_sim.specs.Play.{Link, uploaded_after, PlayResult, ActionResult, action_result, next_action_result}
 use Rattle.dfu_sim.specs.LinkView.{HostSession}
 use Rattle.dfu_sim.specs.LinkAgreement.{pending_of, ClosedWasOffered}
 use Rattle.dfu_sim.specs.Agreement.{live_session_of_goal, live_session_of, IsLiveOffer}
@@ -19,45 +19,45 @@ use Rattle.dfu_sim.proofs.Quiet.{Quiet, stays, pending_forgotten, commits}
 use Rattle.dfu_sim.proofs.Blocks.{ImageMoves, moves_quietly, moves_by_block, moves_by_lost_block}
 use Rattle.dfu_sim.proofs.GoDownload.{download_phase_goes_well}
 use Rattle.dfu_sim.proofs.GoUpload.{upload_phase_goes_quietly}
-use Rattle.dfu_sim.proofs.Fates.{UnlessRestarted, weakened_heard_fact}
+use Rattle.dfu_sim.proofs.Fates.{UnlessRestarted, heard_fact_weakens}
 use Rattle.dfu_sim.proofs.GoCommon.{GoesQuietly}
 use Rattle.dfu_sim.proofs.GoCompare.{compare_phase_goes_quietly}
-use Rattle.dfu_sim.proofs.GoalLaws.{Next, unchanged_goal_has_next_fact, verify_deed_is_load_deed, verify_phase_after_load}
+use Rattle.dfu_sim.proofs.GoalLaws.{Next, unchanged_goal_has_next_fact, verify_deed_is_load_deed, verify_phase_follows_load}
 use Rattle.dfu_sim.proofs.Taking.{shown, goal_outcome_holds, task_of_descriptor_unique}
 
-record Moved (t : ℕ) (m m' : Machine) : Type 0 where
+-- The machine m moves to m': it takes or installs a part, or neither, and then drops its pending bytes, or not.
+record MachineMoves (t : ℕ) (m m' : Machine) : Type 0 where
   mid : Machine
   takes_or_installs_part : TakesOrInstalls t m mid
   drops_part : MayDrop mid m'
 
--- A step that takes the next block of the live payload.
+-- If the pending bytes are the first n blocks of the live payload, the machine may take block n.
 taken : {p : List ℕ} (offers : List (List ℕ)) (t : ℕ) (i : List ℕ) (q : Option (List ℕ)) (up : List ℕ) (n : ℕ) (more : List ℕ)
     → n < length (blocks p t) → AreFirstBlocks p t n q → more ≡ first_blocks p t (suc n)
     → TakesOrInstalls t (shown offers i q (LoadingPayload p) up) (shown offers i (Some more) (LoadingPayload p) up)
 taken {p = p} offers t i q up n more b f e = subst (λ (x : List ℕ). TakesOrInstalls t (shown offers i q (LoadingPayload p) up)
     (shown offers i (Some x) (LoadingPayload p) up)) (sym e) (takes n refl b f)
 
--- A quiet move of the image and the pending bytes is a step of the shown machine.
+-- A quiet move of the image and the pending bytes is a move of the shown machine, with any live session.
 quiet_move_is_step : {offers : List (List ℕ)} {t : ℕ} {i j : List ℕ} {q r : Option (List ℕ)} (live : LiveSession) (up : List ℕ)
     → Quiet offers i q j r
-    → Moved t (shown offers i q live up) (shown offers j r live up)
+    → MachineMoves t (shown offers i q live up) (shown offers j r live up)
 quiet_move_is_step live up stays = record { mid = _; takes_or_installs_part = takes_nothing; drops_part = drops_nothing }
 quiet_move_is_step live up pending_forgotten = record { mid = _; takes_or_installs_part = takes_nothing; drops_part = drops }
 quiet_move_is_step live up (commits h) = record { mid = _; takes_or_installs_part = installs refl h; drops_part = drops_nothing }
 
--- A move of the image and the pending bytes in a download is a step of the shown machine.
+-- A move of the image and the pending bytes in a download is a move of the shown machine.
 image_move_is_step : {offers : List (List ℕ)} {p : List ℕ} {t : ℕ} {i j : List ℕ} {q r : Option (List ℕ)} (up : List ℕ) →
     ImageMoves offers p t i q j r
-    → Moved t (shown offers i q (LoadingPayload p) up) (shown offers j r (LoadingPayload p) up)
+    → MachineMoves t (shown offers i q (LoadingPayload p) up) (shown offers j r (LoadingPayload p) up)
 image_move_is_step {p = p} up (moves_quietly q) = quiet_move_is_step (LoadingPayload p) up q
 image_move_is_step {offers = offers} {p = p} {t = t} {i = i} {q = q} up (moves_by_block n more b f e) =
     record { mid = _; takes_or_installs_part = taken offers t i q up n more b f e; drops_part = drops_nothing }
 image_move_is_step {offers = offers} {p = p} {t = t} {i = i} {q = q} up (moves_by_lost_block n more b f e) =
     record { mid = _; takes_or_installs_part = taken offers t i q up n more b f e; drops_part = drops }
 
--- Result of simulating an event: the machine that the link shows makes a legal step with the report, and the facts of the link hold after
--- it.
-pub record Simulated (c : Profile) (offers : List (List ℕ)) (w : Link) (up : List ℕ) (kind : Kind) (r : PlayResult)
+-- An event is simulated: the machine that the link shows makes a legal step with the report, and the facts of the link hold after it.
+pub record IsSimulated (c : Profile) (offers : List (List ℕ)) (w : Link) (up : List ℕ) (kind : Kind) (r : PlayResult)
     (offers' : List (List ℕ)) : Type 0 where
   pub step : MachineStep c.tolerant c.transfer kind (shown offers w.device.image (pending_of w.device.stage) (live_session_of w.session) up)
       r.answer.report
@@ -69,54 +69,54 @@ pub record Simulated (c : Profile) (offers : List (List ℕ)) (w : Link) (up : L
   pub done : IsInPlaceReport r.answer.report → r.link.device.stage ≡ InAppIdle
 
 module _ (c : Profile) (sized : 0 < c.transfer) (offers : List (List ℕ)) where
-  -- Result of an action by its fate: the machine that the link shows may move so, and the facts hold after what the host hears.
+  -- Result of an action by its fate: the machine that the link shows may move so, and the facts hold after the result that the host hears.
   record EventResult (g : Goal) (phase : Phase) (s : Situation) (up : List ℕ) (d : ActionResult) : Type 0 where
-    moves : Moved c.transfer (shown offers s.image (pending_of s.stage) (live_session_of_goal g) up)
+    moves : MachineMoves c.transfer (shown offers s.image (pending_of s.stage) (live_session_of_goal g) up)
         (shown offers d.device.image (pending_of d.device.stage) (live_session_of_goal g) up)
     sound : ClosedWasOffered offers d.device.stage
     next : UnlessRestarted d.heard (Next c g d.device phase)
 
-  -- An action that goes quietly has a result that the session machine allows.
-  quiet_action_is_result : (g : Goal) (phase : Phase) (s : Situation) (up : List ℕ) (d : ActionResult)
+  -- An action that goes quietly has a result that the session machine allows, if the last reset leaves the goal's facts as they are.
+  quiet_action_has_result : (g : Goal) (phase : Phase) (s : Situation) (up : List ℕ) (d : ActionResult)
       → ((x : Phase) (y : Situation) → GoalFact c g x y → GoalFact c (goal_after_reset g) x y)
       → GoesQuietly c offers g (host_row (task_for c g) phase) s d → EventResult g phase s up d
-  quiet_action_is_result g phase s up d f q = record {
+  quiet_action_has_result g phase s up d f q = record {
     moves = quiet_move_is_step (live_session_of_goal g) up q.quiet.moves;
     sound = q.quiet.sound;
-    next = weakened_heard_fact d.heard (λ heard. unchanged_goal_has_next_fact c g f d.device phase heard) q.next;
+    next = heard_fact_weakens d.heard (λ heard. unchanged_goal_has_next_fact c g f d.device phase heard) q.next;
   }
 
-  -- Each action of a live host has a result that the session machine allows.
-  action_result_of_live_host : (s : Situation) (g : Goal) (phase : Phase) (up : List ℕ) (delivery : Delivery) (l k : Luck) →
+  -- Each action of a live host for which the facts of the link hold has a result that the session machine allows.
+  live_host_action_has_result : (s : Situation) (g : Goal) (phase : Phase) (up : List ℕ) (delivery : Delivery) (l k : Luck) →
       ClosedWasOffered offers s.stage
-      → IsLiveOffer offers (live_session_of_goal g) → IsOnPhase phase → GoalFact c g phase s → HasBlocks c g
+      → IsLiveOffer offers (live_session_of_goal g) → IsLivePhase phase → GoalFact c g phase s → HasBlocks c g
       → EventResult g phase s up (action_result c s (deed (task_for c g) phase) delivery l k)
-  action_result_of_live_host s (LoadGoal p) phase up delivery l k q o on f some =
+  live_host_action_has_result s (LoadGoal p) phase up delivery l k q o on f some =
       let d = action_result c s (deed (task_for c (LoadGoal p)) phase) delivery l k in
       let x = download_phase_goes_well c offers p some sized phase s on f q o delivery l k in
       record {
         moves = image_move_is_step up x.moves;
         sound = x.sound;
-        next = weakened_heard_fact d.heard (λ heard. unchanged_goal_has_next_fact c (LoadGoal p) (λ x y h. h) d.device phase heard) x.next;
+        next = heard_fact_weakens d.heard (λ heard. unchanged_goal_has_next_fact c (LoadGoal p) (λ x y h. h) d.device phase heard) x.next;
       }
-  action_result_of_live_host s FetchGoal phase up delivery l k q o on f some =
-      quiet_action_is_result FetchGoal phase s up _ (λ x y h. h) (upload_phase_goes_quietly c offers phase s on f q delivery l k)
-  action_result_of_live_host s (VerifyGoal p) phase up delivery l k q o on f some =
+  live_host_action_has_result s FetchGoal phase up delivery l k q o on f some =
+      quiet_action_has_result FetchGoal phase s up _ (λ x y h. h) (upload_phase_goes_quietly c offers phase s on f q delivery l k)
+  live_host_action_has_result s (VerifyGoal p) phase up delivery l k q o on f some =
       let d = action_result c s (deed (task_for c (LoadGoal p)) phase) delivery l k in
       let x = download_phase_goes_well c offers p some sized phase s on f q o delivery l k in
       subst (λ (z : Deed). EventResult (VerifyGoal p) phase s up (action_result c s z delivery l k)) (sym (verify_deed_is_load_deed c p
       phase)) (record {
         moves = image_move_is_step up x.moves;
         sound = x.sound;
-        next = weakened_heard_fact d.heard (λ heard. verify_phase_after_load c p d.device phase heard) x.next;
+        next = heard_fact_weakens d.heard (λ heard. verify_phase_follows_load c p d.device phase heard) x.next;
       })
-  action_result_of_live_host s (CompareGoal p) phase up delivery l k q o on f some =
-      quiet_action_is_result (CompareGoal p) phase s up _ (λ x y h. h) (compare_phase_goes_quietly c offers p some sized phase s on f q
+  live_host_action_has_result s (CompareGoal p) phase up delivery l k q o on f some =
+      quiet_action_has_result (CompareGoal p) phase s up _ (λ x y h. h) (compare_phase_goes_quietly c offers p some sized phase s on f q
       delivery l k)
 
-  -- An action of a live host with some goal is a step of the session machine.
+  -- An action of a live host with the task for a goal is a step of the session machine, and the facts of the link hold after it.
   goal_action_simulated : (s : Situation) (g : Goal) (phase : Phase) (left again : ℕ) (up : List ℕ) (fate : Fate) (l k : Luck) (room : Bool)
-      → ClosedWasOffered offers s.stage → IsLiveOffer offers (live_session_of_goal g) → IsOnPhase phase → GoalFact c g phase s →
+      → ClosedWasOffered offers s.stage → IsLiveOffer offers (live_session_of_goal g) → IsLivePhase phase → GoalFact c g phase s →
       HasBlocks c g
       → let w : Link = record {
         device = s;
@@ -126,10 +126,10 @@ module _ (c : Profile) (sized : 0 < c.transfer) (offers : List (List ℕ)) where
           actions = left;
           restarts = again;
         });
-      } in Simulated c offers w up ActionKind (go_result c w w.session fate l k room) offers
+      } in IsSimulated c offers w up ActionKind (next_action_result c w w.session fate l k room) offers
   goal_action_simulated s g phase left again up fate l k room q o on f some =
       let d = action_result c s (deed (task_for c g) phase) (delivery_of fate) l k in
-      let x = action_result_of_live_host s g phase up (delivery_of fate) l k q o on f some in
+      let x = live_host_action_has_result s g phase up (delivery_of fate) l k q o on f some in
       let t = goal_outcome_holds c offers g s d.device up phase left again room d.heard on o some f x.next in
       record {
         step = goes x.moves.takes_or_installs_part x.moves.drops_part t.says;
@@ -144,13 +144,13 @@ module _ (c : Profile) (sized : 0 < c.transfer) (offers : List (List ℕ)) where
   pub host_action_simulated : (s : Situation) (h : HostState) (up : List ℕ) (fate : Fate) (l k : Luck) (room : Bool)
       → ClosedWasOffered offers s.stage
       → IsLiveOffer offers (live_session_of_goal h.task.goal) → HostFact c s h
-      → let w : Link = record { device = s; session = HostSession h } in Simulated c offers w up ActionKind
-      (go_result c w w.session fate l k room) offers
+      → let w : Link = record { device = s; session = HostSession h } in IsSimulated c offers w up ActionKind
+      (next_action_result c w w.session fate l k room) offers
   host_action_simulated s h up fate l k room q o f =
       subst (λ (task : Task). let w : Link = record {
         device = s;
         session = HostSession (record { task = task; phase = h.phase; actions = h.actions; restarts = h.restarts });
       } in
-      Simulated c offers w up ActionKind (go_result c w w.session fate l k room) offers) (sym (task_of_descriptor_unique c h.task
+      IsSimulated c offers w up ActionKind (next_action_result c w w.session fate l k room) offers) (sym (task_of_descriptor_unique c h.task
       f.task_is))
       (goal_action_simulated s h.task.goal h.phase h.actions h.restarts up fate l k room q o f.on f.fact f.some)

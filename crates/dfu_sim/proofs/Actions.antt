@@ -1,11 +1,6 @@
 -- An action with its bytes is an action of the table of fates.
 use Rattle.std.proofs.Common.{◌≡◌, ℕ, Bool, true, false, List, Option, Some, None, refl, sym, ap, ◌∙◌, subst, inl, inr}
-use Rattle.dfu_wire.specs.declared.setups.Setup.{Setup}
 use Rattle.dfu_wire.specs.declared.requests.Request.{Request as Asked}
-use Rattle.dfu_wire.specs.Setup.{IsSetup}
-use Rattle.dfu_wire.specs.Request.{SetupRequest}
-use Rattle.dfu_wire.specs.OneRequest.{setup_asks_once}
-use Rattle.dfu_wire.specs.OneValue.{setup_bytes_one_value}
 use Rattle.dfu_slots.specs.Medium.{Fuse}
 use Rattle.dfu_slots.specs.Medium.Fuse.{Whole}
 use Rattle.dfu_slots.specs.StoreView.{image_of, fuse_changes_nothing_visible}
@@ -15,8 +10,8 @@ use Rattle.dfu_device.specs.Stage.{Profile, Reply}
 use Rattle.dfu_device.specs.Table.{Plan, error_plan, plan, objection_code}
 use Rattle.dfu_device.specs.Outcome.{Situation, Luck, Works, Outcome, plan_outcome, handled, situation_after_ms}
 use Rattle.dfu_device.specs.DeviceView.{DeviceView, profile, situation}
-use Rattle.dfu_device.specs.Rows.{request_for_table, asked_length, ReplyAnswer, Done as RowDone, is_close, IsCloseSetup, ClosesDownload, Handles}
-use Rattle.dfu_device.specs.PlanOutcomes.{PlanOutcome, came, row_of, times_have_outcomes}
+use Rattle.dfu_device.specs.Rows.{request_for_table, asked_length, ReplyAnswer, Done as RowDone, ClosesDownload, Handles}
+use Rattle.dfu_device.specs.PlanOutcomes.{close_setup_asks_for_close, PlanOutcome, came, row_follows_reading, times_have_outcomes}
 use Rattle.dfu_host.specs.Phases.{Deed, Send, Wait, Reset, Done, Heard, Waited, WasReset}
 use Rattle.dfu_host.specs.Wire.{IsSetupOf}
 use Rattle.dfu_sim.specs.declared.delivery.Response.{Response}
@@ -27,25 +22,25 @@ use Rattle.dfu_sim.specs.declared.delivery.MediumFault.TheVariants.{CutsPower}
 use Rattle.dfu_sim.specs.Delivery.{Delivery}
 use Rattle.dfu_sim.specs.Play.{heard_of_reply, heard_with_room, reached, heard_back, heard_after_action, situation_after_harm, wait_by_handling, situation_after_slip, plan_with_refusal, action_result}
 use Rattle.dfu_sim.specs.Bytes.{armed_device, device_after_bus_reset, HeardOfAnswer, HeardOfResponse, SetupResult, ReachesDevice, unseen, once, again, late, response_if_delivered, response_if_powered, RequestDelivered, WaitDelivered, SlipsTime, BusResetDelivered, ActionDelivered}
-use Rattle.dfu_sim.proofs.Fates.{heard_with_memory_unchanged}
+use Rattle.dfu_sim.proofs.Fates.{memory_keeps_heard_meaning}
 use Rattle.dfu_sim.proofs.Replies.{IsHostRequest, IsHostDeed, plan_answer_is_heard, served}
-use Rattle.dfu_sim.proofs.Closing.{request_without_close_by_table, refused_close_is_error, host_close_request_closes, other_host_request_closes_nothing}
+use Rattle.dfu_sim.proofs.Closing.{closeless_request_goes_by_table, refused_close_is_error, host_close_request_closes, other_host_request_closes_nothing}
 
 -- Arming a medium leaves the device's profile as it is.
-pub profile_of_armed_device : (w : DeviceView) (fuse : Fuse) → profile (armed_device w fuse) ≡ profile w
-profile_of_armed_device w fuse = λ k. record (profile w) {
+pub arming_keeps_profile : (w : DeviceView) (fuse : Fuse) → profile (armed_device w fuse) ≡ profile w
+arming_keeps_profile w fuse = λ k. record (profile w) {
   capacity = (fuse_changes_nothing_visible w.slots fuse w.slots.held
       w.slots.put_end).room k;
 }
 
 -- Arming a medium leaves the device's situation as it is.
-pub situation_of_armed_device : (w : DeviceView) (fuse : Fuse) → situation (armed_device w fuse) ≡ situation w
-situation_of_armed_device w fuse = λ k. record {
+pub arming_keeps_situation : (w : DeviceView) (fuse : Fuse) → situation (armed_device w fuse) ≡ situation w
+arming_keeps_situation w fuse = λ k. record {
   image = (fuse_changes_nothing_visible w.slots fuse w.slots.held w.slots.put_end).image k;
   stage = w.stage;
 }
 
--- The device went as its situation goes by the table, at some luck; if the fuse is whole, at the luck that the medium works.
+-- The device moved as the table says for its situation, at some luck; with a whole fuse, at the luck of a medium that works.
 pub record Went (fuse : Fuse) (c : Profile) (s : Situation) (d : Deed) (delivery : Delivery) (w' : DeviceView) (heard : Heard)
     : Type 0 where
   pub first : Luck
@@ -56,21 +51,14 @@ pub record Went (fuse : Fuse) (c : Profile) (s : Situation) (d : Deed) (delivery
   pub fixed : profile w' ≡ c
   pub works_with_whole_fuse : fuse ≡ Whole → (first ≡ Works) × (second ≡ Works)
 
--- The host hears the response, or nothing if it was lost, or the restart if the power was cut.
-heard_through_delivery : (d : Deed) (harming : MediumFault) (back : Bool) (came : Response) (out : List ℕ) (heard x : Heard)
+-- The host hears the response, or Nothing if it was lost, or the restart if the power was cut.
+heard_matches_delivery : (d : Deed) (harming : MediumFault) (back : Bool) (came : Response) (out : List ℕ) (heard x : Heard)
     → ((h : Heard) → HeardOfResponse d came out h → (room : Bool) × (h ≡ heard_with_room x room))
     → HeardOfResponse d (response_if_powered harming (response_if_delivered back came)) out heard
     → (room : Bool) × (heard ≡ heard_with_room (heard_after_action harming (heard_back back x)) room)
-heard_through_delivery d CutsPower back came out heard x f h = (true, h)
-heard_through_delivery d harming true came out heard x f h = f heard h
-heard_through_delivery d harming false came out heard x f h = (true, h)
-
--- A setup that closes a download asks for a DNLOAD of no bytes, by each request that its eight bytes can be read as.
-closing_setup_asks_for_close : (setup : List ℕ) (p : Setup) (q : Asked) → IsSetup p setup → SetupRequest p q → IsCloseSetup setup →
-    is_close q ≡ true
-closing_setup_asks_for_close setup p q reads asks (p2, q2, reads2, asks2, close) =
-    let same : p2 ≡ p = setup_bytes_one_value p2 p setup reads2 reads in
-    subst (λ (r : Asked). is_close r ≡ true) (setup_asks_once p q2 q (subst (λ (x : Setup). SetupRequest x q2) same asks2) asks) close
+heard_matches_delivery d CutsPower back came out heard x f h = (true, h)
+heard_matches_delivery d harming true came out heard x f h = f heard h
+heard_matches_delivery d harming false came out heard x f h = (true, h)
 
 -- The plan of a request on a device whose program refuses the image that it closes, or refuses none.
 abbrev pub plan_with_objection : Asked → (body : List ℕ) → Option Objection → DeviceView → Plan
@@ -78,18 +66,18 @@ plan_with_objection q body x w = plan_with_refusal x (profile w) (image_of w.slo
 
 module _ (q : Asked) (setup body : List ℕ) (is : IsHostRequest q body) (asked : IsSetupOf q setup) where
   -- If the setup closes the download, and the program refuses the image, the plan is an error.
-  plan_of_refused_close : (why : Objection) (w : DeviceView) → ClosesDownload setup w → plan_with_objection q body (Some why) w
+  refused_close_fails : (why : Objection) (w : DeviceView) → ClosesDownload setup w → plan_with_objection q body (Some why) w
       ≡ error_plan (objection_code why)
-  plan_of_refused_close why w (close, may) =
+  refused_close_fails why w (close, may) =
       refused_close_is_error why (profile w) (image_of w.slots) w.stage (request_for_table q body)
-      (host_close_request_closes q body w.config.least w.stage is (closing_setup_asks_for_close setup asked.setup q asked.fields asked.asks
+      (host_close_request_closes q body w.config.least w.stage is (close_setup_asks_for_close setup asked.setup q asked.fields asked.asks
       close) may)
 
   -- If the setup does not close the download, the plan is the table's.
-  plan_without_close : (why : Objection) (w : DeviceView) → (ClosesDownload setup w → ⊥)
+  no_close_keeps_plan : (why : Objection) (w : DeviceView) → (ClosesDownload setup w → ⊥)
       → plan_with_objection q body (Some why) w ≡ plan (profile w) (image_of w.slots) w.stage (request_for_table q body)
-  plan_without_close why w other =
-      request_without_close_by_table (Some why) (profile w) (image_of w.slots) w.stage (request_for_table q body)
+  no_close_keeps_plan why w other =
+      closeless_request_goes_by_table (Some why) (profile w) (image_of w.slots) w.stage (request_for_table q body)
       (other_host_request_closes_nothing q body w.config.least w.stage is (λ close may. other (
         (
           asked.setup,
@@ -105,16 +93,16 @@ module _ (q : Asked) (setup body : List ℕ) (is : IsHostRequest q body) (asked 
   request_makes_row_of_plan : (w w' : DeviceView) (a : Answer) (out : List ℕ) → Handles setup body w a out w'
       → RowDone (plan (profile w) (image_of w.slots) w.stage (request_for_table q body)) (asked_length q) w a out w'
   request_makes_row_of_plan w w' a out h =
-      rw (served asked.setup q body is asked.asks) at (row_of asked.setup q setup body w a out w' asked.fields asked.asks h)
+      rw (served asked.setup q body is asked.asks) at (row_follows_reading asked.setup q setup body w a out w' asked.fields asked.asks h)
 
-  -- A setup, whose image the device's program may refuse, makes a row of the plan that `plan_with_objection` gives.
+  -- The result of a setup is a row of the plan that `plan_with_objection` gives, whatever the program refuses.
   pub setup_result_is_row : (x : Option Objection) (w w' : DeviceView) (a : Answer) (out : List ℕ) → SetupResult x setup body w a out w'
       → RowDone (plan_with_objection q body x w) (asked_length q) w a out w'
   setup_result_is_row None w w' a out h = request_makes_row_of_plan w w' a out h
   setup_result_is_row (Some why) w w' a out (inl (stalls, none, closing, same)) =
-      subst (λ (p : Plan). RowDone p (asked_length q) w a out w') (sym (plan_of_refused_close why w closing)) ((stalls, none), same)
+      subst (λ (p : Plan). RowDone p (asked_length q) w a out w') (sym (refused_close_fails why w closing)) ((stalls, none), same)
   setup_result_is_row (Some why) w w' a out (inr (other, h)) =
-      subst (λ (p : Plan). RowDone p (asked_length q) w a out w') (sym (plan_without_close why w other)) (request_makes_row_of_plan w w' a
+      subst (λ (p : Plan). RowDone p (asked_length q) w a out w') (sym (no_close_keeps_plan why w other)) (request_makes_row_of_plan w w' a
       out h)
 
   -- The result of a setup is the outcome of its plan at some luck.
@@ -134,7 +122,7 @@ module _ (q : Asked) (setup body : List ℕ) (is : IsHostRequest q body) (asked 
       (subst (λ (r : Reply). ReplyAnswer (asked_length q) r a out) (sym (ap (λ (o : Outcome). o.reply) y.same)) y.answers) h
 
   -- A request that reaches a device moves the device's situation as the table says, at some luck.
-  record ArrivesAsSituation (x : Option Objection) (w w' : DeviceView) (how : Handled) (came : Response) (out : List ℕ) : Type 0 where
+  record RequestMovesByTable (x : Option Objection) (w w' : DeviceView) (how : Handled) (came : Response) (out : List ℕ) : Type 0 where
     first : Luck
     second : Luck
     device : (reached (profile w) (situation w) (request_for_table q body) (plan_with_objection q body x w) how first second).device
@@ -145,9 +133,9 @@ module _ (q : Asked) (setup body : List ℕ) (is : IsHostRequest q body) (asked 
     works_with_whole_fuse : w.slots.medium.fuse ≡ Whole → (first ≡ Works) × (second ≡ Works)
 
   -- A request that reaches the device moves its situation as the table says.
-  reach_arrives : {x : Option Objection} {w w' : DeviceView} {how : Handled} {came : Response} {out : List ℕ}
-      → ReachesDevice x setup body how w came out w' → ArrivesAsSituation x w w' how came out
-  reach_arrives unseen = record {
+  reached_request_moves_situation : {x : Option Objection} {w w' : DeviceView} {how : Handled} {came : Response} {out : List ℕ}
+      → ReachesDevice x setup body how w came out w' → RequestMovesByTable x w w' how came out
+  reached_request_moves_situation unseen = record {
     first = Works;
     second = Works;
     device = refl;
@@ -155,7 +143,7 @@ module _ (q : Asked) (setup body : List ℕ) (is : IsHostRequest q body) (asked 
     fixed = refl;
     works_with_whole_fuse = λ e. (refl, refl);
   }
-  reach_arrives {x = x} (once {w = w} {w' = w'} {a = a} {out = out} h) =
+  reached_request_moves_situation {x = x} (once {w = w} {w' = w'} {a = a} {out = out} h) =
       let y = setup_result_has_outcome x w w' a out h in
       record {
         first = y.luck;
@@ -165,7 +153,7 @@ module _ (q : Asked) (setup body : List ℕ) (is : IsHostRequest q body) (asked 
         fixed = y.fixed;
         works_with_whole_fuse = λ e. ((y.unarmed e).0, refl);
       }
-  reach_arrives {x = x} (again {w = w} {w' = w'} {b = b} {last = last} mid a out h k) =
+  reached_request_moves_situation {x = x} (again {w = w} {w' = w'} {b = b} {last = last} mid a out h k) =
       let y = setup_result_has_outcome x w mid a out h in
       let z = setup_result_has_outcome None mid w' b last k in
       let again : handled (profile w) (plan_outcome (image_of w.slots) (plan_with_objection q body x w) y.luck).after (request_for_table q
@@ -181,7 +169,7 @@ module _ (q : Asked) (setup body : List ℕ) (is : IsHostRequest q body) (asked 
         fixed = z.fixed ∙ y.fixed;
         works_with_whole_fuse = λ e. let k = y.unarmed e in (k.0, (z.unarmed k.1).0);
       }
-  reach_arrives {x = x} (late {w = w} {w' = w'} {a = a} {out = out} {ms = ms} mid h e) =
+  reached_request_moves_situation {x = x} (late {w = w} {w' = w'} {a = a} {out = out} {ms = ms} mid h e) =
       let y = setup_result_has_outcome x w mid a out h in
       let z = times_have_outcomes ms mid w' e in
       record {
@@ -194,11 +182,11 @@ module _ (q : Asked) (setup body : List ℕ) (is : IsHostRequest q body) (asked 
       }
 
   -- A delivered request moves the situation as the table says.
-  delivered_request_went : (delivery : Delivery) (w w' : DeviceView) (heard : Heard) → RequestDelivered q setup body delivery w w' heard
+  request_moves_device : (delivery : Delivery) (w w' : DeviceView) (heard : Heard) → RequestDelivered q setup body delivery w w' heard
       → Went w.slots.medium.fuse (profile w) (situation w) (Send q body) delivery w' heard
-  delivered_request_went delivery w w' heard s =
-      let x = reach_arrives s.reaches in
-      let h = heard_through_delivery (Send q body) delivery.harming delivery.back s.came s.out heard _ x.hears s.hears in
+  request_moves_device delivery w w' heard s =
+      let x = reached_request_moves_situation s.reaches in
+      let h = heard_matches_delivery (Send q body) delivery.harming delivery.back s.came s.out heard _ x.hears s.hears in
       record {
         first = x.first;
         second = x.second;
@@ -210,30 +198,30 @@ module _ (q : Asked) (setup body : List ℕ) (is : IsHostRequest q body) (asked 
       }
 
 -- A delivered wait moves the situation as the table says.
-delivered_wait_went : (ms : ℕ) (delivery : Delivery) (w w' : DeviceView) (heard : Heard) → WaitDelivered ms delivery w w' heard
+wait_moves_device : (ms : ℕ) (delivery : Delivery) (w w' : DeviceView) (heard : Heard) → WaitDelivered ms delivery w w' heard
     → Went w.slots.medium.fuse (profile w) (situation w) (Wait ms) delivery w' heard
-delivered_wait_went ms delivery w w' heard (e, h) = let y = times_have_outcomes (wait_by_handling delivery.handling ms) w w' e in
+wait_moves_device ms delivery w w' heard (e, h) = let y = times_have_outcomes (wait_by_handling delivery.handling ms) w w' e in
     record {
       first = y.luck;
       second = Works;
       room = true;
       device = ap (λ (o : Outcome). situation_after_harm delivery.harming o.after) y.same;
-      hears = h ∙ heard_with_memory_unchanged (heard_after_action delivery.harming Waited);
+      hears = h ∙ memory_keeps_heard_meaning (heard_after_action delivery.harming Waited);
       fixed = y.fixed;
       works_with_whole_fuse = λ whole. ((y.unarmed whole).0, refl);
     }
 
 -- Time that slips in moves the device's situation as the table says, at some luck.
-record SlippedTime (fuse : Fuse) (c : Profile) (s : Situation) (how : Handled) (w' : DeviceView) : Type 0 where
+record SlippedTimeMovesByTable (fuse : Fuse) (c : Profile) (s : Situation) (how : Handled) (w' : DeviceView) : Type 0 where
   luck : Luck
   device : situation_after_slip c s how luck ≡ situation w'
   fixed : profile w' ≡ c
   works_with_whole_fuse : fuse ≡ Whole → luck ≡ Works
 
 -- The time that slips in moves the situation as the table says.
-slipped_time_has_luck : (how : Handled) (w w' : DeviceView) → SlipsTime how w w' →
-    SlippedTime w.slots.medium.fuse (profile w) (situation w) how w'
-slipped_time_has_luck (Late ms) w w' e = let y = times_have_outcomes ms w w' e in
+slip_moves_device : (how : Handled) (w w' : DeviceView) → SlipsTime how w w' →
+    SlippedTimeMovesByTable w.slots.medium.fuse (profile w) (situation w) how w'
+slip_moves_device (Late ms) w w' e = let y = times_have_outcomes ms w w' e in
     record {
       luck = y.luck;
       device = ap (λ (o : Outcome). o.after) y.same;
@@ -241,7 +229,7 @@ slipped_time_has_luck (Late ms) w w' e = let y = times_have_outcomes ms w w' e i
       works_with_whole_fuse = λ whole. (y.unarmed
           whole).0;
     }
-slipped_time_has_luck how w w' e = record {
+slip_moves_device how w w' e = record {
   luck = Works;
   device = sym (ap situation e);
   fixed = ap profile e;
@@ -250,25 +238,25 @@ slipped_time_has_luck how w w' e = record {
 }
 
 -- A delivered reset of the bus moves the situation as the table says.
-delivered_reset_went : (delivery : Delivery) (w w' : DeviceView) (heard : Heard) → BusResetDelivered delivery w w' heard
+reset_moves_device : (delivery : Delivery) (w w' : DeviceView) (heard : Heard) → BusResetDelivered delivery w w' heard
     → Went w.slots.medium.fuse (profile w) (situation w) Reset delivery w' heard
-delivered_reset_went delivery w w' heard (e, h) = let y = slipped_time_has_luck delivery.handling (device_after_bus_reset w) w' e in
+reset_moves_device delivery w w' heard (e, h) = let y = slip_moves_device delivery.handling (device_after_bus_reset w) w' e in
     record {
       first = y.luck;
       second = Works;
       room = true;
       device = ap (situation_after_harm delivery.harming) y.device;
-      hears = h ∙ heard_with_memory_unchanged (heard_after_action delivery.harming WasReset);
+      hears = h ∙ memory_keeps_heard_meaning (heard_after_action delivery.harming WasReset);
       fixed = y.fixed;
       works_with_whole_fuse = λ whole. (y.works_with_whole_fuse whole, refl);
     }
 
--- An action in bytes goes as the table says for its delivery.
-pub delivered_action_went : (d : Deed) (delivery : Delivery) (w w' : DeviceView) (heard : Heard) → IsHostDeed d →
+-- An action of a host in bytes moves the situation as the table says for its delivery.
+pub action_moves_device : (d : Deed) (delivery : Delivery) (w w' : DeviceView) (heard : Heard) → IsHostDeed d →
     ActionDelivered d delivery w w' heard
     → Went w.slots.medium.fuse (profile w) (situation w) d delivery w' heard
-delivered_action_went (Send q body) delivery w w' heard is (setup, asked, h) = delivered_request_went q setup body is asked delivery w w'
+action_moves_device (Send q body) delivery w w' heard is (setup, asked, h) = request_moves_device q setup body is asked delivery w w'
     heard h
-delivered_action_went (Wait ms) delivery w w' heard is h = delivered_wait_went ms delivery w w' heard h
-delivered_action_went Reset delivery w w' heard is h = delivered_reset_went delivery w w' heard h
-delivered_action_went (Done report) delivery w w' heard is h = elim h [ ]
+action_moves_device (Wait ms) delivery w w' heard is h = wait_moves_device ms delivery w w' heard h
+action_moves_device Reset delivery w w' heard is h = reset_moves_device delivery w w' heard h
+action_moves_device (Done report) delivery w w' heard is h = elim h [ ]

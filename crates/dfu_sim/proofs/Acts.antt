@@ -1,4 +1,4 @@
--- An action, put together from what its parts ensure.
+-- An action, put together from the clauses of its parts.
 use Rattle.std.proofs.Common.{◌≡◌, ℕ, List, sym, subst}
 use Rattle.std.specs.Borrow.{Bor}
 use Rattle.dfu_slots.specs.Medium.Fuse.{Whole}
@@ -21,12 +21,12 @@ use Rattle.dfu_sim.specs.Bytes.{fuse_of, armed_device, device_after_bus_reset, H
 use Rattle.dfu_sim.specs.inside.Acting.{seen_after_action}
 
 -- A request is delivered if it makes the rows of its handling, and if its response comes back as its delivery says.
-pub request_by_rows : {setup body out : List ℕ} {w w' : DeviceView} (delivery : Delivery) {came b : Response} →
+pub row_request_is_delivered : {setup body out : List ℕ} {w w' : DeviceView} (delivery : Delivery) {came b : Response} →
     ReachesDevice delivery.refusing setup body delivery.handling w came out w'
     → b ≡ response_if_powered delivery.harming (response_if_delivered delivery.back came) → (q : Asked) (heard : Heard)
     → HeardOfResponse (Send q body) b out heard
     → RequestDelivered q setup body delivery w w' heard
-request_by_rows {body = body} {out = out} delivery {came = came} h e q heard r = record {
+row_request_is_delivered {body = body} {out = out} delivery {came = came} h e q heard r = record {
   came = came;
   out = out;
   reaches = h;
@@ -39,27 +39,27 @@ seen_end_is_heard : (harming : MediumFault) (d : Deed) (s : Seen) (heard x : Hea
 seen_end_is_heard CutsPower d s heard x f h = h
 seen_end_is_heard harming d s heard x f h = f h
 
--- A wait is delivered if its time passed, and if its result is the end of a wait.
-pub wait_by_elapsed_time : {time : ℕ} (ms : ℕ) (w w' : DeviceView) (delivery : Delivery) {seen_is : Seen}
+-- A wait is delivered if its time passed, and if its result is the end of a wait, or the restart after a cut.
+pub elapsed_wait_is_delivered : {time : ℕ} (ms : ℕ) (w w' : DeviceView) (delivery : Delivery) {seen_is : Seen}
     → Elapses time w w' → time ≡ wait_by_handling delivery.handling ms
     → seen_is ≡ seen_after_action delivery.harming seen.Waited → (d : Deed) (heard : Heard) → SeenMeaning d seen_is heard
     → WaitDelivered ms delivery w w' heard
-wait_by_elapsed_time ms w w' delivery e t k d heard h = (
+elapsed_wait_is_delivered ms w w' delivery e t k d heard h = (
   subst (λ (n : ℕ). Elapses n w w') t e,
   seen_end_is_heard delivery.harming d seen.Waited heard Waited (λ h. h) (subst (λ (x : Seen). SeenMeaning d x heard) k h),
 )
 
--- A reset of the bus is delivered if the time that slips in has passed, and if its result is the end of a reset.
-pub reset_by_slipped_time : {mid : DeviceView} (w w' : DeviceView) (delivery : Delivery) {seen_is : Seen} → mid ≡ device_after_bus_reset w
+-- A reset of the bus is delivered if the time that slips in passed, and if its result is the end of a reset, or the restart after a cut.
+pub bus_reset_is_delivered : {mid : DeviceView} (w w' : DeviceView) (delivery : Delivery) {seen_is : Seen} → mid ≡ device_after_bus_reset w
     → SlipsTime delivery.handling mid w'
     → seen_is ≡ seen_after_action delivery.harming seen.WasReset → (d : Deed) (heard : Heard) → SeenMeaning d seen_is heard
     → BusResetDelivered delivery w w' heard
-reset_by_slipped_time w w' delivery r e k d heard h = (
+bus_reset_is_delivered w w' delivery r e k d heard h = (
   subst (λ (x : DeviceView). SlipsTime delivery.handling x w') r e,
   seen_end_is_heard delivery.harming d seen.WasReset heard WasReset (λ h. h) (subst (λ (x : Seen). SeenMeaning d x heard) k h),
 )
 
--- A request, a wait and a reset that a host asks for.
+-- Requests, waits and resets of the code.
 
 -- A request of the code is delivered as the request of the deed that it spells.
 pub send_action_delivered : (d : Deed) (delivery : Delivery) (setup : List ℕ) (given : Bor (List ℕ)) (heard : Heard) (b : Response) {out
@@ -95,11 +95,11 @@ reset_action_delivered d f w w' heard e h = elim e [ ]
 pub unarmed_device_stays : (w : DeviceView) → w.slots.medium.fuse ≡ Whole → armed_device w Whole ≡ w
 unarmed_device_stays w e = λ i. record w { slots = record w.slots { medium = record w.slots.medium { fuse = sym e i } } }
 
--- A host acts by the delivery of a fate, if the medium was armed for it before and the device is left as it must be after it.
-pub armed_action_by_fate : {delivery c : Delivery} {harm x : WriteHarm} {h h' : HostState} {w start last w' : DeviceView} → c
+-- A host acts by a delivery, if the medium was armed for that delivery before, and the device is then left as after it.
+pub armed_action_follows_fate : {delivery c : Delivery} {harm x : WriteHarm} {h h' : HostState} {w start last w' : DeviceView} → c
     ≡ delivery → x ≡ harm
     → start ≡ armed_device w (fuse_of c.harming x) → HostActs h c start last h' → w' ≡ device_after_action c.harming last
     → HostActsArmed h delivery harm w w' h'
-armed_action_by_fate {c = c} {harm = harm} {x = x} {h = h} {h' = h'} {w = w} {last = last} {w' = w'} e k start acted left =
+armed_action_follows_fate {c = c} {harm = harm} {x = x} {h = h} {h' = h'} {w = w} {last = last} {w' = w'} e k start acted left =
     subst (λ (d : Delivery). HostActsArmed h d harm w w' h') e (subst (λ (y : WriteHarm). HostActsArmed h c y w w' h') k
     (record { last = last; acted = subst (λ (z : DeviceView). HostActs h c z last h') start acted; device = left }))

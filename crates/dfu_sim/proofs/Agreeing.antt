@@ -12,30 +12,30 @@ use Rattle.dfu_sim.specs.Agreement.{intake_of_stage, pending_bytes_in, live_sess
 use Rattle.dfu_sim.specs.Bytes.{link_of_bench}
 use Rattle.dfu_sim.specs.Understood.{BenchImageIsActive}
 
--- Some machine agrees with each link.
+-- Machines that agree with a link.
 
 -- An element of the second list is an element of both lists joined.
-offer_in_second_list : (a b : List (List ℕ)) (x : List ℕ) → IsOneOf x b → IsOneOf x (a ++ b)
-offer_in_second_list [] b x one = one
-offer_in_second_list (y ∷ a) b x one = inr (offer_in_second_list a b x one)
+joined_list_has_second_list : (a b : List (List ℕ)) (x : List ℕ) → IsOneOf x b → IsOneOf x (a ++ b)
+joined_list_has_second_list [] b x one = one
+joined_list_has_second_list (y ∷ a) b x one = inr (joined_list_has_second_list a b x one)
 
--- The closed bytes of a stage, as a list of none or one.
+-- The closed bytes of a stage, as a list of one; the empty list if it has none.
 abbrev pub closed_bytes_in : Stage → List (List ℕ)
 closed_bytes_in (InManifestSync taken) = taken ∷ []
 closed_bytes_in (InManifest taken passed) = taken ∷ []
 closed_bytes_in stage = []
 
--- The payload of a goal, as a list of none or one.
+-- The payload of a goal, as a list of one; the empty list if it has none.
 abbrev pub goal_payload_in : Goal → List (List ℕ)
 goal_payload_in (LoadGoal payload) = payload ∷ []
 goal_payload_in FetchGoal = []
 goal_payload_in (VerifyGoal payload) = payload ∷ []
 goal_payload_in (CompareGoal payload) = payload ∷ []
 
--- The payload of a live session, as a list of none or one.
-abbrev pub session_in : Session → List (List ℕ)
-session_in NoLiveSession = []
-session_in (HostSession h) = goal_payload_in h.task.goal
+-- The payload of the live session, as a list of one; the empty list if no session with a payload is live.
+abbrev pub live_payload_in : Session → List (List ℕ)
+live_payload_in NoLiveSession = []
+live_payload_in (HostSession h) = goal_payload_in h.task.goal
 
 -- Closed bytes of a stage are an offer, if the list of offers begins with them.
 pub closed_bytes_are_offer : (stage : Stage) (rest : List (List ℕ)) → IsClosedOffer (closed_bytes_in stage ++ rest) (intake_of_stage stage)
@@ -46,10 +46,10 @@ closed_bytes_are_offer stage rest = tt
 -- The payload of a goal is an offer, if the list of offers ends with it.
 goal_payload_is_offer : (goal : Goal) (a : List (List ℕ)) → IsLiveOffer (a ++ goal_payload_in goal) (live_session_of_goal goal)
 goal_payload_is_offer FetchGoal a = tt
-goal_payload_is_offer goal a = offer_in_second_list a (goal_payload_in goal) _ (inl refl)
+goal_payload_is_offer goal a = joined_list_has_second_list a (goal_payload_in goal) _ (inl refl)
 
 -- The payload of a live session is an offer, if the list of offers ends with it.
-pub live_payload_is_offer : (session : Session) (a : List (List ℕ)) → IsLiveOffer (a ++ session_in session) (live_session_of session)
+pub live_payload_is_offer : (session : Session) (a : List (List ℕ)) → IsLiveOffer (a ++ live_payload_in session) (live_session_of session)
 live_payload_is_offer NoLiveSession a = tt
 live_payload_is_offer (HostSession h) a = goal_payload_is_offer h.task.goal a
 
@@ -57,24 +57,24 @@ live_payload_is_offer (HostSession h) a = goal_payload_is_offer h.task.goal a
 abbrev pub machine_from_parts : List ℕ → Stage → Session → List ℕ → Machine
 machine_from_parts image stage session up = record {
   cur = image;
-  offers = closed_bytes_in stage ++ session_in session;
+  offers = closed_bytes_in stage ++ live_payload_in session;
   pending = pending_bytes_in (intake_of_stage stage);
   live = live_session_of session;
   up = up;
 }
 
--- The session machine that is made of a link.
+-- The session machine with the parts of a link and its last upload.
 abbrev pub session_machine_of_link : Link → List ℕ → Machine
 session_machine_of_link w up = machine_from_parts w.device.image w.device.stage w.session up
 
--- A link agrees with the session machine that is made of it.
+-- A link agrees with the session machine that has its parts.
 pub machine_agrees : (w : Link) (up : List ℕ) → Agrees w up (session_machine_of_link w up)
 machine_agrees w up = record {
   cur = refl;
   pending = refl;
   live = refl;
   up_is = refl;
-  sound = closed_bytes_are_offer w.device.stage (session_in w.session);
+  sound = closed_bytes_are_offer w.device.stage (live_payload_in w.session);
   offered = live_payload_is_offer w.session (closed_bytes_in w.device.stage);
 }
 
@@ -83,10 +83,10 @@ pub some_machine_agrees : SomeMachineAgrees
 some_machine_agrees w up = (session_machine_of_link w up, machine_agrees w up)
 
 -- A stage without closed bytes needs no offer.
-nothing_closed_was_offered : (stage : Stage) → NothingClosed stage → ClosedWasOffered [] stage
-nothing_closed_was_offered (InManifestSync taken) h = elim h [ ]
-nothing_closed_was_offered (InManifest taken passed) h = elim h [ ]
-nothing_closed_was_offered stage h = tt
+unclosed_stage_needs_no_offer : (stage : Stage) → NothingClosed stage → ClosedWasOffered [] stage
+unclosed_stage_needs_no_offer (InManifestSync taken) h = elim h [ ]
+unclosed_stage_needs_no_offer (InManifest taken passed) h = elim h [ ]
+unclosed_stage_needs_no_offer stage h = tt
 
 -- A session machine with no offers agrees if no session is live and nothing is closed.
 pub fresh_machine_agrees : FreshMachineAgrees
@@ -95,7 +95,7 @@ fresh_machine_agrees w none still = record {
   pending = refl;
   live = ap (λ (s : Session). live_session_of s) (sym none);
   up_is = refl;
-  sound = nothing_closed_was_offered w.device.stage still;
+  sound = unclosed_stage_needs_no_offer w.device.stage still;
   offered = subst (λ (s : Session). IsLiveOffer [] (live_session_of s)) (sym none) tt;
 }
 
@@ -123,7 +123,7 @@ link_agrees_as_bench shown b up m agrees = record {
   offered = agrees.offered;
 }
 
--- The session machine goes on from one world to the next.
+-- A machine that agrees with a world without a session agrees with the next world over its device, once its last upload is forgotten.
 pub sessions_go_on : SessionsContinue
 sessions_go_on w m none agrees = record {
   active = active_image_on_other_fuse w.bench.device.slots.medium Whole m.cur agrees.active;

@@ -1,27 +1,28 @@
--- The phases of a clean comparison: each block of the image comes back, and what follows the last full one.
+-- The phases of a clean comparison: each block of the image comes back, and then the rest after the last full one.
 use Rattle.std.proofs.Common.{◌≡◌, ℕ, zero, suc, ◌+◌, ◌-◌, ◌*◌, ◌%◌, ◌/◌, ◌<◌, ◌≤◌, ◌==◌, nat_lt, min, Bool, true, false, if◌then◌else◌, List, [], length, slice_index_or, take, drop, refl, sym, ap, ◌∙◌, subst, arith, length-take, length-drop}
 use Rattle.std.proofs.Math.Nat.{suc-mul, div-mul-le_self, lt-div-mul-add}
 use Rattle.std.proofs.lemmas.Bool.Decides.{nat_tests}
 use Rattle.std.proofs.lemmas.Slice.Eq.{bytes_eq-Decides}
 use Rattle.std.specs.Str.{bytes_eq}
 use Rattle.dfu_device.specs.Stage.{Data, Upload, Profile, Stage, InAppIdle, InDfuIdle, InUploadIdle}
-use Rattle.dfu_device.specs.Table.{Plan, Sure, plan, next_number}
+use Rattle.dfu_device.specs.Table.{Plan, Sure, plan, number_after}
 use Rattle.dfu_device.specs.Outcome.{Works, plan_outcome}
 use Rattle.dfu_host.specs.declared.report.Report.TheVariants.{TooManyBlocks, Verified}
 use Rattle.dfu_host.specs.Blocks.{blocks}
 use Rattle.dfu_host.specs.BlockLaws.{nth_block_is_slice}
 use Rattle.dfu_host.specs.Phases.{CompareGoal, Phase, Find, Compare, Last, Over, Part}
 use Rattle.dfu_host.specs.Table.{compared_phase}
-use Rattle.dfu_host.specs.Host.{IsOnPhase}
+use Rattle.dfu_host.specs.Host.{IsLivePhase}
 use Rattle.dfu_sim.specs.Play.{heard_of_reply, ActionResult}
-use Rattle.dfu_sim.proofs.Passes.{Leads, passes_lead_on, none, one, action_leads_to_phase}
+use Rattle.dfu_sim.proofs.Passes.{Leads, leading_passes_compose, none, one, action_leads_to_phase}
 use Rattle.dfu_sim.proofs.Finding.{host_finds_app_idle, detach, host_enters_dfu_idle}
 
 module _ (c : Profile) (p : List ℕ) (again : ℕ) where
+  -- Within any budget, a comparison comes from one stage and phase to another in k passes, and keeps the image.
   abbrev GoesWell : Stage → Phase → ℕ → Stage → Phase → Type 0
   GoesWell s phase k t next = Leads c (CompareGoal p) again p s phase k p t next
 
-  -- The host finds the device in dfuIDLE.
+  -- In one pass a host that compares finds the device in dfuIDLE, and goes to part 0.
   compare_finds_dfu_idle : GoesWell InDfuIdle Find 1 InDfuIdle (Compare 0)
   compare_finds_dfu_idle = one c (CompareGoal p) again (λ l k room. refl)
 
@@ -30,13 +31,15 @@ module _ (c : Profile) (p : List ℕ) (again : ℕ) where
   Given zero = InDfuIdle
   Given (suc k) = InUploadIdle (suc k * c.transfer) (suc k % 65536)
 
+  -- Part k of the payload: the bytes from k full parts on, at most as many as the transfer size.
   abbrev part : ℕ → List ℕ
   part k = take c.transfer (drop (k * c.transfer) p)
 
+  -- Block k of the payload; empty past the last block.
   abbrev block : ℕ → List ℕ
   block k = slice_index_or (blocks p c.transfer) k []
 
-  -- The device answers UPLOAD of part k with the bytes at its place, both for a full part and for a shorter one.
+  -- The device answers the UPLOAD of part k with the bytes at its place, and waits for the next if the part is full.
   gives : (k : ℕ) → c.can_upload ≡ true → 0 < c.transfer → plan c p (Given k) (Upload (k % 65536) c.transfer)
       ≡ (if nat_lt (length (part k)) c.transfer then Sure (Data (part k)) InDfuIdle else Sure (Data (part k)) (Given (suc k)))
   gives zero can sized =
@@ -50,9 +53,10 @@ module _ (c : Profile) (p : List ℕ) (again : ℕ) where
       let f : nat_lt c.transfer c.transfer ≡ false = grind (arith, nat_tests) in
       let g : (suc k % 65536 == suc k % 65536) ≡ true = grind (arith, nat_tests) in
       let z : suc (suc k) * c.transfer ≡ suc k * c.transfer + c.transfer = omega (arith, suc-mul (suc k) c.transfer) in
-      let n : next_number (suc k % 65536) ≡ suc (suc k) % 65536 = omega arith in
+      let n : number_after (suc k % 65536) ≡ suc (suc k) % 65536 = omega arith in
       rw (e, f, g, z, n) refl
 
+  -- A plan that answers with bytes is heard as a part with these bytes.
   part_answer_is_heard : (q : Plan) (stage : Stage) (bytes : List ℕ) → q ≡ Sure (Data bytes) stage
       → ◌≡◌ {A = ActionResult} (let o = plan_outcome p q Works in record { device = o.after; heard = heard_of_reply o.reply })
       (record { device = record { image = p; stage = stage }; heard = Part bytes })
@@ -63,9 +67,11 @@ module _ (c : Profile) (p : List ℕ) (again : ℕ) where
   }) e
 
   module _ (can : c.can_upload ≡ true) (sized : 0 < c.transfer) where
+    -- Part k equals block k of the payload.
     same : (k : ℕ) → bytes_eq (part k) (block k) ≡ true
     same k = (bytes_eq-Decides (part k) (block k)).1 (sym (nth_block_is_slice p c.transfer k sized))
 
+    -- Part k is no longer than the transfer size.
     fits : (k : ℕ) → nat_lt c.transfer (length (part k)) ≡ false
     fits k = let e : length (part k) ≤ c.transfer = omega (arith, length-take c.transfer (drop (k * c.transfer) p)) in
         grind (arith, nat_tests)
@@ -74,34 +80,35 @@ module _ (c : Profile) (p : List ℕ) (again : ℕ) where
     size : (k : ℕ) → length (part k) ≡ min c.transfer (length p - k * c.transfer)
     size k = omega (arith, length-take c.transfer (drop (k * c.transfer) p), length-drop (k * c.transfer) p)
 
-    -- In a clean run the request for part k leads on, both for a full part and for a shorter one.
+    -- The request for part k leads to the phase that a full part or a shorter one has next.
     compared_part_goes_well : (k : ℕ) (short : Bool) (stage : Stage) (next : Phase) → nat_lt (length (part k)) c.transfer ≡ short
         → (if short then Sure (Data (part k)) InDfuIdle else Sure (Data (part k)) (Given (suc k))) ≡ Sure (Data (part k)) stage
-        → (if short then Last Verified else if suc k == 65535 then Over TooManyBlocks else Compare (suc k)) ≡ next → IsOnPhase next
+        → (if short then Last Verified else if suc k == 65535 then Over TooManyBlocks else Compare (suc k)) ≡ next → IsLivePhase next
         → GoesWell (Given k) (Compare k) 1 stage next
     compared_part_goes_well k short stage next e gave row on =
         action_leads_to_phase c (CompareGoal p) again (Part (part k)) (compared_phase c.transfer k (block k) (part k))
         (λ l. part_answer_is_heard _ stage (part k) (gives k can sized ∙ rw e gave)) (λ l room. refl) (rw (fits k, same k, e) row) on
 
-    -- A full part k leads to the next part.
+    -- If the payload has a full part k, and it isn't one too many, its request leads to the next part.
     full : (k : ℕ) → suc k < 65535 → suc k * c.transfer ≤ length p → GoesWell (Given k) (Compare k) 1 (Given (suc k)) (Compare (suc k))
     full k less inside =
         let long : nat_lt (length (part k)) c.transfer ≡ false = grind (arith, nat_tests, size k, suc-mul k c.transfer) in
         let more : (suc k == 65535) ≡ false = grind (arith, nat_tests) in
         compared_part_goes_well k false (Given (suc k)) (Compare (suc k)) long refl (rw more refl) tt
 
-    -- The last part, which is shorter, leads to the last phase.
+    -- If the payload ends before a full part k, its request leads to the last reset.
     last : (k : ℕ) → length p < suc k * c.transfer → GoesWell (Given k) (Compare k) 1 InDfuIdle (Last Verified)
     last k past =
         let short : nat_lt (length (part k)) c.transfer ≡ true = grind (arith, nat_tests, size k, suc-mul k c.transfer) in
         compared_part_goes_well k true InDfuIdle (Last Verified) short refl refl tt
 
+    -- If the payload has k full parts, the first k passes of a comparison compare them.
     parts : (k : ℕ) → k < 65535 → k * c.transfer ≤ length p → GoesWell InDfuIdle (Compare 0) k (Given k) (Compare k)
     parts zero less inside = none c (CompareGoal p) again
     parts (suc k) less inside =
         let n : k + 1 ≡ suc k = omega arith in
         subst (λ z. GoesWell InDfuIdle (Compare 0) z (Given (suc k)) (Compare (suc k))) n
-        (passes_lead_on (parts k (omega (arith, less)) (omega (arith, inside, suc-mul k c.transfer))) (full k less inside))
+        (leading_passes_compose (parts k (omega (arith, less)) (omega (arith, inside, suc-mul k c.transfer))) (full k less inside))
 
     -- A whole comparison leads from appIDLE to the last phase, in one pass for each full block and five more.
     pub whole_comparison_goes_well : length p / c.transfer < 65535 →
@@ -112,6 +119,7 @@ module _ (c : Profile) (p : List ℕ) (again : ℕ) where
         let low : q * c.transfer ≤ length p = div-mul-le_self (length p) c.transfer in
         let high : length p < q * c.transfer + c.transfer = lt-div-mul-add {a = length p} sized in
         let past : length p < suc q * c.transfer = omega (arith, high, suc-mul q c.transfer) in
-        passes_lead_on (host_finds_app_idle c (CompareGoal p) again p) (passes_lead_on (detach c (CompareGoal p) again p)
-        (passes_lead_on (host_enters_dfu_idle c (CompareGoal p) again p _) (passes_lead_on compare_finds_dfu_idle (passes_lead_on (parts q
+        leading_passes_compose (host_finds_app_idle c (CompareGoal p) again p) (leading_passes_compose (detach c (CompareGoal p) again p)
+        (leading_passes_compose (host_enters_dfu_idle c (CompareGoal p) again p _)
+        (leading_passes_compose compare_finds_dfu_idle (leading_passes_compose (parts q
         less low) (last q past)))))

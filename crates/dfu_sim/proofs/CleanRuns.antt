@@ -17,35 +17,35 @@ use Rattle.dfu_sim.specs.LinkView.{LinkView, WorldView}
 use Rattle.dfu_sim.specs.Bytes.{link_of_bench}
 use Rattle.dfu_sim.specs.CleanRun.{report_of_purpose, ProfileServesPurpose, PassesTo, QuietPasses, here, there, resting_link, InstalledAfter}
 use Rattle.dfu_sim.specs.Refusing.{IsOffered}
-use Rattle.dfu_sim.specs.Sure.{IsHarmless, IsResultOfPlay, IsSureEvent}
-use Rattle.dfu_sim.specs.CleanSteps.{SureSteps, no_sure_step, one_step, StepsInstallCleanly}
+use Rattle.dfu_sim.specs.Sure.{IsHarmless, IsResultOfPlay, EventFollowsTable}
+use Rattle.dfu_sim.specs.CleanSteps.{StepsFollowTable, no_sure_step, one_step, StepsInstallCleanly}
 use Rattle.dfu_sim.specs.CleanInstall.{clean_passes, CanInstall, offer_and_passes, InstallsCleanly}
 use Rattle.dfu_sim.proofs.Clean.{clean_run, clean_run_takes_actions}
 use Rattle.dfu_sim.proofs.Events.{offered_device_has_transfer, can_download, can_upload, bytes_of}
-use Rattle.dfu_sim.proofs.Chains.{EventChain, empty_chain, one_more, profile_of_same_setting}
+use Rattle.dfu_sim.proofs.Chains.{EventChain, empty_chain, one_more, same_setting_has_same_profile}
 
 -- Each step of a chain is a sure step.
 pub chain_steps_are_sure : {w w' : WorldView} {hs : List Happening} {reports : List Report} → EventChain w hs reports w'
-    → SureSteps w.bench hs reports w'.bench
+    → StepsFollowTable w.bench hs reports w'.bench
 chain_steps_are_sure empty_chain = no_sure_step
 chain_steps_are_sure (one_more s more) = one_step s.sure (chain_steps_are_sure more)
 
--- Event of the host's next action, with the fate that it passes.
+-- Event of the host's next action, which passes and in which no write is harmed.
 abbrev pub pass : Happening
 pass = Goes Pass no_write_harmed
 
--- An event goes as the event that it means.
-meaning_plays_alike : (b mid : LinkView) (report : Option Report) (event now : Happening) → event ≡ now → IsHarmless now
+-- If an event without harm equals another, and that one has the result of a play, so has the event.
+event_plays_as_meant : (b mid : LinkView) (report : Option Report) (event now : Happening) → event ≡ now → IsHarmless now
     → (IsHarmless event → IsResultOfPlay b event mid report) → IsResultOfPlay b now mid report
-meaning_plays_alike b mid report event now e harmless w =
+event_plays_as_meant b mid report event now e harmless w =
     subst (λ (x : Happening). IsResultOfPlay b x mid report) e (w (subst IsHarmless (sym e) harmless))
 
--- The link after an event is the one of the play, with the play's report.
+-- The bench after an event shows the link `w`, and the event gave the report of `answer`.
 record LeadsToLink (mid : LinkView) (report : Option Report) (w : Link) (answer : Answered) : Type 0 where
   link : link_of_bench mid ≡ w
   told : report ≡ answer.report
 
--- A result of a play leads to the link and the report of the play.
+-- If the table leads an event from a bench to one link and answer, with memory or without, its result has that link and report.
 sure_event_leads_to_play : (b mid : LinkView) (report : Option Report) (event : Happening) (c : Profile) (w : Link) (answer : Answered)
     → profile b.device ≡ c
     → IsResultOfPlay b event mid report
@@ -56,23 +56,23 @@ sure_event_leads_to_play b mid report event c w answer e x f =
     sym x.same ∙ ap (λ (d : Profile). play_of_event d (link_of_bench b) event Works Works x.room) e ∙ f x.room in
     record { link = ap (λ (p : PlayResult). p.link) same; told = x.told ∙ ap (λ (p : PlayResult). p.answer.report) same }
 
--- A sure pass leads to the link and the report of the pass.
-sure_pass_leads_on : (b mid : LinkView) (report : Option Report) (c : Profile) (w : Link) (answer : Answered) → profile b.device ≡ c
-    → IsSureEvent b pass mid report → PassesTo c (link_of_bench b) w answer → LeadsToLink mid report w answer
-sure_pass_leads_on b mid report c w answer e s f = sure_event_leads_to_play b mid report pass c w answer e
-    (meaning_plays_alike b mid report s.event pass s.means tt s.works)
+-- A sure event that is a pass leads to the link and the report to which the pass leads by the table.
+sure_pass_leads_to_link : (b mid : LinkView) (report : Option Report) (c : Profile) (w : Link) (answer : Answered) → profile b.device ≡ c
+    → EventFollowsTable b pass mid report → PassesTo c (link_of_bench b) w answer → LeadsToLink mid report w answer
+sure_pass_leads_to_link b mid report c w answer e s f = sure_event_leads_to_play b mid report pass c w answer e
+    (event_plays_as_meant b mid report s.event pass s.means tt s.works)
     (λ room. f Works room)
 
--- Result of passes that report nothing: they gave no report, and the rest of the passes leads on to the end.
-pub record RanQuietPasses (c : Profile) (b' : LinkView) (reports : List Report) (n : ℕ) (end : Link) : Type 0 where
+-- Passes that report nothing came: they gave no report, and n further quiet passes lead from their link to `end`.
+pub record QuietPassesRan (c : Profile) (b' : LinkView) (reports : List Report) (n : ℕ) (end : Link) : Type 0 where
   pub none : reports ≡ []
   pub rest : QuietPasses c (link_of_bench b') n end
   pub fixed : profile b'.device ≡ c
 
--- If m passes report nothing, the first k of them gave no report, and m - k are left.
+-- If m passes report nothing, the first k of them gave no report, and m - k passes are left.
 pub quiet_passes_report_nothing : {b b' : LinkView} {reports : List Report} {c : Profile} {end : Link} (k m : ℕ) → k ≤ m
-    → SureSteps b (replicate k pass) reports b' → profile b.device ≡ c → QuietPasses c (link_of_bench b) m end →
-    RanQuietPasses c b' reports (m - k) end
+    → StepsFollowTable b (replicate k pass) reports b' → profile b.device ≡ c → QuietPasses c (link_of_bench b) m end →
+    QuietPassesRan c b' reports (m - k) end
 quiet_passes_report_nothing {b = b} {c = c} {end = end} zero m h no_sure_step e q = record {
   none = refl;
   rest = let same : m ≡ m - 0 = omega arith in subst (λ (z : ℕ). QuietPasses c (link_of_bench b) z end) same q;
@@ -81,8 +81,8 @@ quiet_passes_report_nothing {b = b} {c = c} {end = end} zero m h no_sure_step e 
 quiet_passes_report_nothing {b = b} {b' = b'} {c = c} {end = end} (suc k) (suc m) h (one_step {mid = mid} {report = report} {reports =
     later} s more) e
     (there {mid = w} p q) =
-    let t = sure_pass_leads_on b mid report c w silent e s p in
-    let rest = quiet_passes_report_nothing k m (omega (arith, h)) more (profile_of_same_setting b.device mid.device s.kept ∙ e)
+    let t = sure_pass_leads_to_link b mid report c w silent e s p in
+    let rest = quiet_passes_report_nothing k m (omega (arith, h)) more (same_setting_has_same_profile b.device mid.device s.kept ∙ e)
     (subst (λ (z : Link). QuietPasses c z m end) (sym t.link) q) in
     record {
       none = ap (λ (r : Option Report). report_list r ++ later) t.told ∙ rest.none;
@@ -91,22 +91,22 @@ quiet_passes_report_nothing {b = b} {b' = b'} {c = c} {end = end} (suc k) (suc m
     }
 quiet_passes_report_nothing (suc k) zero h chain e q = absurd (omega (arith, h))
 
--- Result of the last pass, which reports.
-record RanLastPass (b' : LinkView) (reports : List Report) (end : Link) (report : Report) : Type 0 where
+-- The last pass came and gave its report alone, and left the link `end`.
+record LastPassReported (b' : LinkView) (reports : List Report) (end : Link) (report : Report) : Type 0 where
   says : reports ≡ report ∷ []
   link : link_of_bench b' ≡ end
 
 -- After quiet passes the last pass gives its report alone, and leads to the end.
 last_pass_reports : {b b' : LinkView} {reports : List Report} {c : Profile} {before end : Link} {last : Report} (n : ℕ)
-    → SureSteps b (replicate (suc n) pass) reports b' → profile b.device ≡ c → QuietPasses c (link_of_bench b) n before
-    → PassesTo c before end (record { report = Some last; gave = None }) → RanLastPass b' reports end last
+    → StepsFollowTable b (replicate (suc n) pass) reports b' → profile b.device ≡ c → QuietPasses c (link_of_bench b) n before
+    → PassesTo c before end (record { report = Some last; gave = None }) → LastPassReported b' reports end last
 last_pass_reports {b = b} {b' = b'} {c = c} {end = end} {last = last} zero (one_step {report = report} s no_sure_step) e here f =
-    let t = sure_pass_leads_on b b' report c end (record { report = Some last; gave = None }) e s f in
+    let t = sure_pass_leads_to_link b b' report c end (record { report = Some last; gave = None }) e s f in
     record { says = ap (λ (r : Option Report). report_list r ++ []) t.told; link = t.link }
 last_pass_reports {b = b} {c = c} {before = before} (suc n) (one_step {mid = mid} {report = report} {reports = later} s more) e
     (there {mid = w} p q) f =
-    let t = sure_pass_leads_on b mid report c w silent e s p in
-    let rest = last_pass_reports n more (profile_of_same_setting b.device mid.device s.kept ∙ e)
+    let t = sure_pass_leads_to_link b mid report c w silent e s p in
+    let rest = last_pass_reports n more (same_setting_has_same_profile b.device mid.device s.kept ∙ e)
     (subst (λ (z : Link). QuietPasses c z n before) (sym t.link) q)
     f in
     record { says = ap (λ (r : Option Report). report_list r ++ later) t.told ∙ rest.says; link = rest.link }
@@ -117,7 +117,7 @@ offered_device_can_serve : (purpose : Purpose) {s : Setting} {file payload : Lis
 offered_device_can_serve Install room offered = can_download offered
 offered_device_can_serve Verify room offered = (can_download offered, can_upload offered)
 
--- A session was opened: the passes of a clean run lead from here to its report.
+-- A session was opened: nothing was reported, and quiet passes and one that reports lead from here to the end of a clean run.
 pub record SessionOpened (b : LinkView) (purpose : Purpose) (payload : List ℕ) (mid : LinkView) (report : Option Report) : Type 0 where
   pub before : Link
   pub quiet : QuietPasses (profile b.device) (link_of_bench mid) (clean_passes purpose b.device.config payload - 1) before
@@ -129,7 +129,7 @@ pub record SessionOpened (b : LinkView) (purpose : Purpose) (payload : List ℕ)
 pub offer_opens_session : (b mid : LinkView) (report : Option Report) (purpose : Purpose) (file : List ℕ) (limits : Limits) (payload : List
     ℕ)
     → CanInstall b purpose file limits payload
-    → IsSureEvent b (Offers purpose file limits) mid report → SessionOpened b purpose payload mid report
+    → EventFollowsTable b (Offers purpose file limits) mid report → SessionOpened b purpose payload mid report
 offer_opens_session b mid report purpose file limits payload can s =
     let c : Profile = profile b.device in
     let n : ℕ = clean_passes purpose b.device.config payload in
@@ -138,7 +138,7 @@ offer_opens_session b mid report purpose file limits payload can s =
     let same : s.means.0 ≡ payload = (one_reading file s.means.0 payload _ _ _ _ _ _ s.means.1.reads can.offered.reads).0 in
     let start : Link = (play_of_event c (resting_link image) (Offers purpose payload limits) Works Works true).link in
     let lead : LeadsToLink mid report start silent =
-    sure_event_leads_to_play b mid report offer c start silent refl (meaning_plays_alike b mid report s.event offer s.means.2 tt s.works)
+    sure_event_leads_to_play b mid report offer c start silent refl (event_plays_as_meant b mid report s.event offer s.means.2 tt s.works)
     (λ room. λ i. record {
       link = record {
         device = record { image = image; stage = can.rests i };
@@ -154,11 +154,11 @@ offer_opens_session b mid report purpose file limits payload can s =
       before = run.before;
       quiet = subst (λ (z : Link). QuietPasses c z (n - 1) run.before) (sym lead.link) run.quiet;
       last = run.last;
-      fixed = profile_of_same_setting b.device mid.device s.kept;
+      fixed = same_setting_has_same_profile b.device mid.device s.kept;
       told = lead.told;
     }
 
--- Sure steps of an offer and at most the passes of a clean run report as a clean run does.
+-- Steps of an offer and at most the passes of a clean run that follow the table report as a clean run does.
 pub steps_install_cleanly : StepsInstallCleanly
 steps_install_cleanly b b' purpose file limits payload count reports can most (one_step {mid = mid} {report = report} {reports = later} s
     more) =
@@ -169,8 +169,8 @@ steps_install_cleanly b b' purpose file limits payload count reports can most (o
       clean_run_takes_actions purpose b.device.config.functional.transfer b.device.config.busy_ms b.device.config.manifest_ms
           payload,
     ) in
-    let ends : count ≡ n → RanLastPass b' later (resting_link payload) (report_of_purpose purpose) =
-    λ k. last_pass_reports (n - 1) (subst (λ (z : ℕ). SureSteps mid (replicate z pass) later b') (k
+    let ends : count ≡ n → LastPassReported b' later (resting_link payload) (report_of_purpose purpose) =
+    λ k. last_pass_reports (n - 1) (subst (λ (z : ℕ). StepsFollowTable mid (replicate z pass) later b') (k
     ∙ sym some) more) x.fixed x.quiet x.last in
     record {
       early = λ less. ap (λ (r : Option Report). report_list r ++ later) x.told
@@ -186,4 +186,4 @@ pub chain_runs_cleanly : {w w' : WorldView} {hs : List Happening} {reports : Lis
     → InstallsCleanly w.bench purpose payload count reports w'.bench
 chain_runs_cleanly {w = w} {w' = w'} {reports = reports} chain purpose file limits payload count can is most =
     steps_install_cleanly w.bench w'.bench purpose file limits payload count reports can most
-    (subst (λ (x : List Happening). SureSteps w.bench x reports w'.bench) is (chain_steps_are_sure chain))
+    (subst (λ (x : List Happening). StepsFollowTable w.bench x reports w'.bench) is (chain_steps_are_sure chain))

@@ -9,45 +9,47 @@ use Rattle.dfu_device.specs.declared.objection.Objection.{Objection}
 use Rattle.dfu_device.specs.Stage.{Request, Dnload, Ack, Profile, Stage, InDownloadIdle, InManifestSync}
 use Rattle.dfu_device.specs.Table.{Plan, Sure, error_plan, plan, has_no_bytes, may_close, objection_code}
 use Rattle.dfu_device.specs.Rows.{request_for_table, is_close}
-use Rattle.dfu_device.specs.Cases.{either_way}
+use Rattle.dfu_device.specs.Cases.{holds_in_both_branches}
 use Rattle.dfu_sim.specs.Play.{request_closes, plan_with_refusal}
 use Rattle.dfu_sim.proofs.Quiet.{IsBlocklessRequest}
 use Rattle.dfu_sim.proofs.Replies.{IsHostRequest}
 
 -- A request that closes nothing has the table's plan, whatever the program refuses.
-pub request_without_close_by_table : (x : Option Objection) (c : Profile) (i : List ℕ) (stage : Stage) (r : Request) →
+pub closeless_request_goes_by_table : (x : Option Objection) (c : Profile) (i : List ℕ) (stage : Stage) (r : Request) →
     request_closes c.least stage r ≡ false
     → plan_with_refusal x c i stage r ≡ plan c i stage r
-request_without_close_by_table None c i stage r e = refl
-request_without_close_by_table (Some why) c i stage r e = ap (λ (t : Bool). cond t (error_plan (objection_code why)) (plan c i stage r)) e
+closeless_request_goes_by_table None c i stage r e = refl
+closeless_request_goes_by_table (Some why) c i stage r e = ap (λ (t : Bool). cond t (error_plan (objection_code why)) (plan c i stage r)) e
 
--- A request that closes a download, whose image the program refuses, is an error with the code of the objection.
+-- The plan of a request that closes a download whose image the program refuses is an error with the code of the objection.
 pub refused_close_is_error : (why : Objection) (c : Profile) (i : List ℕ) (stage : Stage) (r : Request) →
     request_closes c.least stage r ≡ true
     → plan_with_refusal (Some why) c i stage r ≡ error_plan (objection_code why)
 refused_close_is_error why c i stage r e = ap (λ (t : Bool). cond t (error_plan (objection_code why)) (plan c i stage r)) e
 
--- A request that brings no block closes nothing.
-pub polite_request_closes_nothing : (least : ℕ) (stage : Stage) (r : Request) → IsBlocklessRequest r → request_closes least stage r ≡ false
-polite_request_closes_nothing least stage (Dnload number body) p = elim p [ ]
-polite_request_closes_nothing least stage r p = refl
+-- A request that moves no block closes nothing.
+pub blockless_request_closes_nothing : (least : ℕ) (stage : Stage) (r : Request) → IsBlocklessRequest r
+    → request_closes least stage r ≡ false
+blockless_request_closes_nothing least stage (Dnload number body) p = elim p [ ]
+blockless_request_closes_nothing least stage r p = refl
 
 -- A DNLOAD with a body that is not empty closes nothing.
-pub block_closes : (least : ℕ) (stage : Stage) (number : ℕ) (body : List ℕ) → has_no_bytes body ≡ false
+pub block_closes_nothing : (least : ℕ) (stage : Stage) (number : ℕ) (body : List ℕ) → has_no_bytes body ≡ false
     → request_closes least stage (Dnload number body) ≡ false
-block_closes least stage number body e = ap (λ (t : Bool). cond t (may_close least stage) false) e
+block_closes_nothing least stage number body e = ap (λ (t : Bool). cond t (may_close least stage) false) e
 
--- Cases of the plan of a closing request: an error with some code, or the bytes taken are closed.
-pub cases_of_close_plan : (P : Plan → Type 0) (x : Option Objection) (c : Profile) (i taken : List ℕ) (expected number : ℕ)
+-- A property of the plan of a closing request holds if it holds of each error, and of the plan that closes the bytes taken.
+pub close_errs_or_works : (P : Plan → Type 0) (x : Option Objection) (c : Profile) (i taken : List ℕ) (expected number : ℕ)
     → ((code : Code) → P (error_plan code)) → P (Sure Ack (InManifestSync taken))
     → P (plan_with_refusal x c i (InDownloadIdle taken expected) (Dnload number []))
-cases_of_close_plan P None c i taken expected number pf pt = either_way P (nat_le c.least (length taken)) _ _ pt (pf ErrNotDone)
-cases_of_close_plan P (Some why) c i taken expected number pf pt =
-    either_way P (nat_le c.least (length taken)) _ _ (pf (objection_code why))
-    (either_way P (nat_le c.least (length taken)) _ _ pt (pf ErrNotDone))
+close_errs_or_works P None c i taken expected number pf pt = holds_in_both_branches P (nat_le c.least (length taken)) _ _ pt (pf ErrNotDone)
+close_errs_or_works P (Some why) c i taken expected number pf pt =
+    holds_in_both_branches P (nat_le c.least (length taken)) _ _ (pf (objection_code why))
+    (holds_in_both_branches P (nat_le c.least (length taken)) _ _ pt (pf ErrNotDone))
 
--- Requests as hosts send them.
+-- Requests that hosts send.
 
+-- A Boolean that is not true is false.
 not_true_is_false : (b : Bool) → (b ≡ true → ⊥) → b ≡ false
 not_true_is_false true f = absurd (f refl)
 not_true_is_false false f = refl
@@ -60,7 +62,7 @@ host_close_request_closes (request.Dnload block len) (x ∷ xs) least stage i e 
     let none : len ≡ 0 = grind (arith, nat_tests) in absurd (omega (arith, none, i))
 host_close_request_closes q body least stage i e may = absurd cc
 
--- A request closes nothing if it is not the one that closes a download, or if the download may not be closed then.
+-- A request of a host closes nothing if it is not the one that closes a download, or if the download may not be closed then.
 pub other_host_request_closes_nothing : (q : Asked) (body : List ℕ) (least : ℕ) (stage : Stage) → IsHostRequest q body
     → (is_close q ≡ true → may_close least stage ≡ true → ⊥) → request_closes least stage (request_for_table q body) ≡ false
 other_host_request_closes_nothing (request.Dnload block len) [] least stage i request_closes =

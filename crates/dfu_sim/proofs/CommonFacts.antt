@@ -20,26 +20,26 @@ module _ (c : Profile) where
   common_phase_has_goal_fact g d Find h = tt
   common_phase_has_goal_fact g d phase h = search
 
-  -- In dfuIDLE a download is at its first block.
-  download_fact_in_dfu_idle : (p : List ℕ) (stage : Stage) → Tells DfuIdle stage → IsAtBlock p c.transfer 0 stage
-  download_fact_in_dfu_idle p InDfuIdle h = refl
-  download_fact_in_dfu_idle p stage h = elim h [ ]
+  -- A device that reported dfuIDLE waits for the first block of a download.
+  dfu_idle_is_at_first_block : (p : List ℕ) (stage : Stage) → Tells DfuIdle stage → IsAtBlock p c.transfer 0 stage
+  dfu_idle_is_at_first_block p InDfuIdle h = refl
+  dfu_idle_is_at_first_block p stage h = elim h [ ]
 
-  -- In dfuIDLE an upload is at its first part.
-  upload_fact_in_dfu_idle : (image : List ℕ) (stage : Stage) → Tells DfuIdle stage → FetchedSoFar 0 [] image stage
-  upload_fact_in_dfu_idle image InDfuIdle h = (refl, refl)
-  upload_fact_in_dfu_idle image stage h = elim h [ ]
+  -- A device that reported dfuIDLE waits for the first part of an upload, with no bytes kept.
+  dfu_idle_is_at_first_part : (image : List ℕ) (stage : Stage) → Tells DfuIdle stage → FetchedSoFar 0 [] image stage
+  dfu_idle_is_at_first_part image InDfuIdle h = (refl, refl)
+  dfu_idle_is_at_first_part image stage h = elim h [ ]
 
   -- In a situation the fact of a goal holds in each common phase, and in the first phase of its work once the host heard dfuIDLE.
   abbrev pub CommonFacts : Goal → Situation → Type 0
   CommonFacts g d = CommonInvariant (task_for c g) (λ phase. GoalFact c g phase d) (λ heard. ToldByHeard heard d.stage)
 
-  -- In dfuIDLE the fact of the first phase of the work holds.
-  goal_fact_at_work_start : (g : Goal) → HasBlocks c g → (d : Situation) → Tells DfuIdle d.stage → GoalFact c g (work_start g) d
-  goal_fact_at_work_start FetchGoal some d t = (omega arith, upload_fact_in_dfu_idle d.image d.stage t)
-  goal_fact_at_work_start (CompareGoal p) some d t = (omega arith, upload_fact_in_dfu_idle d.image d.stage t)
-  goal_fact_at_work_start (LoadGoal p) some d t = (some, download_fact_in_dfu_idle p d.stage t)
-  goal_fact_at_work_start (VerifyGoal p) some d t = (some, download_fact_in_dfu_idle p d.stage t)
+  -- If a device reported dfuIDLE, the fact of the first phase of the work holds.
+  work_start_has_goal_fact : (g : Goal) → HasBlocks c g → (d : Situation) → Tells DfuIdle d.stage → GoalFact c g (work_start g) d
+  work_start_has_goal_fact FetchGoal some d t = (omega arith, dfu_idle_is_at_first_part d.image d.stage t)
+  work_start_has_goal_fact (CompareGoal p) some d t = (omega arith, dfu_idle_is_at_first_part d.image d.stage t)
+  work_start_has_goal_fact (LoadGoal p) some d t = (some, dfu_idle_is_at_first_block p d.stage t)
+  work_start_has_goal_fact (VerifyGoal p) some d t = (some, dfu_idle_is_at_first_block p d.stage t)
 
   -- A report that promises nothing has its meaning in each situation.
   plain_report_has_meaning : (p : List ℕ) (d : Situation) (report : Report) → PromisesNothing report → ReportMeaning c p d IsAppIdle report
@@ -51,11 +51,11 @@ module _ (c : Profile) where
   plain_end_has_goal_fact FetchGoal d report h = h
   plain_end_has_goal_fact g d report h = plain_report_has_meaning _ d report h
 
-  -- The common facts hold of each goal and each situation.
+  -- The common facts hold of each goal whose payload has blocks, and of each situation.
   pub goal_has_common_facts : (g : Goal) → HasBlocks c g → (d : Situation) → CommonFacts g d
   goal_has_common_facts g some d = record {
     holds_in_each_phase = common_phase_has_goal_fact g d;
-    begins = λ code poll t. goal_fact_at_work_start g some d t;
+    begins = λ code poll t. work_start_has_goal_fact g some d t;
     refused = λ code. plain_end_has_goal_fact g d (Refused code) tt;
     aborted = plain_end_has_goal_fact g d Aborted tt;
   }

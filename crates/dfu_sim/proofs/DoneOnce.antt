@@ -9,24 +9,24 @@ use Rattle.dfu_device.specs.Table.{Plan, Sure, Writes, Commits}
 use Rattle.dfu_device.specs.Outcome.{Luck, Works, FailsOld, plan_outcome}
 use Rattle.dfu_device.specs.DeviceView.{DeviceView}
 use Rattle.dfu_device.specs.Rows.{ReplyAnswer, block_calls, Done}
-use Rattle.dfu_sim.specs.Bytes.{armed_device, powered_up}
+use Rattle.dfu_sim.specs.Bytes.{armed_device, device_after_power_cycle}
 use Rattle.dfu_sim.specs.OneAnswer.{SameDevice}
 
--- A store is the same as itself.
+-- Each store is the same as itself, in the sense of `SameStore`.
 store_is_same_as_itself : (s : SlotsState) → SameStore s s
 store_is_same_as_itself s = record { medium = record { bytes = refl; fuse = refl; grain = refl }; held = refl; put_end = refl }
 
--- Equal devices are the same device.
-pub same_device : {w v : DeviceView} → w ≡ v → SameDevice w v
-same_device {w = w} e = subst (λ (z : DeviceView). SameDevice w z) e (record {
+-- Equal devices are the same device in the sense of `SameDevice`.
+pub equal_devices_are_same : {w v : DeviceView} → w ≡ v → SameDevice w v
+equal_devices_are_same {w = w} e = subst (λ (z : DeviceView). SameDevice w z) e (record {
   config = refl;
   stage = refl;
   store = store_is_same_as_itself
       w.slots;
 })
 
--- Two devices that are the same stay the same after their power came back.
-pub powered_devices_stay_same : {w v : DeviceView} → SameDevice w v → SameDevice (powered_up w) (powered_up v)
+-- Two devices that are equal but for failed writes stay so after their power came back.
+pub powered_devices_stay_same : {w v : DeviceView} → SameDevice w v → SameDevice (device_after_power_cycle w) (device_after_power_cycle v)
 powered_devices_stay_same same = record {
   config = same.config;
   stage = refl;
@@ -37,7 +37,7 @@ powered_devices_stay_same same = record {
   };
 }
 
--- Two devices that are the same stay the same once their media are disarmed.
+-- Two devices that are equal but for failed writes stay so once their media are disarmed.
 pub disarmed_devices_stay_same : {w v : DeviceView} → SameDevice w v → SameDevice (armed_device w Whole) (armed_device v Whole)
 disarmed_devices_stay_same same = record {
   config = same.config;
@@ -49,7 +49,7 @@ disarmed_devices_stay_same same = record {
   };
 }
 
--- Two results of one plan on one device: both have the same reply, and the devices are the same but for the count of failed writes.
+-- Two results of one plan on one device agree: both have one reply, and the devices are equal but for the count of failed writes.
 pub record DoneOnce (p : Plan) (len : ℕ) (w w' v' : DeviceView) (a b : Answer) (out other : List ℕ) : Type 0 where
   pub luck : Luck
   pub first : ReplyAnswer len (plan_outcome (image_of w.slots) p luck).reply a out
@@ -91,9 +91,9 @@ done_plan_has_ending p len w a out w' (inr (fault, says, h)) =
     record { ending = BrokenBy fault; answers = says; config = h.config_is; stage = h.stage_is; called = h.calls }
 
 -- A plan is carried out in one way from one device, if the fuse of the device is known.
-pub plan_done_in_one_way : (p : Plan) (len : ℕ) (w w' v' : DeviceView) (a b : Answer) (out other : List ℕ) → IsKnownFuse w.slots.medium.fuse
+pub plan_ends_in_one_way : (p : Plan) (len : ℕ) (w w' v' : DeviceView) (a b : Answer) (out other : List ℕ) → IsKnownFuse w.slots.medium.fuse
     → Done p len w a out w' → Done p len w b other v' → DoneOnce p len w w' v' a b out other
-plan_done_in_one_way p len w w' v' a b out other known h k =
+plan_ends_in_one_way p len w w' v' a b out other known h k =
     let x = done_plan_has_ending p len w a out w' h in
     let y = done_plan_has_ending p len w b other v' k in
     let same : x.ending ≡ y.ending = same_calls_same_ending (store_calls_of_plan p) x.ending y.ending w.slots w.slots w'.slots v'.slots

@@ -6,7 +6,7 @@ use Rattle.dfu_device.specs.Outcome.{Situation, Luck}
 use Rattle.dfu_host.specs.Blocks.{blocks}
 use Rattle.dfu_host.specs.BlockLaws.{started_block_is_counted}
 use Rattle.dfu_host.specs.Phases.{FetchGoal, Phase, Find, GiveUp, Over, OverUploaded, Restarted}
-use Rattle.dfu_host.specs.Host.{HostState, IsOnPhase, host_given_up_in_phase}
+use Rattle.dfu_host.specs.Host.{HostState, IsLivePhase, host_given_up_in_phase}
 use Rattle.dfu_sim.specs.declared.offering.Purpose.{Purpose}
 use Rattle.dfu_sim.specs.declared.offering.Purpose.TheVariants.{Install, Verify}
 use Rattle.dfu_sim.specs.Session.{Machine, LiveSession, NothingLive, LoadingPayload, ReportStep, reports_nothing, OfferKind, RestartKind, MachineStep, offered, uploads, aborts, restarts, refuses}
@@ -21,9 +21,9 @@ use Rattle.dfu_sim.specs.Simulation.{StepIsFollowed}
 use Rattle.dfu_sim.proofs.CommonFacts.{common_phase_has_goal_fact}
 use Rattle.dfu_sim.proofs.Taking.{shown, restart_outcome_holds, restart_report_promises_nothing, task_goes_by_descriptor}
 use Rattle.dfu_sim.proofs.Saying.{in_place_step_had_live_payload}
-use Rattle.dfu_sim.proofs.PassingTime.{time_installs_or_stays, session_fact_through_time}
-use Rattle.dfu_sim.proofs.Objecting.{refusal_may_drop_pending, refusal_keeps_closed_offer, session_fact_after_refusal}
-use Rattle.dfu_sim.proofs.ActionSteps.{Simulated, host_action_simulated}
+use Rattle.dfu_sim.proofs.PassingTime.{time_installs_or_stays, time_keeps_session_fact}
+use Rattle.dfu_sim.proofs.Objecting.{refusal_may_drop_pending, refusal_keeps_closed_offer, refusal_keeps_session_fact}
+use Rattle.dfu_sim.proofs.ActionSteps.{IsSimulated, host_action_simulated}
 
 module _ (c : Profile) (offers : List (List ℕ)) where
   -- After a reset of the bus no bytes are pending.
@@ -36,11 +36,11 @@ module _ (c : Profile) (offers : List (List ℕ)) where
   nothing_closed_after_reset (InAppDetach timer passed) = tt
   nothing_closed_after_reset stage = tt
 
-  -- A restart from outside, which drops the pending bytes, is a step of the session machine.
+  -- A restart from outside, after which no bytes are pending, is a step of the session machine, and the facts of the link hold after it.
   outside_restart_simulated : (s : Situation) (next : Stage) (session : Session) (up : List ℕ) → pending_of next ≡ None
       → ClosedWasOffered offers next
       → IsLiveOffer offers (live_session_of session) → SessionFact c s session
-      → Simulated c offers (record { device = s; session = session }) up RestartKind
+      → IsSimulated c offers (record { device = s; session = session }) up RestartKind
       (restart_play_result (record { image = s.image; stage = next }) session) offers
   outside_restart_simulated s next NoLiveSession up n q o f =
       record {
@@ -72,7 +72,7 @@ module _ (c : Profile) (offers : List (List ℕ)) where
   closed_offer_stays_with_more p (InManifest taken passed) h = inr h
   closed_offer_stays_with_more p stage h = tt
 
--- The live goal of an offered session is the payload of the offer.
+-- The session machine loads the payload of an offer for the session that the offer begins.
 offered_goal_is_loaded : (purpose : Purpose) (payload : List ℕ) → live_session_of_goal (goal_of_purpose purpose payload)
     ≡ LoadingPayload payload
 offered_goal_is_loaded Install payload = refl
@@ -83,41 +83,42 @@ abbrev offers_after_event : Happening → List (List ℕ) → List (List ℕ)
 offers_after_event (Offers purpose payload limits) offers = payload ∷ offers
 offers_after_event event offers = offers
 
--- What an event must know of the transfer size: an offer and an action of the host need at least one byte.
-abbrev pub Sizes : Profile → Session → Happening → Type 0
-Sizes c NoLiveSession (Offers purpose payload limits) = 0 < c.transfer
-Sizes c (HostSession h) (Goes fate harm) = 0 < c.transfer
-Sizes c session event = Unit {0}
+-- The transfer size is at least one byte, if the event needs one: an offer without a session does, and an action of a live host.
+abbrev pub IsSized : Profile → Session → Happening → Type 0
+IsSized c NoLiveSession (Offers purpose payload limits) = 0 < c.transfer
+IsSized c (HostSession h) (Goes fate harm) = 0 < c.transfer
+IsSized c session event = Unit {0}
 
--- If the transfer size is at least one byte, each event knows what it must.
-pub event_knows_transfer_size : (c : Profile) (session : Session) (event : Happening) → 0 < c.transfer → Sizes c session event
-event_knows_transfer_size c NoLiveSession (Offers purpose payload limits) h = h
-event_knows_transfer_size c (HostSession host) (Goes fate harm) h = h
-event_knows_transfer_size c session event h = tt
+-- A transfer size of at least one byte is enough for each event.
+pub event_has_needed_transfer : (c : Profile) (session : Session) (event : Happening) → 0 < c.transfer → IsSized c session event
+event_has_needed_transfer c NoLiveSession (Offers purpose payload limits) h = h
+event_has_needed_transfer c (HostSession host) (Goes fate harm) h = h
+event_has_needed_transfer c session event h = tt
 
--- A live host that its caller gives up comes to the phase Give up.
-aborted_live_host_gives_up : (h : HostState) (phase : Phase) → IsOnPhase phase → host_given_up_in_phase h phase
+-- A live host that is aborted goes to the phase GiveUp.
+aborted_live_host_gives_up : (h : HostState) (phase : Phase) → IsLivePhase phase → host_given_up_in_phase h phase
     ≡ record h { phase = GiveUp }
 aborted_live_host_gives_up h (Over r) on = elim on [ ]
 aborted_live_host_gives_up h (OverUploaded kept) on = elim on [ ]
 aborted_live_host_gives_up h phase on = refl
 
 module _ (c : Profile) where
-  -- A payload of at least one byte has a block.
+  -- A payload of at least one byte has a block, if the transfer size is at least one byte.
   payload_has_blocks : (p : List ℕ) → 0 < c.transfer → 0 < length p → 0 < length (blocks p c.transfer)
   payload_has_blocks p sized h = started_block_is_counted p c.transfer 0 sized (omega (arith, h))
 
-  -- The goal of an offer has a block.
+  -- The goal of an offer of at least one byte has a block, if the transfer size is at least one byte.
   offered_goal_has_blocks : (purpose : Purpose) (p : List ℕ) → 0 < c.transfer → 0 < length p → HasBlocks c (goal_of_purpose purpose p)
   offered_goal_has_blocks Install p sized h = payload_has_blocks p sized h
   offered_goal_has_blocks Verify p sized h = payload_has_blocks p sized h
 
+  -- Each event of a play is a step of the session machine, and the facts of the link hold after it.
   event_play_simulated : (offers : List (List ℕ)) (s : Situation) (session : Session) (up : List ℕ) (event : Happening) (l k : Luck) (room
       : Bool)
-      → Sizes c session event → MayHappen session event → ClosedWasOffered offers s.stage → IsLiveOffer offers (live_session_of session)
+      → IsSized c session event → MayHappen session event → ClosedWasOffered offers s.stage → IsLiveOffer offers (live_session_of session)
       → SessionFact c s session
       → let w : Link = record { device = s; session = session } in
-      Simulated c offers w up (kind_of event) (play_of_event c w event l k room) (offers_after_event event offers)
+      IsSimulated c offers w up (kind_of event) (play_of_event c w event l k room) (offers_after_event event offers)
   event_play_simulated offers s NoLiveSession up (Offers purpose payload limits) l k room z a q o f =
       record {
         step = subst (λ (x : LiveSession). MachineStep c.tolerant c.transfer (OfferKind payload)
@@ -142,7 +143,7 @@ module _ (c : Profile) where
         done = λ e. elim e [ ];
       }
   event_play_simulated offers s (HostSession h) up Aborts l k room z a q o f =
-      subst (λ (x : HostState). Simulated c offers (record { device = s; session = HostSession h }) up (kind_of Aborts)
+      subst (λ (x : HostState). IsSimulated c offers (record { device = s; session = HostSession h }) up (kind_of Aborts)
       (record { link = record { device = s; session = HostSession x }; answer = silent }) offers) (sym (aborted_live_host_gives_up h
       h.phase f.on))
       (record {
@@ -161,7 +162,7 @@ module _ (c : Profile) where
       room q o f
   event_play_simulated offers s session up (Passes ms) l k room z a q o f =
       let t = time_installs_or_stays c offers s.image ms s.stage (live_session_of session) up q in
-      record { step = t.0; sound = t.1; offer = o; fact = session_fact_through_time c offers s ms session f; done = λ e. elim e [ ] }
+      record { step = t.0; sound = t.1; offer = o; fact = time_keeps_session_fact c offers s ms session f; done = λ e. elim e [ ] }
   event_play_simulated offers s session up Resets l k room z a q o f =
       outside_restart_simulated c offers s (reset_stage s.stage) session up (reset_leaves_nothing_pending c offers s.stage)
       (nothing_closed_after_reset c offers s.stage) o f
@@ -170,7 +171,7 @@ module _ (c : Profile) where
     step = refuses (refusal_may_drop_pending why offers s.image s.stage (live_session_of session) up);
     sound = refusal_keeps_closed_offer why offers s.stage q;
     offer = o;
-    fact = session_fact_after_refusal c why s session f;
+    fact = refusal_keeps_session_fact c why s session f;
     done = λ e. elim e [ ];
   }
   event_play_simulated offers s session up event l k room z a q o f = elim a [ ]
@@ -186,9 +187,9 @@ module _ (c : Profile) where
     up = sym a.up_is i;
   }
 
-  -- A simulated play is followed by the machine that shows the link.
+  -- The machine that shows a link follows an event that is simulated.
   simulated_play_is_followed : (w : Link) (up : List ℕ) (offers offers' : List (List ℕ)) (event : Happening) (r : PlayResult)
-      → Simulated c offers w up (kind_of event) r offers' → StepIsFollowed c
+      → IsSimulated c offers w up (kind_of event) r offers' → StepIsFollowed c
       (shown offers w.device.image (pending_of w.device.stage) (live_session_of w.session) up) event r.link
       (uploaded_after r.answer.gave up) r.answer.report
   simulated_play_is_followed w up offers offers' event r s =
@@ -202,8 +203,8 @@ module _ (c : Profile) where
         in_place = λ e. (s.done e, in_place_step_had_live_payload s.step e);
       }
 
-  -- The session machine follows a play whose event knows the transfer size.
-  pub sized_play_is_followed : (w w' : Link) (up : List ℕ) (m : Machine) (event : Happening) (answer : Answered) → Sizes c w.session event
+  -- The session machine follows a play, if the transfer size is enough for its event.
+  pub sized_play_is_followed : (w w' : Link) (up : List ℕ) (m : Machine) (event : Happening) (answer : Answered) → IsSized c w.session event
       → SessionFact c w.device w.session → Agrees w up m → Play c w event w' answer
       → StepIsFollowed c m event w' (uploaded_after answer.gave up) answer.report
   sized_play_is_followed w w' up m event answer z f a p =
@@ -215,8 +216,8 @@ module _ (c : Profile) where
       (agreeing_machine_is_shown w up m a) e)
 
 module _ (c : Profile) (sized : 0 < c.transfer) where
-  -- The session machine follows each play of a device whose transfer size is at least one byte.
+  -- If the transfer size is at least one byte, the session machine that agrees with a link follows each of its plays.
   pub follows : (w w' : Link) (up : List ℕ) (m : Machine) (event : Happening) (answer : Answered) → SessionFact c w.device w.session
       → Agrees w up m → Play c w event w' answer → StepIsFollowed c m event w' (uploaded_after answer.gave up) answer.report
-  follows w w' up m event answer f a p = sized_play_is_followed c w w' up m event answer (event_knows_transfer_size c w.session event
+  follows w w' up m event answer f a p = sized_play_is_followed c w w' up m event answer (event_has_needed_transfer c w.session event
       sized) f a p

@@ -24,10 +24,10 @@ use Rattle.dfu_sim.specs.Happening.{Fate, WriteHarm, Happening, Offers, Goes, Pa
 use Rattle.dfu_sim.specs.Opening.{goal_of_purpose}
 use Rattle.dfu_sim.specs.Play.{Answered, uploaded_after, silent, HostOutcome, notify_restart, host_outcome, settled_session, MayHappen}
 use Rattle.dfu_sim.specs.LinkView.{Session, NoLiveSession, HostSession, LinkView, world_of_bench}
-use Rattle.dfu_sim.specs.Bytes.{was_refused, HostActsArmed, HappensOnBench, BytePlay}
+use Rattle.dfu_sim.specs.Bytes.{refused_device, HostActsArmed, HappensOnBench, BytePlay}
 use Rattle.dfu_sim.specs.Refusing.{first_offer_fault, IsOffered, IsBadOffer, IsRefused}
 use Rattle.dfu_sim.specs.EventResults.{EventMeaning, refuses, happens, BytesOnlyWithUploaded, WorldEventResult, WorldEventAlone}
-use Rattle.dfu_sim.specs.LinkInvariant.{session_of, given_by, bench_of, link_state, SendsBytes, IsCountedIn}
+use Rattle.dfu_sim.specs.LinkInvariant.{session_of, given_by, bench_of, link_state, SendsBytes, SessionIsCounted}
 use Rattle.dfu_sim.specs.inside.Acting.{session_outcome, SessionOpened}
 use Rattle.dfu_sim.proofs.Counted.{heard_outcome_gives_bytes, restart_outcome_gives_bytes}
 
@@ -38,10 +38,10 @@ event_may_happen_in_session NoLiveSession h none live = none
 event_may_happen_in_session (HostSession k) h none live = live k
 
 -- An event that is refused changes nothing.
-pub refused_event_result : (b : LinkView) (h : Happening) (why : LinkFault) → IsRefused b h why → WorldEventAlone b h b (Err why)
-refused_event_result b h why is up = record { answer = Err why; comes = refuses is; whole = tt; up_is = refl; told = refl }
+pub refused_event_leaves_link : (b : LinkView) (h : Happening) (why : LinkFault) → IsRefused b h why → WorldEventAlone b h b (Err why)
+refused_event_leaves_link b h why is up = record { answer = Err why; comes = refuses is; whole = tt; up_is = refl; told = refl }
 
--- An event that is allowed has its result: the play's answer, with its bytes and its report.
+-- An event that is a play has its result: the report of the play's answer, and its bytes in place of those before.
 pub allowed_event_has_result : {b b' : LinkView} {h : Happening} {up up' : List ℕ} {report : Option Report} (event : Happening) (answer :
     Answered)
     → EventMeaning b.device.config h event → BytePlay b event b' answer → BytesOnlyWithUploaded (Ok answer)
@@ -51,47 +51,47 @@ allowed_event_has_result event answer means play whole kept says =
     record { answer = Ok answer; comes = happens {event = event} means play; whole = whole; up_is = kept; told = ap Ok says }
 
 -- Time that passes is an event with no report.
-pub time_event_result : (ms : ℕ) (w w' : DeviceView) (host gave : Option HostState) → w.slots.medium.fuse ≡ Whole → Elapses ms w w'
+pub time_event_has_result : (ms : ℕ) (w w' : DeviceView) (host gave : Option HostState) → w.slots.medium.fuse ≡ Whole → Elapses ms w w'
     → WorldEventResult (link_state w host gave) (Passes ms) (link_state w' host gave) (Ok None)
-time_event_result ms w w' host gave e row = allowed_event_has_result (Passes ms) silent refl (record {
+time_event_has_result ms w w' host gave e row = allowed_event_has_result (Passes ms) silent refl (record {
   allowed = event_may_happen_in_session (session_of host) (Passes ms) tt (λ k. tt);
   unarmed = e;
   happens = (row, refl, refl);
 }) tt refl refl
 
 -- A refusal by the program is an event with no report.
-pub refusal_event_result : (why : Objection) (w w' : DeviceView) (host gave : Option HostState) → w.slots.medium.fuse ≡ Whole
-    → w' ≡ was_refused why w
+pub refusal_event_has_result : (why : Objection) (w w' : DeviceView) (host gave : Option HostState) → w.slots.medium.fuse ≡ Whole
+    → w' ≡ refused_device why w
     → WorldEventResult (link_state w host gave) (Refuses why) (link_state w' host gave) (Ok None)
-refusal_event_result why w w' host gave e row = allowed_event_has_result (Refuses why) silent refl (record {
+refusal_event_has_result why w w' host gave e row = allowed_event_has_result (Refuses why) silent refl (record {
   allowed = event_may_happen_in_session (session_of host) (Refuses why) tt (λ k. tt);
   unarmed = e;
   happens = ((λ i. record { device = row i; session = session_of host }), refl);
 }) tt refl refl
 
 -- A restart from outside, by a reset of the bus or a cut of the power, is an event with the report of the session that it ends.
-pub restart_event_result : (h : Happening) (w w' : DeviceView) (host host' gave gave' : Option HostState) (report : Option Report)
+pub restart_event_has_result : (h : Happening) (w w' : DeviceView) (host host' gave gave' : Option HostState) (report : Option Report)
     → EventMeaning w.config h h → MayHappen NoLiveSession h → ((k : HostState) → MayHappen (HostSession k) h) → SendsBytes (session_of host)
-    → IsCountedIn (session_of host) → w.slots.medium.fuse ≡ Whole
+    → SessionIsCounted (session_of host) → w.slots.medium.fuse ≡ Whole
     → HappensOnBench h (bench_of w host) (bench_of w' host') (notify_restart (session_of host)).answer
     → given_by gave' ≡ uploaded_after (notify_restart (session_of host)).answer.gave (given_by gave)
     → report ≡ (notify_restart (session_of host)).answer.report
     → WorldEventResult (link_state w host gave) h (link_state w' host' gave') (Ok report)
-restart_event_result h w w' host host' gave gave' report means none live sized counted e row kept says =
+restart_event_has_result h w w' host host' gave gave' report means none live sized counted e row kept says =
     allowed_event_has_result h (notify_restart (session_of host)).answer means
     (record { allowed = event_may_happen_in_session (session_of host) h none live; unarmed = e; happens = row })
     (restart_outcome_gives_bytes (session_of host) sized counted) kept says
 
 -- The host's next action is an event with the report of the session that it ends.
-pub action_event_result : (fate : Fate) (harm : WriteHarm) (w w' : DeviceView) (h h' : HostState) (host' gave gave' : Option HostState)
+pub action_event_has_result : (fate : Fate) (harm : WriteHarm) (w w' : DeviceView) (h h' : HostState) (host' gave gave' : Option HostState)
     (report : Option Report)
-    → SendsBytes (HostSession h) → IsCountedIn (HostSession h) → w.slots.medium.fuse ≡ Whole →
+    → SendsBytes (HostSession h) → SessionIsCounted (HostSession h) → w.slots.medium.fuse ≡ Whole →
     HostActsArmed h (delivery_of fate) harm w w' h'
     → session_of host' ≡ (session_outcome (HostSession h')).session
     → given_by gave' ≡ uploaded_after (session_outcome (HostSession h')).answer.gave (given_by gave)
     → report ≡ (session_outcome (HostSession h')).answer.report
     → WorldEventResult (link_state w (Some h) gave) (Goes fate harm) (link_state w' host' gave') (Ok report)
-action_event_result fate harm w w' h h' host' gave gave' report sized counted e gone session kept says =
+action_event_has_result fate harm w w' h h' host' gave gave' report sized counted e gone session kept says =
     let same : session_outcome (HostSession h') ≡ host_outcome h gone.acted.heard = ap
     (λ (x : HostState). settled_session x x.phase) gone.acted.same in
     allowed_event_has_result (Goes fate harm) (host_outcome h gone.acted.heard).answer refl (record {
@@ -110,11 +110,11 @@ action_event_result fate harm w w' h h' host' gave gave' report sized counted e 
     (says ∙ ap (λ (t : HostOutcome). t.answer.report) same)
 
 -- An action without a live session is refused with NoHost.
-pub action_without_host_refused : (f : Fate) (harm : WriteHarm) (w : DeviceView) (gave : Option HostState)
+pub action_without_host_is_refused : (f : Fate) (harm : WriteHarm) (w : DeviceView) (gave : Option HostState)
     → WorldEventResult (link_state w None gave) (Goes f harm) (link_state w None gave) (Err fault.NoHost)
-action_without_host_refused f harm w gave = refused_event_result (bench_of w None) (Goes f harm) fault.NoHost refl (given_by gave)
+action_without_host_is_refused f harm w gave = refused_event_leaves_link (bench_of w None) (Goes f harm) fault.NoHost refl (given_by gave)
 
--- If no fault of a list is first, the fault at its head does not hold, and none of the others is first.
+-- If a list of faults has no first fault, the fault at its head does not hold, and the rest of the list has no first fault.
 pub no_first_fault_is_no_fault : (t : Bool) (fault : HostFault) (rest : Option HostFault) → cond t (Some fault) rest ≡ None → (t ≡ false)
     × (rest ≡ None)
 no_first_fault_is_no_fault true fault rest e = absurd cc
@@ -131,7 +131,7 @@ record NoFault (purpose : Purpose) (payload : List ℕ) (f : Functional) : Type 
   gives : purpose ≡ Verify → f.can_upload ≡ true
   sized : (f.transfer == 0) ≡ false
 
--- An offer without a first fault has the facts of one without a fault.
+-- An offer without a first fault has all facts of `NoFault`.
 offer_without_first_fault : (purpose : Purpose) (file : Content) (f : Functional) (ids : Ids) → first_offer_fault purpose file f ids ≡ None
     → NoFault purpose file.payload f
 offer_without_first_fault Install file f ids e =
@@ -155,7 +155,7 @@ offer_has_no_fault : {s : Setting} {purpose : Purpose} {file payload : List ℕ}
     → NoFault purpose payload s.functional
 offer_has_no_fault {s = s} {purpose = purpose} offered = offer_without_first_fault purpose _ s.functional s.ids offered.taken
 
--- A file that is taken has a payload of at least one byte.
+-- A file that a device takes has a payload of at least one byte.
 pub bytes_of : {s : Setting} {purpose : Purpose} {file payload : List ℕ} → IsOffered s purpose file payload → 0 < length payload
 bytes_of {payload = payload} offered = let e : (length payload == 0) ≡ false = (offer_has_no_fault offered).some in grind (arith, nat_tests)
 
@@ -175,55 +175,55 @@ pub can_upload : {s : Setting} {file payload : List ℕ} → IsOffered s Verify 
 can_upload offered = (offer_has_no_fault offered).gives refl
 
 -- An event that must not come in a session is refused with HostBusy while one is live.
-pub event_in_session_refused : (h : Happening) (w : DeviceView) (host : Option HostState)
+pub event_in_session_is_refused : (h : Happening) (w : DeviceView) (host : Option HostState)
     → ((k : HostState) → IsRefused (bench_of w (Some k)) h fault.HostBusy) → is_some host ≡ true
     → WorldEventAlone (bench_of w host) h (bench_of w host) (Err fault.HostBusy)
-event_in_session_refused h w (Some k) busy e = refused_event_result (bench_of w (Some k)) h fault.HostBusy (busy k)
-event_in_session_refused h w None busy e = absurd cc
+event_in_session_is_refused h w (Some k) busy e = refused_event_leaves_link (bench_of w (Some k)) h fault.HostBusy (busy k)
+event_in_session_is_refused h w None busy e = absurd cc
 
 -- An event that is refused without a session is refused while no session is live.
-pub event_without_session_refused : (h : Happening) (why : LinkFault) (w : DeviceView) (host : Option HostState) → is_some host ≡ false
+pub sessionless_event_is_refused : (h : Happening) (why : LinkFault) (w : DeviceView) (host : Option HostState) → is_some host ≡ false
     → IsRefused (bench_of w None) h why → WorldEventAlone (bench_of w host) h (bench_of w host) (Err why)
-event_without_session_refused h why w None e is = refused_event_result (bench_of w None) h why is
-event_without_session_refused h why w (Some k) e is = absurd cc
+sessionless_event_is_refused h why w None e is = refused_event_leaves_link (bench_of w None) h why is
+sessionless_event_is_refused h why w (Some k) e is = absurd cc
 
--- An event begins a session while no session is live.
-pub begins_comes : (h event : Happening) (w : DeviceView) (host : Option HostState) (k : HostState) → is_some host ≡ false
+-- While no session is live, an event that begins a session has its result, and reports nothing.
+pub beginning_event_has_result : (h event : Happening) (w : DeviceView) (host : Option HostState) (k : HostState) → is_some host ≡ false
     → w.slots.medium.fuse ≡ Whole → EventMeaning w.config h event → MayHappen NoLiveSession event
     → HappensOnBench event (bench_of w None) (bench_of w (Some k)) silent
     → WorldEventAlone (bench_of w host) h (bench_of w (Some k)) (Ok None)
-begins_comes h event w None k n e means allowed row up =
+beginning_event_has_result h event w None k n e means allowed row up =
     allowed_event_has_result event silent means (record { allowed = allowed; unarmed = e; happens = row }) tt refl refl
-begins_comes h event w (Some j) k n e means allowed row up = absurd cc
+beginning_event_has_result h event w (Some j) k n e means allowed row up = absurd cc
 
--- An offer begins a session while no session is live.
-pub offer_event_result : (purpose : Purpose) (file : List ℕ) (limits : Limits) (w : DeviceView) (host : Option HostState) (h : HostState)
+-- While no session is live, an offer for which a session opens begins that session.
+pub offer_makes_session : (purpose : Purpose) (file : List ℕ) (limits : Limits) (w : DeviceView) (host : Option HostState) (h : HostState)
     → is_some host ≡ false
     → w.slots.medium.fuse ≡ Whole → SessionOpened w.config purpose file limits h
     → WorldEventAlone (bench_of w host) (Offers purpose file limits) (bench_of w (Some h)) (Ok None)
-offer_event_result purpose file limits w host h n e begun =
-    begins_comes (Offers purpose file limits) (Offers purpose begun.content.payload limits) w host h n e
+offer_makes_session purpose file limits w host h n e begun =
+    beginning_event_has_result (Offers purpose file limits) (Offers purpose begun.content.payload limits) w host h n e
     (begun.content.payload, begun.offered, refl) (bytes_of begun.offered)
     ((λ i. record { device = w; session = HostSession (begun.host i) }), refl)
 
 -- The fault of an offer depends on the file only by its payload and its identifiers.
-pub offer_fault_by_content : (purpose : Purpose) (c d : Content) (f : Functional) (ids : Ids) → c.payload ≡ d.payload → c.ids ≡ d.ids
+pub equal_offers_fail_alike : (purpose : Purpose) (c d : Content) (f : Functional) (ids : Ids) → c.payload ≡ d.payload → c.ids ≡ d.ids
     → first_offer_fault purpose c f ids ≡ first_offer_fault purpose d f ids
-offer_fault_by_content Install c d f ids p q = λ i. first_download_fault (record {
+equal_offers_fail_alike Install c d f ids p q = λ i. first_download_fault (record {
   payload = p i;
   ids = q i;
   dfu = c.dfu;
   suffix = c.suffix;
 }) f ids
-offer_fault_by_content Verify c d f ids p q = λ i. first_verify_fault (record { payload = p i; ids = q i; dfu = c.dfu; suffix = c.suffix })
+equal_offers_fail_alike Verify c d f ids p q = λ i. first_verify_fault (record { payload = p i; ids = q i; dfu = c.dfu; suffix = c.suffix })
     f ids
 
--- The content that reading a file finds.
+-- The bytes are a file with this content, and its suffix has this length.
 abbrev FileHasContent : List ℕ → Content → Type 0
 FileHasContent file content = (extra : List ℕ) × IsFile content.payload content.ids content.dfu extra file × (content.suffix
     ≡ 16 + length extra)
 
--- A file that is read, and whose session has a fault, is refused with the first fault.
+-- The offer of a file that was read, and whose session has a fault, is refused with the first fault.
 pub faulty_offer_is_bad : (s : Setting) (purpose : Purpose) (file : List ℕ) (content : Content) (f : Functional) (ids : Ids) (why :
     HostFault)
     → f ≡ s.functional
@@ -236,13 +236,13 @@ faulty_offer_is_bad s purpose file content f ids why e k found h = (
       (subst (λ (y : Ids). first_offer_fault purpose content f y ≡ Some why) k h),
 )
 
--- If a session began, its offer had no fault.
-pub session_has_no_fault : (o : Option HostFault) (h : HostState) → ((why : HostFault)
+-- If a call fails exactly with its first fault, and it began a session, there is no first fault.
+pub begun_session_has_no_fault : (o : Option HostFault) (h : HostState) → ((why : HostFault)
     → (◌≡◌ {A = Result HostState HostFault} (Ok h) (Err why)) ↔ (o ≡ Some why)) → o ≡ None
-session_has_no_fault None h f = refl
-session_has_no_fault (Some why) h f = let e : ◌≡◌ {A = Result HostState HostFault} (Ok h) (Err why) = (f why).1 refl in absurd cc
+begun_session_has_no_fault None h f = refl
+begun_session_has_no_fault (Some why) h f = let e : ◌≡◌ {A = Result HostState HostFault} (Ok h) (Err why) = (f why).1 refl in absurd cc
 
--- A file that is read, and whose session has no fault, begins a session.
+-- A file that was read, and whose session has no fault, opens a session.
 pub faultless_offer_opens_session : (s : Setting) (purpose : Purpose) (file : List ℕ) (limits : Limits) (content : Content) (f :
     Functional) (ids : Ids)
     (h : HostState)
@@ -253,7 +253,7 @@ faultless_offer_opens_session s purpose file limits content f ids h e k found no
     let taken : first_offer_fault purpose content s.functional s.ids ≡ None =
     subst (λ (x : Functional). first_offer_fault purpose content x s.ids ≡ None) e
     (subst (λ (y : Ids). first_offer_fault purpose content f y ≡ None) k
-    (session_has_no_fault (first_offer_fault purpose content f ids) h none)) in
+    (begun_session_has_no_fault (first_offer_fault purpose content f ids) h none)) in
     record {
       content = content;
       offered = record {
@@ -261,7 +261,7 @@ faultless_offer_opens_session s purpose file limits content f ids h e k found no
         dfu = content.dfu;
         extra = found.0;
         reads = found.1;
-        taken = offer_fault_by_content purpose _ content s.functional s.ids refl refl ∙ taken;
+        taken = equal_offers_fail_alike purpose _ content s.functional s.ids refl refl ∙ taken;
       };
       host = is ∙ ap (λ (x : Functional). host_for_goal x (goal_of_purpose purpose content.payload) limits) e;
     }

@@ -9,70 +9,70 @@ use Rattle.dfu_sim.specs.declared.delivery.Handled.TheVariants.{Unseen, Once, Ag
 use Rattle.dfu_sim.specs.declared.delivery.MediumFault.{MediumFault}
 use Rattle.dfu_sim.specs.declared.delivery.MediumFault.TheVariants.{CutsPower}
 use Rattle.dfu_sim.specs.Delivery.{Delivery}
-use Rattle.dfu_sim.specs.Play.{heard_of_reply, heard_with_room, ActionResult, reached, heard_back, situation_after_harm, action_end_by_harm, situation_after_slip, wait_by_handling, send_result_by, send_result, waited, bus_reset}
+use Rattle.dfu_sim.specs.Play.{heard_of_reply, heard_with_room, ActionResult, reached, heard_back, situation_after_harm, action_end_by_harm, situation_after_slip, wait_by_handling, request_result_of_plan, send_result, waited, bus_reset}
 use Rattle.dfu_sim.specs.LinkAgreement.{ClosedWasOffered}
 use Rattle.dfu_sim.specs.Fact.{PhaseFact}
 use Rattle.dfu_sim.proofs.Quiet.{stays, pending_forgotten, IsQuiet, IsBlocklessRequest, blockless_request_is_quiet, passing_time_is_quiet, bus_reset_is_quiet, quiet_situations_compose}
-use Rattle.dfu_sim.proofs.Tells.{ToldByHeard, Asks, heard_state_through_time, asked_answer_tells_state}
-use Rattle.dfu_sim.proofs.Kept.{phase_fact_through_request, phase_fact_through_time}
-use Rattle.dfu_sim.proofs.Closing.{request_without_close_by_table, polite_request_closes_nothing}
+use Rattle.dfu_sim.proofs.Tells.{ToldByHeard, Asks, time_keeps_heard_state, asked_answer_tells_state}
+use Rattle.dfu_sim.proofs.Kept.{request_keeps_phase_fact, time_keeps_phase_fact}
+use Rattle.dfu_sim.proofs.Closing.{closeless_request_goes_by_table, blockless_request_closes_nothing}
 
--- The property holds of what a host hears, unless that is a restart.
+-- The property holds of the result that a host hears, unless that result is a restart.
 abbrev pub UnlessRestarted : Heard → (Heard → Type 0) → Type 0
 UnlessRestarted Restarted P = Unit {0}
 UnlessRestarted heard P = P heard
 
--- A property of what is heard holds unless a restart is heard.
-pub if_some : (heard : Heard) (P : Heard → Type 0) → P heard → UnlessRestarted heard P
-if_some Restarted P h = tt
-if_some heard P h = h
+-- A property that holds of the result that is heard holds of it unless it is a restart.
+pub heard_fact_holds_unless_restart : (heard : Heard) (P : Heard → Type 0) → P heard → UnlessRestarted heard P
+heard_fact_holds_unless_restart Restarted P h = tt
+heard_fact_holds_unless_restart heard P h = h
 
 -- A property that holds before the end of an action holds after it, unless the host hears of a restart.
-pub fact_after_action_end : (harming : MediumFault) (d : ActionResult) (P : Heard → Situation → Type 0) → P d.heard d.device
+pub action_end_keeps_fact : (harming : MediumFault) (d : ActionResult) (P : Heard → Situation → Type 0) → P d.heard d.device
     → UnlessRestarted (action_end_by_harm harming d).heard (λ heard. P heard (action_end_by_harm harming d).device)
-fact_after_action_end CutsPower d P h = tt
-fact_after_action_end harming d P h = if_some d.heard (λ heard. P heard d.device) h
+action_end_keeps_fact CutsPower d P h = tt
+action_end_keeps_fact harming d P h = heard_fact_holds_unless_restart d.heard (λ heard. P heard d.device) h
 
--- A property of what is heard may be weakened.
-pub weakened_heard_fact : {P Q : Heard → Type 0} (heard : Heard) → ((x : Heard) → P x → Q x) → UnlessRestarted heard P →
+-- If each result with a property has another one, the result that is heard has the other one unless it is a restart.
+pub heard_fact_weakens : {P Q : Heard → Type 0} (heard : Heard) → ((x : Heard) → P x → Q x) → UnlessRestarted heard P →
     UnlessRestarted heard Q
-weakened_heard_fact Restarted f h = tt
-weakened_heard_fact heard f h = f heard h
+heard_fact_weakens Restarted f h = tt
+heard_fact_weakens heard f h = f heard h
 
--- A property of everything that may be heard holds of what is heard.
-pub fact_of_all_heard : (heard : Heard) (P : Heard → Type 0) → ((x : Heard) → P x) → UnlessRestarted heard P
-fact_of_all_heard Restarted P f = tt
-fact_of_all_heard heard P f = f heard
+-- If every result has a property, the heard one has it, in the form that claims nothing of a restart.
+pub fact_of_all_holds_of_heard : (heard : Heard) (P : Heard → Type 0) → ((x : Heard) → P x) → UnlessRestarted heard P
+fact_of_all_holds_of_heard Restarted P f = tt
+fact_of_all_holds_of_heard heard P f = f heard
 
 -- With memory a host hears each meaning unchanged.
-pub heard_with_memory_unchanged : (x : Heard) → x ≡ heard_with_room x true
-heard_with_memory_unchanged (Part bytes) = refl
-heard_with_memory_unchanged x = refl
+pub memory_keeps_heard_meaning : (x : Heard) → x ≡ heard_with_room x true
+memory_keeps_heard_meaning (Part bytes) = refl
+memory_keeps_heard_meaning x = refl
 
 module _ (c : Profile) (offers : List (List ℕ)) where
   -- A cut of the power is quiet.
   pub power_cut_is_quiet : (s : Situation) → IsQuiet offers s (situation_after_power s)
   power_cut_is_quiet s = record { moves = pending_forgotten; sound = tt }
 
-  -- A situation that stays is a quiet move.
+  -- A situation that stays makes a quiet move, if its closed bytes are an offer.
   pub unchanged_situation_is_quiet : (s : Situation) → ClosedWasOffered offers s.stage → IsQuiet offers s s
   unchanged_situation_is_quiet s h = record { moves = stays; sound = h }
 
-  -- An action that is quiet is still quiet at its end, even if the power is cut there.
+  -- An action that moved the situation quietly still did at its end, even if the power is cut there.
   action_end_is_quiet : (s d : Situation) (harming : MediumFault) → IsQuiet offers s d → IsQuiet offers s (situation_after_harm harming d)
   action_end_is_quiet s d CutsPower q = quiet_situations_compose q (power_cut_is_quiet _)
   action_end_is_quiet s d harming q = q
 
-  -- A request that brings no block is quiet, however the device handles it.
-  polite_request_reached_quietly : (s : Situation) (r : Request) (how : Handled) (l k : Luck) → IsBlocklessRequest r →
+  -- A request that moves no block is quiet, however the device handles it, if closed bytes are an offer.
+  blockless_reach_is_quiet : (s : Situation) (r : Request) (how : Handled) (l k : Luck) → IsBlocklessRequest r →
       ClosedWasOffered offers s.stage
       → IsQuiet offers s (reached c s r (plan c s.image s.stage r) how l k).device
-  polite_request_reached_quietly s r Unseen l k p h = unchanged_situation_is_quiet s h
-  polite_request_reached_quietly s r Once l k p h = blockless_request_is_quiet c offers s.image r s.stage p h l
-  polite_request_reached_quietly s r Again l k p h = let q = blockless_request_is_quiet c offers s.image r s.stage p h l in let o =
+  blockless_reach_is_quiet s r Unseen l k p h = unchanged_situation_is_quiet s h
+  blockless_reach_is_quiet s r Once l k p h = blockless_request_is_quiet c offers s.image r s.stage p h l
+  blockless_reach_is_quiet s r Again l k p h = let q = blockless_request_is_quiet c offers s.image r s.stage p h l in let o =
       (handled c s r l).after in
       quiet_situations_compose q (blockless_request_is_quiet c offers o.image r o.stage p q.sound k)
-  polite_request_reached_quietly s r (Late ms) l k p h = let q = blockless_request_is_quiet c offers s.image r s.stage p h l in let o =
+  blockless_reach_is_quiet s r (Late ms) l k p h = let q = blockless_request_is_quiet c offers s.image r s.stage p h l in let o =
       (handled c s r l).after in
       quiet_situations_compose q (passing_time_is_quiet c offers o.image ms o.stage q.sound k)
 
@@ -82,16 +82,16 @@ module _ (c : Profile) (offers : List (List ℕ)) where
       quiet_situations_compose q (passing_time_is_quiet c offers o.image ms o.stage q.sound l)
   slipped_time_is_quiet s how l = bus_reset_is_quiet c offers s.image s.stage
 
-  -- A request that brings no block is quiet, whatever its delivery.
-  pub polite_delivery_is_quiet : (s : Situation) (r : Request) (delivery : Delivery) (l k : Luck) → IsBlocklessRequest r →
+  -- A request that moves no block is quiet, whatever its delivery, if closed bytes are an offer.
+  pub blockless_delivery_is_quiet : (s : Situation) (r : Request) (delivery : Delivery) (l k : Luck) → IsBlocklessRequest r →
       ClosedWasOffered offers s.stage
       → IsQuiet offers s (send_result c s r delivery l k).device
-  polite_delivery_is_quiet s r delivery l k p h =
-      subst (λ (x : Plan). IsQuiet offers s (send_result_by c s r x delivery l k).device)
-      (sym (request_without_close_by_table delivery.refusing c s.image s.stage r (polite_request_closes_nothing c.least s.stage r p)))
-      (action_end_is_quiet s _ delivery.harming (polite_request_reached_quietly s r delivery.handling l k p h))
+  blockless_delivery_is_quiet s r delivery l k p h =
+      subst (λ (x : Plan). IsQuiet offers s (request_result_of_plan c s r x delivery l k).device)
+      (sym (closeless_request_goes_by_table delivery.refusing c s.image s.stage r (blockless_request_closes_nothing c.least s.stage r p)))
+      (action_end_is_quiet s _ delivery.harming (blockless_reach_is_quiet s r delivery.handling l k p h))
 
-  -- A wait is quiet, whatever its delivery.
+  -- A wait is quiet, whatever its delivery, if closed bytes are an offer.
   pub delivered_wait_is_quiet : (s : Situation) (ms : ℕ) (delivery : Delivery) (l : Luck) → ClosedWasOffered offers s.stage
       → IsQuiet offers s (waited c s ms delivery l).device
   delivered_wait_is_quiet s ms delivery l h =
@@ -101,57 +101,58 @@ module _ (c : Profile) (offers : List (List ℕ)) where
   pub delivered_reset_is_quiet : (s : Situation) (delivery : Delivery) (l : Luck) → IsQuiet offers s (bus_reset c s delivery l).device
   delivered_reset_is_quiet s delivery l = action_end_is_quiet s _ delivery.harming (slipped_time_is_quiet s delivery.handling l)
 
-  -- Facts of the device and of the answer that a phase knows once it asked.
-  pub record Knows (p : List ℕ) (phase : Phase) (d : Situation) (heard : Heard) : Type 0 where
+  -- Facts that a phase knows once it asked: its own fact, and that the device is as its answer says.
+  pub record PhaseKnows (p : List ℕ) (phase : Phase) (d : Situation) (heard : Heard) : Type 0 where
     pub fact : PhaseFact c p phase d
     pub told : ToldByHeard heard d.stage
 
-  -- The phase knows what it must after an action, unless the host hears of a restart.
+  -- A phase knows these facts after an action, unless the host hears of a restart.
   abbrev pub KnowsUnlessRestarted : List ℕ → Phase → ActionResult → Type 0
-  KnowsUnlessRestarted p phase d = UnlessRestarted d.heard (λ heard. Knows p phase d.device heard)
+  KnowsUnlessRestarted p phase d = UnlessRestarted d.heard (λ heard. PhaseKnows p phase d.device heard)
 
-  -- The facts that a phase knows stay at the end of its action.
+  -- The facts that a phase knows stay at the end of its action, with its answer or without it, unless a restart is heard.
   sent_request_keeps_knowledge : (p : List ℕ) (phase : Phase) (harming : MediumFault) (back : Bool) (d : ActionResult) →
-      Knows p phase d.device d.heard
+      PhaseKnows p phase d.device d.heard
       → KnowsUnlessRestarted p phase (action_end_by_harm harming (record { device = d.device; heard = heard_back back d.heard }))
-  sent_request_keeps_knowledge p phase harming true d k = fact_after_action_end harming d (λ heard x. Knows p phase x heard) k
-  sent_request_keeps_knowledge p phase harming false d k = fact_after_action_end harming (record { device = d.device; heard = Nothing })
-      (λ heard x. Knows p phase x heard) (record { fact = k.fact; told = tt })
+  sent_request_keeps_knowledge p phase harming true d k = action_end_keeps_fact harming d (λ heard x. PhaseKnows p phase x heard) k
+  sent_request_keeps_knowledge p phase harming false d k = action_end_keeps_fact harming (record { device = d.device; heard = Nothing })
+      (λ heard x. PhaseKnows p phase x heard) (record { fact = k.fact; told = tt })
 
-  -- The answer to a phase's request gives the facts that it must know.
+  -- The answer to a phase's request gives the facts that the phase must know.
   asked_request_reaches_knowledge : (r : Request) (p : List ℕ) (phase : Phase) (s : Situation) (how : Handled) (l k : Luck) → Asks r phase
-      → PhaseFact c p phase s → let d = reached c s r (plan c s.image s.stage r) how l k in Knows p phase d.device d.heard
+      → PhaseFact c p phase s → let d = reached c s r (plan c s.image s.stage r) how l k in PhaseKnows p phase d.device d.heard
   asked_request_reaches_knowledge r p phase s Unseen l k a h = record { fact = h; told = tt }
   asked_request_reaches_knowledge r p phase s Once l k a h = record {
-    fact = phase_fact_through_request c s.image r p phase s.stage a h l;
+    fact = request_keeps_phase_fact c s.image r p phase s.stage a h l;
     told = asked_answer_tells_state c s.image r phase s.stage a l;
   }
   asked_request_reaches_knowledge r p phase s Again l k a h = let o = (handled c s r l).after in
       record {
-        fact = phase_fact_through_request c o.image r p phase o.stage a (phase_fact_through_request c s.image r p phase s.stage a h l) k;
+        fact = request_keeps_phase_fact c o.image r p phase o.stage a (request_keeps_phase_fact c s.image r p phase s.stage a h l) k;
         told = asked_answer_tells_state c o.image r phase o.stage a k;
       }
   asked_request_reaches_knowledge r p phase s (Late ms) l k a h = let o = handled c s r l in
       record {
-        fact = phase_fact_through_time c o.after.image p phase ms o.after.stage (phase_fact_through_request c s.image r p phase s.stage a h
+        fact = time_keeps_phase_fact c o.after.image p phase ms o.after.stage (request_keeps_phase_fact c s.image r p phase s.stage a h
             l) k;
-        told = heard_state_through_time c o.after.image (heard_of_reply o.reply) o.after.stage ms k (asked_answer_tells_state c s.image r
+        told = time_keeps_heard_state c o.after.image (heard_of_reply o.reply) o.after.stage ms k (asked_answer_tells_state c s.image r
             phase s.stage a l);
       }
 
-  -- The request for which a phase asks leaves the facts that the phase must know, whatever its delivery.
+  -- The request for which a phase asks, and which moves no block, leaves the facts that the phase knows, whatever its delivery.
   pub asked_delivery_keeps_knowledge : (r : Request) (p : List ℕ) (phase : Phase) (s : Situation) (delivery : Delivery) (l k : Luck) →
       IsBlocklessRequest r
       → Asks r phase → PhaseFact c p phase s → KnowsUnlessRestarted p phase (send_result c s r delivery l k)
   asked_delivery_keeps_knowledge r p phase s delivery l k polite a h =
-      subst (λ (x : Plan). KnowsUnlessRestarted p phase (send_result_by c s r x delivery l k))
-      (sym (request_without_close_by_table delivery.refusing c s.image s.stage r (polite_request_closes_nothing c.least s.stage r polite)))
+      subst (λ (x : Plan). KnowsUnlessRestarted p phase (request_result_of_plan c s r x delivery l k))
+      (sym (closeless_request_goes_by_table delivery.refusing c s.image s.stage r
+      (blockless_request_closes_nothing c.least s.stage r polite)))
       (sent_request_keeps_knowledge p phase delivery.harming delivery.back _ (asked_request_reaches_knowledge r p phase s delivery.handling
       l k a h))
 
-  -- The fact of a phase after a reset of the bus holds after the time that slips in.
-  pub phase_fact_after_slipped_time : (p : List ℕ) (phase : Phase) (s : Situation) (how : Handled) (l : Luck) →
+  -- If the fact of a phase holds after a reset of the bus, it holds after the time that slips in.
+  pub slipped_time_keeps_phase_fact : (p : List ℕ) (phase : Phase) (s : Situation) (how : Handled) (l : Luck) →
       PhaseFact c p phase (after_reset s)
       → PhaseFact c p phase (situation_after_slip c (after_reset s) how l)
-  phase_fact_after_slipped_time p phase s (Late ms) l h = phase_fact_through_time c s.image p phase ms (reset_stage s.stage) h l
-  phase_fact_after_slipped_time p phase s how l h = h
+  slipped_time_keeps_phase_fact p phase s (Late ms) l h = time_keeps_phase_fact c s.image p phase ms (reset_stage s.stage) h l
+  slipped_time_keeps_phase_fact p phase s how l h = h

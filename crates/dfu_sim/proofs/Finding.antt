@@ -3,20 +3,20 @@ use Rattle.std.proofs.Common.{◌≡◌, ℕ, ◌==◌, max, min, false, List, a
 use Rattle.std.proofs.lemmas.Bool.Decides.{nat_tests}
 use Rattle.dfu_device.specs.Stage.{Profile, InAppIdle, InAppDetach, InDfuIdle}
 use Rattle.dfu_host.specs.Phases.{Goal, Find, Detach, Enter}
-use Rattle.dfu_sim.proofs.Choices.{split}
+use Rattle.dfu_sim.proofs.Choices.{fact_by_both_outcomes}
 use Rattle.dfu_sim.proofs.Passes.{Leads, one}
 
 module _ (c : Profile) (g : Goal) (again : ℕ) where
-  -- The host finds the device in appIDLE.
+  -- In one pass the host finds the device in appIDLE, and goes to Detach.
   pub host_finds_app_idle : (i : List ℕ) → Leads c g again i InAppIdle Find 1 i InAppIdle Detach
   host_finds_app_idle i = one c g again (λ l k room. refl)
 
-  -- The device takes DETACH, and goes from appIDLE to appDETACH.
+  -- In one pass the device takes DETACH and goes from appIDLE to appDETACH, and the host goes to Enter.
   pub detach : (i : List ℕ) → Leads c g again i InAppIdle Detach 1 i (InAppDetach (min c.detach_ms c.detach_ms) 0) Enter
   detach i = one c g again (λ l k room. refl)
 
-  -- The host resets the bus, or the device detaches by itself; either way it is in dfuIDLE then.
+  -- In one pass the host resets the bus, or the device detaches by itself; either way it is in dfuIDLE then, and the host back in Find.
   pub host_enters_dfu_idle : (i : List ℕ) (timer : ℕ) → Leads c g again i (InAppDetach timer 0) Enter 1 i InDfuIdle Find
-  host_enters_dfu_idle i timer = split c.will_detach
+  host_enters_dfu_idle i timer = fact_by_both_outcomes c.will_detach
       (λ e. one c g again (λ l k room. let f : (max 1 c.detach_ms == 0) ≡ false = grind (arith, nat_tests) in rw (e, f)))
       (λ e. one c g again (λ l k room. rw e))

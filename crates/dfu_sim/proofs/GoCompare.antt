@@ -7,34 +7,35 @@ use Rattle.dfu_device.specs.Stage.{Profile}
 use Rattle.dfu_device.specs.Outcome.{Situation, Luck}
 use Rattle.dfu_host.specs.declared.report.Report.TheVariants.{Verified}
 use Rattle.dfu_host.specs.Blocks.{blocks, first_blocks}
-use Rattle.dfu_host.specs.BlockLaws.{first_blocks_with_next_full, first_blocks_and_short_one}
+use Rattle.dfu_host.specs.BlockLaws.{full_block_extends_first, short_block_ends_payload}
 use Rattle.dfu_host.specs.Phases.{CompareGoal, Phase, Fetch, LastUploaded, Compare, Last, Over, Heard, Part}
 use Rattle.dfu_host.specs.Table.{deed, fetched_phase, on_part, on_compared, host_row}
-use Rattle.dfu_host.specs.Host.{IsOnPhase}
+use Rattle.dfu_host.specs.Host.{IsLivePhase}
 use Rattle.dfu_sim.specs.Delivery.{Delivery}
 use Rattle.dfu_sim.specs.Opening.{task_for}
 use Rattle.dfu_sim.specs.Play.{action_result}
 use Rattle.dfu_sim.specs.LinkAgreement.{ClosedWasOffered}
 use Rattle.dfu_sim.specs.Fact.{FetchedSoFar, FetchFact, CompareFact}
-use Rattle.dfu_sim.proofs.Choices.{on_test}
-use Rattle.dfu_sim.proofs.Fates.{weakened_heard_fact}
+use Rattle.dfu_sim.proofs.Choices.{choice_has_fact}
+use Rattle.dfu_sim.proofs.Fates.{heard_fact_weakens}
 use Rattle.dfu_sim.proofs.Fetch.{fetch_phase_goes_quietly}
 use Rattle.dfu_sim.proofs.GoCommon.{GoesQuietly, reset_goes_quietly, common_phase_goes_quietly}
 use Rattle.dfu_sim.proofs.GoDownload.{last_reset_keeps_report_meaning}
 
 module _ (c : Profile) (offers : List (List ℕ)) (p : List ℕ) (some : 0 < length (blocks p c.transfer)) (sized : 0 < c.transfer) where
-  -- The payload's first k blocks, and its block k.
+  -- The payload's first k blocks, joined.
   abbrev front : ℕ → List ℕ
   front k = first_blocks p c.transfer k
 
+  -- Block k of the payload; empty past the last block.
   abbrev block : ℕ → List ℕ
   block k = slice_index_or (blocks p c.transfer) k []
 
-  -- Fact after part k, which follows the first k blocks.
+  -- Fact of an upload's phase after part k, if it keeps the first k blocks of the payload.
   abbrev FactAfterPart : ℕ → List ℕ → Situation → Type 0
   FactAfterPart k part d = FetchFact (fetched_phase c.transfer k (front k) part) d
 
-  -- If the last part of an image is the last block, the image is the payload.
+  -- If a part shorter than a full one equals block k, and its fact holds after it was fetched, the image is the payload.
   short_part_ends_comparison : (k : ℕ) (part : List ℕ) (d : Situation) → nat_lt (length part) c.transfer ≡ true → part ≡ block k →
       FactAfterPart k part d
       → CompareFact c p (Last Verified) d
@@ -43,10 +44,11 @@ module _ (c : Profile) (offers : List (List ℕ)) (p : List ℕ) (some : 0 < len
       let less : length part < c.transfer = grind (arith, nat_tests) in
       let f : FetchFact (LastUploaded (front k ++ part)) d = rw (full, short) at h in
       let whole : front k ++ part ≡ p = ap (λ x. front k ++ x) same
-      ∙ first_blocks_and_short_one p c.transfer k sized (subst (λ (x : List ℕ). length x < c.transfer) same less) in
+      ∙ short_block_ends_payload p c.transfer k sized (subst (λ (x : List ℕ). length x < c.transfer) same less) in
       (sym f.0 ∙ whole, f.1)
 
-  -- If a full part is block k, the image continues as the payload does.
+  -- If a full part equals block k and isn't one too many, and its fact holds after it was fetched, the comparison's fact of the next part
+  -- holds.
   full_part_continues_comparison : (k : ℕ) (part : List ℕ) (d : Situation) → (suc k == 65535) ≡ false → length part ≡ c.transfer → part
       ≡ block k
       → FactAfterPart k part d → CompareFact c p (Compare (suc k)) d
@@ -54,7 +56,7 @@ module _ (c : Profile) (offers : List (List ℕ)) (p : List ℕ) (some : 0 < len
       let full : (length part == c.transfer) ≡ true = grind (arith, nat_tests) in
       let f : FetchFact (Fetch (suc k) (front k ++ part)) d = rw (full, fewer) at h in
       let long : 0 < length (block k) = subst (λ (x : List ℕ). 0 < length x) same (omega (arith, size, sized)) in
-      let more : front k ++ part ≡ front (suc k) = ap (λ x. front k ++ x) same ∙ sym (first_blocks_with_next_full p c.transfer k long) in
+      let more : front k ++ part ≡ front (suc k) = ap (λ x. front k ++ x) same ∙ sym (full_block_extends_first p c.transfer k long) in
       (f.0, subst (λ (x : List ℕ). FetchedSoFar (suc k) x d.image d.stage) more f.1)
 
   -- If a part's fact holds after it was fetched, the comparison's fact holds after it was compared with block k.
@@ -62,11 +64,11 @@ module _ (c : Profile) (offers : List (List ℕ)) (p : List ℕ) (some : 0 < len
       → CompareFact c p (on_compared c.transfer k (block k) heard) d
   comparison_fact_after_part k (Part part) d h =
       let P : Phase → Type 0 = λ x. CompareFact c p x d in
-      on_test P (nat_lt c.transfer (length part)) _ _ (λ long. tt)
-      (λ fits. on_test P (bytes_eq part (block k)) _ _
+      choice_has_fact P (nat_lt c.transfer (length part)) _ _ (λ long. tt)
+      (λ fits. choice_has_fact P (bytes_eq part (block k)) _ _
       (λ e. let same = (bytes_eq-Decides part (block k)).0 e in
-      on_test P (nat_lt (length part) c.transfer) _ _ (λ short. short_part_ends_comparison k part d short same h)
-      (λ full. on_test P (suc k == 65535) _ _ (λ many. tt) (λ fewer. full_part_continues_comparison k part d fewer (grind (
+      choice_has_fact P (nat_lt (length part) c.transfer) _ _ (λ short. short_part_ends_comparison k part d short same h)
+      (λ full. choice_has_fact P (suc k == 65535) _ _ (λ many. tt) (λ fewer. full_part_continues_comparison k part d fewer (grind (
         arith,
         nat_tests,
       )) same h)))
@@ -74,7 +76,7 @@ module _ (c : Profile) (offers : List (List ℕ)) (p : List ℕ) (some : 0 < len
   comparison_fact_after_part k heard d h = tt
 
   -- Each phase of a host that compares goes quietly until the host is done, whatever the delivery.
-  pub compare_phase_goes_quietly : (phase : Phase) (s : Situation) → IsOnPhase phase → CompareFact c p phase s →
+  pub compare_phase_goes_quietly : (phase : Phase) (s : Situation) → IsLivePhase phase → CompareFact c p phase s →
       ClosedWasOffered offers s.stage
       → (delivery : Delivery)
       (l r : Luck)
@@ -83,7 +85,7 @@ module _ (c : Profile) (offers : List (List ℕ)) (p : List ℕ) (some : 0 < len
   compare_phase_goes_quietly (Compare k) s on h q delivery l r =
       let d = action_result c s (deed (task_for c (CompareGoal p)) (Compare k)) delivery l r in
       let x = fetch_phase_goes_quietly c offers k (front k) s.image s.stage h.0 h.1 q delivery l r in
-      record { quiet = x.quiet; next = weakened_heard_fact d.heard (λ heard. comparison_fact_after_part k heard d.device) x.next }
+      record { quiet = x.quiet; next = heard_fact_weakens d.heard (λ heard. comparison_fact_after_part k heard d.device) x.next }
   compare_phase_goes_quietly (Last report) s on h q delivery l r =
       reset_goes_quietly c offers (CompareGoal p) (Over report) (Last report) s delivery l
       (last_reset_keeps_report_meaning c offers p some sized s report delivery.handling l h)

@@ -5,7 +5,7 @@ use Rattle.dfu_device.specs.Table.{reset_stage}
 use Rattle.dfu_device.specs.Outcome.{Situation, Luck, situation_after_ms, after_reset}
 use Rattle.dfu_host.specs.Phases.{FetchGoal, Phase, Fetch, LastUploaded, Over, OverUploaded}
 use Rattle.dfu_host.specs.Table.{deed, host_row}
-use Rattle.dfu_host.specs.Host.{IsOnPhase}
+use Rattle.dfu_host.specs.Host.{IsLivePhase}
 use Rattle.dfu_sim.specs.declared.delivery.Handled.{Handled}
 use Rattle.dfu_sim.specs.declared.delivery.Handled.TheVariants.{Late}
 use Rattle.dfu_sim.specs.Delivery.{Delivery}
@@ -17,19 +17,19 @@ use Rattle.dfu_sim.proofs.Fetch.{fetch_phase_goes_quietly}
 use Rattle.dfu_sim.proofs.GoCommon.{GoesQuietly, reset_goes_quietly, common_phase_goes_quietly}
 
 module _ (c : Profile) (offers : List (List ℕ)) where
-  -- A time after a reset leaves the image.
+  -- Time that passes after a reset does not change the image.
   time_after_reset_keeps_image : (image : List ℕ) (stage : Stage) (ms : ℕ) (l : Luck)
       → (situation_after_ms c (record { image = image; stage = reset_stage stage }) ms l).image ≡ image
   time_after_reset_keeps_image image (InAppDetach timer passed) ms l = refl
   time_after_reset_keeps_image image stage ms l = refl
 
-  -- A time that slips in after a reset leaves the image.
+  -- Time that slips in after a reset does not change the image.
   slipped_time_keeps_image : (s : Situation) (how : Handled) (l : Luck) → (situation_after_slip c (after_reset s) how l).image ≡ s.image
   slipped_time_keeps_image s (Late ms) l = time_after_reset_keeps_image s.image s.stage ms l
   slipped_time_keeps_image s how l = refl
 
   -- Each phase of an upload goes quietly until its host is done, whatever the delivery.
-  pub upload_phase_goes_quietly : (phase : Phase) (s : Situation) → IsOnPhase phase → FetchFact phase s → ClosedWasOffered offers s.stage
+  pub upload_phase_goes_quietly : (phase : Phase) (s : Situation) → IsLivePhase phase → FetchFact phase s → ClosedWasOffered offers s.stage
       → (delivery : Delivery) (l k : Luck)
       → GoesQuietly c offers FetchGoal (host_row (task_for c FetchGoal) phase) s
       (action_result c s (deed (task_for c FetchGoal) phase) delivery l k)

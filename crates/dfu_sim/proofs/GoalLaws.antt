@@ -15,19 +15,19 @@ goal_after_phase_has_fact P g x y (Last report) WasReset = y
 goal_after_phase_has_fact P g x y (Last report) heard = x
 goal_after_phase_has_fact P g x y phase heard = x
 
--- The live goal stays after the last reset.
-live_goal_after_reset : (g : Goal) → live_session_of_goal (goal_after_reset g) ≡ live_session_of_goal g
-live_goal_after_reset (VerifyGoal p) = refl
-live_goal_after_reset g = refl
+-- The last reset does not change the session machine's live session.
+last_reset_keeps_live_goal : (g : Goal) → live_session_of_goal (goal_after_reset g) ≡ live_session_of_goal g
+last_reset_keeps_live_goal (VerifyGoal p) = refl
+last_reset_keeps_live_goal g = refl
 
--- The live goal stays in each phase.
-pub live_goal_after_phase : (g : Goal) (phase : Phase) (heard : Heard) → live_session_of_goal (goal_after g phase heard)
+-- No phase changes the session machine's live session.
+pub phase_keeps_live_goal : (g : Goal) (phase : Phase) (heard : Heard) → live_session_of_goal (goal_after g phase heard)
     ≡ live_session_of_goal g
-live_goal_after_phase g phase heard = goal_after_phase_has_fact (λ x. live_session_of_goal x
-    ≡ live_session_of_goal g) g refl (live_goal_after_reset g) phase heard
+phase_keeps_live_goal g phase heard = goal_after_phase_has_fact (λ x. live_session_of_goal x
+    ≡ live_session_of_goal g) g refl (last_reset_keeps_live_goal g) phase heard
 
 module _ (c : Profile) where
-  -- Fact of the next phase and goal, by what is heard.
+  -- Fact of the next phase and goal, by the result that is heard.
   abbrev pub Next : Goal → Situation → Phase → Heard → Type 0
   Next g s phase heard = GoalFact c (goal_after g phase heard) (host_row (task_for c g) phase heard) s
 
@@ -46,9 +46,9 @@ module _ (c : Profile) where
   verify_deed_is_load_deed p phase = refl
 
   -- A session that verifies moves from phase to phase like a download, except at the last reset, after which it begins to compare.
-  pub verify_phase_after_load : (p : List ℕ) (s : Situation) (phase : Phase) (heard : Heard)
+  pub verify_phase_follows_load : (p : List ℕ) (s : Situation) (phase : Phase) (heard : Heard)
       → PhaseFact c p (host_row (task_for c (LoadGoal p)) phase heard) s
       → Next (VerifyGoal p) s phase heard
-  verify_phase_after_load p s (Last report) WasReset h = tt
-  verify_phase_after_load p s (Last report) heard h = h
-  verify_phase_after_load p s phase heard h = h
+  verify_phase_follows_load p s (Last report) WasReset h = tt
+  verify_phase_follows_load p s (Last report) heard h = h
+  verify_phase_follows_load p s phase heard h = h

@@ -27,30 +27,30 @@ use Rattle.dfu_sim.specs.Play.{Answered, host_outcome, heard_of_reply, heard_wit
 use Rattle.dfu_sim.specs.Bytes.{fuse_of, armed_device, device_after_bus_reset, HeardOfResponse, SetupResult, ReachesDevice, once, RequestDelivered, SlipsTime, ActionDelivered, device_after_action, NextAction, HappensOnBench}
 use Rattle.dfu_sim.specs.EventResults.{happens}
 use Rattle.dfu_sim.specs.OneAnswer.{SameDevice, AreOneResult, HarmsAWrite, HarmedActionHasOneResult}
-use Rattle.dfu_sim.proofs.Fates.{heard_with_memory_unchanged}
-use Rattle.dfu_sim.proofs.DoneOnce.{same_device, powered_devices_stay_same, disarmed_devices_stay_same, DoneOnce, plan_done_in_one_way}
+use Rattle.dfu_sim.proofs.Fates.{memory_keeps_heard_meaning}
+use Rattle.dfu_sim.proofs.DoneOnce.{equal_devices_are_same, powered_devices_stay_same, disarmed_devices_stay_same, DoneOnce, plan_ends_in_one_way}
 use Rattle.dfu_sim.proofs.Replies.{IsHostRequest, IsHostDeed, phase_has_host_deed, plan_answer_is_heard}
 use Rattle.dfu_sim.proofs.Actions.{plan_with_objection, setup_result_is_row}
 
--- Two results of an action agree: the devices are the same, and the meanings are the same but for want of memory.
-record ActedInOneWay (w' v' : DeviceView) (heard other : Heard) : Type 0 where
+-- Two results of an action agree: the devices are equal but for failed writes, and the meanings are equal but for missing memory.
+record ResultsAgree (w' v' : DeviceView) (heard other : Heard) : Type 0 where
   device : SameDevice w' v'
   hears : Heard
   first : (room : Bool) × (heard ≡ heard_with_room hears room)
   second : (room : Bool) × (other ≡ heard_with_room hears room)
 
--- Two results agree if both are heard with one meaning, on the same device.
-equal_heard_in_one_way : {w' v' : DeviceView} {heard other : Heard} (x : Heard) → SameDevice w' v' → heard ≡ x → other ≡ x →
-    ActedInOneWay w' v' heard other
-equal_heard_in_one_way x same e f =
+-- Two results agree if both are heard with one meaning, and the devices are equal but for failed writes.
+equal_heard_agrees : {w' v' : DeviceView} {heard other : Heard} (x : Heard) → SameDevice w' v' → heard ≡ x → other ≡ x →
+    ResultsAgree w' v' heard other
+equal_heard_agrees x same e f =
     record {
       device = same;
       hears = x;
-      first = (true, e ∙ heard_with_memory_unchanged x);
+      first = (true, e ∙ memory_keeps_heard_meaning x);
       second = (
         true,
         f
-            ∙ heard_with_memory_unchanged x,
+            ∙ memory_keeps_heard_meaning x,
       );
     }
 
@@ -61,23 +61,24 @@ request_reached_once_has_answer (once {a = a} h) = (a, refl, h)
 
 module _ (q : Asked) (body : List ℕ) (is : IsHostRequest q body) (w : DeviceView) (known : IsKnownFuse w.slots.medium.fuse)
     (x : Option Objection) where
-  setup_result_in_one_way : (setup setup2 : List ℕ) (w' v' : DeviceView) (a b : Answer) (out other : List ℕ) → IsSetupOf q setup →
+  -- Two setups that ask for one request have results that agree, on a device with a known fuse.
+  setup_results_agree : (setup setup2 : List ℕ) (w' v' : DeviceView) (a b : Answer) (out other : List ℕ) → IsSetupOf q setup →
       IsSetupOf q setup2
       → SetupResult x setup body w a out w' → SetupResult x setup2 body w b other v'
       → DoneOnce (plan_with_objection q body x w) (asked_length q) w w' v' a b out other
-  setup_result_in_one_way setup setup2 w' v' a b out other asked asked2 h k =
-      plan_done_in_one_way (plan_with_objection q body x w) (asked_length q) w w' v' a b out other known
+  setup_results_agree setup setup2 w' v' a b out other asked asked2 h k =
+      plan_ends_in_one_way (plan_with_objection q body x w) (asked_length q) w w' v' a b out other known
       (setup_result_is_row q setup body is asked x w w' a out h) (setup_result_is_row q setup2 body is asked2 x w v' b other k)
 
   -- Two results of one request whose answer comes back are heard alike, and leave the same device.
-  answer_heard_in_one_way : (setup setup2 : List ℕ) (w' v' : DeviceView) (heard heard2 : Heard) (came came2 : Response) (out out2 : List ℕ)
+  heard_answers_agree : (setup setup2 : List ℕ) (w' v' : DeviceView) (heard heard2 : Heard) (came came2 : Response) (out out2 : List ℕ)
       → IsSetupOf q setup → IsSetupOf q setup2 → ReachesDevice x setup body Once w came out w' →
       ReachesDevice x setup2 body Once w came2 out2 v'
-      → HeardOfResponse (Send q body) came out heard → HeardOfResponse (Send q body) came2 out2 heard2 → ActedInOneWay w' v' heard heard2
-  answer_heard_in_one_way setup setup2 w' v' heard heard2 came came2 out out2 asked asked2 h k says says2 =
+      → HeardOfResponse (Send q body) came out heard → HeardOfResponse (Send q body) came2 out2 heard2 → ResultsAgree w' v' heard heard2
+  heard_answers_agree setup setup2 w' v' heard heard2 came came2 out out2 asked asked2 h k says says2 =
       let a = request_reached_once_has_answer h in
       let b = request_reached_once_has_answer k in
-      let y = setup_result_in_one_way setup setup2 w' v' a.0 b.0 out out2 asked asked2 a.2 b.2 in
+      let y = setup_results_agree setup setup2 w' v' a.0 b.0 out out2 asked asked2 a.2 b.2 in
       record {
         device = y.device;
         hears = heard_of_reply (plan_outcome (image_of w.slots) (plan_with_objection q body x w) y.luck).reply;
@@ -87,52 +88,53 @@ module _ (q : Asked) (body : List ℕ) (is : IsHostRequest q body) (w : DeviceVi
             (subst (λ (c : Response). HeardOfResponse (Send q body) c out2 heard2) b.1 says2);
       }
 
-  harmed_request_in_one_way : (fate : Fate) (setup setup2 : List ℕ) (w' v' : DeviceView) (heard heard2 : Heard) →
+  -- A request in which a write is harmed has results that agree, by any setups that ask for it.
+  harmed_requests_agree : (fate : Fate) (setup setup2 : List ℕ) (w' v' : DeviceView) (heard heard2 : Heard) →
       HarmsAWrite (delivery_of fate).harming
       → IsSetupOf q setup → IsSetupOf q setup2 → RequestDelivered q setup body (record (delivery_of fate) { refusing = x }) w w' heard
       → RequestDelivered q setup2 body (record (delivery_of fate) { refusing = x }) w v' heard2
-      → ActedInOneWay w' v' heard heard2
-  harmed_request_in_one_way CutInWrite setup setup2 w' v' heard heard2 harms asked asked2 h k =
+      → ResultsAgree w' v' heard heard2
+  harmed_requests_agree CutInWrite setup setup2 w' v' heard heard2 harms asked asked2 h k =
       let a = request_reached_once_has_answer h.reaches in
       let b = request_reached_once_has_answer k.reaches in
-      let y = setup_result_in_one_way setup setup2 w' v' a.0 b.0 h.out k.out asked asked2 a.2 b.2 in
-      equal_heard_in_one_way Restarted y.device h.hears k.hears
-  harmed_request_in_one_way Fail setup setup2 w' v' heard heard2 harms asked asked2 h k =
-      answer_heard_in_one_way setup setup2 w' v' heard heard2 h.came k.came h.out k.out asked asked2 h.reaches k.reaches h.hears k.hears
-  harmed_request_in_one_way Lie setup setup2 w' v' heard heard2 harms asked asked2 h k =
-      answer_heard_in_one_way setup setup2 w' v' heard heard2 h.came k.came h.out k.out asked asked2 h.reaches k.reaches h.hears k.hears
-  harmed_request_in_one_way (Refusing why fate) setup setup2 w' v' heard heard2 harms asked asked2 h k =
-      harmed_request_in_one_way fate setup setup2 w' v' heard heard2 harms asked asked2 h k
-  harmed_request_in_one_way fate setup setup2 w' v' heard heard2 harms asked asked2 h k = elim harms [ ]
+      let y = setup_results_agree setup setup2 w' v' a.0 b.0 h.out k.out asked asked2 a.2 b.2 in
+      equal_heard_agrees Restarted y.device h.hears k.hears
+  harmed_requests_agree Fail setup setup2 w' v' heard heard2 harms asked asked2 h k =
+      heard_answers_agree setup setup2 w' v' heard heard2 h.came k.came h.out k.out asked asked2 h.reaches k.reaches h.hears k.hears
+  harmed_requests_agree Lie setup setup2 w' v' heard heard2 harms asked asked2 h k =
+      heard_answers_agree setup setup2 w' v' heard heard2 h.came k.came h.out k.out asked asked2 h.reaches k.reaches h.hears k.hears
+  harmed_requests_agree (Refusing why fate) setup setup2 w' v' heard heard2 harms asked asked2 h k =
+      harmed_requests_agree fate setup setup2 w' v' heard heard2 harms asked asked2 h k
+  harmed_requests_agree fate setup setup2 w' v' heard heard2 harms asked asked2 h k = elim harms [ ]
 
--- A time that slips in leaves one device.
-slipped_time_in_one_way : (how : Handled) (w w' v' : DeviceView) → IsKnownFuse w.slots.medium.fuse → SlipsTime how w w' → SlipsTime how w v'
+-- Time that slips in leaves devices that are equal but for failed writes, if the fuse before it is known.
+slipped_times_agree : (how : Handled) (w w' v' : DeviceView) → IsKnownFuse w.slots.medium.fuse → SlipsTime how w w' → SlipsTime how w v'
     → SameDevice w' v'
-slipped_time_in_one_way (Late ms) w w' v' known h k =
-    (plan_done_in_one_way (time_plan (profile w) w.stage ms) 0 w w' v' answer.Ack answer.Ack [] [] known h k).device
-slipped_time_in_one_way how w w' v' known h k = same_device (h ∙ sym k)
+slipped_times_agree (Late ms) w w' v' known h k =
+    (plan_ends_in_one_way (time_plan (profile w) w.stage ms) 0 w w' v' answer.Ack answer.Ack [] [] known h k).device
+slipped_times_agree how w w' v' known h k = equal_devices_are_same (h ∙ sym k)
 
 -- An action in which a write is harmed has one result, from one device.
-harmed_action_in_one_way : (d : Deed) (fate : Fate) (w w' v' : DeviceView) (heard heard2 : Heard) → IsHostDeed d
+harmed_actions_agree : (d : Deed) (fate : Fate) (w w' v' : DeviceView) (heard heard2 : Heard) → IsHostDeed d
     → HarmsAWrite (delivery_of fate).harming → IsKnownFuse w.slots.medium.fuse → ActionDelivered d (delivery_of fate) w w' heard
-    → ActionDelivered d (delivery_of fate) w v' heard2 → ActedInOneWay w' v' heard heard2
-harmed_action_in_one_way (Send q body) fate w w' v' heard heard2 is harms known (setup, asked, h) (setup2, asked2, k) =
-    harmed_request_in_one_way q body is w known (delivery_of fate).refusing fate setup setup2 w' v' heard heard2 harms asked asked2 h k
-harmed_action_in_one_way (Wait ms) fate w w' v' heard heard2 is harms known (h, e) (k, f) =
+    → ActionDelivered d (delivery_of fate) w v' heard2 → ResultsAgree w' v' heard heard2
+harmed_actions_agree (Send q body) fate w w' v' heard heard2 is harms known (setup, asked, h) (setup2, asked2, k) =
+    harmed_requests_agree q body is w known (delivery_of fate).refusing fate setup setup2 w' v' heard heard2 harms asked asked2 h k
+harmed_actions_agree (Wait ms) fate w w' v' heard heard2 is harms known (h, e) (k, f) =
     let time = time_plan (profile w) w.stage (wait_by_handling (delivery_of fate).handling ms) in
-    equal_heard_in_one_way (heard_after_action (delivery_of fate).harming Waited)
-    (plan_done_in_one_way time 0 w w' v' answer.Ack answer.Ack [] [] known h k).device e f
-harmed_action_in_one_way Reset fate w w' v' heard heard2 is harms known (h, e) (k, f) =
-    equal_heard_in_one_way (heard_after_action (delivery_of fate).harming WasReset)
-    (slipped_time_in_one_way (delivery_of fate).handling (device_after_bus_reset w) w' v' known h k) e f
-harmed_action_in_one_way (IsDone report) fate w w' v' heard heard2 is harms known h k = absurd h
+    equal_heard_agrees (heard_after_action (delivery_of fate).harming Waited)
+    (plan_ends_in_one_way time 0 w w' v' answer.Ack answer.Ack [] [] known h k).device e f
+harmed_actions_agree Reset fate w w' v' heard heard2 is harms known (h, e) (k, f) =
+    equal_heard_agrees (heard_after_action (delivery_of fate).harming WasReset)
+    (slipped_times_agree (delivery_of fate).handling (device_after_bus_reset w) w' v' known h k) e f
+harmed_actions_agree (IsDone report) fate w w' v' heard heard2 is harms known h k = absurd h
 
--- The fuse of an action in which a write is harmed is known.
+-- The fuse in an action in which a write is harmed is a known one.
 harmed_action_has_known_fuse : (harming : MediumFault) (harm : WriteHarm) → HarmsAWrite harming → IsKnownFuse (fuse_of harming harm)
 harmed_action_has_known_fuse NoWrite harm harms = elim harms [ ]
 harmed_action_has_known_fuse harming harm harms = tt
 
--- The devices that two actions leave are the same.
+-- Devices that are equal but for failed writes are so at the end of an action.
 action_ends_leave_same_device : (harming : MediumFault) {w v : DeviceView} → SameDevice w v
     → SameDevice (device_after_action harming w) (device_after_action harming v)
 action_ends_leave_same_device CutsPower same = powered_devices_stay_same same
@@ -143,16 +145,16 @@ hosted_session_has_one_host : (h k : HostState) → HostSession h ≡ HostSessio
 hosted_session_has_one_host h k e = sym cc
 
 -- The host's next action, in which a write is harmed, has one result.
-harmed_next_action_in_one_way : (fate : Fate) (harm : WriteHarm) (b c d : LinkView) (x y : Answered) →
+harmed_next_actions_agree : (fate : Fate) (harm : WriteHarm) (b c d : LinkView) (x y : Answered) →
     HarmsAWrite (delivery_of fate).harming
     → NextAction b.session fate harm b c x → NextAction b.session fate harm b d y → AreOneResult c d x y
-harmed_next_action_in_one_way fate harm b c d x y harms g k =
+harmed_next_actions_agree fate harm b c d x y harms g k =
     let harming = (delivery_of fate).harming in
     let w = armed_device b.device (fuse_of harming harm) in
     let same : k.host ≡ g.host = hosted_session_has_one_host g.host k.host (sym g.live ∙ k.live) in
     let acts : ActionDelivered (deed g.host.task g.host.phase) (delivery_of fate) w k.gone.last k.gone.acted.heard = subst
     (λ (h : HostState). ActionDelivered (deed h.task h.phase) (delivery_of fate) w k.gone.last k.gone.acted.heard) same k.gone.acted.acts in
-    let one = harmed_action_in_one_way (deed g.host.task g.host.phase) fate w g.gone.last k.gone.last g.gone.acted.heard k.gone.acted.heard
+    let one = harmed_actions_agree (deed g.host.task g.host.phase) fate w g.gone.last k.gone.last g.gone.acted.heard k.gone.acted.heard
     (phase_has_host_deed g.host.task g.host.phase) harms
     (harmed_action_has_known_fuse harming harm harms) g.gone.acted.acts acts in
     record {
@@ -175,6 +177,6 @@ harmed_next_action_in_one_way fate harm b c d x y harms g k =
 -- An action in which a write is harmed has one result.
 pub harmed_action_has_one_result : HarmedActionHasOneResult
 harmed_action_has_one_result b c d fate harm x y harms (happens {event = event} means play) (happens {event = other} same again) =
-    harmed_next_action_in_one_way fate harm b c d x y harms
+    harmed_next_actions_agree fate harm b c d x y harms
     (subst (λ (e : Happening). HappensOnBench e b c x) means play.happens)
     (subst (λ (e : Happening). HappensOnBench e b d y) same again.happens)

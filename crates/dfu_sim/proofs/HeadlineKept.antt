@@ -14,26 +14,27 @@ use Rattle.dfu_sim.specs.Happening.{Happening, happening}
 use Rattle.dfu_sim.specs.Following.{MachineFollows, AllMachinesFollow}
 use Rattle.dfu_sim.specs.Headline.{SessionBeginning, BeginningWithOffer, BeginningAsUpload, sessions_now, WasOffered, IsLastPayload, IsWaiting, IsGoalPayload, IsLivePayload, HeadlineInvariant, StepPreservesHeadline, no_event, one_event, EventsPreserveHeadline, HeadlineAtStart}
 use Rattle.dfu_sim.specs.SessionStarts.{sessions_after_event}
-use Rattle.dfu_sim.proofs.Offered.{MachineHasPastOffers, past_after_event, reported_image_is_last_payload}
-use Rattle.dfu_sim.proofs.Agreeing.{closed_bytes_in, goal_payload_in, session_in, closed_bytes_are_offer, live_payload_is_offer, machine_from_parts}
+use Rattle.dfu_sim.proofs.Offered.{MachineHasPastOffers, event_keeps_past_offers, reported_image_is_last_payload}
+use Rattle.dfu_sim.proofs.Agreeing.{closed_bytes_in, goal_payload_in, live_payload_in, closed_bytes_are_offer, live_payload_is_offer, machine_from_parts}
 use Rattle.dfu_sim.proofs.Chains.{EventChain, empty_chain, one_more}
 
 -- Lists of offers.
 
-offer_in_either_list : (a b : List (List ℕ)) (x : List ℕ) → IsOneOf x (a ++ b) → IsOneOf x a ⊎ IsOneOf x b
-offer_in_either_list [] b x one = inr one
-offer_in_either_list (y ∷ a) b x one = elim one [
+-- An element of two lists joined is an element of one of them.
+joined_offer_is_in_either_list : (a b : List (List ℕ)) (x : List ℕ) → IsOneOf x (a ++ b) → IsOneOf x a ⊎ IsOneOf x b
+joined_offer_is_in_either_list [] b x one = inr one
+joined_offer_is_in_either_list (y ∷ a) b x one = elim one [
   | inl e ↦ inl (inl e)
-  | inr more ↦ elim (offer_in_either_list a b x more) [
+  | inr more ↦ elim (joined_offer_is_in_either_list a b x more) [
     | inl left ↦ inl (inr left)
     | inr right ↦ inr right
   ]
 ]
 
--- An element of a list of one is that one.
-offer_in_single_list : (x y : List ℕ) → IsOneOf x (y ∷ []) → x ≡ y
-offer_in_single_list x y (inl e) = e
-offer_in_single_list x y (inr none) = absurd none
+-- An element of a list of one element is that element.
+single_list_has_one_offer : (x y : List ℕ) → IsOneOf x (y ∷ []) → x ≡ y
+single_list_has_one_offer x y (inl e) = e
+single_list_has_one_offer x y (inr none) = absurd none
 
 -- The last session's payload was offered.
 last_payload_was_offered : (past : List SessionBeginning) (x : List ℕ) → IsLastPayload past x → WasOffered past x
@@ -41,14 +42,15 @@ last_payload_was_offered [] x last = last
 last_payload_was_offered (BeginningWithOffer file ∷ past) x last = inl last
 last_payload_was_offered (BeginningAsUpload ∷ past) x last = absurd last
 
--- Payloads that a device and a session hold, as offers.
+-- Payloads of a device's stage and of a session, as lists of offers.
 
+-- The closed bytes of a stage are an image that waits to be put in place.
 closed_bytes_are_waiting : (stage : Stage) (x : List ℕ) → IsOneOf x (closed_bytes_in stage) → IsWaiting stage x
-closed_bytes_are_waiting (InManifestSync taken) x one = offer_in_single_list x taken one
-closed_bytes_are_waiting (InManifest taken passed) x one = offer_in_single_list x taken one
+closed_bytes_are_waiting (InManifestSync taken) x one = single_list_has_one_offer x taken one
+closed_bytes_are_waiting (InManifest taken passed) x one = single_list_has_one_offer x taken one
 closed_bytes_are_waiting stage x one = absurd one
 
--- An image that waits to be put in place is one of the machine's offers.
+-- If the closed bytes of a stage are an offer, an image that waits in it is one of the offers.
 pub waiting_image_is_offer : (stage : Stage) (offers : List (List ℕ)) (x : List ℕ) → IsClosedOffer offers (intake_of_stage stage) →
     IsWaiting stage x
     → IsOneOf x offers
@@ -56,27 +58,27 @@ waiting_image_is_offer (InManifestSync taken) offers x one is = subst (λ (y : L
 waiting_image_is_offer (InManifest taken passed) offers x one is = subst (λ (y : List ℕ). IsOneOf y offers) (sym is) one
 waiting_image_is_offer stage offers x one is = absurd is
 
--- The payload that a goal holds as an offer is its payload.
+-- The bytes in the list of a goal's payload are its payload.
 goal_offer_is_payload : (goal : Goal) (x : List ℕ) → IsOneOf x (goal_payload_in goal) → IsGoalPayload goal x
 goal_offer_is_payload FetchGoal x one = one
-goal_offer_is_payload goal x one = offer_in_single_list x _ one
+goal_offer_is_payload goal x one = single_list_has_one_offer x _ one
 
--- The payload that a session holds as an offer is its live payload.
-session_offer_is_live_payload : (session : Session) (x : List ℕ) → IsOneOf x (session_in session) → IsLivePayload session x
+-- The bytes in the list of a session's payload are its live payload.
+session_offer_is_live_payload : (session : Session) (x : List ℕ) → IsOneOf x (live_payload_in session) → IsLivePayload session x
 session_offer_is_live_payload NoLiveSession x one = one
 session_offer_is_live_payload (HostSession h) x one = goal_offer_is_payload h.task.goal x one
 
--- The payload that a goal loads is its payload.
+-- The payload that the session machine loads for a goal is the goal's payload.
 loaded_goal_is_payload : (goal : Goal) (x : List ℕ) → live_session_of_goal goal ≡ LoadingPayload x → IsGoalPayload goal x
 loaded_goal_is_payload FetchGoal x e = absurd cc
 loaded_goal_is_payload goal x e = cc
 
--- The payload that a session loads is its live payload.
+-- The payload that the session machine loads for a session is the session's live payload.
 loaded_session_is_live_payload : (session : Session) (x : List ℕ) → live_session_of session ≡ LoadingPayload x → IsLivePayload session x
 loaded_session_is_live_payload NoLiveSession x e = absurd cc
 loaded_session_is_live_payload (HostSession h) x e = loaded_goal_is_payload h.task.goal x e
 
--- The payload of a goal is the one that it loads.
+-- The payload of a goal is the one that the session machine loads for it.
 goal_payload_is_loaded : (goal : Goal) (x : List ℕ) → IsGoalPayload goal x → live_session_of_goal goal ≡ LoadingPayload x
 goal_payload_is_loaded FetchGoal x is = absurd is
 goal_payload_is_loaded goal x is = cc
@@ -98,29 +100,29 @@ headline_machine_agrees {w = w} k = record {
   pending = refl;
   live = refl;
   up_is = refl;
-  sound = closed_bytes_are_offer w.bench.device.stage (session_in w.bench.session);
+  sound = closed_bytes_are_offer w.bench.device.stage (live_payload_in w.bench.session);
   offered = live_payload_is_offer w.bench.session (closed_bytes_in w.bench.device.stage);
 }
 
--- While the headline holds, the offers of its session machine were offered.
+-- While the headline holds, the image of its session machine is the factory image or was offered, and its offers were.
 headline_machine_is_of_past : {factory : List ℕ} {past : List SessionBeginning} {before : Option Report} {w : WorldView}
     (k : HeadlineInvariant factory past before w.bench) → MachineHasPastOffers factory past (machine_of_headline w k.says.image)
 headline_machine_is_of_past {past = past} {w = w} k = record {
   known = k.says.known;
-  offers = λ x one. elim (offer_in_either_list (closed_bytes_in w.bench.device.stage) (session_in w.bench.session) x one) [
+  offers = λ x one. elim (joined_offer_is_in_either_list (closed_bytes_in w.bench.device.stage) (live_payload_in w.bench.session) x one) [
     | inl left ↦ k.kept.waiting x (closed_bytes_are_waiting w.bench.device.stage x left)
     | inr right ↦ last_payload_was_offered past x (k.kept.live x (session_offer_is_live_payload w.bench.session x right))
   ];
   live = λ x e. k.kept.live x (loaded_session_is_live_payload w.bench.session x e);
 }
 
--- The headline holds, if a machine agrees whose offers were offered, and if Installed and Verified say the truth.
-abbrev pub headline_by_machine : {factory : List ℕ} {past : List SessionBeginning} {report : Option Report} {b : LinkView} {up : List ℕ} {m
+-- The headline holds, if a machine agrees whose offers were offered, and if a report of Installed or Verified is true.
+abbrev pub machine_has_headline : {factory : List ℕ} {past : List SessionBeginning} {report : Option Report} {b : LinkView} {up : List ℕ} {m
     : Machine}
     → AgreesOn b up m → MachineHasPastOffers factory past m → (IsInPlaceReport report → (b.device.stage ≡ InAppIdle)
     × IsLastPayload past m.cur)
     → HeadlineInvariant factory past report b
-headline_by_machine {b = b} {m = m} agrees of_past in_place = record {
+machine_has_headline {b = b} {m = m} agrees of_past in_place = record {
   says = record { image = m.cur; active = agrees.active; known = of_past.known; in_place = in_place };
   kept = record {
     waiting = λ x is. of_past.offers x (waiting_image_is_offer b.device.stage m.offers x agrees.sound is);
@@ -129,46 +131,47 @@ headline_by_machine {b = b} {m = m} agrees of_past in_place = record {
 }
 
 -- The headline holds after an event, if a session machine whose offers were offered follows that event.
-abbrev pub headline_after_followed_event : {factory : List ℕ} {past : List SessionBeginning} {m : Machine} {w w' : WorldView}
+abbrev pub followed_event_gives_headline : {factory : List ℕ} {past : List SessionBeginning} {m : Machine} {w w' : WorldView}
     (h : Happening) {report : Option Report}
     → MachineHasPastOffers factory past m → MachineFollows w h w' report m →
     HeadlineInvariant factory (sessions_after_event h past) report w'.bench
-headline_after_followed_event h of_past f = headline_by_machine f.agrees (past_after_event h of_past f) (λ e. (
+followed_event_gives_headline h of_past f = machine_has_headline f.agrees (event_keeps_past_offers h of_past f) (λ e. (
   (f.in_place e).0,
   reported_image_is_last_payload h of_past f e,
 ))
 
--- Each event that a session machine follows keeps the headline.
+-- An event of the table that each agreeing session machine follows keeps the headline.
 pub event_keeps_headline : {factory : List ℕ} {past : List SessionBeginning} {before : Option Report} {w w' : WorldView}
     (h : Happening) {report : Option Report}
     → ((m : Machine) → AgreesOn w.bench w.up m → MachineFollows w h w' report m) → HeadlineInvariant factory past before w.bench
     → HeadlineInvariant factory (sessions_after_event h past) report w'.bench
-event_keeps_headline {w = w} h follow k = headline_after_followed_event h (headline_machine_is_of_past k) (follow (machine_of_headline w
+event_keeps_headline {w = w} h follow k = followed_event_gives_headline h (headline_machine_is_of_past k) (follow (machine_of_headline w
     k.says.image) (headline_machine_agrees k))
 
 -- The events of callers.
 
-sessions_begun_by_event : (event : Event) (past : List SessionBeginning) → sessions_after_event (happening event) past
+-- A caller's event and its event of the table begin equal sessions.
+event_begins_same_sessions : (event : Event) (past : List SessionBeginning) → sessions_after_event (happening event) past
     ≡ sessions_now event past
-sessions_begun_by_event Abort past = refl
-sessions_begun_by_event event past = refl
+event_begins_same_sessions Abort past = refl
+event_begins_same_sessions event past = refl
 
--- A caller's event that each session machine follows keeps the headline.
+-- A caller's event that each agreeing session machine follows keeps the headline.
 followed_event_keeps_headline : {factory : List ℕ} {past : List SessionBeginning} {before : Option Report} {w w' : WorldView}
     (event : Event) {report : Option Report}
     → ((m : Machine) → AgreesOn w.bench w.up m → MachineFollows w (happening event) w' report m)
     → HeadlineInvariant factory past before w.bench
     → HeadlineInvariant factory (sessions_now event past) report w'.bench
 followed_event_keeps_headline {factory = factory} {past = past} {w' = w'} event {report = report} follow k =
-    subst (λ (sessions : List SessionBeginning). HeadlineInvariant factory sessions report w'.bench) (sessions_begun_by_event event past)
+    subst (λ (sessions : List SessionBeginning). HeadlineInvariant factory sessions report w'.bench) (event_begins_same_sessions event past)
     (event_keeps_headline (happening event) follow k)
 
--- An event that each session machine follows keeps the headline.
-pub step_keeps : (w w' : WorldView) (event : Event) (result : Result (Option Report) LinkFault)
+-- The result of a caller's event keeps the headline, if each agreeing session machine follows the event.
+pub step_keeps_headline : (w w' : WorldView) (event : Event) (result : Result (Option Report) LinkFault)
     → AllMachinesFollow w (happening event) w' result
     → StepPreservesHeadline w event w' result
-step_keeps w w' event (Ok report) follow = λ factory past before k. followed_event_keeps_headline event follow k
-step_keeps w w' event (Err fault) follow = follow
+step_keeps_headline w w' event (Ok report) follow = λ factory past before k. followed_event_keeps_headline event follow k
+step_keeps_headline w w' event (Err fault) follow = follow
 
 -- A chain of events keeps the headline.
 pub chain_keeps_headline : {w w' : WorldView} {reports : List Report} (events : List Event) → EventChain w (map happening events) reports w'

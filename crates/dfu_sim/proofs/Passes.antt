@@ -4,7 +4,7 @@ use Rattle.dfu_device.specs.Stage.{Profile, Stage}
 use Rattle.dfu_device.specs.Outcome.{Luck, Works}
 use Rattle.dfu_host.specs.Phases.{Goal, Phase, Over, OverUploaded, Heard}
 use Rattle.dfu_host.specs.Table.{deed}
-use Rattle.dfu_host.specs.Host.{HostState, IsOnPhase, phase_in_budget}
+use Rattle.dfu_host.specs.Host.{HostState, IsLivePhase, phase_in_budget}
 use Rattle.dfu_sim.specs.Happening.{Pass}
 use Rattle.dfu_sim.specs.Delivery.{delivery_of}
 use Rattle.dfu_sim.specs.LinkView.{HostSession}
@@ -13,25 +13,25 @@ use Rattle.dfu_sim.specs.Play.{Link, silent, HostOutcome, settled_session, host_
 use Rattle.dfu_sim.specs.CleanRun.{PassesTo, QuietPasses, here, there}
 
 -- Quiet passes followed by quiet passes are quiet passes.
-pub both_ways : {c : Profile} {a b d : Link} {j k : ℕ} → QuietPasses c a j b → QuietPasses c b k d → QuietPasses c a (j + k) d
-both_ways {c = c} {a = a} {d = d} {k = k} here q = subst (λ n. QuietPasses c a n d) (let e : k ≡ 0 + k = omega arith in e) q
-both_ways {c = c} {a = a} {d = d} {k = k} (there {n = j} e q) r =
-    subst (λ n. QuietPasses c a n d) (let e : suc (j + k) ≡ suc j + k = omega arith in e) (there e (both_ways q r))
+pub quiet_passes_compose : {c : Profile} {a b d : Link} {j k : ℕ} → QuietPasses c a j b → QuietPasses c b k d → QuietPasses c a (j + k) d
+quiet_passes_compose {c = c} {a = a} {d = d} {k = k} here q = subst (λ n. QuietPasses c a n d) (let e : k ≡ 0 + k = omega arith in e) q
+quiet_passes_compose {c = c} {a = a} {d = d} {k = k} (there {n = j} e q) r =
+    subst (λ n. QuietPasses c a n d) (let e : suc (j + k) ≡ suc j + k = omega arith in e) (there e (quiet_passes_compose q r))
 
 module _ (c : Profile) (goal : Goal) (again : ℕ) where
-  -- The host in a phase, with that many actions left.
+  -- The host with the task for the goal in a phase, with `left` actions and `again` restarts left.
   abbrev pub host_in_phase : Phase → ℕ → HostState
   host_in_phase phase left = record { task = task_for c goal; phase = phase; actions = left; restarts = again }
 
-  -- The link in a phase, with that many actions left.
+  -- The link of a device in a stage and of that host in a phase, with `left` actions left.
   abbrev pub at : List ℕ → Stage → Phase → ℕ → Link
   at image stage phase left = record { device = record { image = image; stage = stage }; session = HostSession (host_in_phase phase left) }
 
-  -- Within any budget k passes lead from one phase to another.
+  -- Within any budget that outlasts them, k quiet passes lead from one image, stage and phase to another.
   pub record Leads (i : List ℕ) (s : Stage) (phase : Phase) (k : ℕ) (j : List ℕ) (t : Stage) (next : Phase) : Type 0 where
     pub by : (l : ℕ) → QuietPasses c (at i s phase (k + suc l)) k (at j t next (suc l))
 
-  -- No passes lead from a phase to itself.
+  -- Zero passes lead from a phase to itself.
   pub none : {i : List ℕ} {s : Stage} {phase : Phase} → Leads i s phase 0 i s phase
   none {i = i} {s = s} {phase = phase} = record {
     by = λ l. let e : suc l ≡ 0 + suc l = omega arith in
@@ -47,12 +47,12 @@ module _ (c : Profile) (goal : Goal) (again : ℕ) where
         subst (λ z. QuietPasses c (at i s phase z) 1 (at j t next (suc l))) e (there (f l) here);
   }
 
-  -- Outcome of a host that comes to a phase: it is live there, or gives up without actions.
+  -- Outcome of a host that comes to a phase with an action left: it is live there, or done if the phase is an end.
   abbrev pub comes_to : Phase → ℕ → HostOutcome
   comes_to phase l = let q = phase_in_budget (suc l) phase in settled_session (host_in_phase q (suc l)) q
 
   -- A host that comes to a phase in which it is not done is live there.
-  host_comes_to_live_phase : (phase : Phase) (l : ℕ) → IsOnPhase phase
+  host_comes_to_live_phase : (phase : Phase) (l : ℕ) → IsLivePhase phase
       → comes_to phase l ≡ record { session = HostSession (host_in_phase phase (suc l)); answer = silent }
   host_comes_to_live_phase (Over report) l on = elim on [ ]
   host_comes_to_live_phase (OverUploaded kept) l on = elim on [ ]
@@ -64,7 +64,7 @@ module _ (c : Profile) (goal : Goal) (again : ℕ) where
       ≡ record { device = record { image = j; stage = t }; heard = heard })
       → ((l : ℕ) (room : Bool) → host_outcome (host_in_phase phase (suc (suc l))) (heard_with_room heard (has_room phase room))
       ≡ comes_to mid l)
-      → mid ≡ next → IsOnPhase next
+      → mid ≡ next → IsLivePhase next
       → Leads i s phase 1 j t next
   action_leads_to_phase {j = j} {t = t} {phase = phase} {next = next} heard mid e f g on = one (λ l k room.
       ap (λ (d : ActionResult). let q = host_outcome (host_in_phase phase (suc (suc l))) (heard_with_room d.heard (has_room phase room)) in
@@ -76,10 +76,11 @@ module _ (c : Profile) (goal : Goal) (again : ℕ) where
       })
       (f l room ∙ ap (λ x. comes_to x l) g ∙ host_comes_to_live_phase next l on))
 
--- Passes that lead to a phase, followed by passes that lead on from it, lead to where the later ones lead.
-pub passes_lead_on : {c : Profile} {goal : Goal} {again : ℕ} {i j m : List ℕ} {s t u : Stage} {a b d : Phase} {k n : ℕ}
+-- Passes that lead to a phase, followed by passes that lead on from it, lead to the later phase.
+pub leading_passes_compose : {c : Profile} {goal : Goal} {again : ℕ} {i j m : List ℕ} {s t u : Stage} {a b d : Phase} {k n : ℕ}
     → Leads c goal again i s a k j t b → Leads c goal again j t b n m u d → Leads c goal again i s a (k + n) m u d
-passes_lead_on {c = c} {goal = goal} {again = again} {i = i} {j = j} {m = m} {s = s} {t = t} {u = u} {a = a} {b = b} {d = d} {k = k} {n =
+leading_passes_compose {c = c} {goal = goal} {again = again} {i = i} {j = j} {m = m} {s = s} {t = t} {u = u} {a = a} {b = b} {d = d} {k = k}
+    {n =
     n} x y =
     record {
       by = λ l.
@@ -90,5 +91,5 @@ passes_lead_on {c = c} {goal = goal} {again = again} {i = i} {j = j} {m = m} {s 
           let f : k + suc (n + l) ≡ k + n + suc l = omega arith in
           let q : QuietPasses c (from (k + suc (n + l))) k (mid (suc (n + l))) = x.by (n + l) in
           let r = y.by l in
-          subst (λ z. QuietPasses c (from z) (k + n) end) f (both_ways q (subst (λ z. QuietPasses c (mid z) n end) e r));
+          subst (λ z. QuietPasses c (from z) (k + n) end) f (quiet_passes_compose q (subst (λ z. QuietPasses c (mid z) n end) e r));
     }

@@ -3,16 +3,16 @@ use Rattle.std.proofs.Common.{◌⊎◌, inl, inr, ℕ, ◌+◌, ◌==◌, nat_l
 use Rattle.dfu_device.specs.Pace.{block_ms, image_ms}
 use Rattle.dfu_device.specs.declared.objection.Objection.{Objection}
 use Rattle.dfu_device.specs.Stage.{Request, Dnload, Upload, GetStatus, ClrStatus, GetState, Ack, Profile, Stage, InAppDetach, InDfuIdle, InDownloadSync, InDownloadBusy, InDownloadIdle, InManifestSync, InManifestSyncComplete, InManifest, InManifestWaitReset, InUploadIdle, InError}
-use Rattle.dfu_device.specs.Table.{Plan, Sure, Writes, Commits, has_no_bytes, error_plan, objection_code, block_plan, further_plan, upload_plan, plan, time_plan}
-use Rattle.dfu_device.specs.Cases.{either_way}
+use Rattle.dfu_device.specs.Table.{Plan, Sure, Writes, Commits, has_no_bytes, error_plan, objection_code, block_plan, next_dnload_plan, upload_plan, plan, time_plan}
+use Rattle.dfu_device.specs.Cases.{holds_in_both_branches}
 use Rattle.dfu_sim.specs.Play.{request_closes, plan_with_refusal}
 use Rattle.dfu_sim.specs.Headline.{IsWaiting}
 
--- No image waits in this stage to be put in place.
+-- In this stage no image waits to be put in place.
 abbrev pub HasNoWaitingImage : Stage → Type 0
 HasNoWaitingImage st = (t : List ℕ) → IsWaiting st t → ⊥
 
--- A stage in which a device is once it put an image in place, or tried to.
+-- The device is in a stage in which it may be once it put an image in place, or tried to.
 abbrev pub IsDone : Stage → Type 0
 IsDone InDfuIdle = Unit {0}
 IsDone InManifestSyncComplete = Unit {0}
@@ -30,7 +30,7 @@ abbrev pub IsManifestSyncStage : Stage → Type 0
 IsManifestSyncStage (InManifestSync taken) = Unit {0}
 IsManifestSyncStage st = ⊥
 
--- In a stage of a done device no image waits.
+-- In a done stage no image waits.
 pub done_stage_has_no_waiting_image : (st : Stage) → IsDone st → HasNoWaitingImage st
 done_stage_has_no_waiting_image InDfuIdle d = λ t m. m
 done_stage_has_no_waiting_image InManifestSyncComplete d = λ t m. m
@@ -38,10 +38,10 @@ done_stage_has_no_waiting_image InManifestWaitReset d = λ t m. m
 done_stage_has_no_waiting_image (InError code) d = λ t m. m
 done_stage_has_no_waiting_image st d = absurd d
 
--- Plans.
+-- Plans that put an image in place or make one wait.
 
--- An image that waits after a request waited before, or the request is a DNLOAD. An image that is put in place waited, and the request is
--- no DNLOAD.
+-- An image that waits after a request waited before, or the request is a DNLOAD. No DNLOAD puts an image in place, and any other request
+-- only a waiting one.
 abbrev pub Leads : Stage → Request → Plan → Type 0
 Leads st r (Sure reply next) = (t : List ℕ) → IsWaiting next t → IsWaiting st t ⊎ (IsDnloadRequest r × IsManifestSyncStage next)
 Leads st r (Writes before block reply next bad) = HasNoWaitingImage next
@@ -52,15 +52,15 @@ block_plan_places_nothing : (c : Profile) (st : Stage) (before : List ℕ) (expe
     → Leads st (Dnload number body) (block_plan c before expected number body)
 block_plan_places_nothing c st before expected number body =
     let P : Plan → Type 0 = Leads st (Dnload number body) in
-    either_way P (nat_lt c.transfer (length body)) _ _ (λ t m. absurd m)
-    (either_way P (not (number == expected)) _ _ (λ t m. absurd m)
-    (either_way P (nat_lt c.capacity (length before + length body)) _ _ (λ t m. absurd m) (λ t m. absurd m)))
+    holds_in_both_branches P (nat_lt c.transfer (length body)) _ _ (λ t m. absurd m)
+    (holds_in_both_branches P (not (number == expected)) _ _ (λ t m. absurd m)
+    (holds_in_both_branches P (nat_lt c.capacity (length before + length body)) _ _ (λ t m. absurd m) (λ t m. absurd m)))
 
 -- The plan of a further DNLOAD puts no image in place.
 further_plan_places_nothing : (c : Profile) (taken : List ℕ) (expected number : ℕ) (body : List ℕ)
-    → Leads (InDownloadIdle taken expected) (Dnload number body) (further_plan c taken expected number body)
+    → Leads (InDownloadIdle taken expected) (Dnload number body) (next_dnload_plan c taken expected number body)
 further_plan_places_nothing c taken expected number [] =
-    either_way (Leads (InDownloadIdle taken expected) (Dnload number [])) (nat_le c.least (length taken)) _ _
+    holds_in_both_branches (Leads (InDownloadIdle taken expected) (Dnload number [])) (nat_le c.least (length taken)) _ _
     (λ t m. inr (tt, tt)) (λ t m. absurd m)
 further_plan_places_nothing c taken expected number (b ∷ bs) = block_plan_places_nothing c (InDownloadIdle taken expected) taken expected
     number (b ∷ bs)
@@ -70,24 +70,25 @@ upload_plan_places_nothing : (c : Profile) (image : List ℕ) (st : Stage) (plac
     → Leads st (Upload number size) (upload_plan c image place expected number size)
 upload_plan_places_nothing c image st place expected number size =
     let P : Plan → Type 0 = Leads st (Upload number size) in
-    either_way P (size == 0) _ _ (λ t m. absurd m)
-    (either_way P (nat_lt c.transfer size) _ _ (λ t m. absurd m)
-    (either_way P (not (number == expected)) _ _ (λ t m. absurd m)
-    (either_way P (nat_lt (length (take size (drop place image))) size) _ _ (λ t m. absurd m) (λ t m. absurd m))))
+    holds_in_both_branches P (size == 0) _ _ (λ t m. absurd m)
+    (holds_in_both_branches P (nat_lt c.transfer size) _ _ (λ t m. absurd m)
+    (holds_in_both_branches P (not (number == expected)) _ _ (λ t m. absurd m)
+    (holds_in_both_branches P (nat_lt (length (take size (drop place image))) size) _ _ (λ t m. absurd m) (λ t m. absurd m))))
 
 -- Each row of a request puts only a waiting image in place.
 request_row_places_waiting : (c : Profile) (image : List ℕ) (st : Stage) (r : Request) → Leads st r (plan c image st r)
 request_row_places_waiting c image InDfuIdle (Dnload number body) =
     let P : Plan → Type 0 = Leads InDfuIdle (Dnload number body) in
-    either_way P (not c.can_download) _ _ (λ t m. absurd m)
-    (either_way P (has_no_bytes body) _ _ (λ t m. absurd m) (block_plan_places_nothing c InDfuIdle [] 0 number body))
-request_row_places_waiting c image InDfuIdle (Upload number size) = either_way (Leads InDfuIdle (Upload number size)) c.can_upload _ _
+    holds_in_both_branches P (not c.can_download) _ _ (λ t m. absurd m)
+    (holds_in_both_branches P (has_no_bytes body) _ _ (λ t m. absurd m) (block_plan_places_nothing c InDfuIdle [] 0 number body))
+request_row_places_waiting c image InDfuIdle (Upload number size) =
+    holds_in_both_branches (Leads InDfuIdle (Upload number size)) c.can_upload _ _
     (upload_plan_places_nothing c image InDfuIdle 0 0 number size) (λ t m. absurd m)
 request_row_places_waiting c image (InDownloadSync before block number) GetStatus =
-    either_way (Leads (InDownloadSync before block number) GetStatus) (c.busy == 0) _ _ (λ t m. absurd m) (λ t m. absurd m)
+    holds_in_both_branches (Leads (InDownloadSync before block number) GetStatus) (c.busy == 0) _ _ (λ t m. absurd m) (λ t m. absurd m)
 request_row_places_waiting c image (InDownloadIdle taken number) (Dnload k body) = further_plan_places_nothing c taken number k body
 request_row_places_waiting c image (InManifestSync taken) GetStatus =
-    either_way (Leads (InManifestSync taken) GetStatus) (c.manifest == 0) _ _ (refl, tt, λ x. x) (λ t m. inl m)
+    holds_in_both_branches (Leads (InManifestSync taken) GetStatus) (c.manifest == 0) _ _ (refl, tt, λ x. x) (λ t m. inl m)
 request_row_places_waiting c image (InManifestSync taken) GetState = λ t m. inl m
 request_row_places_waiting c image (InUploadIdle place number) (Upload k size) = upload_plan_places_nothing c image (InUploadIdle place
     number) place number k size
@@ -99,60 +100,64 @@ pub refused_plan_places_nothing : (x : Option Objection) (c : Profile) (image : 
     → Leads st r (plan_with_refusal x c image st r)
 refused_plan_places_nothing None c image st r = request_row_places_waiting c image st r
 refused_plan_places_nothing (Some why) c image st r =
-    either_way (Leads st r) (request_closes c.least st r) (error_plan (objection_code why)) (plan c image st r) (λ t m. absurd m)
+    holds_in_both_branches (Leads st r) (request_closes c.least st r) (error_plan (objection_code why)) (plan c image st r)
+    (λ t m. absurd m)
     (request_row_places_waiting c image st r)
 
--- An image that a time puts in place waited, and its download was not closed just before.
+-- The plan of a time commits no image except a waiting one, and then not in dfuMANIFEST-SYNC; it leads to a done stage.
 abbrev pub TimePlacesClosedImage : Stage → Plan → Type 0
 TimePlacesClosedImage st (Sure reply next) = Unit {0}
 TimePlacesClosedImage st (Writes before block reply next bad) = Unit {0}
 TimePlacesClosedImage st (Commits taken reply next bad) = IsWaiting st taken × IsDone next × (IsManifestSyncStage st → ⊥)
 
 -- The row of a time puts only a waiting image in place.
-pub time_leads : (c : Profile) (st : Stage) (ms : ℕ) → TimePlacesClosedImage st (time_plan c st ms)
-time_leads c (InAppDetach timer passed) ms =
+pub time_places_waiting : (c : Profile) (st : Stage) (ms : ℕ) → TimePlacesClosedImage st (time_plan c st ms)
+time_places_waiting c (InAppDetach timer passed) ms =
     let P : Plan → Type 0 = TimePlacesClosedImage (InAppDetach timer passed) in
-    either_way P (ms == 0) _ _ tt
-    (either_way P c.will_detach _ _ tt (either_way P (nat_le (max 1 timer) (passed + ms)) _ _ tt tt))
-time_leads c (InDownloadBusy before block number passed) ms =
+    holds_in_both_branches P (ms == 0) _ _ tt
+    (holds_in_both_branches P c.will_detach _ _ tt (holds_in_both_branches P (nat_le (max 1 timer) (passed + ms)) _ _ tt tt))
+time_places_waiting c (InDownloadBusy before block number passed) ms =
     let P : Plan → Type 0 = TimePlacesClosedImage (InDownloadBusy before block number passed) in
-    either_way P (ms == 0) _ _ tt (either_way P (nat_le (block_ms c.pace c.busy (length before) (length block)) (passed + ms)) _ _ tt tt)
-time_leads c (InManifest taken passed) ms =
+    holds_in_both_branches P (ms == 0) _ _ tt
+    (holds_in_both_branches P (nat_le (block_ms c.pace c.busy (length before) (length block)) (passed + ms)) _ _ tt tt)
+time_places_waiting c (InManifest taken passed) ms =
     let P : Plan → Type 0 = TimePlacesClosedImage (InManifest taken passed) in
-    either_way P (ms == 0) _ _ tt
-    (either_way P (nat_le (image_ms c.pace c.manifest (length taken)) (passed + ms)) _ _
-    (either_way (λ (next : Stage). P (Commits taken Ack next (λ fault. Ack))) c.tolerant InManifestSyncComplete InManifestWaitReset
+    holds_in_both_branches P (ms == 0) _ _ tt
+    (holds_in_both_branches P (nat_le (image_ms c.pace c.manifest (length taken)) (passed + ms)) _ _
+    (holds_in_both_branches
+    (λ (next : Stage). P (Commits taken Ack next (λ fault. Ack))) c.tolerant InManifestSyncComplete InManifestWaitReset
     (refl, tt, λ x. x) (refl, tt, λ x. x))
     tt)
-time_leads c st ms = tt
+time_places_waiting c st ms = tt
 
--- A calm plan: after it the image is as before, and none waits. Each plan is calm once the image is in place.
+-- A calm plan writes and commits nothing, and no image waits after it. Each plan is calm once the image is in place.
 abbrev pub IsCalmPlan : Plan → Type 0
 IsCalmPlan (Sure reply next) = HasNoWaitingImage next
 IsCalmPlan (Writes before block reply next bad) = ⊥
 IsCalmPlan (Commits taken reply next bad) = ⊥
 
--- The plan of a first block is calm.
+-- The plan of a DNLOAD of block 0, before any block was taken, is calm.
 block_plan_is_calm : (c : Profile) (number : ℕ) (body : List ℕ) → IsCalmPlan (block_plan c [] 0 number body)
 block_plan_is_calm c number body =
-    either_way IsCalmPlan (nat_lt c.transfer (length body)) _ _ (λ t m. absurd m)
-    (either_way IsCalmPlan (not (number == 0)) _ _ (λ t m. absurd m)
-    (either_way IsCalmPlan (nat_lt c.capacity (length {A = ℕ} [] + length body)) _ _ (λ t m. absurd m) (λ t m. absurd m)))
+    holds_in_both_branches IsCalmPlan (nat_lt c.transfer (length body)) _ _ (λ t m. absurd m)
+    (holds_in_both_branches IsCalmPlan (not (number == 0)) _ _ (λ t m. absurd m)
+    (holds_in_both_branches IsCalmPlan (nat_lt c.capacity (length {A = ℕ} [] + length body)) _ _ (λ t m. absurd m) (λ t m. absurd m)))
 
--- The plan of a first UPLOAD is calm.
+-- The plan of an UPLOAD of part 0, from the beginning of the image, is calm.
 upload_plan_is_calm : (c : Profile) (image : List ℕ) (number size : ℕ) → IsCalmPlan (upload_plan c image 0 0 number size)
 upload_plan_is_calm c image number size =
-    either_way IsCalmPlan (size == 0) _ _ (λ t m. absurd m)
-    (either_way IsCalmPlan (nat_lt c.transfer size) _ _ (λ t m. absurd m)
-    (either_way IsCalmPlan (not (number == 0)) _ _ (λ t m. absurd m)
-    (either_way IsCalmPlan (nat_lt (length (take size (drop 0 image))) size) _ _ (λ t m. absurd m) (λ t m. absurd m))))
+    holds_in_both_branches IsCalmPlan (size == 0) _ _ (λ t m. absurd m)
+    (holds_in_both_branches IsCalmPlan (nat_lt c.transfer size) _ _ (λ t m. absurd m)
+    (holds_in_both_branches IsCalmPlan (not (number == 0)) _ _ (λ t m. absurd m)
+    (holds_in_both_branches IsCalmPlan (nat_lt (length (take size (drop 0 image))) size) _ _ (λ t m. absurd m) (λ t m. absurd m))))
 
 -- In a done stage the plan of each request is calm.
 pub calm_plan_of_done_stage : (c : Profile) (image : List ℕ) (st : Stage) (r : Request) → IsDone st → IsCalmPlan (plan c image st r)
 calm_plan_of_done_stage c image InDfuIdle (Dnload number body) d =
-    either_way IsCalmPlan (not c.can_download) _ _ (λ t m. absurd m)
-    (either_way IsCalmPlan (has_no_bytes body) _ _ (λ t m. absurd m) (block_plan_is_calm c number body))
-calm_plan_of_done_stage c image InDfuIdle (Upload number size) d = either_way IsCalmPlan c.can_upload _ _ (upload_plan_is_calm c image
+    holds_in_both_branches IsCalmPlan (not c.can_download) _ _ (λ t m. absurd m)
+    (holds_in_both_branches IsCalmPlan (has_no_bytes body) _ _ (λ t m. absurd m) (block_plan_is_calm c number body))
+calm_plan_of_done_stage c image InDfuIdle (Upload number size) d =
+    holds_in_both_branches IsCalmPlan c.can_upload _ _ (upload_plan_is_calm c image
     number size) (λ t m. absurd m)
 calm_plan_of_done_stage c image InDfuIdle r d = λ t m. absurd m
 calm_plan_of_done_stage c image InManifestSyncComplete GetStatus d = λ t m. absurd m

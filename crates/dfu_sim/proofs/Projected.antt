@@ -15,57 +15,57 @@ use Rattle.dfu_sim.specs.Happening.{Fate, WriteHarm, Happening, Goes, Passes, Cu
 use Rattle.dfu_sim.specs.declared.delivery.MediumFault.{MediumFault}
 use Rattle.dfu_sim.specs.declared.delivery.MediumFault.TheVariants.{CutsPower}
 use Rattle.dfu_sim.specs.Delivery.{Delivery, delivery_of}
-use Rattle.dfu_sim.specs.Play.{Answered, heard_with_room, has_room, situation_after_harm, action_result, host_outcome, notify_restart, play_of_event, go_result, MayHappen}
+use Rattle.dfu_sim.specs.Play.{Answered, heard_with_room, has_room, situation_after_harm, action_result, host_outcome, notify_restart, play_of_event, next_action_result, MayHappen}
 use Rattle.dfu_sim.specs.LinkView.{Session, LinkView}
-use Rattle.dfu_sim.specs.Bytes.{fuse_of, armed_device, powered_up, device_after_action, link_of_bench, NextAction, HappensOnBench, BytePlay}
+use Rattle.dfu_sim.specs.Bytes.{fuse_of, armed_device, device_after_power_cycle, device_after_action, link_of_bench, NextAction, HappensOnBench, BytePlay}
 use Rattle.dfu_sim.specs.Understood.{PlayIsShown, PlaysMatchLinks}
 use Rattle.dfu_sim.proofs.Replies.{phase_has_host_deed}
-use Rattle.dfu_sim.proofs.Actions.{profile_of_armed_device, situation_of_armed_device, Went, delivered_action_went}
+use Rattle.dfu_sim.proofs.Actions.{arming_keeps_profile, arming_keeps_situation, Went, action_moves_device}
 
--- An action on an armed medium goes as on the medium before it was armed.
-armed_action_went : (d : Deed) (delivery : Delivery) (fuse : Fuse) (w w' : DeviceView) (heard : Heard)
+-- An action that goes by the table for the device with its medium armed goes by the table for the device before.
+armed_action_goes_as_unarmed : (d : Deed) (delivery : Delivery) (fuse : Fuse) (w w' : DeviceView) (heard : Heard)
     → Went fuse (profile (armed_device w fuse)) (situation (armed_device w fuse)) d delivery w' heard
     → Went fuse (profile w) (situation w) d delivery w' heard
-armed_action_went d delivery fuse w w' heard x =
-    subst (λ (s : Situation). Went fuse (profile w) s d delivery w' heard) (situation_of_armed_device w fuse)
-    (subst (λ (c : Profile). Went fuse c (situation (armed_device w fuse)) d delivery w' heard) (profile_of_armed_device w fuse) x)
+armed_action_goes_as_unarmed d delivery fuse w w' heard x =
+    subst (λ (s : Situation). Went fuse (profile w) s d delivery w' heard) (arming_keeps_situation w fuse)
+    (subst (λ (c : Profile). Went fuse c (situation (armed_device w fuse)) d delivery w' heard) (arming_keeps_profile w fuse) x)
 
--- The situation of a device after its power came back.
-situation_of_powered_device : (w : DeviceView) → situation (powered_up w) ≡ situation_after_power (situation w)
-situation_of_powered_device w = λ k. record { image = (fuse_changes_nothing_visible w.slots Whole [] 0).image k; stage = InAppIdle }
+-- Once its power came back, a device is in the situation that the table gives after a loss of power.
+power_cycle_moves_situation : (w : DeviceView) → situation (device_after_power_cycle w) ≡ situation_after_power (situation w)
+power_cycle_moves_situation w = λ k. record { image = (fuse_changes_nothing_visible w.slots Whole [] 0).image k; stage = InAppIdle }
 
--- The profile stays after the power came back.
-profile_of_powered_device : (w : DeviceView) → profile (powered_up w) ≡ profile w
-profile_of_powered_device w = λ k. record (profile w) { capacity = (fuse_changes_nothing_visible w.slots Whole [] 0).room k }
+-- A device whose power went and came back keeps its profile.
+power_cycle_keeps_profile : (w : DeviceView) → profile (device_after_power_cycle w) ≡ profile w
+power_cycle_keeps_profile w = λ k. record (profile w) { capacity = (fuse_changes_nothing_visible w.slots Whole [] 0).room k }
 
--- The situation of a device at the end of an action.
-situation_after_action : (harming : MediumFault) (w : DeviceView) → situation (device_after_action harming w)
+-- At the end of an action a device is in the situation that the table gives after the harm to a write.
+action_end_moves_situation : (harming : MediumFault) (w : DeviceView) → situation (device_after_action harming w)
     ≡ situation_after_harm harming (situation w)
-situation_after_action CutsPower w = situation_of_powered_device w
-situation_after_action harming w = situation_of_armed_device w Whole
+action_end_moves_situation CutsPower w = power_cycle_moves_situation w
+action_end_moves_situation harming w = arming_keeps_situation w Whole
 
--- The profile stays at the end of an action.
-profile_after_action : (harming : MediumFault) (w : DeviceView) → profile (device_after_action harming w) ≡ profile w
-profile_after_action CutsPower w = profile_of_powered_device w
-profile_after_action harming w = profile_of_armed_device w Whole
+-- A device keeps its profile at the end of an action.
+action_end_keeps_profile : (harming : MediumFault) (w : DeviceView) → profile (device_after_action harming w) ≡ profile w
+action_end_keeps_profile CutsPower w = power_cycle_keeps_profile w
+action_end_keeps_profile harming w = arming_keeps_profile w Whole
 
 -- At the end of an action the fuse of the medium is whole.
-fuse_whole_after_action : (harming : MediumFault) (w : DeviceView) → (device_after_action harming w).slots.medium.fuse ≡ Whole
-fuse_whole_after_action CutsPower w = refl
-fuse_whole_after_action harming w = refl
+action_end_leaves_fuse_whole : (harming : MediumFault) (w : DeviceView) → (device_after_action harming w).slots.medium.fuse ≡ Whole
+action_end_leaves_fuse_whole CutsPower w = refl
+action_end_leaves_fuse_whole harming w = refl
 
--- The fuse of the medium in an event; only an action is harmed.
+-- The fuse of the medium in an event: whole, except in an action in which a write is harmed.
 abbrev pub fuse_of_event : Happening → Fuse
 fuse_of_event (Goes fate harm) = fuse_of (delivery_of fate).harming harm
 fuse_of_event event = Whole
 
--- The links that benches show make a play of the event. If no write is harmed, the play is the one in which the medium works.
-record ShowedEvent (b : LinkView) (event : Happening) (fuse : Fuse) (b' : LinkView) (answer : Answered) : Type 0 where
+-- The event is a play of the links that the benches show. With a whole fuse it goes by the table of fates for a medium that works.
+record EventIsShown (b : LinkView) (event : Happening) (fuse : Fuse) (b' : LinkView) (answer : Answered) : Type 0 where
   shown : PlayIsShown b event b' answer
   sure : fuse ≡ Whole → (room : Bool) × (play_of_event (profile b.device) (link_of_bench b) event Works Works room
       ≡ record { link = link_of_bench b'; answer = answer })
 
--- A host whose phase wants no memory hears what it would hear with memory.
+-- If a host hears NoRoom only in a phase that needs memory, it hears its result with memory wherever its phase needs none.
 pub heard_in : (phase : Phase) (heard x : Heard) (room : Bool) → heard ≡ heard_with_room x room
     → (heard ≡ NoRoom → IsTrue (wants_memory phase)) → heard ≡ heard_with_room x (has_room phase room)
 heard_in (Fetch k kept) heard x room e h = e
@@ -73,21 +73,21 @@ heard_in phase heard x true e h = e
 heard_in phase heard (Part bytes) false e h = let none : false ≡ true = h e in absurd cc
 heard_in phase heard x false e h = e
 
--- The host's next action makes a play of the links that are shown.
+-- The host's next action on a bench is a play of the links that the benches show.
 next_action_is_shown : (fate : Fate) (harm : WriteHarm) (b b' : LinkView) (answer : Answered) → MayHappen b.session (Goes fate harm)
-    → NextAction b.session fate harm b b' answer → ShowedEvent b (Goes fate harm) (fuse_of (delivery_of fate).harming harm) b' answer
+    → NextAction b.session fate harm b b' answer → EventIsShown b (Goes fate harm) (fuse_of (delivery_of fate).harming harm) b' answer
 next_action_is_shown fate harm b b' answer allowed g =
     let d = deed g.host.task g.host.phase in
     let delivery = delivery_of fate in
-    let x = armed_action_went d delivery (fuse_of delivery.harming harm) b.device g.gone.last g.gone.acted.heard
-    (delivered_action_went d delivery (armed_device b.device (fuse_of delivery.harming harm)) g.gone.last g.gone.acted.heard
+    let x = armed_action_goes_as_unarmed d delivery (fuse_of delivery.harming harm) b.device g.gone.last g.gone.acted.heard
+    (action_moves_device d delivery (armed_device b.device (fuse_of delivery.harming harm)) g.gone.last g.gone.acted.heard
     (phase_has_host_deed g.host.task g.host.phase) g.gone.acted.acts) in
     let hears = heard_in g.host.phase g.gone.acted.heard _ x.room x.hears g.gone.acted.room in
     let there : (action_result (profile b.device) (situation b.device) d delivery x.first x.second).device ≡ situation b'.device = x.device
-    ∙ sym (situation_after_action delivery.harming g.gone.last) ∙ sym (ap situation g.gone.device) in
+    ∙ sym (action_end_moves_situation delivery.harming g.gone.last) ∙ sym (ap situation g.gone.device) in
     let same : play_of_event (profile b.device) (link_of_bench b) (Goes fate harm) x.first x.second x.room
     ≡ record { link = link_of_bench b'; answer = answer } =
-    ap (λ (z : Session). go_result (profile b.device) (link_of_bench b) z fate x.first x.second x.room) g.live
+    ap (λ (z : Session). next_action_result (profile b.device) (link_of_bench b) z fate x.first x.second x.room) g.live
     ∙ (λ i. record {
       link = record { device = there i; session = (ap (λ (h : Heard). (host_outcome g.host h).session) (sym hears) ∙ sym g.session) i };
       answer = (ap (λ (h : Heard). (host_outcome g.host h).answer) (sym hears) ∙ sym g.answered) i;
@@ -95,8 +95,8 @@ next_action_is_shown fate harm b b' answer allowed g =
     record {
       shown = record {
         play = record { allowed = allowed; first = x.first; second = x.second; room = x.room; same = same };
-        fixed = ap profile g.gone.device ∙ profile_after_action delivery.harming g.gone.last ∙ x.fixed;
-        unarmed = ap (λ (w : DeviceView). w.slots.medium.fuse) g.gone.device ∙ fuse_whole_after_action delivery.harming g.gone.last;
+        fixed = ap profile g.gone.device ∙ action_end_keeps_profile delivery.harming g.gone.last ∙ x.fixed;
+        unarmed = ap (λ (w : DeviceView). w.slots.medium.fuse) g.gone.device ∙ action_end_leaves_fuse_whole delivery.harming g.gone.last;
       };
       sure = λ whole. (
         x.room,
@@ -108,10 +108,11 @@ next_action_is_shown fate harm b b' answer allowed g =
       );
     }
 
--- An event on a medium that works is a play that shows the bench.
+-- An event that goes by the table for a medium that works, and keeps the profile and leaves the fuse whole, is a play of the links that the
+-- benches show.
 working_event_is_shown : (b b' : LinkView) (event : Happening) (answer : Answered) → MayHappen b.session event
     → play_of_event (profile b.device) (link_of_bench b) event Works Works true ≡ record { link = link_of_bench b'; answer = answer }
-    → profile b'.device ≡ profile b.device → b'.device.slots.medium.fuse ≡ Whole → ShowedEvent b event Whole b' answer
+    → profile b'.device ≡ profile b.device → b'.device.slots.medium.fuse ≡ Whole → EventIsShown b event Whole b' answer
 working_event_is_shown b b' event answer allowed same fixed whole = record {
   shown = record {
     play = record { allowed = allowed; first = Works; second = Works; room = true; same = same };
@@ -121,19 +122,19 @@ working_event_is_shown b b' event answer allowed same fixed whole = record {
   sure = λ always. (true, same);
 }
 
--- An event in which no write can be harmed is a play that shows the bench.
+-- An event without harm whose next bench and answer are known is a play of the links that the benches show.
 unharmed_event_is_shown : (b b' now : LinkView) (event : Happening) (answer said : Answered) → MayHappen b.session event
     → play_of_event (profile b.device) (link_of_bench b) event Works Works true ≡ record { link = link_of_bench now; answer = said }
     → profile now.device ≡ profile b.device → now.device.slots.medium.fuse ≡ Whole
-    → b' ≡ now → answer ≡ said → ShowedEvent b event Whole b' answer
+    → b' ≡ now → answer ≡ said → EventIsShown b event Whole b' answer
 unharmed_event_is_shown b b' now event answer said allowed same fixed whole e f =
     working_event_is_shown b b' event answer allowed (same ∙ (λ i. record { link = link_of_bench (sym e i); answer = sym f i }))
     (ap (λ (z : LinkView). profile z.device) e ∙ fixed) (ap (λ (z : LinkView). z.device.slots.medium.fuse) e ∙ whole)
 
--- Each event makes a play of the links that are shown.
+-- Each event on a bench whose medium is not armed is a play of the links that the benches show.
 event_on_bench_is_shown : (event : Happening) (b b' : LinkView) (answer : Answered) → MayHappen b.session event →
     b.device.slots.medium.fuse ≡ Whole
-    → HappensOnBench event b b' answer → ShowedEvent b event (fuse_of_event event) b' answer
+    → HappensOnBench event b b' answer → EventIsShown b event (fuse_of_event event) b' answer
 event_on_bench_is_shown (Goes fate harm) b b' answer allowed unarmed g = next_action_is_shown fate harm b b' answer allowed g
 event_on_bench_is_shown (Passes ms) b b' answer allowed unarmed (e, s, n) =
     let y = times_have_outcomes ms b.device b'.device e in
@@ -145,16 +146,16 @@ event_on_bench_is_shown (Passes ms) b b' answer allowed unarmed (e, s, n) =
     (λ i. record { link = record { device = there i; session = sym s i }; answer = sym n i }) y.fixed works.1
 event_on_bench_is_shown Cuts b b' answer allowed unarmed (e, f) =
     unharmed_event_is_shown b b' _ Cuts answer _ allowed (λ i. let t = notify_restart b.session in
-    record { link = record { device = sym (situation_of_powered_device b.device) i; session = t.session }; answer = t.answer })
-    (profile_of_powered_device b.device) refl e f
+    record { link = record { device = sym (power_cycle_moves_situation b.device) i; session = t.session }; answer = t.answer })
+    (power_cycle_keeps_profile b.device) refl e f
 event_on_bench_is_shown event b b' answer allowed unarmed h = unharmed_event_is_shown b b' _ event answer _ allowed refl refl unarmed h.0
     h.1
 
--- Each play in bytes is a play of the links that are shown.
+-- Each play in bytes is a play of the links that the benches show.
 pub bytes_show : PlaysMatchLinks
 bytes_show b b' event answer p = (event_on_bench_is_shown event b b' answer p.allowed p.unarmed p.happens).shown
 
--- If no write is harmed, an event goes as the play with a medium that works.
+-- If the fuse is whole in an event, its play in bytes goes by the table of fates for a medium that works.
 pub unharmed_play_works : (b b' : LinkView) (event : Happening) (answer : Answered) → BytePlay b event b' answer
     → fuse_of_event event ≡ Whole
     → (room : Bool) × (play_of_event (profile b.device) (link_of_bench b) event Works Works room

@@ -12,22 +12,22 @@ use Rattle.dfu_sim.specs.Play.{MayHappen}
 use Rattle.dfu_sim.specs.LinkView.{Session, NoLiveSession, HostSession, IsLive}
 use Rattle.dfu_sim.specs.Happening.{Happening, Offers, Uploads, Aborts, Goes}
 use Rattle.dfu_sim.specs.Refusing.{first_offer_fault, IsOffered, IsBadOffer, ServesUpload, IsBadUpload}
-use Rattle.dfu_sim.proofs.Events.{offer_fault_by_content}
+use Rattle.dfu_sim.proofs.Events.{equal_offers_fail_alike}
 use Rattle.dfu_sim.specs.OneAnswer.{EventHasOneRefusal, RefusedEventIsNoPlay, EventHasOneMeaning}
 
--- A file that is taken has no fault.
+-- An offer of a file that the device takes is refused with no fault.
 pub taken_offer_is_not_bad : (s : Setting) (purpose : Purpose) (file payload : List ℕ) (why : OfferFault) → IsOffered s purpose file payload
     → IsBadOffer s purpose file why → ⊥
 taken_offer_is_not_bad s purpose file payload (offer_fault.Suffix f) o first =
     grammar_file_is_faultless file f (payload, o.ids, o.dfu, o.extra, o.reads) first
 taken_offer_is_not_bad s purpose file payload (offer_fault.Host f) o (content, says, first) =
     let same = one_reading file content.payload payload _ _ _ _ _ _ says.reads o.reads in
-    let taken : first_offer_fault purpose content s.functional s.ids ≡ None = offer_fault_by_content purpose content _ s.functional
+    let taken : first_offer_fault purpose content s.functional s.ids ≡ None = equal_offers_fail_alike purpose content _ s.functional
     s.ids same.0 same.1
     ∙ o.taken in
     absurd cc
 
--- A file that is not taken is refused with one fault.
+-- An offer is refused with at most one fault of its file or its session.
 bad_offer_has_one_fault : (s : Setting) (purpose : Purpose) (file : List ℕ) (why other : OfferFault) → IsBadOffer s purpose file why
     → IsBadOffer s purpose file other
     → why ≡ other
@@ -38,7 +38,7 @@ bad_offer_has_one_fault s purpose file (offer_fault.Host f) (offer_fault.Suffix 
     absurd (grammar_file_is_faultless file g (content.payload, content.ids, content.dfu, says.extra, says.reads) y)
 bad_offer_has_one_fault s purpose file (offer_fault.Host f) (offer_fault.Host g) (content, says, first) (other, reads, second) =
     let same = one_reading file content.payload other.payload _ _ _ _ _ _ says.reads reads.reads in
-    let e : Some f ≡ Some g = sym first ∙ (offer_fault_by_content purpose content other s.functional s.ids same.0 same.1 ∙ second) in
+    let e : Some f ≡ Some g = sym first ∙ (equal_offers_fail_alike purpose content other s.functional s.ids same.0 same.1 ∙ second) in
     cc
 
 -- An upload is refused with at most one fault.
@@ -47,14 +47,14 @@ bad_upload_has_one_fault s (offer_fault.Host f) (offer_fault.Host g) x y = let e
 bad_upload_has_one_fault s (offer_fault.Host f) other x y = elim y [ ]
 bad_upload_has_one_fault s why other x y = elim x [ ]
 
--- A device that gives its image has no fault of an upload.
+-- An upload from a device that serves uploads is refused with no fault.
 served_upload_is_not_bad : (s : Setting) (why : OfferFault) → IsBadUpload s why → ServesUpload s → ⊥
 served_upload_is_not_bad s (offer_fault.Host f) x gives = let e : ◌≡◌ {A = Option HostFault} (Some f) None = sym x ∙ gives in absurd cc
 served_upload_is_not_bad s why x gives = x
 
--- One fault of a refusal.
+-- Fault of each refusal.
 
--- An event is refused with one fault.
+-- An event is refused with at most one fault.
 pub event_has_one_refusal : EventHasOneRefusal
 event_has_one_refusal b (Offers purpose file limits) fault.HostBusy (fault.BadOffer g) x y = absurd (subst IsLive y.0 x)
 event_has_one_refusal b (Offers purpose file limits) (fault.BadOffer f) fault.HostBusy x y = absurd (subst IsLive x.0 y)
@@ -68,14 +68,15 @@ event_has_one_refusal b Aborts fault.NoHost fault.NoHost x y = refl
 event_has_one_refusal b (Goes fate harm) fault.NoHost fault.NoHost x y = refl
 event_has_one_refusal b h why other x y = search
 
--- A refusal is no play.
+-- Events while a session is live.
 
+-- An event that no live session allows may not happen while a session is live.
 live_session_prevents_event : (s : Session) (h : Happening) → ((k : HostState) → MayHappen (HostSession k) h → ⊥) → IsLive s →
     MayHappen s h → ⊥
 live_session_prevents_event NoLiveSession h never live a = live
 live_session_prevents_event (HostSession k) h never live a = never k a
 
--- A refused event is no play.
+-- If an event is refused, no event that it means may happen.
 pub refused_event_is_no_play : RefusedEventIsNoPlay
 refused_event_is_no_play b (Offers purpose file limits) fault.HostBusy event x m a =
     live_session_prevents_event b.session (Offers purpose m.0 limits) (λ k no. no) x (subst (MayHappen b.session) m.2 a)
@@ -90,9 +91,9 @@ refused_event_is_no_play b (Goes fate harm) fault.NoHost event x m a =
     subst (λ (s : Session). MayHappen s (Goes fate harm)) x (subst (MayHappen b.session) m a)
 refused_event_is_no_play b h why event x m a = elim x [ ]
 
--- One meaning of an event.
+-- Meaning of each event.
 
--- Each event has one meaning.
+-- Each event has at most one meaning.
 pub one_event : EventHasOneMeaning
 one_event s (Offers purpose file limits) event other m n =
     let same : m.0 ≡ n.0 = (one_reading file m.0 n.0 _ _ _ _ _ _ m.1.reads n.1.reads).0 in

@@ -5,14 +5,14 @@ use Rattle.dfu_device.specs.declared.objection.Objection.{Objection}
 use Rattle.dfu_device.specs.Stage.{Request as Meant, Reply, Ack, StatusOf, StateOf, Data, Stall, Profile, Stage}
 use Rattle.dfu_device.specs.Table.{Plan, plan}
 use Rattle.dfu_device.specs.Outcome.{Luck, plan_outcome}
-use Rattle.dfu_device.specs.Cases.{either_way}
+use Rattle.dfu_device.specs.Cases.{holds_in_both_branches}
 use Rattle.dfu_host.specs.Phases.{Task, Phase, Enter, Deed, Send, Heard, Part}
 use Rattle.dfu_host.specs.Table.{deed}
 use Rattle.dfu_sim.specs.Play.{heard_of_reply, heard_with_room, request_closes, plan_with_refusal}
 use Rattle.dfu_wire.specs.declared.requests.Request.{Request as Asked}
 use Rattle.dfu_wire.specs.declared.requests.Request.TheVariants as request
 use Rattle.dfu_wire.specs.declared.setups.Setup.{Setup}
-use Rattle.dfu_wire.specs.Request.{SetupRequest}
+use Rattle.dfu_wire.specs.Request.{SetupAsksFor}
 use Rattle.dfu_wire.specs.Status.{IsStatus}
 use Rattle.dfu_wire.specs.State.{state_byte}
 use Rattle.dfu_device.specs.declared.answer.Answer.{Answer}
@@ -25,7 +25,7 @@ use Rattle.dfu_host.specs.WireLaws.{status_understood, state_understood}
 use Rattle.dfu_sim.specs.Bytes.{HeardOfAnswer}
 use Rattle.dfu_sim.specs.Understood.{ResponsesUnderstood}
 
--- A request and its body, as a host sends them.
+-- The request and its body are ones that a host sends.
 abbrev pub IsHostRequest : Asked → List ℕ → Type 0
 IsHostRequest (request.GetStatus len) body = (len ≡ 6) × (body ≡ [])
 IsHostRequest (request.GetState len) body = (len ≡ 1) × (body ≡ [])
@@ -36,24 +36,24 @@ IsHostRequest request.ClrStatus body = body ≡ []
 IsHostRequest request.Abort body = body ≡ []
 IsHostRequest q body = ⊥
 
--- An action of a host: a request that hosts send, a wait, a reset, or none.
+-- The deed is one of a host: a request that hosts send, a wait, a reset of the bus, or the end.
 abbrev pub IsHostDeed : Deed → Type 0
 IsHostDeed (Send q body) = IsHostRequest q body
 IsHostDeed d = Unit {0}
 
--- A host in any phase sends a request that hosts send, waits, resets the bus, or does nothing.
+-- In any phase the deed of a host's table is one of a host.
 pub phase_has_host_deed : (task : Task) (phase : Phase) → IsHostDeed (deed task phase)
-phase_has_host_deed task Enter = either_way IsHostDeed task.will_detach _ _ tt tt
+phase_has_host_deed task Enter = holds_in_both_branches IsHostDeed task.will_detach _ _ tt tt
 phase_has_host_deed task phase = search
 
 -- Each request that a host sends is one of the requests that `IsHostRequest` lists.
-pub hosts : (task : Task) (phase : Phase) (q : Asked) (body : List ℕ) → deed task phase ≡ Send q body → IsHostRequest q body
-hosts task phase q body e = subst IsHostDeed e (phase_has_host_deed task phase)
+pub host_request_is_known : (task : Task) (phase : Phase) (q : Asked) (body : List ℕ) → deed task phase ≡ Send q body → IsHostRequest q body
+host_request_is_known task phase q body e = subst IsHostDeed e (phase_has_host_deed task phase)
 
--- Equal answers have one meaning: what is heard of an answer is heard of an equal answer.
-heard_of_equal_answer : (d : Deed) (a x : Answer) (out : List ℕ) (heard : Heard) → a ≡ x → HeardOfAnswer d a out heard →
+-- Equal answers have equal meanings.
+equal_answers_mean_same : (d : Deed) (a x : Answer) (out : List ℕ) (heard : Heard) → a ≡ x → HeardOfAnswer d a out heard →
     HeardOfAnswer d x out heard
-heard_of_equal_answer d a x out heard e h = subst (λ (y : Answer). HeardOfAnswer d y out heard) e h
+equal_answers_mean_same d a x out heard e h = subst (λ (y : Answer). HeardOfAnswer d y out heard) e h
 
 -- The meaning is that of the reply, or there was no memory for its part.
 abbrev HeardAsReply : Reply → Heard → Type 0
@@ -66,39 +66,39 @@ pub reply_answer_is_heard : (most : ℕ) (q : Asked) (body : List ℕ) (reply : 
     → ReplyAnswer (asked_length q) reply a out → HeardOfAnswer (Send q body) a out heard → HeardAsReply reply heard
 reply_answer_is_heard most q body Stall a out heard i f says h = (
   true,
-  heard_of_equal_answer (Send q body) a answer.Stall out heard says.0
+  equal_answers_mean_same (Send q body) a answer.Stall out heard says.0
       h,
 )
-reply_answer_is_heard most q body Ack a out heard i f says h = (true, heard_of_equal_answer (Send q body) a answer.Ack out heard says.0 h)
+reply_answer_is_heard most q body Ack a out heard i f says h = (true, equal_answers_mean_same (Send q body) a answer.Ack out heard says.0 h)
 reply_answer_is_heard most (request.GetStatus len) body (StatusOf code poll state) a out heard i f says h =
     let whole : (a ≡ answer.Bytes) × IsStatus (record { code = code; poll_ms = poll; state = state }) out = status_read_back len code poll
     state
     a out (omega (arith, i.0)) says in (
       true,
       status_understood (record { code = code; poll_ms = poll; state = state }) out heard whole.1
-          (heard_of_equal_answer (Send (request.GetStatus len) body) a answer.Bytes out heard whole.0 h),
+          (equal_answers_mean_same (Send (request.GetStatus len) body) a answer.Bytes out heard whole.0 h),
     )
 reply_answer_is_heard most (request.GetState len) body (StateOf state) a out heard i f says h =
     let whole : out ≡ state_byte state ∷ [] = says.1 ∙ ap (λ n. take n (state_byte state ∷ [])) i.0 in (
       true,
       state_understood state heard (subst (λ l. ReadsState l heard) whole
-          (heard_of_equal_answer (Send (request.GetState len) body) a answer.Bytes out heard says.0 h)),
+          (equal_answers_mean_same (Send (request.GetState len) body) a answer.Bytes out heard says.0 h)),
     )
 reply_answer_is_heard most (request.Upload block len) body (Data bytes) a out heard i f says h =
-    elim (heard_of_equal_answer (Send (request.Upload block len) body) a answer.Bytes out heard says.0 h) [
+    elim (equal_answers_mean_same (Send (request.Upload block len) body) a answer.Bytes out heard says.0 h) [
       | inl part ↦ (true, part ∙ ap Part says.1)
       | inr (none, needs) ↦ (false, none)
     ]
 reply_answer_is_heard most q body reply a out heard i f says h = search
 
--- The reply to a request fits it, whatever the program of the device refuses.
+-- At any luck the reply of the plan of a request fits the request, whatever the program of the device refuses.
 plan_reply_fits_request : (x : Option Objection) (c : Profile) (i : List ℕ) (st : Stage) (r : Meant) (luck : Luck)
     → ReplyMatches c.transfer (plan_outcome i (plan_with_refusal x c i st r) luck).reply r
 plan_reply_fits_request None c i st r luck =
     reply_of_plan (λ reply. ReplyMatches c.transfer reply r) i (plan c i st r) luck (row_reply_matches_request c i st r (plan c i st r)
     (row_form c i st r))
 plan_reply_fits_request (Some why) c i st r luck =
-    either_way (λ (p : Plan). ReplyMatches c.transfer (plan_outcome i p luck).reply r) (request_closes c.least st r) _ _ tt
+    holds_in_both_branches (λ (p : Plan). ReplyMatches c.transfer (plan_outcome i p luck).reply r) (request_closes c.least st r) _ _ tt
     (reply_of_plan (λ reply. ReplyMatches c.transfer reply r) i (plan c i st r) luck (row_reply_matches_request c i st r (plan c i st r)
     (row_form c i st r)))
 
@@ -111,27 +111,27 @@ pub plan_answer_is_heard : (x : Option Objection) (q : Asked) (body : List ℕ) 
 plan_answer_is_heard x q body c i st luck a out heard is says h =
     reply_answer_is_heard c.transfer q body _ a out heard is (plan_reply_fits_request x c i st (request_for_table q body) luck) says h
 
--- The answer of a device is heard as the device meant it.
+-- The answer of a device to a request of a host is heard as the device meant it, but for missing memory.
 pub understood : ResponsesUnderstood
 understood task phase q body c image stage luck a out heard e says h =
-    plan_answer_is_heard None q body c image stage luck a out heard (hosts task phase q body e) says h
+    plan_answer_is_heard None q body c image stage luck a out heard (host_request_is_known task phase q body e) says h
 
--- A request to the device has a body of wLength bytes.
-host_write_has_body_length : (p : Setup) (body : List ℕ) → p.kind ≡ 0x21 → length body ≡ p.length → (length body == body_length p) ≡ true
-host_write_has_body_length p body k e = let f : (p.kind == 0x21) ≡ true = grind (arith, nat_tests) in
+-- A body of wLength bytes fits a host-to-device request.
+host_write_fits_its_body : (p : Setup) (body : List ℕ) → p.kind ≡ 0x21 → length body ≡ p.length → (length body == body_length p) ≡ true
+host_write_fits_its_body p body k e = let f : (p.kind == 0x21) ≡ true = grind (arith, nat_tests) in
     let g : (length body == p.length) ≡ true = grind (arith, nat_tests) in rw f g
 
--- A request from the device has no body.
-host_read_has_body_length : (p : Setup) (body : List ℕ) → p.kind ≡ 0xa1 → length body ≡ 0 → (length body == body_length p) ≡ true
-host_read_has_body_length p body k e = let f : (p.kind == 0x21) ≡ false = grind (arith, nat_tests) in
+-- An empty body fits each device-to-host request.
+empty_body_fits_host_read : (p : Setup) (body : List ℕ) → p.kind ≡ 0xa1 → length body ≡ 0 → (length body == body_length p) ≡ true
+empty_body_fits_host_read p body k e = let f : (p.kind == 0x21) ≡ false = grind (arith, nat_tests) in
     let g : (length body == 0) ≡ true = grind (arith, nat_tests) in rw f g
 
--- The request that a host sends goes by the device's table.
-pub served : (p : Setup) (q : Asked) (body : List ℕ) → IsHostRequest q body → SetupRequest p q → is_served p q body ≡ true
-served p (request.Dnload block len) body i a = host_write_has_body_length p body a.0.kind (sym i ∙ a.2)
-served p (request.Upload block len) body i a = host_read_has_body_length p body a.0.kind (ap length i)
-served p (request.GetStatus len) body i a = host_read_has_body_length p body a.0.kind (ap length i.1)
-served p (request.GetState len) body i a = host_read_has_body_length p body a.0.kind (ap length i.1)
+-- The device's table serves each request that a host sends.
+pub served : (p : Setup) (q : Asked) (body : List ℕ) → IsHostRequest q body → SetupAsksFor p q → is_served p q body ≡ true
+served p (request.Dnload block len) body i a = host_write_fits_its_body p body a.0.kind (sym i ∙ a.2)
+served p (request.Upload block len) body i a = empty_body_fits_host_read p body a.0.kind (ap length i)
+served p (request.GetStatus len) body i a = empty_body_fits_host_read p body a.0.kind (ap length i.1)
+served p (request.GetState len) body i a = empty_body_fits_host_read p body a.0.kind (ap length i.1)
 served p request.OtherClass body i a = elim i [ ]
 served p request.NotDfu body i a = elim i [ ]
-served p q body i a = host_write_has_body_length p body a.0.kind (ap length i ∙ sym a.1)
+served p q body i a = host_write_fits_its_body p body a.0.kind (ap length i ∙ sym a.1)

@@ -21,7 +21,7 @@ plain_report_is_not_in_place (Some Installed) plain e = plain
 plain_report_is_not_in_place (Some Verified) plain e = plain
 plain_report_is_not_in_place report plain e = e
 
--- A report of Installed or Verified has the live payload as the active image.
+-- If a report is Installed or Verified, the active image after it is the payload that was live before.
 reported_payload_was_live : {tolerant : Bool} {m m' : Machine} {report : Option Report} → ReportStep tolerant m report m' →
     IsInPlaceReport report
     → m.live ≡ LoadingPayload m'.cur
@@ -39,7 +39,7 @@ in_place_step_had_live_payload (goes b d s) e = sym (dropping_keeps_live_session
     ∙ reported_payload_was_live s e
 in_place_step_had_live_payload s e = elim e [ ]
 
--- A report of Uploaded gives the active image.
+-- After a report of Uploaded the last upload is the active image.
 uploaded_report_gives_image : {tolerant : Bool} {m m' : Machine} {report : Option Report} → ReportStep tolerant m report m' → report
     ≡ Some Uploaded →
     m'.up ≡ m'.cur
@@ -47,7 +47,7 @@ uploaded_report_gives_image (reports_uploaded live) e = refl
 uploaded_report_gives_image (reports_no_promise plain one) e = absurd (subst ReportsNoPromise e plain)
 uploaded_report_gives_image s e = absurd cc
 
--- A step that reports Uploaded gives the active image.
+-- After a step that reports Uploaded the last upload is the active image.
 pub uploaded_step_gives_active_image : {tolerant : Bool} {t : ℕ} {kind : Kind} {m m' : Machine} {report : Option Report} →
     MachineStep tolerant t kind m report m'
     → report ≡ Some Uploaded → m'.up ≡ m'.cur
@@ -56,11 +56,11 @@ uploaded_step_gives_active_image (goes b d s) e = uploaded_report_gives_image s 
 uploaded_step_gives_active_image s e = absurd cc
 
 -- The active image stays, or becomes one of the offers.
-abbrev ImageStaysOrOffered : List (List ℕ) → Machine → Machine → Type 0
-ImageStaysOrOffered offers m m' = (m'.cur ≡ m.cur) ⊎ IsOneOf m'.cur offers
+abbrev ImageStaysOrIsOffer : List (List ℕ) → Machine → Machine → Type 0
+ImageStaysOrIsOffer offers m m' = (m'.cur ≡ m.cur) ⊎ IsOneOf m'.cur offers
 
 -- Taking or installing leaves the offers, and the image or an offer is active.
-taking_keeps_offers : {t : ℕ} {m m' : Machine} → TakesOrInstalls t m m' → (m'.offers ≡ m.offers) × ImageStaysOrOffered m.offers m m'
+taking_keeps_offers : {t : ℕ} {m m' : Machine} → TakesOrInstalls t m m' → (m'.offers ≡ m.offers) × ImageStaysOrIsOffer m.offers m m'
 taking_keeps_offers (installs some h) = (refl, inr h)
 taking_keeps_offers b = (refl, inl refl)
 
@@ -75,35 +75,35 @@ report_keeps_offers_and_image : {tolerant : Bool} {m m' : Machine} {report : Opt
 report_keeps_offers_and_image reports_nothing = (refl, refl)
 report_keeps_offers_and_image s = (refl, refl)
 
--- The offers after an event of that kind.
+-- The offers after an event of this kind: the payload of an offer comes in front.
 abbrev offers_with_event : Kind → List (List ℕ) → List (List ℕ)
 offers_with_event (OfferKind payload) offers = payload ∷ offers
 offers_with_event kind offers = offers
 
--- An image that is kept or offered stays so by an equation.
-kept_or_offered_by_equation : (offers : List (List ℕ)) (x y z : List ℕ) → (y ≡ x) ⊎ IsOneOf y offers → z ≡ y → (z ≡ x) ⊎ IsOneOf z offers
-kept_or_offered_by_equation offers x y z (inl e) f = inl (f ∙ e)
-kept_or_offered_by_equation offers x y z (inr h) f = inr (subst (λ w. IsOneOf w offers) (sym f) h)
+-- An image equal to a kept or offered one is kept or offered too.
+equal_image_is_kept_or_offered : (offers : List (List ℕ)) (x y z : List ℕ) → (y ≡ x) ⊎ IsOneOf y offers → z ≡ y → (z ≡ x) ⊎ IsOneOf z offers
+equal_image_is_kept_or_offered offers x y z (inl e) f = inl (f ∙ e)
+equal_image_is_kept_or_offered offers x y z (inr h) f = inr (subst (λ w. IsOneOf w offers) (sym f) h)
 
--- A step adds at most its offer, and the image or an offer is active.
-machine_step_result : {tolerant : Bool} {t : ℕ} {kind : Kind} {m m' : Machine} {report : Option Report} →
+-- A step adds the payload that its event offers, if it offers one, and then the image before it or an offer is active.
+step_adds_at_most_its_offer : {tolerant : Bool} {t : ℕ} {kind : Kind} {m m' : Machine} {report : Option Report} →
     MachineStep tolerant t kind m report m'
-    → (m'.offers ≡ offers_with_event kind m.offers) × ImageStaysOrOffered m.offers m m'
-machine_step_result (time_installs_pending some h) = (refl, inr h)
-machine_step_result (restarts s plain) = ((report_keeps_offers_and_image s).0, inl (report_keeps_offers_and_image s).1)
-machine_step_result (refuses d) = ((dropping_keeps_offers_and_image d).0, inl (dropping_keeps_offers_and_image d).1)
-machine_step_result {m = m} {m' = m'} (goes {m1 = m1} b d s) = (
+    → (m'.offers ≡ offers_with_event kind m.offers) × ImageStaysOrIsOffer m.offers m m'
+step_adds_at_most_its_offer (time_installs_pending some h) = (refl, inr h)
+step_adds_at_most_its_offer (restarts s plain) = ((report_keeps_offers_and_image s).0, inl (report_keeps_offers_and_image s).1)
+step_adds_at_most_its_offer (refuses d) = ((dropping_keeps_offers_and_image d).0, inl (dropping_keeps_offers_and_image d).1)
+step_adds_at_most_its_offer {m = m} {m' = m'} (goes {m1 = m1} b d s) = (
   (report_keeps_offers_and_image s).0 ∙ (dropping_keeps_offers_and_image d).0 ∙ (taking_keeps_offers b).0,
-  kept_or_offered_by_equation m.offers m.cur m1.cur m'.cur (taking_keeps_offers b).1
+  equal_image_is_kept_or_offered m.offers m.cur m1.cur m'.cur (taking_keeps_offers b).1
       ((report_keeps_offers_and_image s).1 ∙ (dropping_keeps_offers_and_image d).1),
 )
-machine_step_result s = (refl, inl refl)
+step_adds_at_most_its_offer s = (refl, inl refl)
 
--- An offer stays one after a further event.
-offer_stays_with_one_more : (x : List ℕ) (kind : Kind) (offers : List (List ℕ)) → IsOneOf x offers →
+-- An offer is still one after a further event.
+offer_stays_after_event : (x : List ℕ) (kind : Kind) (offers : List (List ℕ)) → IsOneOf x offers →
     IsOneOf x (offers_with_event kind offers)
-offer_stays_with_one_more x (OfferKind payload) offers h = inr h
-offer_stays_with_one_more x kind offers h = h
+offer_stays_after_event x (OfferKind payload) offers h = inr h
+offer_stays_after_event x kind offers h = h
 
 -- The offers after a list of events are those after its first event, and then the others.
 offers_after_first_kind : (kind : Kind) (kinds : List Kind) (offers : List (List ℕ))
@@ -111,20 +111,21 @@ offers_after_first_kind : (kind : Kind) (kinds : List Kind) (offers : List (List
 offers_after_first_kind (OfferKind payload) kinds offers = refl
 offers_after_first_kind kind kinds offers = refl
 
--- An offer stays one after a list of events.
+-- An offer is still one after a list of events.
 offer_stays_after_events : (x : List ℕ) (kinds : List Kind) (offers : List (List ℕ)) → IsOneOf x offers →
     IsOneOf x (offers_after kinds offers)
 offer_stays_after_events x [] offers h = h
 offer_stays_after_events x (kind ∷ kinds) offers h = subst (IsOneOf x) (sym (offers_after_first_kind kind kinds offers))
-    (offer_stays_after_events x kinds (offers_with_event kind offers) (offer_stays_with_one_more x kind offers h))
+    (offer_stays_after_events x kinds (offers_with_event kind offers) (offer_stays_after_event x kind offers h))
 
--- After a legal run the active image is the one before the run, or a whole payload that was offered.
+-- After a legal run the offers are those of its events and those before it, and the active image is the one before it, or one of these
+-- offers.
 pub only_offered : ActiveImageWasOffered
 only_offered tolerant t m m' [] [] stops = (refl, inl refl)
 only_offered tolerant t m m' [] (report ∷ reports) run = elim run [ ]
 only_offered tolerant t m m' (kind ∷ kinds) reports (and_then {mid = mid} {reports = rest} step more) =
-    let one = machine_step_result step in
-    let all : (m'.offers ≡ offers_after kinds mid.offers) × ImageStaysOrOffered (offers_after kinds mid.offers) mid m' = only_offered
+    let one = step_adds_at_most_its_offer step in
+    let all : (m'.offers ≡ offers_after kinds mid.offers) × ImageStaysOrIsOffer (offers_after kinds mid.offers) mid m' = only_offered
     tolerant t mid m'
     kinds rest more in
     let same : offers_after kinds mid.offers ≡ offers_after (kind ∷ kinds) m.offers = ap (offers_after kinds) one.0

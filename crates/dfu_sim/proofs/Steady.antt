@@ -21,12 +21,12 @@ use Rattle.dfu_sim.specs.Bytes.{fuse_of, link_of_bench, HappensOnBench, BytePlay
 use Rattle.dfu_sim.specs.Understood.{PlayIsShown, BenchImageIsActive}
 use Rattle.dfu_sim.specs.EventResults.{EventMeaning, EventResult, refuses, happens, report_of_result, upload_of_result, WorldEventResult}
 use Rattle.dfu_sim.specs.LinkInvariant.{SendsBytes, IsSteadyLink}
-use Rattle.dfu_sim.specs.Following.{IsOfKind, AllMachinesFollow}
+use Rattle.dfu_sim.specs.Following.{EventHasKind, AllMachinesFollow}
 use Rattle.dfu_sim.specs.UploadResults.{UploadOrUnchanged, UploadsAreActive, RestIsSteady}
-use Rattle.dfu_sim.specs.Sure.{HarmsNothing, IsHarmless, IsResultOfPlay, AllEventsSure}
+use Rattle.dfu_sim.specs.Sure.{HarmsNothing, IsHarmless, IsResultOfPlay, EventFollowsTableIfPlayed}
 use Rattle.dfu_sim.proofs.Config.{event_keeps_config}
 use Rattle.dfu_sim.proofs.Projected.{fuse_of_event, bytes_show, unharmed_play_works}
-use Rattle.dfu_sim.proofs.EachEvent.{Sizes, event_knows_transfer_size, sized_play_is_followed}
+use Rattle.dfu_sim.proofs.EachEvent.{IsSized, event_has_needed_transfer, sized_play_is_followed}
 use Rattle.dfu_sim.proofs.Saying.{uploaded_step_gives_active_image}
 use Rattle.dfu_sim.proofs.Counted.{BytesFitReport, event_keeps_session_counted, event_answer_fits}
 use Rattle.dfu_sim.proofs.Events.{offered_device_has_transfer}
@@ -34,14 +34,12 @@ use Rattle.dfu_sim.proofs.Uploads.{upload_device_has_transfer}
 use Rattle.dfu_sim.proofs.Agreeing.{session_machine_of_link, machine_agrees, bench_agrees_as_link, link_agrees_as_bench}
 
 -- A caller's event has the kind of the event that it means.
-meaning_has_event_kind : (s : Setting) (h event : Happening) → EventMeaning s h event → IsOfKind h (kind_of event)
+meaning_has_event_kind : (s : Setting) (h event : Happening) → EventMeaning s h event → EventHasKind h (kind_of event)
 meaning_has_event_kind s (Offers purpose file limits) event m = (m.0, m.1.ids, m.1.dfu, m.1.extra, m.1.reads, ap kind_of m.2)
 meaning_has_event_kind s (Uploads limits) event m = ap kind_of m.1
 meaning_has_event_kind s h event m = ap kind_of m
 
--- The transfer size, if it is needed.
-
--- An event that begins a session knows the transfer size.
+-- An event that begins a session comes with a transfer size of at least one byte.
 abbrev SessionEventKnowsSize : (t : ℕ) → Happening → Type 0
 SessionEventKnowsSize t (Offers purpose payload limits) = 0 < t
 SessionEventKnowsSize t (Uploads limits) = 0 < t
@@ -55,14 +53,15 @@ meaning_knows_transfer_size s (Uploads limits) event m = subst (SessionEventKnow
     (upload_device_has_transfer s m.0)
 meaning_knows_transfer_size s h event m = subst (SessionEventKnowsSize s.functional.transfer) (sym m) tt
 
+-- The transfer size of a device suffices for an event, if it does for one that begins a session, and for the live one.
 sizes : (w : DeviceView) (session : Session) (event : Happening) → SessionEventKnowsSize w.config.functional.transfer event
-    → SessionFact (profile w) (situation w) session → SendsBytes session → Sizes (profile w) session event
-sizes w (HostSession host) event begins f z = event_knows_transfer_size (profile w) (HostSession host) event (subst (λ (n : ℕ). 0 < n)
+    → SessionFact (profile w) (situation w) session → SendsBytes session → IsSized (profile w) session event
+sizes w (HostSession host) event begins f z = event_has_needed_transfer (profile w) (HostSession host) event (subst (λ (n : ℕ). 0 < n)
     f.task_is.transfer z)
 sizes w NoLiveSession (Offers purpose payload limits) begins f z = begins
 sizes w NoLiveSession event begins f z = tt
 
--- After an event no session is live, or the transfer size is known.
+-- After an event no session is live, or the transfer size is at least one byte.
 live_session_knows_size : (w : DeviceView) (session : Session) (event : Happening) (b' : LinkView) (answer : Answered)
     → SessionEventKnowsSize w.config.functional.transfer event → SessionFact (profile w) (situation w) session → SendsBytes session
     → MayHappen session event → HappensOnBench event (record { device = w; session = session }) b' answer
@@ -83,8 +82,7 @@ known_size_sends_bytes c w NoLiveSession f z = tt
 known_size_sends_bytes c w (HostSession host) f (inl z) = subst (λ (n : ℕ). 0 < n) (sym f.task_is.transfer) z
 known_size_sends_bytes c w (HostSession host) f (inr e) = absurd cc
 
--- One event.
-
+-- Facts after one event that is a play in bytes on a steady link.
 module _ {b b' : LinkView} {event : Happening} {answer : Answered} (steady : IsSteadyLink b)
     (begins : SessionEventKnowsSize b.device.config.functional.transfer event) (play : BytePlay b event b' answer) where
   -- The session machine follows a play in bytes.
@@ -106,7 +104,7 @@ module _ {b b' : LinkView} {event : Happening} {answer : Answered} (steady : IsS
             (live_session_knows_size b.device b.session event b' answer begins steady.fact steady.sized play.allowed play.happens);
       }
 
-  -- With Uploaded the active image comes.
+  -- If the event reports Uploaded, the last upload after it is the active image.
   uploaded_gives_active_image : (up : List ℕ) → answer.report ≡ Some Uploaded → uploaded_after answer.gave up
       ≡ (link_of_bench b').device.image
   uploaded_gives_active_image up e =
@@ -132,13 +130,13 @@ event_result_is_steady steady (refuses why) = steady
 event_result_is_steady {b = b} {h = h} steady (happens {event = event} means play) =
     play_keeps_link_steady steady (meaning_knows_transfer_size b.device.config h event means) play
 
--- A link between events stays steady after each event.
+-- A steady link stays steady after each event.
 pub world_event_is_steady : {w w' : WorldView} {h : Happening} {result : Result (Option Report) LinkFault} → IsSteadyLink w.bench
     → WorldEventResult w h w' result
     → IsSteadyLink w'.bench
 world_event_is_steady steady x = event_result_is_steady steady x.comes
 
--- Each machine that agrees follows the result of an event.
+-- Each machine that agrees with a steady link follows the result of an event.
 pub machines_follow_event_result : BenchImageIsActive → {b b' : LinkView} {h : Happening} {answer : Result Answered LinkFault} (up : List ℕ)
     → IsSteadyLink b
     → BenchMatchesFlash b'
@@ -158,15 +156,14 @@ machines_follow_event_result shown {b = b} {b' = b'} {h = h} up steady shows (ha
       in_place = λ e. let x = f.in_place e in (x.0, x.1 ∙ ap LoadingPayload (sym f.agrees.cur));
     }
 
--- Each machine that agrees follows the event.
+-- Each machine that agrees with a steady world follows the event.
 pub machines_follow_world_event : BenchImageIsActive → {w w' : WorldView} {h : Happening} {result : Result (Option Report) LinkFault} →
     IsSteadyLink w.bench
     → BenchMatchesFlash w'.bench → WorldEventResult w h w' result → AllMachinesFollow w h w' result
 machines_follow_world_event shown {w = w} {h = h} steady shows x =
     told_result_has_fact (λ v r. AllMachinesFollow w h v r) x (machines_follow_event_result shown w.up steady shows x.comes)
 
--- Bytes that an upload gives.
-
+-- If bytes fit their report, and with Uploaded are the active image, the report gives them, or leaves the last upload.
 uploaded_bytes_by_report : (b' : LinkView) (up : List ℕ) (report : Option Report) (gave : Option (List ℕ)) (w : WorldView) → w.up ≡ up
     → BytesFitReport b'.device.config.functional.transfer report gave
     → (report ≡ Some Uploaded → uploaded_after gave up ≡ (link_of_bench b').device.image)
@@ -176,6 +173,7 @@ uploaded_bytes_by_report b' up (Some Uploaded) None w same fits image = elim fit
 uploaded_bytes_by_report b' up report (Some bytes) w same fits image = elim fits [ ]
 uploaded_bytes_by_report b' up report None w same fits image = sym same
 
+-- The result of an event on a steady link gives the active image with Uploaded, and leaves the last upload otherwise.
 event_result_gives_bytes : {b b' : LinkView} {h : Happening} {answer : Result Answered LinkFault} (up : List ℕ) → IsSteadyLink b
     → EventResult b h b' answer
     → UploadOrUnchanged (world_of_bench b up) (world_of_bench b' (uploaded_after (upload_of_result answer) up)) (report_of_result answer)
@@ -188,7 +186,7 @@ event_result_gives_bytes {b = b} {b' = b'} {h = h} up steady (happens {event = e
     (subst (λ (n : ℕ). BytesFitReport n answer.report answer.gave) same (play_answer_fits steady begins play)) (uploaded_gives_active_image
     steady begins play up)
 
--- The event gives the active image with Uploaded, and leaves the last upload otherwise.
+-- An event of a steady link gives the active image with Uploaded, and leaves the last upload otherwise.
 pub event_gives_bytes : {w w' : WorldView} {h : Happening} {result : Result (Option Report) LinkFault} → IsSteadyLink w.bench
     → WorldEventResult w h w' result
     → UploadOrUnchanged w w' result
@@ -200,10 +198,12 @@ uploaded_report_gave_image : (t : ℕ) (up image : List ℕ) (report : Option Re
 uploaded_report_gave_image t up image report (Some bytes) fits e u = ap Some e
 uploaded_report_gave_image t up image report None fits e u = absurd (subst (λ (r : Option Report). BytesFitReport t r None) u fits)
 
+-- If the result of an event is an answer with Uploaded, the bytes of the answer are the active image of the bench.
 abbrev ResultGivesImage : LinkView → Result Answered LinkFault → Type 0
 ResultGivesImage b (Ok answer) = answer.report ≡ Some Uploaded → answer.gave ≡ Some (link_of_bench b).device.image
 ResultGivesImage b (Err fault) = Unit {0}
 
+-- On a steady link the bytes that the result of an event gives with Uploaded are the active image.
 event_result_gives_image : {b b' : LinkView} {h : Happening} {result : Result Answered LinkFault} → IsSteadyLink b →
     EventResult b h b' result
     → ResultGivesImage b' result
@@ -214,7 +214,7 @@ event_result_gives_image {b = b} {b' = b'} {h = h} steady (happens {event = even
     (play_answer_fits steady begins play)
     (uploaded_gives_active_image steady begins play [] e) e
 
--- The bytes that come with Uploaded are those of the active image.
+-- An event of a steady link leaves it steady, and the bytes that come with Uploaded are those of the active image.
 pub uploads_are_active : UploadsAreActive
 uploads_are_active b b' h answer steady comes = (event_result_is_steady steady comes, event_result_gives_image steady comes)
 
@@ -222,8 +222,7 @@ uploads_are_active b b' h answer steady comes = (event_result_is_steady steady c
 pub rest_is_steady : RestIsSteady
 rest_is_steady device unarmed = record { fact = tt; unarmed = unarmed; sized = tt; counted = tt }
 
--- No cut, no failure and no lie.
-
+-- An action in which no write is harmed has a whole fuse.
 unharmed_fuse_is_whole : (harming : MediumFault) (harm : WriteHarm) → HarmsNothing harming → fuse_of harming harm ≡ Whole
 unharmed_fuse_is_whole NoWrite harm h = refl
 unharmed_fuse_is_whole harming harm h = elim h [ ]
@@ -232,15 +231,16 @@ harmless_event_fuse_is_whole : (event : Happening) → IsHarmless event → fuse
 harmless_event_fuse_is_whole (Goes fate harm) h = unharmed_fuse_is_whole (delivery_of fate).harming harm h
 harmless_event_fuse_is_whole event h = refl
 
+-- A play in bytes of an event without harm has the result of the table of fates for a medium that works.
 harmless_play_has_result : (b b' : LinkView) (event : Happening) (answer : Answered) → BytePlay b event b' answer → IsHarmless event
     → IsResultOfPlay b event b' answer.report
 harmless_play_has_result b b' event answer play h =
     let s = unharmed_play_works b b' event answer play (harmless_event_fuse_is_whole event h) in
     record { room = s.0; answer = answer; same = s.1; told = refl }
 
--- The result of an event without harm is that of the table of fates.
+-- If an event is not refused, it is a sure one: without harm its result is that of the table of fates.
 pub event_result_is_sure : {b b' : LinkView} {h : Happening} {answer : Result Answered LinkFault} → EventResult b h b' answer
-    → AllEventsSure b h b' (report_of_result answer)
+    → EventFollowsTableIfPlayed b h b' (report_of_result answer)
 event_result_is_sure (refuses why) = tt
 event_result_is_sure {b = b} {b' = b'} {h = h} (happens {event = event} {answer = answer} means play) = record {
   event = event;
@@ -254,5 +254,6 @@ event_result_is_sure {b = b} {b' = b'} {h = h} (happens {event = event} {answer 
 
 -- Each event without harm goes as the table of fates says.
 pub each_event_is_sure : {w w' : WorldView} {h : Happening} {result : Result (Option Report) LinkFault} → WorldEventResult w h w' result
-    → AllEventsSure w.bench h w'.bench result
-each_event_is_sure {w = w} {h = h} x = told_result_has_fact (λ v r. AllEventsSure w.bench h v.bench r) x (event_result_is_sure x.comes)
+    → EventFollowsTableIfPlayed w.bench h w'.bench result
+each_event_is_sure {w = w} {h = h} x =
+    told_result_has_fact (λ v r. EventFollowsTableIfPlayed w.bench h v.bench r) x (event_result_is_sure x.comes)

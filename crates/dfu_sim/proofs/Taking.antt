@@ -1,4 +1,4 @@
--- A session after its host hears something: the session goes on, or ends with a report that its facts allow.
+-- A session after its host hears a result: it stays live, or ends with a report that its facts allow.
 use Rattle.std.proofs.Common.{◌≡◌, ◌≢◌, ℕ, zero, suc, pred, Bool, true, false, List, Option, Some, None, refl, sym, ap, subst}
 use Rattle.dfu_device.specs.Stage.{Profile, Stage, InAppIdle}
 use Rattle.dfu_device.specs.Outcome.{Situation}
@@ -7,7 +7,7 @@ use Rattle.dfu_host.specs.declared.report.Report.TheVariants.{Installed, Unconfi
 use Rattle.dfu_host.specs.Phases.{Goal, LoadGoal, FetchGoal, VerifyGoal, CompareGoal, Task, Phase, Find, Fetch, GiveUp, Over, OverUploaded, Heard, Part, Restarted, Left}
 use Rattle.dfu_host.specs.BehindClose.{is_behind_close}
 use Rattle.dfu_host.specs.Table.{host_row, goal_after_reset, goal_after}
-use Rattle.dfu_host.specs.Host.{HostState, IsOnPhase, phase_in_budget, host_after_restart, host_after_leaving, host_after_phase, host_after_result as host_told}
+use Rattle.dfu_host.specs.Host.{HostState, IsLivePhase, phase_in_budget, host_after_restart, host_after_leaving, host_after_phase, host_after_result as host_told}
 use Rattle.dfu_sim.specs.Session.{Machine, LiveSession, NothingLive, LoadingPayload, Fetching, PromisesNothing, ReportStep, reports_nothing, reports_installed, reports_verified, reports_uploaded, reports_no_promise, IsInPlaceReport, ReportsNoPromise}
 use Rattle.dfu_sim.specs.LinkView.{NoLiveSession}
 use Rattle.dfu_sim.specs.Opening.{task_for}
@@ -16,26 +16,26 @@ use Rattle.dfu_sim.specs.LinkAgreement.{pending_of}
 use Rattle.dfu_sim.specs.Agreement.{live_session_of_goal, live_session_of, IsLiveOffer}
 use Rattle.dfu_sim.specs.Fact.{IsAppIdle, ReportMeaning, GoalFact, HasBlocks, TaskMatchesProfile, SessionFact}
 use Rattle.dfu_sim.proofs.Saying.{plain_report_is_not_in_place}
-use Rattle.dfu_sim.proofs.Fates.{UnlessRestarted, heard_with_memory_unchanged}
+use Rattle.dfu_sim.proofs.Fates.{UnlessRestarted, memory_keeps_heard_meaning}
 use Rattle.dfu_sim.proofs.CommonFacts.{common_phase_has_goal_fact}
-use Rattle.dfu_sim.proofs.GoalLaws.{goal_after_phase_has_fact, live_goal_after_phase, Next}
+use Rattle.dfu_sim.proofs.GoalLaws.{goal_after_phase_has_fact, phase_keeps_live_goal, Next}
 
 -- The session machine that shows a link's image, pending bytes, live session and last upload.
 abbrev pub shown : List (List ℕ) → List ℕ → Option (List ℕ) → LiveSession → List ℕ → Machine
 shown offers cur pending live up = record { cur = cur; offers = offers; pending = pending; live = live; up = up }
 
--- A live host takes what it hears by the row of its phase, or as a restart.
-live_host_takes_heard : (h : HostState) (phase : Phase) (heard : Heard) → IsOnPhase phase → host_after_phase h phase heard
+-- A live host takes a result as `host_told` says: by the row of its phase, as a restart, or as a leaving of its device.
+live_host_takes_heard : (h : HostState) (phase : Phase) (heard : Heard) → IsLivePhase phase → host_after_phase h phase heard
     ≡ host_told h phase heard
 live_host_takes_heard h (Over report) heard on = elim on [ ]
 live_host_takes_heard h (OverUploaded kept) heard on = elim on [ ]
 live_host_takes_heard h phase heard on = refl
 
--- The task made by the descriptor goes by the descriptor.
+-- The task that `task_for` makes has the descriptor's values.
 pub task_goes_by_descriptor : (c : Profile) (goal : Goal) → TaskMatchesProfile c (task_for c goal)
 task_goes_by_descriptor c goal = record { transfer = refl; tolerant = refl; will_detach = refl; detach_ms = refl }
 
--- A task that goes by the descriptor equals the task that `task_for` makes of its goal.
+-- A task with the descriptor's values equals the task that `task_for` makes of its goal.
 pub task_of_descriptor_unique : (c : Profile) (task : Task) → TaskMatchesProfile c task → task ≡ task_for c task.goal
 task_of_descriptor_unique c task g = λ i. record {
   goal = task.goal;
@@ -46,7 +46,7 @@ task_of_descriptor_unique c task g = λ i. record {
 }
 
 module _ (c : Profile) (offers : List (List ℕ)) where
-  -- Outcome of a host that took something: the session goes on with its facts, or ended with a report that the session machine may make.
+  -- Outcome of a host that took a result: the session stays live with its facts, or ended with a report that the session machine may make.
   pub record TakenOutcomeHolds (s : Situation) (live : LiveSession) (up : List ℕ) (t : HostOutcome) : Type 0 where
     pub says : ReportStep c.tolerant (shown offers s.image (pending_of s.stage) live up) t.answer.report
         (shown offers s.image (pending_of s.stage) (live_session_of t.session) (uploaded_after t.answer.gave up))
@@ -106,7 +106,7 @@ module _ (c : Profile) (offers : List (List ℕ)) where
         done = λ x. elim x [ ];
       }
 
-  -- Outcome of a host that comes to a phase, with actions left or without.
+  -- Outcome of a host that comes to a phase: without actions left it gives up, unless the phase is an end.
   abbrev budget : Task → Phase → (left again : ℕ) → HostOutcome
   budget task phase left again = let next = phase_in_budget left phase in
       settled_session (record { task = task; phase = next; actions = left; restarts = again }) next
@@ -116,7 +116,7 @@ module _ (c : Profile) (offers : List (List ℕ)) where
     offer : IsLiveOffer offers (live_session_of_goal task.goal)
     some : HasBlocks c task.goal
 
-  budget_outcome_holds : (s : Situation) (task : Task) (up : List ℕ) (phase : Phase) (left again : ℕ) → TaskLives task → IsOnPhase phase
+  budget_outcome_holds : (s : Situation) (task : Task) (up : List ℕ) (phase : Phase) (left again : ℕ) → TaskLives task → IsLivePhase phase
       → GoalFact c task.goal phase s → TakenOutcomeHolds s (live_session_of_goal task.goal) up (budget task phase left again)
   budget_outcome_holds s task up (Over report) left again v on f = elim on [ ]
   budget_outcome_holds s task up (OverUploaded kept) left again v on f = elim on [ ]
@@ -133,10 +133,10 @@ module _ (c : Profile) (offers : List (List ℕ)) where
     done = λ e. elim e [ ];
   }
 
-  ended_well : (s : Situation) (g : Goal) (up : List ℕ) (report : Report) → GoalFact c g (Over report) s
+  ended_session_outcome_holds : (s : Situation) (g : Goal) (up : List ℕ) (report : Report) → GoalFact c g (Over report) s
       → TakenOutcomeHolds s (live_session_of_goal g) up (Ended report)
-  ended_well s FetchGoal up report f = plain_end_holds s FetchGoal up report f
-  ended_well s g up report f = in_place_end_holds s.image s.stage _ up report f
+  ended_session_outcome_holds s FetchGoal up report f = plain_end_holds s FetchGoal up report f
+  ended_session_outcome_holds s g up report f = in_place_end_holds s.image s.stage _ up report f
 
   kept_well : (s : Situation) (g : Goal) (up kept : List ℕ) → GoalFact c g (OverUploaded kept) s
       → TakenOutcomeHolds s (live_session_of_goal g) up (record {
@@ -152,7 +152,7 @@ module _ (c : Profile) (offers : List (List ℕ)) where
 
   spent_budget_outcome_holds : (s : Situation) (task : Task) (up : List ℕ) (phase : Phase) (left again : ℕ) → TaskLives task
       → GoalFact c task.goal phase s → TakenOutcomeHolds s (live_session_of_goal task.goal) up (budget task phase left again)
-  spent_budget_outcome_holds s task up (Over report) left again v f = ended_well s task.goal up report f
+  spent_budget_outcome_holds s task up (Over report) left again v f = ended_session_outcome_holds s task.goal up report f
   spent_budget_outcome_holds s task up (OverUploaded kept) left again v f = kept_well s task.goal up kept f
   spent_budget_outcome_holds s task up phase left again v f = budget_outcome_holds s task up phase left again v tt f
 
@@ -164,7 +164,7 @@ module _ (c : Profile) (offers : List (List ℕ)) where
       (common_phase_has_goal_fact c h.task.goal s Find tt)
 
   -- A live host that hears of a restart has an outcome for which the facts hold.
-  pub restart_outcome_holds : (s : Situation) (h : HostState) (up : List ℕ) → IsOnPhase h.phase → TaskMatchesProfile c h.task
+  pub restart_outcome_holds : (s : Situation) (h : HostState) (up : List ℕ) → IsLivePhase h.phase → TaskMatchesProfile c h.task
       → IsLiveOffer offers (live_session_of_goal h.task.goal)
       → HasBlocks c h.task.goal → TakenOutcomeHolds s (live_session_of_goal h.task.goal) up (host_outcome h Restarted)
   restart_outcome_holds s h up on e o some =
@@ -184,7 +184,7 @@ module _ (c : Profile) (offers : List (List ℕ)) where
       (checked_task_lives (VerifyGoal p) v) tt (common_phase_has_goal_fact c (CompareGoal p) s Find tt)
   last_reset_outcome_holds s g up phase left again v = plain_end_holds s g up Unconfirmed tt
 
-  -- A host that hears that its device left by itself keeps what holds of the link. No event of a link makes a host hear this.
+  -- The facts of the link hold after a host heard that its device left by itself. No event of a link makes a host hear this.
   left_device_outcome_holds : (s : Situation) (g : Goal) (up : List ℕ) (phase : Phase) (left again : ℕ) (behind : Bool) →
       TaskLives (task_for c g)
       → let q = host_after_leaving (record { task = task_for c g; phase = phase; actions = left; restarts = again }) phase behind in
@@ -193,13 +193,13 @@ module _ (c : Profile) (offers : List (List ℕ)) where
   left_device_outcome_holds s g up phase left again false v =
       restarted_host_outcome_holds s (record { task = task_for c g; phase = phase; actions = left; restarts = again }) up phase again v
 
-  -- If there is no memory for a part of an upload, the session ends, and the facts hold.
+  -- If the facts hold after a part in Fetch, they hold with memory for it or without.
   part_without_memory_holds : (g : Goal) (k : ℕ) (kept : List ℕ) (s d : Situation) (room : Bool) (heard : Heard) →
       GoalFact c g (Fetch k kept) s
       → UnlessRestarted heard (Next c g d (Fetch k kept)) → UnlessRestarted (heard_with_room heard room) (Next c g d (Fetch k kept))
   part_without_memory_holds FetchGoal k kept s d false (Part bytes) f n = tt
   part_without_memory_holds FetchGoal k kept s d true heard f n = subst (λ (x : Heard). UnlessRestarted x (Next c FetchGoal d (Fetch k
-      kept))) (heard_with_memory_unchanged heard) n
+      kept))) (memory_keeps_heard_meaning heard) n
   part_without_memory_holds FetchGoal k kept s d false heard f n = n
   part_without_memory_holds g k kept s d room heard f n = elim f [ ]
 
@@ -212,8 +212,8 @@ module _ (c : Profile) (offers : List (List ℕ)) where
       again).answer.report)
       [ zero ↦ tt | suc left ↦ tt ]
 
-  -- A host that hears of a restart reports nothing that promises.
-  pub restart_report_promises_nothing : (h : HostState) → IsOnPhase h.phase → ReportsNoPromise (host_outcome h Restarted).answer.report
+  -- A host that hears of a restart makes no report that promises anything.
+  pub restart_report_promises_nothing : (h : HostState) → IsLivePhase h.phase → ReportsNoPromise (host_outcome h Restarted).answer.report
   restart_report_promises_nothing h on =
       subst (λ (q : HostState). ReportsNoPromise (settled_session q q.phase).answer.report) (sym (live_host_takes_heard h h.phase Restarted
       on))
@@ -233,32 +233,32 @@ module _ (c : Profile) (offers : List (List ℕ)) where
         phase heard in
         subst (λ (x : LiveSession). TakenOutcomeHolds s x up (budget (task_for c next) (host_row (task_for c g) phase heard) (pred left)
         again))
-        (live_goal_after_phase g phase heard) (spent_budget_outcome_holds s (task_for c next) up (host_row (task_for c g) phase heard)
+        (phase_keeps_live_goal g phase heard) (spent_budget_outcome_holds s (task_for c next) up (host_row (task_for c g) phase heard)
         (pred left) again lives n)
 
-    told_well : (s : Situation) (up : List ℕ) (phase : Phase) (left again : ℕ) (heard : Heard) → TaskLives (task_for c g)
+    told_host_outcome_holds : (s : Situation) (up : List ℕ) (phase : Phase) (left again : ℕ) (heard : Heard) → TaskLives (task_for c g)
         → UnlessRestarted heard (Next c g s phase) → let q = host_told (At phase left again) phase heard in
         TakenOutcomeHolds s (live_session_of_goal g) up (settled_session q q.phase)
-    told_well s up phase left again Restarted v n = restarted_host_outcome_holds s (At phase left again) up phase again v
-    told_well s up phase left again Left v n = left_device_outcome_holds s g up phase left again (is_behind_close g phase) v
-    told_well s up phase left again heard v n = row_outcome_holds s up phase left again heard v n
+    told_host_outcome_holds s up phase left again Restarted v n = restarted_host_outcome_holds s (At phase left again) up phase again v
+    told_host_outcome_holds s up phase left again Left v n = left_device_outcome_holds s g up phase left again (is_behind_close g phase) v
+    told_host_outcome_holds s up phase left again heard v n = row_outcome_holds s up phase left again heard v n
 
-    -- The facts hold after a part, with memory for it or without.
+    -- If the facts hold after a result in a phase, they hold with memory for its part or without.
     heard_with_room_holds : (phase : Phase) (s d : Situation) (room : Bool) (heard : Heard) → GoalFact c g phase s →
         UnlessRestarted heard (Next c g d phase)
         → UnlessRestarted (heard_with_room heard (has_room phase room)) (Next c g d phase)
     heard_with_room_holds (Fetch k kept) s d room heard f n = part_without_memory_holds g k kept s d room heard f n
     heard_with_room_holds phase s d room heard f n = subst (λ (x : Heard). UnlessRestarted x (Next c g d phase))
-        (heard_with_memory_unchanged heard) n
+        (memory_keeps_heard_meaning heard) n
 
-    -- A live host takes what it hears, and the facts of the link hold after it.
+    -- If the facts hold after a result of a live host, its outcome is one that the session machine allows, and the facts hold of it.
     pub goal_outcome_holds : (s d : Situation) (up : List ℕ) (phase : Phase) (left again : ℕ) (room : Bool) (heard : Heard) →
-        IsOnPhase phase
+        IsLivePhase phase
         → IsLiveOffer offers (live_session_of_goal g) → HasBlocks c g → GoalFact c g phase s → UnlessRestarted heard (Next c g d phase)
         → TakenOutcomeHolds d (live_session_of_goal g) up (host_outcome (At phase left again) (heard_with_room heard (has_room phase room)))
     goal_outcome_holds s d up phase left again room heard on o some f n =
         let x = heard_with_room heard (has_room phase room) in
         subst (λ (q : HostState). TakenOutcomeHolds d (live_session_of_goal g) up (settled_session q q.phase)) (sym (live_host_takes_heard
         (At phase left again) phase x on))
-        (told_well d up phase left again x (record { task_is = task_goes_by_descriptor c g; offer = o; some = some })
+        (told_host_outcome_holds d up phase left again x (record { task_is = task_goes_by_descriptor c g; offer = o; some = some })
         (heard_with_room_holds phase s d room heard f n))

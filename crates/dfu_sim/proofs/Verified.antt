@@ -8,15 +8,15 @@ use Rattle.dfu_host.specs.declared.report.Report.{Report}
 use Rattle.dfu_host.specs.Phases.{Goal, LoadGoal, VerifyGoal, Task, Phase, Find, Last, GiveUp, Over, OverUploaded, Deed, Send, Heard, Part, WasReset, Restarted, Left}
 use Rattle.dfu_host.specs.Table.{deed, goal_after, host_row}
 use Rattle.dfu_host.specs.Host.{HostState, host_after_restart, host_after_result, host_after_phase, after}
-use Rattle.dfu_host.specs.TaskLaws.{task_of_host_after_heard}
+use Rattle.dfu_host.specs.TaskLaws.{host_gives_task_after}
 use Rattle.dfu_sim.specs.Happening.{Pass}
 use Rattle.dfu_sim.specs.Delivery.{delivery_of}
 use Rattle.dfu_sim.specs.LinkView.{Session, NoLiveSession, HostSession}
 use Rattle.dfu_sim.specs.Opening.{task_for}
-use Rattle.dfu_sim.specs.Play.{Link, silent, HostOutcome, settled_session, host_outcome, heard_of_reply, heard_with_room, has_room, PlayResult, action_result, go_result}
+use Rattle.dfu_sim.specs.Play.{Link, silent, HostOutcome, settled_session, host_outcome, heard_of_reply, heard_with_room, has_room, PlayResult, action_result, next_action_result}
 use Rattle.dfu_sim.specs.CleanRun.{PassesTo, QuietPasses, here, there}
 
--- Each phase except that of the last reset.
+-- The phase is not that of the last reset.
 abbrev IsBeforeLastReset : Phase → Type 0
 IsBeforeLastReset (Last r) = ⊥
 IsBeforeLastReset phase = Unit {0}
@@ -26,13 +26,13 @@ reply_is_not_leaving : (r : Reply) → heard_of_reply r ≡ Left → ⊥
 reply_is_not_leaving Ack e = absurd cc
 reply_is_not_leaving r e = absurd cc
 
--- Missing memory does not mean that the device left by itself.
-room_stays : (heard : Heard) (room : Bool) → (heard ≡ Left → ⊥) → heard_with_room heard room ≡ Left → ⊥
-room_stays (Part bytes) false never e = absurd cc
-room_stays heard room never e = never e
+-- A result that is no leaving is none with missing memory either.
+no_memory_is_no_leaving : (heard : Heard) (room : Bool) → (heard ≡ Left → ⊥) → heard_with_room heard room ≡ Left → ⊥
+no_memory_is_no_leaving (Part bytes) false never e = absurd cc
+no_memory_is_no_leaving heard room never e = never e
 
 module _ (c : Profile) (p : List ℕ) where
-  -- In no pass the host hears that the device left by itself.
+  -- The host never hears from a pass that the device left by itself.
   pass_is_not_leaving : (s : Situation) (d : Deed) (l k : Luck) → (action_result c s d (delivery_of Pass) l k).heard ≡ Left → ⊥
   pass_is_not_leaving s (Send q body) l k e = reply_is_not_leaving (plan_outcome s.image (plan c s.image s.stage (request_for_table q
       body)) l).reply e
@@ -72,7 +72,7 @@ module _ (c : Profile) (p : List ℕ) where
   abbrev host : Task → Phase → (left again : ℕ) → HostState
   host task phase left again = record { task = task; phase = phase; actions = left; restarts = again }
 
-  -- A restart moves the verified download as it moves the download.
+  -- A restart changes the host of the verified download as it changes that of the download.
   verified_host_restarts_alike : (phase : Phase) (left again restarts : ℕ)
       → host_after_restart (host checked phase left again) phase restarts ≡ host_verifying
       (host_after_restart (host plain phase left again) phase restarts)
@@ -80,7 +80,7 @@ module _ (c : Profile) (p : List ℕ) where
   verified_host_restarts_alike phase left again zero = refl
   verified_host_restarts_alike phase left again (suc restarts) = refl
 
-  -- A result moves the verified download as it moves the download.
+  -- Before the last reset, a result other than a leaving changes a live host of the verified download as it changes that of the download.
   verified_host_told_alike : (phase : Phase) (heard : Heard) (left again : ℕ) → IsBeforeLastReset phase → (heard ≡ Left → ⊥)
       → host_after_result (host checked phase left again) phase heard
       ≡ host_verifying (host_after_result (host plain phase left again) phase heard)
@@ -92,7 +92,7 @@ module _ (c : Profile) (p : List ℕ) where
         heard b,
   ) refl
 
-  -- A host of the verified download hears what one of the download hears.
+  -- Before the last reset, a result other than a leaving changes the host of the verified download as it changes that of the download.
   verified_host_hears_alike : (phase : Phase) (heard : Heard) (left again : ℕ) → IsBeforeLastReset phase → (heard ≡ Left → ⊥)
       → host_after_phase (host checked phase left again) phase heard
       ≡ host_verifying (host_after_phase (host plain phase left again) phase heard)
@@ -102,112 +102,113 @@ module _ (c : Profile) (p : List ℕ) where
   verified_host_hears_alike phase heard left again b never = verified_host_told_alike phase heard left again tt never
 
   -- The session of a download, changed into one that verifies.
-  abbrev pub verified : Session → Session
-  verified NoLiveSession = NoLiveSession
-  verified (HostSession h) = HostSession (host_verifying h)
+  abbrev pub session_verifying : Session → Session
+  session_verifying NoLiveSession = NoLiveSession
+  session_verifying (HostSession h) = HostSession (host_verifying h)
 
   -- The outcome of a download, changed into that of a verified one.
-  abbrev verified_outcome : HostOutcome → HostOutcome
-  verified_outcome t = record { session = verified t.session; answer = t.answer }
+  abbrev outcome_verifying : HostOutcome → HostOutcome
+  outcome_verifying t = record { session = session_verifying t.session; answer = t.answer }
 
   -- Both downloads settle alike.
   verified_host_settles_alike : (h : HostState) (phase : Phase) → settled_session (host_verifying h) phase
-      ≡ verified_outcome (settled_session h phase)
+      ≡ outcome_verifying (settled_session h phase)
   verified_host_settles_alike h (Over r) = refl
   verified_host_settles_alike h phase = refl
 
-  -- Both downloads have the same outcome of what is heard.
-  verified_outcome_alike : (phase : Phase) (heard : Heard) (left again : ℕ) → IsBeforeLastReset phase → (heard ≡ Left → ⊥)
-      → host_outcome (host checked phase left again) heard ≡ verified_outcome (host_outcome (host plain phase left again) heard)
-  verified_outcome_alike phase heard left again b never = let h = host_after_phase (host plain phase left again) phase heard in
+  -- Before the last reset, both downloads have the same outcome for each result other than a leaving.
+  verified_outcome_is_alike : (phase : Phase) (heard : Heard) (left again : ℕ) → IsBeforeLastReset phase → (heard ≡ Left → ⊥)
+      → host_outcome (host checked phase left again) heard ≡ outcome_verifying (host_outcome (host plain phase left again) heard)
+  verified_outcome_is_alike phase heard left again b never = let h = host_after_phase (host plain phase left again) phase heard in
       ap (λ (z : HostState). settled_session z z.phase) (verified_host_hears_alike phase heard left again b never)
       ∙ verified_host_settles_alike h h.phase
 
   -- The link of a download, changed into one that verifies.
-  abbrev pub verified_link : Link → Link
-  verified_link w = record { device = w.device; session = verified w.session }
+  abbrev pub link_verifying : Link → Link
+  link_verifying w = record { device = w.device; session = session_verifying w.session }
 
   -- The result of a download's event, changed into that of a verified one.
-  abbrev verified_play_result : PlayResult → PlayResult
-  verified_play_result x = record { link = verified_link x.link; answer = x.answer }
+  abbrev play_result_verifying : PlayResult → PlayResult
+  play_result_verifying x = record { link = link_verifying x.link; answer = x.answer }
 
   -- Both downloads have the same deed in each phase.
-  verify_deed_alike : (phase : Phase) → deed checked phase ≡ deed plain phase
-  verify_deed_alike Find = refl
-  verify_deed_alike phase = refl
+  verify_deed_is_alike : (phase : Phase) → deed checked phase ≡ deed plain phase
+  verify_deed_is_alike Find = refl
+  verify_deed_is_alike phase = refl
 
-  -- Both downloads have the same result of an action.
-  verified_action_alike : (s : Situation) (phase : Phase) (left again : ℕ) (other : Luck) (room : Bool) → IsBeforeLastReset phase
+  -- Before the last reset, both downloads have the same result of an action that passes.
+  verified_action_is_alike : (s : Situation) (phase : Phase) (left again : ℕ) (other : Luck) (room : Bool) → IsBeforeLastReset phase
       → let w : Session → Link = λ x. record { device = s; session = x } in
       let v : Session = HostSession (host checked phase left again) in
       let o : Session = HostSession (host plain phase left again) in
-      go_result c (w v) v Pass Works other room ≡ verified_play_result (go_result c (w o) o Pass Works other room)
-  verified_action_alike s phase left again other room b =
+      next_action_result c (w v) v Pass Works other room ≡ play_result_verifying (next_action_result c (w o) o Pass Works other room)
+  verified_action_is_alike s phase left again other room b =
       let d = action_result c s (deed plain phase) (delivery_of Pass) Works other in
-      rw (verify_deed_alike phase)
+      rw (verify_deed_is_alike phase)
       (ap (λ (t : HostOutcome). record { link = record { device = d.device; session = t.session }; answer = t.answer })
-      (verified_outcome_alike phase (heard_with_room d.heard (has_room phase room)) left again b
-      (room_stays d.heard (has_room phase room) (pass_is_not_leaving s (deed plain phase) Works other))))
+      (verified_outcome_is_alike phase (heard_with_room d.heard (has_room phase room)) left again b
+      (no_memory_is_no_leaving d.heard (has_room phase room) (pass_is_not_leaving s (deed plain phase) Works other))))
 
-  -- No session is live, or the session of the download is.
+  -- No session is live, or the live one is that of the download.
   abbrev pub IsDownload : Session → Type 0
   IsDownload NoLiveSession = Unit {0}
   IsDownload (HostSession h) = h.task ≡ plain
 
-  -- A settled session of a download is its own, or none.
+  -- A settled session of a download still is the download's, or none is live.
   settled_session_is_download : (h : HostState) (phase : Phase) → h.task ≡ plain → IsDownload (settled_session h phase).session
   settled_session_is_download h (Over r) e = tt
   settled_session_is_download h (OverUploaded kept) e = tt
   settled_session_is_download h phase e = e
 
-  -- The session of a download after it heard something is its own, or none.
+  -- After a result other than a leaving, the session of a download still is the download's, or none is live.
   outcome_session_is_download : (phase : Phase) (heard : Heard) (left again : ℕ) → (heard ≡ Left → ⊥)
       → IsDownload (host_outcome (host plain phase left again) heard).session
   outcome_session_is_download phase heard left again never =
       let h = host plain phase left again in
       settled_session_is_download (after h heard) (after h heard).phase
-      (task_of_host_after_heard h heard never ∙ ap (λ (g : Goal). task_for c g) (load_goal_stays phase heard))
+      (host_gives_task_after h heard never ∙ ap (λ (g : Goal). task_for c g) (load_goal_stays phase heard))
 
-  -- In its last phase a download reports in the next pass.
+  -- A pass from the last reset of a download is not silent.
   last_pass_is_not_silent : (s : Situation) (r : Report) (left again : ℕ) (w' : Link)
       → PassesTo c (record { device = s; session = HostSession (host plain (Last r) left again) }) w' silent → ⊥
   last_pass_is_not_silent s r left again w' f =
       let e : Some r ≡ None = ap (λ (x : PlayResult). x.answer.report) (f Works true) in absurd cc
 
-  record Alike (w w' : Link) : Type 0 where
-    passes : PassesTo c (verified_link w) (verified_link w') silent
+  -- A silent pass leads from w to w' for the verified download too, and leaves a session of the download, or none.
+  record PassesAlike (w w' : Link) : Type 0 where
+    passes : PassesTo c (link_verifying w) (link_verifying w') silent
     stays : IsDownload w'.session
 
   -- A silent pass of a download is one of the verified download.
-  verified_pass_alike : (s : Situation) (phase : Phase) (left again : ℕ) (w' : Link)
+  verified_pass_is_alike : (s : Situation) (phase : Phase) (left again : ℕ) (w' : Link)
       → PassesTo c (record { device = s; session = HostSession (host plain phase left again) }) w' silent
-      → Alike (record { device = s; session = HostSession (host plain phase left again) }) w'
-  verified_pass_alike s (Last r) left again w' f = absurd (last_pass_is_not_silent s r left again w' f)
-  verified_pass_alike s phase left again w' f =
+      → PassesAlike (record { device = s; session = HostSession (host plain phase left again) }) w'
+  verified_pass_is_alike s (Last r) left again w' f = absurd (last_pass_is_not_silent s r left again w' f)
+  verified_pass_is_alike s phase left again w' f =
       let d = action_result c s (deed plain phase) (delivery_of Pass) Works Works in
       record {
-        passes = λ other room. verified_action_alike s phase left again other room tt ∙ ap verified_play_result (f other room);
+        passes = λ other room. verified_action_is_alike s phase left again other room tt ∙ ap play_result_verifying (f other room);
         stays = subst IsDownload (ap (λ (x : PlayResult). x.link.session) (f Works true))
             (outcome_session_is_download phase (heard_with_room d.heard (has_room phase true)) left again
-            (room_stays d.heard (has_room phase true) (pass_is_not_leaving s (deed plain phase) Works Works)));
+            (no_memory_is_no_leaving d.heard (has_room phase true) (pass_is_not_leaving s (deed plain phase) Works Works)));
       }
 
   -- A silent pass of a link with a download is one of the verified download.
   verified_link_passes_alike : (s : Situation) (session : Session) (w' : Link) → IsDownload session
-      → PassesTo c (record { device = s; session = session }) w' silent → Alike (record { device = s; session = session }) w'
+      → PassesTo c (record { device = s; session = session }) w' silent → PassesAlike (record { device = s; session = session }) w'
   verified_link_passes_alike s NoLiveSession w' e f = record {
-    passes = λ other room. ap verified_play_result (f other room);
+    passes = λ other room. ap play_result_verifying (f other room);
     stays = subst (λ (z : Link). IsDownload z.session) (ap (λ (q : PlayResult). q.link) (f Works true)) tt;
   }
   verified_link_passes_alike s (HostSession h) w' e f =
       let is : h ≡ host plain h.phase h.actions h.restarts = ap (λ (t : Task). host t h.phase h.actions h.restarts) e in
-      subst (λ (z : HostState). Alike (record { device = s; session = HostSession z }) w') (sym is)
-      (verified_pass_alike s h.phase h.actions h.restarts w'
+      subst (λ (z : HostState). PassesAlike (record { device = s; session = HostSession z }) w') (sym is)
+      (verified_pass_is_alike s h.phase h.actions h.restarts w'
       (subst (λ (z : HostState). PassesTo c (record { device = s; session = HostSession z }) w' silent) is f))
 
   -- Quiet passes of a download are quiet passes of the verified download.
-  pub verified_quiet_passes : {w w' : Link} {n : ℕ} → IsDownload w.session → QuietPasses c w n w'
-      → QuietPasses c (verified_link w) n (verified_link w')
-  verified_quiet_passes e here = here
-  verified_quiet_passes {w = w} e (there {mid = mid} f q) =
-      let x = verified_link_passes_alike w.device w.session mid e f in there x.passes (verified_quiet_passes x.stays q)
+  pub verify_passes_quietly : {w w' : Link} {n : ℕ} → IsDownload w.session → QuietPasses c w n w'
+      → QuietPasses c (link_verifying w) n (link_verifying w')
+  verify_passes_quietly e here = here
+  verify_passes_quietly {w = w} e (there {mid = mid} f q) =
+      let x = verified_link_passes_alike w.device w.session mid e f in there x.passes (verify_passes_quietly x.stays q)

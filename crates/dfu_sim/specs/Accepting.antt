@@ -9,8 +9,8 @@ use Rattle.dfu_sim.specs.LinkView.{WorldView}
 use Rattle.dfu_sim.specs.EventResults.{WorldEventResult}
 use Rattle.dfu_sim.specs.Headline.{SessionBeginning, WasOffered, IsWaiting, HeadlineStatement}
 
--- An image that waits to be put in place may be put there by an action of the host or by a time that passes. Nothing else puts it in place:
--- not a refusal by the program, a reset of the bus, a loss of power, or an event that does not reach the device.
+-- An event may put a waiting image in place if it is an action of the host or time that passes. No other event does: not a refusal by the
+-- program, a reset of the bus, a loss of power, or an event that does not reach the device.
 abbrev pub MayPlaceImage : Happening → Type 0
 MayPlaceImage (Goes fate harm) = Unit {0}
 MayPlaceImage (Passes ms) = Unit {0}
@@ -33,7 +33,7 @@ abbrev pub HeedsCheckAtStep : (check : List ℕ → Bool) → WorldView → Link
 HeedsCheckAtStep check w s = MayPlaceImage s.happening → (t : List ℕ) → IsWaiting w.bench.device.stage t
     → (check t ≡ true) ⊎ IsWaiting s.after.bench.device.stage t
 
--- The program heeds the check at each step. A program does so if it refuses each image that the check refuses: in the request that closes
+-- The program heeds the check at each step. A program heeds it if it refuses each image that the check refuses: in the request that closes
 -- the download, right after it, or later, but before an action or a time that would put the image in place.
 abbrev pub HeedsCheckAtSteps : (check : List ℕ → Bool) → WorldView → List LinkStep → Type 0
 HeedsCheckAtSteps check w [] = Unit {0}
@@ -43,13 +43,13 @@ HeedsCheckAtSteps check w (s ∷ rest) = HeedsCheckAtStep check w s × HeedsChec
 abbrev pub image_of_world : WorldView → List ℕ
 image_of_world w = image_of w.bench.device.slots
 
--- Whatever events come to a link, and whatever check its program heeds, the image is the one before the events, or one that the check
--- accepts.
+-- After any steps, and with any check that the program heeds, the image is the one before the steps, or one that the check accepts.
 abbrev pub LinkImagesAccepted : Type 0
 LinkImagesAccepted = (check : List ℕ → Bool) (w w' : WorldView) (steps : List LinkStep) → LinkStepsPlayed w steps w' → HeedsCheckAtSteps check w steps
     → (image_of_world w' ≡ image_of_world w) ⊎ (check (image_of_world w') ≡ true)
 
--- If the headline holds after the steps, the image is the factory image, or the whole payload of an offer, which the check accepts.
+-- If the factory image was active before any steps, the program heeds the check at each, and the headline holds after them, the active
+-- image is the factory image, or the whole payload of an offer, which the check accepts.
 abbrev pub OfferedImagesAccepted : Type 0
 OfferedImagesAccepted = (check : List ℕ → Bool) (w w' : WorldView) (steps : List LinkStep) (factory image : List ℕ) (past : List
     SessionBeginning)

@@ -29,7 +29,7 @@ intake_of_stage InManifestWaitReset = NoImageTaken
 intake_of_stage (InUploadIdle place number) = NoImageTaken
 intake_of_stage (InError code) = NoImageTaken
 
--- Pending bytes of an image in progress: all bytes taken so far.
+-- Pending bytes of an image in progress: all bytes taken so far; None if no image is in progress.
 abbrev pub pending_bytes_in : Intake → Option (List ℕ)
 pending_bytes_in NoImageTaken = None
 pending_bytes_in (Open taken) = Some taken
@@ -47,13 +47,13 @@ abbrev pub live_session_of : Session → LiveSession
 live_session_of NoLiveSession = NothingLive
 live_session_of (HostSession h) = live_session_of_goal h.task.goal
 
--- The bytes that a host closed are one of the offers.
+-- The bytes that a host closed, if there are any, are one of the offers.
 abbrev pub IsClosedOffer : List (List ℕ) → Intake → Type 0
 IsClosedOffer offers NoImageTaken = Unit {0}
 IsClosedOffer offers (Open taken) = Unit {0}
 IsClosedOffer offers (Shut taken) = IsOneOf taken offers
 
--- The payload of a live session is one of the offers.
+-- The payload of the live session, if it has one, is one of the offers.
 abbrev pub IsLiveOffer : List (List ℕ) → LiveSession → Type 0
 IsLiveOffer offers NothingLive = Unit {0}
 IsLiveOffer offers (LoadingPayload payload) = IsOneOf payload offers

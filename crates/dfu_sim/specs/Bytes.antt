@@ -34,36 +34,37 @@ fuse_of CutsPower harm = Armed harm.writes harm.tear true
 fuse_of FailsWrite harm = Armed harm.writes harm.tear false
 fuse_of LiesInWrite harm = Lying harm.writes harm.tear
 
--- A device with a fuse in its medium.
+-- A device whose medium has this fuse.
 abbrev pub armed_device : DeviceView → Fuse → DeviceView
 armed_device w fuse = record w { slots = store_with_fuse w.slots fuse }
 
--- A device after its power went and came back: its medium is not armed, and the bytes that were put and not committed are forgotten.
-abbrev pub powered_up : DeviceView → DeviceView
-powered_up w = record { config = w.config; slots = store_restarted w.slots Whole; stage = InAppIdle }
+-- A device after its power went and came back: it is in appIDLE, its medium is not armed, and bytes that were put and not committed are
+-- forgotten.
+abbrev pub device_after_power_cycle : DeviceView → DeviceView
+device_after_power_cycle w = record { config = w.config; slots = store_restarted w.slots Whole; stage = InAppIdle }
 
 -- A device after a reset of the bus.
 abbrev pub device_after_bus_reset : DeviceView → DeviceView
 device_after_bus_reset w = record w { stage = reset_stage w.stage }
 
 -- A device whose program has refused the image that was closed, if one was.
-abbrev pub was_refused : Objection → DeviceView → DeviceView
-was_refused why w = record w { stage = refuse_stage why w.stage }
+abbrev pub refused_device : Objection → DeviceView → DeviceView
+refused_device why w = record w { stage = refuse_stage why w.stage }
 
--- Meaning of a device's answer for a host, which reads its bytes by the host's table.
+-- Meaning that a host reads from a device's answer and its bytes, by the host's table.
 abbrev pub HeardOfAnswer : Deed → Answer → List ℕ → Heard → Type 0
 HeardOfAnswer d answer.Ack out heard = heard ≡ Acked
 HeardOfAnswer d answer.Stall out heard = heard ≡ Stalled
 HeardOfAnswer d answer.Bytes out heard = BytesMeaning d out heard
 
--- Meaning of the response to a request for a host.
+-- Meaning that a host reads from the response to its request.
 abbrev pub HeardOfResponse : Deed → Response → List ℕ → Heard → Type 0
 HeardOfResponse d (response.Answered a) out heard = HeardOfAnswer d a out heard
 HeardOfResponse d response.Lost out heard = heard ≡ Nothing
 HeardOfResponse d response.Restarted out heard = heard ≡ Restarted
 
--- A setup comes to a device with its body. If it closes a download whose image the program refuses, the refusal is its row; else the device
--- handles it.
+-- Result of a setup with its body. If the setup closes a download whose image the program refuses, the row is that of the refusal;
+-- otherwise the device handles the setup.
 abbrev pub SetupResult : Option Objection → (setup body : List ℕ) → DeviceView → Answer → List ℕ → DeviceView → Type 0
 SetupResult None setup body w a out w' = Handles setup body w a out w'
 SetupResult (Some why) setup body w a out w' =
@@ -83,38 +84,39 @@ pub data ReachesDevice (refusing : Option Objection) (setup body : List ℕ) : H
       → Elapses ms mid w'
       → ReachesDevice refusing setup body (Late ms) w (response.Answered a) out w'
 
--- A response comes back, or is lost.
+-- The response, or Lost if it does not come back.
 abbrev pub response_if_delivered : Bool → Response → Response
 response_if_delivered true b = b
 response_if_delivered false b = response.Lost
 
--- A response comes back, or the restart is heard because the power was cut.
+-- The response, or Restarted if the power was cut.
 abbrev pub response_if_powered : MediumFault → Response → Response
 response_if_powered NoWrite b = b
 response_if_powered CutsPower b = response.Restarted
 response_if_powered FailsWrite b = b
 response_if_powered LiesInWrite b = b
 
--- A request is delivered.
+-- A request is delivered: the device handles it as the delivery says, and the host hears the response that comes back.
 pub record RequestDelivered (q : Asked) (setup body : List ℕ) (delivery : Delivery) (w w' : DeviceView) (heard : Heard) : Type 0 where
   pub came : Response
   pub out : List ℕ
   pub reaches : ReachesDevice delivery.refusing setup body delivery.handling w came out w'
   pub hears : HeardOfResponse (Send q body) (response_if_powered delivery.harming (response_if_delivered delivery.back came)) out heard
 
--- A wait is delivered.
+-- A wait is delivered: its time passes, and the host hears that it is over, or hears of the restart.
 abbrev pub WaitDelivered : ℕ → Delivery → DeviceView → DeviceView → Heard → Type 0
 WaitDelivered ms delivery w w' heard = Elapses (wait_by_handling delivery.handling ms) w w' × (heard
     ≡ heard_after_action delivery.harming Waited)
 
--- The time that slips in after a reset of the bus, or none.
+-- Time passes after a reset of the bus, if its delivery adds any.
 abbrev pub SlipsTime : Handled → DeviceView → DeviceView → Type 0
 SlipsTime Unseen w w' = w' ≡ w
 SlipsTime Once w w' = w' ≡ w
 SlipsTime Again w w' = w' ≡ w
 SlipsTime (Late ms) w w' = Elapses ms w w'
 
--- A reset of the bus by the host is delivered.
+-- A reset of the bus is delivered: the time that slips in passes after it, and the host hears that the bus was reset, or hears of the
+-- restart.
 abbrev pub BusResetDelivered : Delivery → DeviceView → DeviceView → Heard → Type 0
 BusResetDelivered delivery w w' heard = SlipsTime delivery.handling (device_after_bus_reset w) w' × (heard
     ≡ heard_after_action delivery.harming WasReset)
@@ -127,10 +129,10 @@ ActionDelivered (Wait ms) delivery w w' heard = WaitDelivered ms delivery w w' h
 ActionDelivered Reset delivery w w' heard = BusResetDelivered delivery w w' heard
 ActionDelivered (Done report) delivery w w' heard = ⊥
 
--- The device after an action is over: its medium is not armed, and it is in appIDLE if the power was cut.
+-- The device once an action is over: its medium is not armed, and if the power was cut, the device has started again.
 abbrev pub device_after_action : MediumFault → DeviceView → DeviceView
 device_after_action NoWrite w = armed_device w Whole
-device_after_action CutsPower w = powered_up w
+device_after_action CutsPower w = device_after_power_cycle w
 device_after_action FailsWrite w = armed_device w Whole
 device_after_action LiesInWrite w = armed_device w Whole
 
@@ -138,7 +140,7 @@ device_after_action LiesInWrite w = armed_device w Whole
 abbrev pub link_of_bench : LinkView → Link
 link_of_bench b = record { device = situation b.device; session = b.session }
 
--- A host's action is delivered, and the host takes what it hears. It is told of missing memory only if its phase needs memory.
+-- A host's action is delivered, and the host takes the result that it hears. It hears NoRoom only if its phase needs memory.
 pub record HostActs (h : HostState) (delivery : Delivery) (w w' : DeviceView) (h' : HostState) : Type 0 where
   pub heard : Heard
   pub acts : ActionDelivered (deed h.task h.phase) delivery w w' heard
@@ -160,7 +162,7 @@ pub record NextAction (h : Session) (fate : Fate) (harm : WriteHarm) (b b' : Lin
   pub session : b'.session ≡ (host_outcome host gone.acted.heard).session
   pub answered : answer ≡ (host_outcome host gone.acted.heard).answer
 
--- An event happens on a bench.
+-- An event leads from one bench to another, with its answer.
 abbrev pub HappensOnBench : Happening → LinkView → LinkView → Answered → Type 0
 HappensOnBench (Offers purpose payload limits) b b' answer =
     (b' ≡ record {
@@ -177,8 +179,8 @@ HappensOnBench (Passes ms) b b' answer = Elapses ms b.device b'.device × (b'.se
 HappensOnBench Resets b b' answer = let t = notify_restart b.session in
     (b' ≡ record { device = device_after_bus_reset b.device; session = t.session }) × (answer ≡ t.answer)
 HappensOnBench Cuts b b' answer = let t = notify_restart b.session in
-    (b' ≡ record { device = powered_up b.device; session = t.session }) × (answer ≡ t.answer)
-HappensOnBench (Refuses why) b b' answer = (b' ≡ record { device = was_refused why b.device; session = b.session }) × (answer ≡ silent)
+    (b' ≡ record { device = device_after_power_cycle b.device; session = t.session }) × (answer ≡ t.answer)
+HappensOnBench (Refuses why) b b' answer = (b' ≡ record { device = refused_device why b.device; session = b.session }) × (answer ≡ silent)
 
 -- A play with its bytes: an event that is not refused, on a bench whose medium is not armed.
 pub record BytePlay (b : LinkView) (event : Happening) (b' : LinkView) (answer : Answered) : Type 0 where

@@ -20,8 +20,9 @@ use Rattle.dfu_sim.specs.Refusing.{IsOffered}
 abbrev pub clean_passes : Purpose → Setting → List ℕ → ℕ
 clean_passes purpose s payload = clean_actions_of_purpose purpose s.functional.transfer s.busy_ms s.manifest_ms payload
 
--- A file can be installed cleanly, and verified if the purpose says so. A tolerant device rests in appIDLE with no session, takes the file,
--- and has room for its payload; a payload to be verified has fewer than 65,535 full blocks; and the actions suffice.
+-- A file can be installed cleanly, and verified if the purpose says so. A tolerant device rests in appIDLE with no session and takes the
+-- file; its payload has at least the device's fewest bytes, fits the room, and has fewer than 65,535 full blocks if it is to be verified;
+-- and the actions suffice.
 pub record CanInstall (b : LinkView) (purpose : Purpose) (file : List ℕ) (limits : Limits) (payload : List ℕ) : Type 0 where
   pub free : b.session ≡ NoLiveSession
   pub rests : b.device.stage ≡ InAppIdle

@@ -14,7 +14,7 @@ use Rattle.dfu_sim.specs.Happening.{Pass, Offers, Goes, no_write_harmed}
 use Rattle.dfu_sim.specs.Play.{Link, Answered, silent, play_of_event}
 use Rattle.dfu_sim.specs.LinkView.{NoLiveSession}
 
--- A pass over a medium that works leads from one link to another with an answer, at each luck after that, with memory or without.
+-- A pass over a medium that works leads from one link to another with an answer, at any second luck, with memory or without.
 abbrev pub PassesTo : Profile → Link → Link → Answered → Type 0
 PassesTo c w w' answer = (other : Luck) (room : Bool) → play_of_event c w (Goes Pass no_write_harmed) Works other room
     ≡ record { link = w'; answer = answer }
@@ -38,7 +38,7 @@ abbrev pub report_of_purpose : Purpose → Report
 report_of_purpose Install = Installed
 report_of_purpose Verify = Verified
 
--- A payload that is compared has fewer than 65,535 full blocks.
+-- A payload that is to be verified has fewer than 65,535 full blocks.
 abbrev pub ComparesFewBlocks : Purpose → (t : ℕ) → List ℕ → Type 0
 ComparesFewBlocks Install t payload = Unit {0}
 ComparesFewBlocks Verify t payload = length payload / t < 65535
@@ -48,15 +48,16 @@ abbrev pub ProfileServesPurpose : Purpose → Profile → Type 0
 ProfileServesPurpose Install c = c.can_download ≡ true
 ProfileServesPurpose Verify c = (c.can_download ≡ true) × (c.can_upload ≡ true)
 
--- After `count` passes the payload is installed: only the last pass reports, it gives `report`, and the payload is the active image.
+-- After `count` passes the payload is installed: only the last pass reports, it gives `report`, and leaves the device in appIDLE with the
+-- payload active and no session.
 pub record InstalledAfter (c : Profile) (w : Link) (count : ℕ) (payload : List ℕ) (report : Report) : Type 0 where
   pub before : Link
   pub quiet : QuietPasses c w (count - 1) before
   pub last : PassesTo c before (resting_link payload) (record { report = Some report; gave = None })
 
--- A clean run. Given a tolerant device that serves the purpose, in appIDLE with no session, blocks of at least one byte, a payload of at
--- least one byte, within the least length and the room, with fewer than 65,535 full blocks if it is verified, and enough actions. Then
--- after the offer exactly as many passes as a clean run takes end in its report, and those before the last report nothing.
+-- A clean run. The premises: a tolerant device that serves the purpose, in appIDLE with no session; blocks of at least one byte; a payload
+-- of at least one byte, within the least length and the room, with fewer than 65,535 full blocks if it is verified; and enough actions.
+-- After the offer, exactly as many passes as a clean run takes end in its report, and those before the last report nothing.
 abbrev pub CleanRun : Type 0
 CleanRun = (c : Profile) (purpose : Purpose) (image payload : List ℕ) (limits : Limits) → c.tolerant ≡ true → ProfileServesPurpose purpose c
     → 0 < c.transfer

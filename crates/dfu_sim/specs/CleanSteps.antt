@@ -8,29 +8,30 @@ use Rattle.dfu_sim.specs.Session.{report_list}
 use Rattle.dfu_sim.specs.LinkView.{LinkView}
 use Rattle.dfu_sim.specs.Happening.{Happening}
 use Rattle.dfu_sim.specs.Refusing.{IsRefused}
-use Rattle.dfu_sim.specs.Sure.{IsSureEvent}
+use Rattle.dfu_sim.specs.Sure.{EventFollowsTable}
 use Rattle.dfu_sim.specs.CleanInstall.{clean_passes, CanInstall, offer_and_passes, InstallsCleanly}
 
--- Steps in their order, with their reports; of each step the clause `sure` of `World::step` is known.
-pub data SureSteps : LinkView → List Happening → List Report → LinkView → Type 0 where
-  no_sure_step : {b : LinkView} → SureSteps b [] [] b
+-- The steps lead from one bench to another, with their reports in order; the clause `sure` of `World::step` holds for each step.
+pub data StepsFollowTable : LinkView → List Happening → List Report → LinkView → Type 0 where
+  no_sure_step : {b : LinkView} → StepsFollowTable b [] [] b
   one_step : {b mid b' : LinkView} {h : Happening} {hs : List Happening} {report : Option Report} {reports : List Report}
-      → IsSureEvent b h mid report → SureSteps mid hs reports b' → SureSteps b (h ∷ hs) (report_list report ++ reports) b'
+      → EventFollowsTable b h mid report → StepsFollowTable mid hs reports b'
+      → StepsFollowTable b (h ∷ hs) (report_list report ++ reports) b'
 
 -- An offer and at most the passes of a clean run, each taken by `World::step`, report as a clean run does, whatever memory there is.
 abbrev pub StepsInstallCleanly : Type 0
 StepsInstallCleanly = (b b' : LinkView) (purpose : Purpose) (file : List ℕ) (limits : Limits) (payload : List ℕ) (count : ℕ)
     (reports : List Report)
     → CanInstall b purpose file limits payload → count ≤ clean_passes purpose b.device.config payload
-    → SureSteps b (offer_and_passes purpose file limits count) reports b' → InstallsCleanly b purpose payload count reports b'
+    → StepsFollowTable b (offer_and_passes purpose file limits count) reports b' → InstallsCleanly b purpose payload count reports b'
 
--- No step of a clean run is refused.
+-- If the steps of a clean run so far follow the table, its next step is not refused.
 abbrev pub CleanStepsSucceed : Type 0
 CleanStepsSucceed = (b b' : LinkView) (purpose : Purpose) (file : List ℕ) (limits : Limits) (payload : List ℕ) (count at : ℕ)
     (reports : List Report)
     (next : Happening)
     (more : List Happening) (fault : LinkFault)
     → CanInstall b purpose file limits payload → count ≤ clean_passes purpose b.device.config payload
-    → SureSteps b (take at (offer_and_passes purpose file limits count)) reports b'
+    → StepsFollowTable b (take at (offer_and_passes purpose file limits count)) reports b'
     → drop at (offer_and_passes purpose file limits count) ≡ next ∷ more
     → ¬ IsRefused b' next fault

@@ -11,8 +11,8 @@ use Rattle.dfu_sim.specs.LinkView.{LinkView, WorldView, world_of_bench}
 use Rattle.dfu_sim.specs.Bytes.{BytePlay}
 use Rattle.dfu_sim.specs.Refusing.{IsOffered, ServesUpload, IsRefused}
 
--- The event that a caller's event means for a device with a setting: the offer of a file means the offer of its payload, and any other
--- event means itself.
+-- The event that a caller's event means for a device with a setting: the offer of a file that the device takes means the offer of its
+-- payload, an upload means itself if the device serves uploads, and any other event means itself.
 abbrev pub EventMeaning : Setting → Happening → Happening → Type 0
 EventMeaning s (Offers purpose file limits) e = (payload : List ℕ) × IsOffered s purpose file payload × (e ≡ Offers purpose payload limits)
 EventMeaning s (Uploads limits) e = ServesUpload s × (e ≡ Uploads limits)
@@ -51,7 +51,7 @@ abbrev pub BytesOnlyWithUploaded : Result Answered LinkFault → Type 0
 BytesOnlyWithUploaded (Ok answer) = BytesMatchReport answer.report answer.gave
 BytesOnlyWithUploaded (Err fault) = Unit {0}
 
--- Result of an event that came: a refusal or a play. With Uploaded the bytes that came replace those of the upload before; without it those
+-- Result of an event that came: a refusal or a play. With Uploaded the bytes that came replace those of the upload before; otherwise those
 -- stay. The caller gets the report, or the fault.
 pub record WorldEventResult (w : WorldView) (h : Happening) (w' : WorldView) (result : Result (Option Report) LinkFault) : Type 0 where
   pub answer : Result Answered LinkFault
@@ -60,6 +60,6 @@ pub record WorldEventResult (w : WorldView) (h : Happening) (w' : WorldView) (re
   pub up_is : w'.up ≡ uploaded_after (upload_of_result answer) w.up
   pub told : result ≡ report_of_result answer
 
--- An event came, whatever the upload before gave, and that stays.
+-- Result of an event that leaves the bytes of the last upload, for any such bytes.
 abbrev pub WorldEventAlone : LinkView → Happening → LinkView → Result (Option Report) LinkFault → Type 0
 WorldEventAlone b h b' result = (up : List ℕ) → WorldEventResult (world_of_bench b up) h (world_of_bench b' up) result

@@ -7,7 +7,7 @@ use Rattle.dfu_device.specs.Stage.{Profile, Stage, InAppIdle, InDfuIdle, InDownl
 use Rattle.dfu_device.specs.Outcome.{Situation}
 use Rattle.dfu_host.specs.Phases.{Goal, LoadGoal, FetchGoal, VerifyGoal, CompareGoal, Task, Phase, Block, Ask, Poll, WaitPoll, Close, AskLast, Manifest, WaitManifest, WaitLast, Fetch, LastUploaded, Compare, Last, Over, OverUploaded}
 use Rattle.dfu_host.specs.CommonPhases.{IsCommonPhase}
-use Rattle.dfu_host.specs.Host.{HostState, IsOnPhase}
+use Rattle.dfu_host.specs.Host.{HostState, IsLivePhase}
 use Rattle.dfu_sim.specs.Session.{PromisesNothing}
 use Rattle.dfu_sim.specs.LinkView.{Session, NoLiveSession, HostSession}
 
@@ -76,15 +76,15 @@ ReportMeaning c p s P Installed = IsTrue c.tolerant × (s.image ≡ p) × P s.st
 ReportMeaning c p s P Verified = (s.image ≡ p) × P s.stage
 ReportMeaning c p s P report = PromisesNothing report
 
--- Fetch k: the kept bytes are the active image as far as the device's place, and the device expects number k.
+-- Fetch k: the kept bytes are the active image as far as the device's place, and the device expects number k modulo 65,536.
 abbrev pub FetchedSoFar : (k : ℕ) → (kept image : List ℕ) → Stage → Type 0
 FetchedSoFar k kept image InDfuIdle = (k ≡ 0) × (kept ≡ [])
 FetchedSoFar k kept image (InUploadIdle place number) = (0 < k) × (number ≡ k % 65536) × (kept ≡ take place image)
 FetchedSoFar k kept image stage = ⊥
 
--- The fact.
+-- The phase fact, by phase and goal.
 
--- In the common phases nothing is known of the device, for each goal.
+-- In the phases that all sessions share nothing is known of the device, for each goal.
 
 -- Fact of a phase of a download, also of one that is to be verified. The phases of an upload and of a comparison do not occur.
 abbrev pub PhaseFact : Profile → List ℕ → Phase → Situation → Type 0
@@ -124,29 +124,29 @@ GoalFact c FetchGoal phase s = FetchFact phase s
 GoalFact c (VerifyGoal p) phase s = PhaseFact c p phase s
 GoalFact c (CompareGoal p) phase s = CompareFact c p phase s
 
--- A payload has at least one block.
+-- The payload of a goal, if it has one, has at least one block.
 abbrev pub HasBlocks : Profile → Goal → Type 0
 HasBlocks c (LoadGoal p) = 0 < length (blocks p c.transfer)
 HasBlocks c FetchGoal = Unit {0}
 HasBlocks c (VerifyGoal p) = 0 < length (blocks p c.transfer)
 HasBlocks c (CompareGoal p) = 0 < length (blocks p c.transfer)
 
--- A session's task goes by the device's descriptor.
+-- A session's task has the values of the device's descriptor.
 pub record TaskMatchesProfile (c : Profile) (task : Task) : Type 0 where
   pub transfer : task.transfer ≡ c.transfer
   pub tolerant : task.tolerant ≡ c.tolerant
   pub will_detach : task.will_detach ≡ c.will_detach
   pub detach_ms : task.detach_ms ≡ c.detach_ms
 
--- Fact of a live host: its task goes by the device's descriptor, the host is not done, its payload has at least one block, and its phase
--- fits the device.
+-- Fact of a live host: its task has the values of the device's descriptor, the host is not done, its payload has at least one block, and
+-- its phase fits the device.
 pub record HostFact (c : Profile) (s : Situation) (h : HostState) : Type 0 where
   pub task_is : TaskMatchesProfile c h.task
-  pub on : IsOnPhase h.phase
+  pub on : IsLivePhase h.phase
   pub some : HasBlocks c h.task.goal
   pub fact : GoalFact c h.task.goal h.phase s
 
--- The phase fact of a link: nothing if no session is live.
+-- The phase fact of a link: the fact of its live host, and nothing if no session is live.
 abbrev pub SessionFact : Profile → Situation → Session → Type 0
 SessionFact c s NoLiveSession = Unit {0}
 SessionFact c s (HostSession h) = HostFact c s h

@@ -11,23 +11,23 @@ use Rattle.dfu_sim.specs.Happening.{Happening, Offers, Uploads, Aborts, Goes, Pa
 use Rattle.dfu_sim.specs.LinkView.{WorldView}
 
 -- Kind of an event for the session machine: the offer of a file is an offer of its payload.
-abbrev pub IsOfKind : Happening → Kind → Type 0
-IsOfKind (Offers purpose file limits) kind =
+abbrev pub EventHasKind : Happening → Kind → Type 0
+EventHasKind (Offers purpose file limits) kind =
     (payload : List ℕ) × (ids : Ids) × (dfu : ℕ) × (extra : List ℕ) × IsFile payload ids dfu extra file × (kind ≡ OfferKind payload)
-IsOfKind (Uploads limits) kind = kind ≡ UploadKind
-IsOfKind Aborts kind = kind ≡ AbortKind
-IsOfKind (Goes fate harm) kind = kind ≡ ActionKind
-IsOfKind (Passes ms) kind = kind ≡ TimeKind
-IsOfKind Resets kind = kind ≡ RestartKind
-IsOfKind Cuts kind = kind ≡ RestartKind
-IsOfKind (Refuses why) kind = kind ≡ RefusalKind
+EventHasKind (Uploads limits) kind = kind ≡ UploadKind
+EventHasKind Aborts kind = kind ≡ AbortKind
+EventHasKind (Goes fate harm) kind = kind ≡ ActionKind
+EventHasKind (Passes ms) kind = kind ≡ TimeKind
+EventHasKind Resets kind = kind ≡ RestartKind
+EventHasKind Cuts kind = kind ≡ RestartKind
+EventHasKind (Refuses why) kind = kind ≡ RefusalKind
 
 -- The session machine follows an event: it makes one legal step with the report, and then agrees with the link again, so its active image
 -- is that of the medium's bytes. If Installed or Verified is reported, the device is in appIDLE, and that image is the payload of the
 -- session that was live.
 pub record MachineFollows (w : WorldView) (h : Happening) (w' : WorldView) (report : Option Report) (m : Machine) : Type 0 where
   pub kind : Kind
-  pub is : IsOfKind h kind
+  pub is : EventHasKind h kind
   pub after : Machine
   pub step : MachineStep w.bench.device.config.functional.tolerant w.bench.device.config.functional.transfer kind m report after
   pub agrees : AgreesOn w'.bench w'.up after

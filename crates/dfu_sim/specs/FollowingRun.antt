@@ -9,19 +9,19 @@ use Rattle.dfu_sim.specs.Session.{Machine, IsOneOf, Kind, Legal}
 use Rattle.dfu_sim.specs.Agreement.{AgreesOn}
 use Rattle.dfu_sim.specs.Happening.{Happening}
 use Rattle.dfu_sim.specs.LinkView.{WorldView}
-use Rattle.dfu_sim.specs.Following.{IsOfKind}
+use Rattle.dfu_sim.specs.Following.{EventHasKind}
 
 -- Kinds of a list of events, one for each event, in their order.
-abbrev pub AreOfKinds : List Happening → List Kind → Type 0
-AreOfKinds [] [] = Unit {0}
-AreOfKinds (h ∷ hs) (kind ∷ kinds) = IsOfKind h kind × AreOfKinds hs kinds
-AreOfKinds hs kinds = ⊥
+abbrev pub EventsHaveKinds : List Happening → List Kind → Type 0
+EventsHaveKinds [] [] = Unit {0}
+EventsHaveKinds (h ∷ hs) (kind ∷ kinds) = EventHasKind h kind × EventsHaveKinds hs kinds
+EventsHaveKinds hs kinds = ⊥
 
 -- The session machine follows a run: it makes a legal run with the reports in their order, and then agrees with the link again, so its
 -- active image is that of the medium's bytes. The image was active before the run, or is the whole payload of a file offered so far.
 pub record IsFollowedRun (w : WorldView) (hs : List Happening) (reports : List Report) (w' : WorldView) (m : Machine) : Type 0 where
   pub kinds : List Kind
-  pub are : AreOfKinds hs kinds
+  pub are : EventsHaveKinds hs kinds
   pub after : Machine
   pub legal : Legal w.bench.device.config.functional.tolerant w.bench.device.config.functional.transfer m kinds reports after
   pub agrees : AgreesOn w'.bench w'.up after

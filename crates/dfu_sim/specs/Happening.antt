@@ -29,8 +29,8 @@ pub record WriteHarm : Type 0 where
   pub writes : ℕ
   pub tear : List ℕ
 
--- An event of a link. In a play the bytes of an offer are the payload, else the file, which is offered to be installed, or to be installed
--- and verified. Between two actions the device's program may refuse the closed image.
+-- An event of a link. The bytes of an offer are the payload in a play, and elsewhere the file. The purpose of an offer is to install its
+-- payload, or to install and verify it. Between two actions the device's program may refuse the closed image.
 pub data Happening : Type 0 where
   Offers : Purpose → (file : List ℕ) → Limits → Happening
   Uploads : Limits → Happening
@@ -41,7 +41,7 @@ pub data Happening : Type 0 where
   Cuts : Happening
   Refuses : (why : Objection) → Happening
 
--- No write is harmed.
+-- Harm for an action in which no write is harmed.
 abbrev pub no_write_harmed : WriteHarm
 no_write_harmed = record { writes = 0; tear = [] }
 
@@ -61,14 +61,14 @@ fate_of (fate.Cut writes tear) = CutInWrite
 fate_of (fate.Fail writes tear) = Fail
 fate_of (fate.Lie writes tear) = Lie
 
--- Harm to a write, by the fate that a caller gives.
+-- Harm to a write, by the fate that a caller gives; none for a fate without a cut, a failure or a lie.
 abbrev pub harm_of_fate : GivenFate → WriteHarm
 harm_of_fate (fate.Cut writes tear) = harmed writes tear.now
 harm_of_fate (fate.Fail writes tear) = harmed writes tear.now
 harm_of_fate (fate.Lie writes tear) = harmed writes tear.now
 harm_of_fate f = no_write_harmed
 
--- A fate in which the device's program refuses the image that is closed, or refuses none.
+-- The fate, with the refusal of the closed image by the device's program, if there is one.
 abbrev pub fate_with_refusal : Option Objection → Fate → Fate
 fate_with_refusal None f = f
 fate_with_refusal (Some why) f = Refusing why f

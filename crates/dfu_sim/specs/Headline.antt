@@ -20,7 +20,8 @@ pub data SessionBeginning : Type 0 where
   BeginningWithOffer : (file : List ℕ) → SessionBeginning
   BeginningAsUpload : SessionBeginning
 
--- Sessions that have begun after an event, the last one first.
+-- Sessions that have begun once a caller's event came, the last one first: those of the past, and the one that the event begins, if it
+-- begins one.
 abbrev pub sessions_now : Event → List SessionBeginning → List SessionBeginning
 sessions_now (Offer file limits) past = BeginningWithOffer file.now ∷ past
 sessions_now (OfferVerified file limits) past = BeginningWithOffer file.now ∷ past
@@ -57,7 +58,7 @@ IsWaiting (InManifestSync taken) x = x ≡ taken
 IsWaiting (InManifest taken passed) x = x ≡ taken
 IsWaiting stage x = ⊥
 
--- A session with this goal installs the payload or compares it.
+-- The bytes are the payload that a session with this goal installs or compares.
 abbrev pub IsGoalPayload : Goal → List ℕ → Type 0
 IsGoalPayload (LoadGoal payload) x = x ≡ payload
 IsGoalPayload FetchGoal x = ⊥

@@ -1,4 +1,4 @@
--- Agreement of a link of values with a session machine: some machine agrees, and it goes on from one world to the next.
+-- Agreement of a link of values with a session machine: some machine agrees, and still agrees once a new world is made over the device.
 use Rattle.std.specs.Prelude.{◌≡◌, ℕ, List, [], Option}
 use Rattle.dfu_slots.specs.Medium.Fuse.{Whole}
 use Rattle.dfu_device.specs.Stage.{Stage}
@@ -8,15 +8,16 @@ use Rattle.dfu_sim.specs.LinkView.{LinkView, NoLiveSession, WorldView, BenchMatc
 use Rattle.dfu_sim.specs.Bytes.{link_of_bench, armed_device}
 use Rattle.dfu_sim.specs.Agreement.{Intake, NoImageTaken, Open, Shut, intake_of_stage, pending_bytes_in, live_session_of, IsClosedOffer, IsLiveOffer, AgreesOn}
 
--- Pending bytes of a device.
+-- Pending bytes of a device in this stage; None if it has none.
 abbrev pub pending_of : Stage → Option (List ℕ)
 pending_of stage = pending_bytes_in (intake_of_stage stage)
 
--- The closed bytes of a device are one of the offers.
+-- The closed bytes of a device in this stage, if there are any, are one of the offers.
 abbrev pub ClosedWasOffered : List (List ℕ) → Stage → Type 0
 ClosedWasOffered offers stage = IsClosedOffer offers (intake_of_stage stage)
 
--- A link agrees with a session machine, by the image that it shows.
+-- A link agrees with a session machine: the machine has the link's image, pending bytes, live session and last upload, and the link's
+-- closed bytes and live payload are among its offers.
 pub record Agrees (w : Link) (up : List ℕ) (m : Machine) : Type 0 where
   pub cur : m.cur ≡ w.device.image
   pub pending : m.pending ≡ pending_of w.device.stage
@@ -27,7 +28,7 @@ pub record Agrees (w : Link) (up : List ℕ) (m : Machine) : Type 0 where
 
 -- Statements that some machine agrees.
 
--- A device holds no closed bytes that wait to be put in place.
+-- The image in progress, if there is one, is not closed.
 abbrev pub IntakeNotClosed : Intake → Type 0
 IntakeNotClosed NoImageTaken = Unit {0}
 IntakeNotClosed (Open taken) = Unit {0}
@@ -54,7 +55,7 @@ abbrev pub LinkAgreesOn : Type 0
 LinkAgreesOn = (b : LinkView) (up : List ℕ) (m : Machine) → BenchMatchesFlash b → Agrees (link_of_bench b) up m → AgreesOn b up m
 
 -- If a world with no session is taken apart, and a new one is made over its device, whose medium is disarmed, each session machine that
--- agreed goes on, with nothing uploaded so far.
+-- agreed still agrees, with nothing uploaded so far.
 abbrev pub SessionsContinue : Type 0
 SessionsContinue = (w : WorldView) (m : Machine) → w.bench.session ≡ NoLiveSession → AgreesOn w.bench w.up m
     → AgreesOn (record { device = armed_device w.bench.device Whole; session = NoLiveSession }) [] (record m { up = [] })

@@ -2,21 +2,21 @@
 use Rattle.std.specs.Prelude.{◌≡◌, ℕ, ◌<◌, List, [], Option, Some, None}
 use Rattle.dfu_slots.specs.Medium.Fuse.{Whole}
 use Rattle.dfu_device.specs.DeviceView.{DeviceView, profile, situation}
-use Rattle.dfu_host.specs.Host.{HostState, IsOnPhase}
+use Rattle.dfu_host.specs.Host.{HostState, IsLivePhase}
 use Rattle.dfu_host.specs.Counting.{KeptBytesAreCounted}
-use Rattle.dfu_host.specs.Uploading.{buffered_in}
+use Rattle.dfu_host.specs.Uploading.{kept_bytes_in_phase}
 use Rattle.dfu_sim.specs.LinkView.{Session, NoLiveSession, HostSession, LinkView, BenchMatchesFlash, WorldView}
 use Rattle.dfu_sim.specs.Fact.{SessionFact}
 
--- The session of a host, or none.
+-- The session of a host, or no session without a host.
 abbrev pub session_of : Option HostState → Session
 session_of None = NoLiveSession
 session_of (Some h) = HostSession h
 
--- Bytes that a host keeps whose upload was reported; none without a host.
+-- Bytes that the host with the last reported upload keeps; none without such a host.
 abbrev pub given_by : Option HostState → List ℕ
 given_by None = []
-given_by (Some h) = buffered_in h.phase
+given_by (Some h) = kept_bytes_in_phase h.phase
 
 -- A bench of a device and of a live host, if there is one.
 abbrev pub bench_of : DeviceView → Option HostState → LinkView
@@ -26,17 +26,17 @@ bench_of w host = record { device = w; session = session_of host }
 abbrev pub link_state : DeviceView → (live gave : Option HostState) → WorldView
 link_state w live gave = record { bench = bench_of w live; up = given_by gave }
 
--- A live session is not done.
-abbrev pub IsSessionOn : Session → Type 0
-IsSessionOn NoLiveSession = Unit {0}
-IsSessionOn (HostSession h) = IsOnPhase h.phase
+-- The live session, if there is one, is not done.
+abbrev pub SessionIsNotDone : Session → Type 0
+SessionIsNotDone NoLiveSession = Unit {0}
+SessionIsNotDone (HostSession h) = IsLivePhase h.phase
 
--- The bytes that a live session keeps are counted in full parts, and only an upload keeps any.
-abbrev pub IsCountedIn : Session → Type 0
-IsCountedIn NoLiveSession = Unit {0}
-IsCountedIn (HostSession h) = KeptBytesAreCounted h.task h.phase
+-- The bytes that the live session keeps, if there is one, are counted: k full parts while part k is fetched; and only an upload keeps any.
+abbrev pub SessionIsCounted : Session → Type 0
+SessionIsCounted NoLiveSession = Unit {0}
+SessionIsCounted (HostSession h) = KeptBytesAreCounted h.task h.phase
 
--- A live session sends blocks of at least one byte.
+-- The live session, if there is one, has a transfer size of at least one byte.
 abbrev pub SendsBytes : Session → Type 0
 SendsBytes NoLiveSession = Unit {0}
 SendsBytes (HostSession h) = 0 < h.task.transfer
@@ -47,9 +47,9 @@ pub record IsSteadyLink (b : LinkView) : Type 0 where
   pub fact : SessionFact (profile b.device) (situation b.device) b.session
   pub unarmed : b.device.slots.medium.fuse ≡ Whole
   pub sized : SendsBytes b.session
-  pub counted : IsCountedIn b.session
+  pub counted : SessionIsCounted b.session
 
--- Facts of a world between events: its bench is steady, and the image that it shows is the active one of its medium's bytes.
+-- Facts of a bench between events: it is steady, and the image that it shows is the active one of its medium's bytes.
 pub record LinkInvariant (b : LinkView) : Type 0 where
   pub steady : IsSteadyLink b
   pub active : BenchMatchesFlash b

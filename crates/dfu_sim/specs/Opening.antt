@@ -8,7 +8,7 @@ use Rattle.dfu_sim.specs.declared.offering.Purpose.{Purpose}
 use Rattle.dfu_sim.specs.declared.offering.Purpose.TheVariants.{Install, Verify}
 use Rattle.dfu_sim.specs.LinkView.{Session, HostSession}
 
--- A descriptor of a device with this profile. Its version is any, because no task goes by it.
+-- A descriptor of a device with this profile. Its version is arbitrary, because no task depends on it.
 abbrev pub descriptor_of : Profile → Functional
 descriptor_of c = record {
   can_download = c.can_download;

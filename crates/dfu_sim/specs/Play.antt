@@ -33,7 +33,7 @@ kind_of Resets = RestartKind
 kind_of Cuts = RestartKind
 kind_of (Refuses why) = RefusalKind
 
--- The link.
+-- The link, and the results of its events.
 
 -- The link: a device in its situation, and the live session. Uploaded bytes go with the answer.
 pub record Link : Type 0 where
@@ -45,7 +45,7 @@ pub record Answered : Type 0 where
   pub report : Option Report
   pub gave : Option (List ℕ)
 
--- Nothing is reported.
+-- Answer without a report.
 abbrev pub silent : Answered
 silent = record { report = None; gave = None }
 
@@ -70,23 +70,23 @@ settled_session h (Over report) = record { session = NoLiveSession; answer = rec
 settled_session h (OverUploaded kept) = record { session = NoLiveSession; answer = record { report = Some Uploaded; gave = Some kept } }
 settled_session h phase = record { session = HostSession h; answer = silent }
 
--- The host takes what it hears, by its own table.
+-- Outcome of a host that takes a result, by the host's table.
 abbrev pub host_outcome : HostState → Heard → HostOutcome
 host_outcome h heard = let h' = after h heard in settled_session h' h'.phase
 
--- A live host hears at once of a restart from outside.
+-- Outcome of a session after a restart from outside, of which a live host hears at once.
 abbrev pub notify_restart : Session → HostOutcome
 notify_restart NoLiveSession = record { session = NoLiveSession; answer = silent }
 notify_restart (HostSession h) = host_outcome h Restarted
 
--- An abort gives a live host up.
+-- Session after an abort: a live host gives up.
 abbrev pub session_aborted : Session → Session
 session_aborted NoLiveSession = NoLiveSession
 session_aborted (HostSession h) = HostSession (host_aborted h)
 
--- One action.
+-- Result of one action.
 
--- Meaning of a device's reply for a host. A law says that a host hears the bytes of the reply with this meaning.
+-- Meaning of a device's reply for a host. By the law `understood`, a host hears the bytes of the reply with this meaning.
 abbrev pub heard_of_reply : Reply → Heard
 heard_of_reply Ack = Acked
 heard_of_reply (StatusOf code poll state) = Status code poll state
@@ -99,7 +99,7 @@ abbrev pub heard_with_room : Heard → (room : Bool) → Heard
 heard_with_room (Part bytes) false = NoRoom
 heard_with_room heard room = heard
 
--- A phase has memory for what it keeps. Only a phase that fetches a part of an upload needs any.
+-- A phase has memory for the bytes that it keeps. Only a phase that fetches a part of an upload needs any.
 abbrev pub has_room : Phase → (room : Bool) → Bool
 has_room (Fetch k kept) room = room
 has_room phase room = true
@@ -115,13 +115,13 @@ plan_with_refusal None c image stage r = plan c image stage r
 plan_with_refusal (Some why) c image stage r = if request_closes c.least stage r then error_plan (objection_code why) else plan c image
     stage r
 
--- Result of an action: the device after it, and what the host hears; after a cut it hears only of the restart.
+-- Result of an action: the device after it, and the result that the host hears; after a cut it hears only of the restart.
 pub record ActionResult : Type 0 where
   pub device : Situation
   pub heard : Heard
 
--- Result of a request, which the table answers by a plan, if the answer comes back. The medium has a first luck for the first act of the
--- device, and a second one for the other.
+-- Result of a request that the table answers by a plan, if the answer comes back. The first luck is that of the request's first handling,
+-- and the second that of its second handling, or of the time that passes after it.
 abbrev pub reached : Profile → Situation → Request → Plan → Handled → (first second : Luck) → ActionResult
 reached c s r p Unseen l k = record { device = s; heard = Nothing }
 reached c s r p Once l k = let o = plan_outcome s.image p l in record { device = o.after; heard = heard_of_reply o.reply }
@@ -136,7 +136,7 @@ reached c s r p (Late ms) l k = let o = plan_outcome s.image p l in record {
       heard_of_reply o.reply;
 }
 
--- A meaning comes back, or nothing does.
+-- The meaning of an answer that comes back, or Nothing if the answer is lost.
 abbrev pub heard_back : Bool → Heard → Heard
 heard_back true heard = heard
 heard_back false heard = Nothing
@@ -155,7 +155,7 @@ situation_after_harm CutsPower s = situation_after_power s
 situation_after_harm FailsWrite s = s
 situation_after_harm LiesInWrite s = s
 
--- Result of an action at its end.
+-- Result of an action once it is over, by the harm to a write.
 abbrev pub action_end_by_harm : MediumFault → ActionResult → ActionResult
 action_end_by_harm harming d = record { device = situation_after_harm harming d.device; heard = heard_after_action harming d.heard }
 
@@ -174,13 +174,13 @@ situation_after_slip c s Again l = s
 situation_after_slip c s (Late ms) l = situation_after_ms c s ms l
 
 -- Result of a request by its delivery, if the table answers it by a plan.
-abbrev pub send_result_by : Profile → Situation → Request → Plan → Delivery → (first second : Luck) → ActionResult
-send_result_by c s r p delivery l k = let d = reached c s r p delivery.handling l k in
+abbrev pub request_result_of_plan : Profile → Situation → Request → Plan → Delivery → (first second : Luck) → ActionResult
+request_result_of_plan c s r p delivery l k = let d = reached c s r p delivery.handling l k in
     action_end_by_harm delivery.harming (record { device = d.device; heard = heard_back delivery.back d.heard })
 
 -- Result of a request by its delivery. If it comes twice, the program refuses at most the first.
 abbrev pub send_result : Profile → Situation → Request → Delivery → (first second : Luck) → ActionResult
-send_result c s r delivery l k = send_result_by c s r (plan_with_refusal delivery.refusing c s.image s.stage r) delivery l k
+send_result c s r delivery l k = request_result_of_plan c s r (plan_with_refusal delivery.refusing c s.image s.stage r) delivery l k
 
 -- Result of a wait by its delivery.
 abbrev pub waited : Profile → Situation → ℕ → Delivery → Luck → ActionResult
@@ -205,12 +205,12 @@ action_result c s (Wait ms) delivery l k = waited c s ms delivery l
 action_result c s Reset delivery l k = bus_reset c s delivery l
 action_result c s (Done report) delivery l k = record { device = s; heard = Nothing }
 
--- The rows.
+-- Results of the events.
 
--- Result of the host's next action, by its fate; the host takes what it hears.
-abbrev pub go_result : Profile → Link → Session → Fate → (first second : Luck) → (room : Bool) → PlayResult
-go_result c w NoLiveSession fate l k room = record { link = w; answer = silent }
-go_result c w (HostSession h) fate l k room =
+-- Result of the host's next action, by its fate; the host takes the result that it hears. Without a live session nothing changes.
+abbrev pub next_action_result : Profile → Link → Session → Fate → (first second : Luck) → (room : Bool) → PlayResult
+next_action_result c w NoLiveSession fate l k room = record { link = w; answer = silent }
+next_action_result c w (HostSession h) fate l k room =
     let d = action_result c w.device (deed h.task h.phase) (delivery_of fate) l k in
     let t = host_outcome h (heard_with_room d.heard (has_room h.phase room)) in
     record { link = record { device = d.device; session = t.session }; answer = t.answer }
@@ -227,8 +227,8 @@ restart_play_result s session = let t = notify_restart session in record {
 abbrev pub situation_after_refusal : Objection → Situation → Situation
 situation_after_refusal why s = record { image = s.image; stage = refuse_stage why s.stage }
 
--- Each event. The harm that an action does to a write is in the luck of the medium. Between actions the medium is not armed, so that it
--- works while time passes.
+-- Result of each event. The luck of the medium stands for the harm that an action does to a write. Between actions the medium is not armed,
+-- so it works while time passes.
 abbrev pub play_of_event : Profile → Link → Happening → (first second : Luck) → (room : Bool) → PlayResult
 play_of_event c w (Offers purpose payload limits) l k room = record {
   link = record { device = w.device; session = opened c (goal_of_purpose purpose payload) limits.actions limits.restarts };
@@ -237,7 +237,7 @@ play_of_event c w (Offers purpose payload limits) l k room = record {
 play_of_event c w (Uploads limits) l k room =
     record { link = record { device = w.device; session = opened c FetchGoal limits.actions limits.restarts }; answer = silent }
 play_of_event c w Aborts l k room = record { link = record { device = w.device; session = session_aborted w.session }; answer = silent }
-play_of_event c w (Goes fate harm) l k room = go_result c w w.session fate l k room
+play_of_event c w (Goes fate harm) l k room = next_action_result c w w.session fate l k room
 play_of_event c w (Passes ms) l k room = record {
   link = record { device = situation_after_ms c w.device ms Works; session = w.session };
   answer = silent;
@@ -249,7 +249,7 @@ play_of_event c w (Refuses why) l k room = record {
   answer = silent;
 }
 
--- An event may happen: a session begins only while none is live, and no offer is empty; an abort and an action need a live session.
+-- An event may happen: a session begins only while none is live, no offer is empty, and an abort and an action need a live session.
 abbrev pub MayHappen : Session → Happening → Type 0
 MayHappen NoLiveSession (Offers purpose payload limits) = 0 < length payload
 MayHappen NoLiveSession (Uploads limits) = Unit {0}

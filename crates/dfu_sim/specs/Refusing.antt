@@ -42,17 +42,17 @@ IsBadOffer s purpose file (offer_fault.Suffix fault) = First fault file
 IsBadOffer s purpose file (offer_fault.Host fault) = (content : Content) × ContentOfFile file content
     × (first_offer_fault purpose content s.functional s.ids ≡ Some fault)
 
--- A device with this setting gives its image, because an upload from it has no fault.
+-- A device with this setting serves uploads: an upload from it has no fault.
 abbrev pub ServesUpload : Setting → Type 0
 ServesUpload s = first_upload_fault s.functional ≡ None
 
--- The first fault of an upload from a device with this setting, by its descriptor.
+-- The fault is the first one of an upload from a device with this setting, by its descriptor.
 abbrev pub IsBadUpload : Setting → OfferFault → Type 0
 IsBadUpload s (offer_fault.Suffix fault) = ⊥
 IsBadUpload s (offer_fault.Host fault) = first_upload_fault s.functional ≡ Some fault
 
--- An event is refused: an offer or an upload while a session is live, and an abort or an action while none is. While none is, an offer of a
--- file that is not taken, and an upload from a device that gives no image, are refused too.
+-- An event is refused: an offer or an upload while a session is live, and an abort or an action while no session is live. With no live
+-- session an offer of a file that the device does not take, and an upload from a device that serves none, are refused too.
 abbrev pub IsRefused : LinkView → Happening → LinkFault → Type 0
 IsRefused b (Offers purpose file limits) link_fault.HostBusy = IsLive b.session
 IsRefused b (Offers purpose file limits) (link_fault.BadOffer fault) = (b.session ≡ NoLiveSession)

@@ -31,7 +31,7 @@ abbrev pub StopsWithFault : LinkView → Happening → LinkFault → Type 0
 StopsWithFault b next NoMemory = Unit {0}
 StopsWithFault b next fault = IsRefused b next fault
 
--- A run stopped before the event `at`: the events before it came, and it did not.
+-- A run stopped before the event `at` with a fault: the events before it came, with their reports, but it did not.
 pub record RunStopsAt (w : WorldView) (hs : List Happening) (fault : LinkFault) (at : ℕ) (reports : List Report)
     (w' : WorldView) : Type 0 where
   pub next : Happening

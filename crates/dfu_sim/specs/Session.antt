@@ -4,19 +4,19 @@ use Rattle.dfu_host.specs.declared.report.Report.{Report}
 use Rattle.dfu_host.specs.declared.report.Report.TheVariants.{Installed, Unconfirmed, Aborted, GaveUp, Refused, RestartsSpent, Uploaded, TooManyBlocks, NoMemory, Verified, Different}
 use Rattle.dfu_host.specs.Blocks.{blocks, first_blocks}
 
--- The live session of a machine: none, one that installs a payload, or one that uploads the active image.
+-- The live session of a machine: none, one that installs or compares a payload, or one that uploads the active image.
 pub data LiveSession : Type 0 where
   NothingLive : LiveSession
   LoadingPayload : (payload : List ℕ) → LiveSession
   Fetching : LiveSession
 
--- The session machine.
+-- State of the session machine, with which each list of events is compared.
 pub record Machine : Type 0 where
   pub cur : List ℕ  -- the active image
   pub offers : List (List ℕ)  -- the payloads that were offered so far
   pub pending : Option (List ℕ)  -- the bytes taken of an image, or none
   pub live : LiveSession  -- the session that is live
-  pub up : List ℕ  -- what the last reported upload gave
+  pub up : List ℕ  -- the bytes that the last reported upload gave
 
 -- The bytes are an element of the list.
 abbrev pub IsOneOf : List ℕ → List (List ℕ) → Type 0
@@ -28,7 +28,7 @@ abbrev pub AreFirstBlocks : List ℕ → (t n : ℕ) → Option (List ℕ) → T
 AreFirstBlocks p t n None = n ≡ 0
 AreFirstBlocks p t n (Some taken) = (0 < n) × (taken ≡ first_blocks p t n)
 
--- The steps.
+-- Steps of the session machine.
 
 -- Take, Install, or neither. A block is taken only of the live payload, as the next one; only a whole payload that was offered is
 -- installed.
@@ -58,9 +58,9 @@ PromisesNothing NoMemory = Unit {0}
 PromisesNothing Verified = ⊥
 PromisesNothing Different = Unit {0}
 
--- Say a report, or none; the session is over then. Verified is said only if the live payload is the active image and nothing is pending,
--- and Installed only if besides the device is tolerant. Uploaded gives the active image. Another report needs a live session and
--- promises nothing.
+-- Report, or report nothing; a report ends the session. Verified is reported only if the live payload is the active image and nothing is
+-- pending, and Installed only if the device is tolerant besides. Uploaded ends an upload and gives the active image. Any other report needs
+-- a live session and promises nothing.
 pub data ReportStep (tolerant : Bool) : Machine → Option Report → Machine → Type 0 where
   reports_nothing : {m : Machine} → ReportStep tolerant m None m
   reports_installed : {m : Machine} → m.live ≡ LoadingPayload m.cur → m.pending ≡ None → IsTrue tolerant
@@ -71,9 +71,9 @@ pub data ReportStep (tolerant : Bool) : Machine → Option Report → Machine �
   reports_no_promise : {m : Machine} {report : Report} → PromisesNothing report → m.live ≢ NothingLive
       → ReportStep tolerant m (Some report) (record m { live = NothingLive })
 
--- Permissions of an event.
+-- Steps that an event allows.
 
--- The kinds of events: an offer of a payload, the begin of an upload, an abort, a time that passes, a restart of the device, a refusal by
+-- The kinds of events: an offer of a payload, the start of an upload, an abort, a time that passes, a restart of the device, a refusal by
 -- the device's program, and one action of the host.
 pub data Kind : Type 0 where
   OfferKind : (payload : List ℕ) → Kind
@@ -96,8 +96,8 @@ ReportsNoPromise None = Unit {0}
 ReportsNoPromise (Some report) = PromisesNothing report
 
 -- Step of the session machine for an event of each kind. An offer and an upload begin a session if none is live; an abort does nothing yet;
--- time installs what is pending, or nothing. A restart drops, then says at most a report that promises nothing. A refusal drops, or does
--- nothing. An action of the host takes or installs at most once, then drops or not, then says at most one report.
+-- time installs pending bytes that were offered, or does nothing. A restart drops, then makes at most a report that promises nothing. A
+-- refusal drops, or does nothing. An action of the host takes or installs at most once, then drops or not, then makes at most one report.
 pub data MachineStep (tolerant : Bool) (t : ℕ) : Kind → Machine → Option Report → Machine → Type 0 where
   offered : {m : Machine} {p : List ℕ} → m.live ≡ NothingLive
       → MachineStep tolerant t (OfferKind p) m None (record m { offers = p ∷ m.offers; live = LoadingPayload p })

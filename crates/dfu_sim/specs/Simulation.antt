@@ -17,7 +17,8 @@ pub record StepIsFollowed (c : Profile) (m : Machine) (event : Happening) (w' : 
   pub fact : SessionFact c w'.device w'.session
   pub in_place : IsInPlaceReport report → (w'.device.stage ≡ InAppIdle) × (m.live ≡ LoadingPayload w'.device.image)
 
--- Each play is one legal step of every session machine that the link agrees with.
+-- If the transfer size is at least one byte and the phase fact holds, each play is one legal step of every session machine that the link
+-- agrees with.
 abbrev pub Simulation : Type 0
 Simulation = (c : Profile) (w w' : Link) (up : List ℕ) (m : Machine) (event : Happening) (answer : Answered) → 0 < c.transfer
     → SessionFact c w.device w.session → Agrees w up m → Play c w event w' answer
@@ -29,7 +30,8 @@ offers_after [] offers = offers
 offers_after (OfferKind payload ∷ kinds) offers = offers_after kinds (payload ∷ offers)
 offers_after (kind ∷ kinds) offers = offers_after kinds offers
 
--- After a legal run the active image is the one before the run, or the whole payload of a file offered so far.
+-- After a legal run the machine's offers are those before it, with the payloads of its events in front, and the active image is the one
+-- before the run, or one of these offers.
 abbrev pub ActiveImageWasOffered : Type 0
 ActiveImageWasOffered = (tolerant : Bool) (t : ℕ) (m m' : Machine) (kinds : List Kind) (reports : List Report) →
     Legal tolerant t m kinds reports m'

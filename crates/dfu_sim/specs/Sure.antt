@@ -37,7 +37,7 @@ IsHarmless Resets = Unit {0}
 IsHarmless Cuts = Unit {0}
 IsHarmless (Refuses why) = Unit {0}
 
--- The link and the report are those of the table of fates for a medium that works.
+-- The link and the report are those of the table of fates for a medium that works, with or without memory for a part of an upload.
 pub record IsResultOfPlay (b : LinkView) (event : Happening) (b' : LinkView) (report : Option Report) : Type 0 where
   pub room : Bool
   pub answer : Answered
@@ -45,13 +45,13 @@ pub record IsResultOfPlay (b : LinkView) (event : Happening) (b' : LinkView) (re
   pub told : report ≡ answer.report
 
 -- A sure event: the device keeps its setting, and if no write is harmed, all goes as the table of fates says of a medium that works.
-pub record IsSureEvent (b : LinkView) (h : Happening) (b' : LinkView) (report : Option Report) : Type 0 where
+pub record EventFollowsTable (b : LinkView) (h : Happening) (b' : LinkView) (report : Option Report) : Type 0 where
   pub event : Happening
   pub means : EventMeaning b.device.config h event
   pub kept : HasSameSetting b.device b'.device
   pub works : IsHarmless event → IsResultOfPlay b event b' report
 
 -- If an event is not refused, it is a sure one: without harm it goes as the table of fates says.
-abbrev pub AllEventsSure : LinkView → Happening → LinkView → Result (Option Report) LinkFault → Type 0
-AllEventsSure b h b' (Ok report) = IsSureEvent b h b' report
-AllEventsSure b h b' (Err fault) = Unit {0}
+abbrev pub EventFollowsTableIfPlayed : LinkView → Happening → LinkView → Result (Option Report) LinkFault → Type 0
+EventFollowsTableIfPlayed b h b' (Ok report) = EventFollowsTable b h b' report
+EventFollowsTableIfPlayed b h b' (Err fault) = Unit {0}

@@ -17,12 +17,12 @@ pub record UploadIsActive (w : WorldView) : Type 0 where
   pub image : w.up ≡ (link_of_bench w.bench).device.image
   pub short : length w.up < 65535 * w.bench.device.config.functional.transfer
 
--- With Uploaded the active image comes; with any other answer the bytes of the last upload stay.
+-- With Uploaded the upload is the active image; with any other answer the bytes of the last upload stay.
 abbrev pub UploadOrUnchanged : WorldView → WorldView → Result (Option Report) LinkFault → Type 0
 UploadOrUnchanged w w' (Ok (Some Uploaded)) = UploadIsActive w'
 UploadOrUnchanged w w' result = w'.up ≡ w.up
 
--- After an event of a steady link, with Uploaded come the bytes of the active image, and the link is steady.
+-- An event of a steady link leaves it steady, and with Uploaded gives the bytes of the active image.
 abbrev pub UploadsAreActive : Type 0
 UploadsAreActive = (b b' : LinkView) (h : Happening) (answer : Answered) → IsSteadyLink b → EventResult b h b' (Ok answer)
     → IsSteadyLink b' × (answer.report ≡ Some Uploaded → answer.gave ≡ Some (link_of_bench b').device.image)

@@ -1,15 +1,15 @@
-//! An action of a host, with what its fate does to the medium and to the power.
+//! Performs an action of a host, with the effects of its fate on the medium and on the power.
 
 ghost use Rattle.std.specs.Prelude.{◌≡◌};
 ghost use Rattle.dfu_slots.specs.Medium.Fuse.{Whole};
 ghost use Rattle.dfu_device.specs.Rows.{Elapses};
-ghost use Rattle.dfu_host.specs.Host.{IsOnPhase};
+ghost use Rattle.dfu_host.specs.Host.{IsLivePhase};
 ghost use Rattle.dfu_host.specs.Wire.{SeenMeaning};
 ghost use Rattle.dfu_host.specs.Phases.{Deed, Heard};
 ghost use Rattle.dfu_sim.specs.Play.{wait_by_handling};
 ghost use Rattle.dfu_sim.specs.Happening.{fate_of, harm_of_fate, fate_with_refusal};
 ghost use Rattle.dfu_sim.specs.Delivery.{delivery_of};
-ghost use Rattle.dfu_sim.specs.Bytes.{SetupResult, ReachesDevice, SlipsTime, device_after_bus_reset, response_if_delivered, response_if_powered, WaitDelivered, BusResetDelivered, HostActs, HostActsArmed, fuse_of, armed_device, powered_up, device_after_action};
+ghost use Rattle.dfu_sim.specs.Bytes.{SetupResult, ReachesDevice, SlipsTime, device_after_bus_reset, response_if_delivered, response_if_powered, WaitDelivered, BusResetDelivered, HostActs, HostActsArmed, fuse_of, armed_device, device_after_power_cycle, device_after_action};
 ghost use Rattle.dfu_sim.specs.inside.Acting.{delivery_of_given, harm_at, seen_after_action, HostTakesResponse};
 
 use crate::delivery::{Answered, Delivery, Handled, MediumFault, Response, delivery_by};
@@ -19,8 +19,8 @@ use dfu_device::{Answer, Device, Objection};
 use dfu_host::{Action, Host, Seen};
 use dfu_slots::{Faulty, Medium};
 
-/// Takes a request with `setup` and `body` to `device`, whose program refuses the image that the request closes, by `refusing`, or refuses
-/// none. `out` gets the answer's bytes.
+/// Delivers a request with `setup` and `body` to `device`. If the request closes an image, the program refuses that image by `refusing`, or
+/// refuses none. `out` gets the answer's bytes.
 fn take_in<M: Medium>(
     device: &mut Device<M>,
     setup: &[u8; 8],
@@ -42,8 +42,8 @@ fn take_in<M: Medium>(
     }
 }
 
-/// Takes a request with `setup` and `body` to `device`, which handles it by `handling`. `out` gets the answer's bytes. The program refuses
-/// an image only the first time, because no request closes a download twice.
+/// Delivers a request with `setup` and `body` to `device`, which handles it by `handling`. `out` gets the answer's bytes. The program
+/// refuses an image only the first time, because no request closes a download twice.
 fn reach<M: Medium>(
     device: &mut Device<M>,
     setup: &[u8; 8],
@@ -69,7 +69,7 @@ fn reach<M: Medium>(
     }
 }
 
-/// Returns the response that the host gets to a request.
+/// Returns the response that the host gets to a request: Lost if the answer doesn't come back, and Restarted if the power is cut.
 fn come_back(delivery: Delivery<'_>, back: Response) -> Response
     ensures { result ≡ response_if_powered delivery.entry.harming (response_if_delivered delivery.entry.back back) }
 {
@@ -132,7 +132,7 @@ fn reset_bus<M: Medium>(device: &mut Device<M>, delivery: Delivery<'_>) -> Seen<
     seen_after(delivery.harming, Seen::WasReset)
 }
 
-/// Tells the host the response to its request.
+/// Gives the host the response to its request.
 fn tell(host: &mut Host<'_>, back: Response, out: &[u8])
     ensures { HostTakesResponse host.old back out.now host.new }
 {
@@ -146,7 +146,7 @@ fn tell(host: &mut Host<'_>, back: Response, out: &[u8])
 }
 
 /// Performs the next action of `host`, which is not done, by `delivery`. The caller must arm the medium, if a write is to be harmed. `out`
-/// is room for an answer; its bytes before the call are not read. Returns the device's response, if the device got the action, also if the
+/// is room for an answer; its bytes before the call are not read. Returns the device's response, if the device got the action, even if the
 /// response did not come back.
 fn act<M: Medium>(
     device: &mut Device<M>,
@@ -154,7 +154,7 @@ fn act<M: Medium>(
     delivery: Delivery<'_>,
     out: &mut ArrayVec<u8, 4096>,
 ) -> Response
-    requires { IsOnPhase host.old.phase }
+    requires { IsLivePhase host.old.phase }
     ensures { HostActs host.old (delivery_of_given delivery.entry) device.old device.new host.new }
 {
     match host.next() {
@@ -201,7 +201,7 @@ fn arm<M: Faulty>(device: &mut Device<M>, delivery: Delivery<'_>)
 /// Cuts a device's power and brings it back: the device starts anew on its medium as the medium is then, disarmed. A restart is never
 /// refused, because a device keeps an active image on its medium, whatever is cut or fails.
 pub(crate) fn power_cycle<M: Faulty>(device: &mut Device<M>)
-    ensures { device.new ≡ powered_up device.old }
+    ensures { device.new ≡ device_after_power_cycle device.old }
 {
     device.disarm();
     device.restart();
@@ -218,8 +218,8 @@ fn settle<M: Faulty>(device: &mut Device<M>, harming: MediumFault)
     }
 }
 
-/// Performs the next action of `host`, which is not done, by `fate`, and keeps what the device answers. The device's program refuses the
-/// image that the action closes, by `refusing`, or refuses none.
+/// Performs the next action of `host`, which is not done, by `fate`, and keeps the device's answer. If the action closes an image, the
+/// device's program refuses that image by `refusing`, or refuses none.
 pub(crate) fn carry_out<M: Faulty>(
     device: &mut Device<M>,
     host: &mut Host<'_>,
@@ -227,7 +227,7 @@ pub(crate) fn carry_out<M: Faulty>(
     refusing: Option<Objection>,
     out: &mut Answered,
 )
-    requires on { IsOnPhase host.old.phase }
+    requires on { IsLivePhase host.old.phase }
     requires unarmed { device.old.slots.medium.fuse ≡ Whole }
     ensures { HostActsArmed host.old (delivery_of (fate_with_refusal refusing (fate_of fate.entry))) (harm_of_fate fate.entry) device.old device.new
         host.new }

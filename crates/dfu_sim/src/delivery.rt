@@ -1,4 +1,4 @@
-//! Delivery of each fate, and result of an action, as data; the code of an action goes by these values.
+//! Delivery of each fate, and result of an action, as data that the code of an action follows.
 
 ghost use Rattle.std.specs.Prelude.{◌≡◌};
 ghost use Rattle.dfu_sim.specs.Happening.{fate_of, harm_of_fate, fate_with_refusal};
@@ -58,7 +58,7 @@ pub(crate) enum Response {
     Restarted,
 }
 
-/// Result of the last action, and room for the bytes of an answer. The room is kept, since to make it clears 4,096 bytes, which cost more
+/// Result of the last action, and room for the bytes of an answer. The room is kept, because making it clears 4,096 bytes, which costs more
 /// than a pass.
 #[derive(Drop)]
 pub(crate) struct Answered {

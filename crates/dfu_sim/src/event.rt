@@ -29,11 +29,11 @@ pub enum Event<'f, 't> {
     Abort,
     /// The host takes its next action.
     Go(Fate<'t>),
-    /// The host takes its next action, of this fate. If the action is the request that closes a download, if the device has taken at
-    /// least the fewest bytes of an image, and if the request reaches the device, the device's program refuses the image
-    /// (`Device::refuse_close`): the request is stalled, nothing is written, and the device enters dfuERROR with the code of the
-    /// objection. Of a request that is handled twice the program refuses the first; and if the power is cut, the device starts again.
-    /// Any other action goes as with `Go`.
+    /// The host takes its next action, of this fate. If the action is the request that closes a download, if the device has taken at least
+    /// the fewest bytes of an image, and if the request reaches the device, the device's program refuses the image
+    /// (`Device::refuse_close`): the request is stalled, nothing is written, and the device enters dfuERROR with the code of the objection.
+    /// If the request is handled twice, the program refuses it the first time; and if the power is cut, the device starts again. Any other
+    /// action goes as with `Go`.
     GoRefused {
         fate: Fate<'t>,
         objection: Objection,

@@ -44,11 +44,9 @@ pub fn only_offered()
     ensures { ActiveImageWasOffered }
 {}
 
-/// Any events come to a `World`, and the program of its device makes any check. If each image that the
-/// check refuses was refused before an action of the host or a time could put it in place, the active
-/// image is the one before, or one that the check accepts. With the headline it is the factory image,
-/// or one whole payload that was offered and that the check accepts. A program that never asks takes
-/// every image.
+/// For any events of a `World`, and any check by its device's program: if each image that the check refuses was refused before an action of
+/// the host or a time could put it in place, the active image is the one before, or one that the check accepts. With the headline it is the
+/// factory image, or one whole payload that was offered and that the check accepts. A program without a check takes every image.
 pub fn worlds_take_what_is_accepted()
     ensures image { LinkImagesAccepted }
     ensures offered { OfferedImagesAccepted }
@@ -56,17 +54,16 @@ pub fn worlds_take_what_is_accepted()
     active_image_is_one();
 }
 
-/// Agreement is no empty word. Some session machine agrees with each link; and if no session is live and no
-/// bytes are closed, a machine to which nothing was offered agrees. If the bench shows the active image of
-/// the medium's bytes, the machine agrees with the bench too.
+/// Agreement is always possible. Some session machine agrees with each link; and if no session is live and no bytes are closed, a machine
+/// to which nothing was offered agrees. If the bench shows the active image of the medium's bytes, the machine agrees with the bench too.
 pub fn machine_agrees()
     ensures some { SomeMachineAgrees }
     ensures fresh { FreshMachineAgrees }
     ensures on { LinkAgreesOn }
 {}
 
-/// If a world with no session is taken apart, and the next is made over its device, the session machine goes
-/// on, with nothing uploaded so far.
+/// If a world with no session is taken apart, and the next is made over its device, a session machine that agreed still agrees, with
+/// nothing uploaded so far.
 pub fn sessions_go_on()
     ensures { SessionsContinue }
 {}
@@ -82,10 +79,9 @@ pub fn bytes_show()
     ensures { PlaysMatchLinks }
 {}
 
-/// An event has one meaning: it is refused as one fault and is then no play, or it means one event.
-/// If no write is harmed, `sure` of `World::step` says what a play leads to. If one is, `result`
-/// says it: one device but for the count of failed writes, and one session and one answer by whether
-/// there was memory for a part of an upload.
+/// An event has one meaning: it is refused with one fault and is then no play, or it means one event. If no write is harmed, `sure` of
+/// `World::step` fixes the result of a play. If a write is harmed, `result` fixes it: one device but for the count of failed writes, and
+/// one session and one answer, which depend only on whether there was memory for a part of an upload.
 pub fn one_answer()
     ensures fault { EventHasOneRefusal }
     ensures no_play { RefusedEventIsNoPlay }
@@ -93,14 +89,14 @@ pub fn one_answer()
     ensures result { HarmedActionHasOneResult }
 {}
 
-/// Whatever events come to a link that began with a device at rest, also in a script, the bytes that come
-/// with Uploaded are those of the active image.
+/// In each sequence of events on a link that began with a device at rest, also in a script, the bytes that come with Uploaded are those of
+/// the active image.
 pub fn uploads_give_the_image()
     ensures gives { UploadsAreActive }
     ensures rest { RestIsSteady }
 {}
 
-/// If the medium's bytes have an active image, plays speak of that image and of no other.
+/// If the medium's bytes have an active image, the bench of the link has that image and no other.
 pub fn image_shown()
     ensures { BenchImageIsActive }
 {

@@ -1,5 +1,5 @@
-//! The link of a host and a device of USB device firmware upgrade (USB DFU 1.1): what each event
-//! makes of both, and the laws that hold for all events.
+//! The link of a host and a device of USB device firmware upgrade (USB DFU 1.1): the effect of each
+//! event on both, and the laws that hold for all events.
 //!
 //! A `World` takes one event, `run` a list of them. Memory is taken by `step` for the parts of an
 //! upload, and by `run` for its reports too.

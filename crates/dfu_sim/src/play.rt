@@ -3,7 +3,7 @@
 ghost use Rattle.std.specs.Prelude.{◌≡◌};
 ghost use Rattle.dfu_sim.specs.Delivery.{delivery_of};
 ghost use Rattle.dfu_sim.specs.Play.{uploaded_after, notify_restart, session_aborted};
-ghost use Rattle.dfu_sim.specs.LinkInvariant.{session_of, given_by, bench_of, link_state, IsSessionOn, SendsBytes, IsCountedIn, IsSteadyLink};
+ghost use Rattle.dfu_sim.specs.LinkInvariant.{session_of, given_by, bench_of, link_state, SessionIsNotDone, SendsBytes, SessionIsCounted, IsSteadyLink};
 ghost use Rattle.dfu_sim.specs.Happening.{Offers, Goes, fate_of, harm_of_fate, fate_with_refusal, happening};
 ghost use Rattle.dfu_sim.specs.EventResults.{WorldEventResult, WorldEventAlone};
 ghost use Rattle.dfu_sim.specs.inside.Acting.{report_of_phase, session_outcome, abort_answer};
@@ -19,7 +19,7 @@ use dfu_host::{Action, Host, Limits, Report, Seen};
 use dfu_slots::{Faulty, Medium};
 use std::alloc::Global;
 
-/// Returns the report of a host that is done, else None.
+/// Returns the report of a host that is done; None for any other host.
 fn report(host: &Host<'_>) -> Option<Report>
     ensures { result ≡ report_of_phase host.now.phase }
 {
@@ -29,9 +29,9 @@ fn report(host: &Host<'_>) -> Option<Report>
     }
 }
 
-/// Ends the session of a host that is done, with its report. A host that reports Uploaded is kept.
+/// Ends the session of a host that is done, and returns its report; None if no host is done. A host that reports Uploaded is kept.
 fn end<'f>(host: &mut Option<Host<'f>>, gave: &mut Option<Host<'f>>) -> Option<Report>
-    requires { IsCountedIn (session_of host.old) }
+    requires { SessionIsCounted (session_of host.old) }
     ensures session { session_of host.new ≡ (session_outcome (session_of host.old)).session }
     ensures given { given_by gave.new ≡ uploaded_after (session_outcome (session_of host.old)).answer.gave (given_by gave.old) }
     ensures report { result ≡ (session_outcome (session_of host.old)).answer.report }
@@ -48,10 +48,11 @@ fn end<'f>(host: &mut Option<Host<'f>>, gave: &mut Option<Host<'f>>) -> Option<R
     report
 }
 
-/// Tells a live host that the device was restarted.
+/// Tells the live host, if there is one, that the device was restarted, and returns the report with which its session then ends, if it
+/// does.
 fn restart<'f>(host: &mut Option<Host<'f>>, gave: &mut Option<Host<'f>>) -> Option<Report>
     requires sized { SendsBytes (session_of host.old) }
-    requires counted { IsCountedIn (session_of host.old) }
+    requires counted { SessionIsCounted (session_of host.old) }
     ensures session { session_of host.new ≡ (notify_restart (session_of host.old)).session }
     ensures given { given_by gave.new ≡ uploaded_after (notify_restart (session_of host.old)).answer.gave (given_by gave.old) }
     ensures report { result ≡ (notify_restart (session_of host.old)).answer.report }
@@ -62,7 +63,7 @@ fn restart<'f>(host: &mut Option<Host<'f>>, gave: &mut Option<Host<'f>>) -> Opti
     end(host, gave)
 }
 
-/// Begins a session that offers `file`, if none is live.
+/// Begins a session for the offer of `file`, or returns the fault for which the offer is refused.
 fn offer<'f, M: Medium>(
     device: &Device<M>,
     host: &mut Option<Host<'f>>,
@@ -85,9 +86,9 @@ fn offer<'f, M: Medium>(
     }
 }
 
-/// Ends the session of `host` by an abort.
+/// Gives up the live session, or returns `NoHost` if none is live.
 fn abort(host: &mut Option<Host<'_>>) -> Result<Option<Report>, LinkFault>
-    requires { IsSessionOn (session_of host.old) }
+    requires { SessionIsNotDone (session_of host.old) }
     ensures session { session_of host.new ≡ session_aborted (session_of host.old) }
     ensures told { result ≡ abort_answer (session_of host.old) }
 {
@@ -100,8 +101,8 @@ fn abort(host: &mut Option<Host<'_>>) -> Result<Option<Report>, LinkFault>
     }
 }
 
-/// Takes the next action of the host, by `fate`. The device's program refuses the image that the action closes, by `refusing`, or refuses
-/// none. `out` is room for an answer.
+/// Takes the next action of the host, by `fate`. If the action closes an image, the device's program refuses that image by `refusing`, or
+/// refuses none. `out` is room for an answer.
 fn take_action<'f, M: Faulty>(
     device: &mut Device<M>,
     host: &mut Option<Host<'f>>,
@@ -121,7 +122,7 @@ fn take_action<'f, M: Faulty>(
     Ok(end(host, gave))
 }
 
-/// Takes `event`. A refused event changes nothing. `out` is room for an answer.
+/// Applies `event`. A refused event changes nothing. `out` is room for an answer.
 pub(crate) fn apply_event<'f, M: Faulty>(
     alloc: Global,
     device: &mut Device<M>,

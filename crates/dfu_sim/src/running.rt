@@ -1,4 +1,4 @@
-//! A list of events.
+//! Runs a list of events.
 
 ghost use Rattle.std.specs.Prelude.{◌≡◌, ◌++◌, ◌<◌, vec_len, vec_capacity};
 ghost use Rattle.dfu_sim.specs.Session.{report_list};
@@ -23,7 +23,7 @@ pub struct Stop {
     pub reports: Vec<Report>,
 }
 
-/// Adds a report, if there is one.
+/// Adds `report` to the reports, if there is one.
 fn note(reports: &mut Vec<Report>, report: Option<Report>)
     requires { vec_len reports.old < vec_capacity reports.old }
     ensures { reports.new.items ≡ reports.old.items ++ report_list report }

@@ -8,7 +8,7 @@ ghost use Rattle.dfu_sim.specs.Happening.{happening};
 ghost use Rattle.dfu_sim.specs.EventResults.{WorldEventResult};
 ghost use Rattle.dfu_sim.specs.Following.{AllMachinesFollow};
 ghost use Rattle.dfu_sim.specs.Headline.{StepPreservesHeadline};
-ghost use Rattle.dfu_sim.specs.Sure.{AllEventsSure};
+ghost use Rattle.dfu_sim.specs.Sure.{EventFollowsTableIfPlayed};
 ghost use Rattle.dfu_sim.specs.UploadResults.{UploadOrUnchanged};
 
 use crate::delivery::{Answered, Response};
@@ -22,7 +22,7 @@ use dfu_slots::Faulty;
 use std::alloc::Global;
 use std::marker::Model;
 
-/// A device, the host of the session that is live, if one is, and what was uploaded last.
+/// A device, the host of the live session, if there is one, and the bytes of the last upload.
 ///
 /// Contracts see it as a `WorldView`. Only `step` takes memory, and only in an upload.
 #[derive(Drop)]
@@ -55,7 +55,7 @@ impl<'f, M: Faulty> World<'f, M> {
     {
         let mut device = device;
         device.disarm();
-        // Called for its clause `image`, which `active` needs; what it answers isn't used.
+        // Called for its clause `image`, which `active` needs; its result isn't used.
         let _ = device.slots().capacity();
         World {
             alloc,
@@ -69,17 +69,16 @@ impl<'f, M: Faulty> World<'f, M> {
         }
     }
 
-    /// Lets an event come, and returns the report of the session that ends with it, if one does. Only the parts of an upload take
-    /// memory; if none is left, the session ends with the report NoMemory.
+    /// Applies an event, and returns the report of the session that it ends, if it ends one. Only the parts of an upload take memory;
+    /// if none is left, the session ends with the report NoMemory.
     ///
-    /// By `headline` the headline holds after the event with the report that is answered, if it
-    /// held before: the active image is the factory image or the payload of a file offered so far.
-    /// If the report is Installed or Verified, the device is then in appIDLE, and the payload of
-    /// the session that reports is the active image.
+    /// By `headline` the headline holds after the event with the report that is returned, if it held before: the active image is the
+    /// factory image or the payload of a file offered so far. If the report is Installed or Verified, the device is then in appIDLE,
+    /// and the payload of the session that reports is the active image.
     ///
     /// # Errors
     ///
-    /// A refused event changes nothing. The faults, in the order in which they are looked for:
+    /// A refused event changes nothing. The faults, in the order in which they are checked:
     ///
     /// 1. `HostBusy`: an offer or an upload while a session is live.
     /// 2. `NoHost`: an abort or an action, whatever its fate and whether the program refuses an image in it, while no session is live.
@@ -89,7 +88,7 @@ impl<'f, M: Faulty> World<'f, M> {
         ensures play { WorldEventResult self.old (happening event.entry) self.new result }
         ensures legal { AllMachinesFollow self.old (happening event.entry) self.new result }
         ensures headline { StepPreservesHeadline self.old event.entry self.new result }
-        ensures sure { AllEventsSure self.old.bench (happening event.entry) self.new.bench result }
+        ensures sure { EventFollowsTableIfPlayed self.old.bench (happening event.entry) self.new.bench result }
         ensures gives { UploadOrUnchanged self.old self.new result }
         ensures active { BenchMatchesFlash self.new.bench }
     {
@@ -101,12 +100,12 @@ impl<'f, M: Faulty> World<'f, M> {
             event,
             &mut self.out,
         );
-        // Called for its clause `image`, which `active` needs; what it answers isn't used.
+        // Called for its clause `image`, which `active` needs; its result isn't used.
         let _ = self.device.slots().capacity();
         told
     }
 
-    /// Returns the phase of the host that is live and the action that it asks for next; None if no session is live.
+    /// Returns the phase of the live host and its next action; None if no session is live.
     pub fn asks(&self) -> Option<(Phase, Action<'f>)>
         ensures { IfNone result (self.now.bench.session ≡ NoLiveSession) }
     {
@@ -116,8 +115,8 @@ impl<'f, M: Faulty> World<'f, M> {
         }
     }
 
-    /// Returns the answer of the device to the host's last action, with its bytes, also if the answer was lost on its way back. No
-    /// clause speaks of the result, because it is for a trace.
+    /// Returns the answer of the device to the host's last action, with its bytes, also if the answer was lost on its way back. No contract
+    /// covers the result, because it is for a trace.
     pub fn answered(&self) -> Option<(Answer, &[u8])> {
         match self.out.came {
             Response::Answered(answer) => Some((answer, self.out.bytes.as_slice())),
@@ -144,7 +143,7 @@ impl<'f, M: Faulty> World<'f, M> {
         &self.device
     }
 
-    /// Returns the device, without what was uploaded; or while a session is live, as the error, the link unchanged.
+    /// Returns the device, and drops the uploaded bytes; while a session is live, returns the link unchanged, as the error.
     pub fn into_device(self) -> Result<Device<M>, World<'f, M>>
         ensures ok { IfOk result (λ device. (self.entry.bench.session ≡ NoLiveSession) × (device ≡ self.entry.bench.device)) }
         ensures err { IfErr result (λ world. IsLive self.entry.bench.session × (world ≡ self.entry)) }

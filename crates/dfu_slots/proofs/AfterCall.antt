@@ -40,10 +40,10 @@ module _ {T : Type 0} (s : SlotsState) (result : Result T PutFault) (not_begun :
   not_begun_iff_gate_open = (λ e. open_gate_not_begun s (not_begun.0 e), λ off. not_begun.1 (not_begun_gate_is_open s off))
 
   -- A `put` is refused with NotBegun if the spare is open, and else with TooLarge if it ends past the capacity.
-  pub put_refusal_causes : (at : ℕ) (new : List ℕ)
+  pub put_is_refused_by_cause : (at : ℕ) (new : List ℕ)
       → (IsErrOf result TooLarge ↔ ((¬ HasOpenGate (spare_slot s)) × (capacity_of s.medium < at + length new)))
       → CallIsRefused s (Put at new) result
-  put_refusal_causes at new too_large = record {
+  put_is_refused_by_cause at new too_large = record {
     not_begun = not_begun_iff_gate_open;
     too_large = (
       λ e. let large = too_large.0 e in (closed_gate_is_begun s large.0, omega (arith, large.1, room_is_capacity s)),
@@ -51,15 +51,15 @@ module _ {T : Type 0} (s : SlotsState) (result : Result T PutFault) (not_begun :
     );
   }
 
-  -- A `commit` is refused if the spare is open, and never for its length, because what was put lies within the capacity.
-  pub commit_refusal_causes : IsStore s → (len : ℕ) → len ≤ s.put_end → ¬ IsErrOf result TooLarge → CallIsRefused s (Commit len) result
-  commit_refusal_causes store len le never = record {
+  -- A `commit` is refused if the spare is open, and never for its length, because the bytes put lie within the capacity.
+  pub commit_is_refused_by_cause : IsStore s → (len : ℕ) → len ≤ s.put_end → ¬ IsErrOf result TooLarge → CallIsRefused s (Commit len) result
+  commit_is_refused_by_cause store len le never = record {
     not_begun = not_begun_iff_gate_open;
     too_large = (λ e. absurd (never e), λ large. absurd (omega (arith, le, put_end_within_room store, large.1)));
   }
 
--- A call that was made: the store was ready for it and had the room, and its writes came to an end.
-pub record CallWasMade (s now : SlotsState) (kind : StoreCall) : Type 0 where
+-- A call was not refused: the gate was ready, the store had room, and all writes of the call worked or one of them failed.
+pub record CallWasNotRefused (s now : SlotsState) (kind : StoreCall) : Type 0 where
   pub ready : is_gate_ready s kind ≡ true
   pub fits : reached_end kind ≤ room_of s
   pub ends : WritesEnded s.medium (writes_of s kind) now.medium
@@ -68,7 +68,8 @@ module _ {T : Type 0} (s now : SlotsState) (kind : StoreCall) (result : Result T
   gate_ready_unless_refused : ¬ IsErrOf result NotBegun → is_gate_ready s kind ≡ true
   gate_ready_unless_refused begun = true_from_ne_false _ (λ off. begun (refuses.not_begun.1 off))
 
-  came : ¬ IsErrOf result NotBegun → ¬ IsErrOf result TooLarge → WritesEnded s.medium (writes_of s kind) now.medium → CallWasMade s now kind
+  came : ¬ IsErrOf result NotBegun → ¬ IsErrOf result TooLarge → WritesEnded s.medium (writes_of s kind) now.medium
+      → CallWasNotRefused s now kind
   came begun small ends = record {
     ready = gate_ready_unless_refused begun;
     fits =
@@ -79,7 +80,7 @@ module _ {T : Type 0} (s now : SlotsState) (kind : StoreCall) (result : Result T
 
 -- A call was made, or it was refused and changed nothing.
 pub call_made_or_refused : {T : Type 0} (s now : SlotsState) (kind : StoreCall) (result : Result T PutFault) → CallIsRefused s kind result
-    → CallChanges s kind result now → CallWasMade s now kind ⊎ (now ≡ s)
+    → CallChanges s kind result now → CallWasNotRefused s now kind ⊎ (now ≡ s)
 call_made_or_refused {T} s now kind (Ok x) refuses worked =
     inl (came {T = T} s now kind (Ok x) refuses (λ e. cc) (λ e. cc) (inl worked.writes))
 call_made_or_refused {T} s now kind (Err Failed) refuses failed =
@@ -91,97 +92,97 @@ call_made_or_refused s now kind (Err _) refuses same = inr same
 -- A fact holds after every call if it holds after each call that was made, and after a refusal, which changes nothing.
 pub holds_after_any_result : {T P : Type 0} (s now : SlotsState) (kind : StoreCall) (result : Result T PutFault) →
     CallIsRefused s kind result
-    → CallChanges s kind result now → (CallWasMade s now kind → P) → (now ≡ s → P) → P
+    → CallChanges s kind result now → (CallWasNotRefused s now kind → P) → (now ≡ s → P) → P
 holds_after_any_result s now kind result refuses changes coming refused = ⊎_elim coming refused (call_made_or_refused s now kind result
     refuses changes)
 
 -- A fact holds after Ok if it holds after each call whose writes all worked.
 pub holds_after_ok_call : {T P : Type 0} (s now : SlotsState) (kind : StoreCall) (result : Result T PutFault) → CallIsRefused s kind result
-    → CallChanges s kind result now → (CallWasMade s now kind → CallWorked s kind now → P) → OnOk result P
+    → CallChanges s kind result now → (CallWasNotRefused s now kind → CallWorked s kind now → P) → OnOk result P
 holds_after_ok_call {T} s now kind (Ok x) refuses worked leaves =
     leaves (came {T = T} s now kind (Ok x) refuses (λ e. cc) (λ e. cc) (inl worked.writes)) worked
 holds_after_ok_call s now kind (Err e) refuses changes leaves = tt
 
--- A fact that holds whatever was returned holds after Ok.
-pub holds_at_ok : {T E P : Type 0} (result : Result T E) → P → OnOk result P
-holds_at_ok (Ok x) p = p
-holds_at_ok (Err e) p = tt
+-- A fact that holds for any result holds after Ok.
+pub fact_holds_after_ok : {T E P : Type 0} (result : Result T E) → P → OnOk result P
+fact_holds_after_ok (Ok x) p = p
+fact_holds_after_ok (Err e) p = tt
 
--- A fact that holds whatever was returned holds after an error too.
-pub holds_at_err : {T E P : Type 0} (result : Result T E) → P → OnErr result P
-holds_at_err (Ok x) p = tt
-holds_at_err (Err e) p = p
+-- A fact that holds for any result holds after an error.
+pub fact_holds_after_err : {T E P : Type 0} (result : Result T E) → P → OnErr result P
+fact_holds_after_err (Ok x) p = tt
+fact_holds_after_err (Err e) p = p
 
 -- Ending of a call, by its result.
 
-ended_with_all_writes : (s now : SlotsState) (kind : StoreCall) → CallWorked s kind now → CallEnding s kind AllWorked now
-ended_with_all_writes s now kind worked = record {
+worked_call_has_its_ending : (s now : SlotsState) (kind : StoreCall) → CallWorked s kind now → CallEnding s kind AllWorked now
+worked_call_has_its_ending s now kind worked = record {
   calls = worked;
   count = writes_lower_no_count (writes_of s kind) s.medium now.medium worked.writes;
   rose = λ fault e. cc;
 }
 
-ended_at_broken_write : (fault : WriteFault) (s now : SlotsState) (kind : StoreCall) → CallFailed fault s kind now
+failed_call_has_its_ending : (fault : WriteFault) (s now : SlotsState) (kind : StoreCall) → CallFailed fault s kind now
     → CallEnding s kind (BrokenBy fault) now
-ended_at_broken_write fault s now kind failed = record {
+failed_call_has_its_ending fault s now kind failed = record {
   calls = failed;
   count = broken_writes_lower_no_count fault (writes_of s kind) s.medium now.medium failed.writes;
   rose = λ f e. broken_writes_raise_count fault (writes_of s kind) s.medium now.medium failed.writes;
 }
 
-did : {T : Type 0} (s now : SlotsState) (kind : StoreCall) (result : Result T PutFault) → ¬ IsErrOf result NotBegun
+call_has_its_ending : {T : Type 0} (s now : SlotsState) (kind : StoreCall) (result : Result T PutFault) → ¬ IsErrOf result NotBegun
     → ¬ IsErrOf result TooLarge
     → CallChanges s kind result now → CallEnding s kind (ending_of result) now
-did s now kind (Ok x) begun small worked = ended_with_all_writes s now kind worked
-did s now kind (Err Failed) begun small failed = ended_at_broken_write WriteFailed s now kind failed
-did s now kind (Err NotVerified) begun small failed = ended_at_broken_write WriteNotVerified s now kind failed
-did s now kind (Err TooLarge) begun small same = absurd (small refl)
-did s now kind (Err NotBegun) begun small same = absurd (begun refl)
+call_has_its_ending s now kind (Ok x) begun small worked = worked_call_has_its_ending s now kind worked
+call_has_its_ending s now kind (Err Failed) begun small failed = failed_call_has_its_ending WriteFailed s now kind failed
+call_has_its_ending s now kind (Err NotVerified) begun small failed = failed_call_has_its_ending WriteNotVerified s now kind failed
+call_has_its_ending s now kind (Err TooLarge) begun small same = absurd (small refl)
+call_has_its_ending s now kind (Err NotBegun) begun small same = absurd (begun refl)
 
 -- A call that was broken off made its writes up to one that had a fault.
-fault_that_broke_call : {T : Type 0} (s now : SlotsState) (kind : StoreCall) (result : Result T PutFault) → CallChanges s kind result now
+broken_call_has_a_fault : {T : Type 0} (s now : SlotsState) (kind : StoreCall) (result : Result T PutFault) → CallChanges s kind result now
     → CallIsBroken result
     → (fault : WriteFault) × CallFailed fault s kind now
-fault_that_broke_call s now kind (Err Failed) failed broken = (WriteFailed, failed)
-fault_that_broke_call s now kind (Err NotVerified) failed broken = (WriteNotVerified, failed)
-fault_that_broke_call s now kind _ changes broken = absurd broken
+broken_call_has_a_fault s now kind (Err Failed) failed broken = (WriteFailed, failed)
+broken_call_has_a_fault s now kind (Err NotVerified) failed broken = (WriteNotVerified, failed)
+broken_call_has_a_fault s now kind _ changes broken = absurd broken
 
 count_rose_at_broken_call : {T : Type 0} (s now : SlotsState) (kind : StoreCall) (result : Result T PutFault) →
     CallChanges s kind result now
     → CallIsBroken result → CountRose s.medium.failures now.medium.failures
 count_rose_at_broken_call s now kind result changes broken =
-    let f = fault_that_broke_call s now kind result changes broken in
+    let f = broken_call_has_a_fault s now kind result changes broken in
     broken_writes_raise_count f.0 (writes_of s kind) s.medium now.medium f.1.writes
 
 -- After a call that a fault broke off nothing is held back, and the puts end at 0.
-pub store_fresh_after_fault : {T : Type 0} (s now : SlotsState) (kind : StoreCall) (result : Result T PutFault) →
+pub store_is_fresh_after_fault : {T : Type 0} (s now : SlotsState) (kind : StoreCall) (result : Result T PutFault) →
     CallChanges s kind result now
     → CallIsBroken result → now ≡ store_on now.medium
-store_fresh_after_fault s now kind result changes broken =
-    let f = fault_that_broke_call s now kind result changes broken in
+store_is_fresh_after_fault s now kind result changes broken =
+    let f = broken_call_has_a_fault s now kind result changes broken in
     store_is_fresh now.medium now.held now.put_end f.1.held_is f.1.end_is
 
--- A store is left after any result, if one is left after a call whose writes all worked.
-pub store_after_any_call : {T : Type 0} (s now : SlotsState) (kind : StoreCall) (result : Result T PutFault) → CallChanges s kind result now
+-- A call leaves a store after any result, if it does so after Ok and the medium has an image.
+pub call_leaves_a_store : {T : Type 0} (s now : SlotsState) (kind : StoreCall) (result : Result T PutFault) → CallChanges s kind result now
     → IsStore s
     → HasImage now.medium → OnOk result (IsStore now) → IsStore now
-store_after_any_call s now kind (Ok x) worked store has after = after
-store_after_any_call s now kind (Err Failed) failed store has after =
+call_leaves_a_store s now kind (Ok x) worked store has after = after
+call_leaves_a_store s now kind (Err Failed) failed store has after =
     (medium_makes_fresh_store has failed.held_is failed.end_is).store
-store_after_any_call s now kind (Err NotVerified) failed store has after =
+call_leaves_a_store s now kind (Err NotVerified) failed store has after =
     (medium_makes_fresh_store has failed.held_is failed.end_is).store
-store_after_any_call s now kind (Err _) same store has after = subst IsStore (sym same) store
+call_leaves_a_store s now kind (Err _) same store has after = subst IsStore (sym same) store
 
--- Facts that the three calls have in common hold if the room of the store stays.
-pub result_common_to_calls : {T : Type 0} (s now : SlotsState) (kind : StoreCall) (result : Result T PutFault) → CallIsRefused s kind result
+-- The part of the result that the calls have in common holds if the call leaves a store with the same room.
+pub calls_share_one_result : {T : Type 0} (s now : SlotsState) (kind : StoreCall) (result : Result T PutFault) → CallIsRefused s kind result
     → CallChanges s kind result now → IsStore now → room_of now ≡ room_of s → StoreCallResult s kind result now
-result_common_to_calls s now kind result refuses changes store room = record {
+calls_share_one_result s now kind result refuses changes store room = record {
   refuses = refuses;
-  call = λ ready fits. did s now kind result (λ e. true≢false (sym ready ∙ refuses.not_begun.0 e))
+  call = λ ready fits. call_has_its_ending s now kind result (λ e. true≢false (sym ready ∙ refuses.not_begun.0 e))
       (λ e. omega (arith, fits, (refuses.too_large.0 e).1)) changes;
   writes = changes;
   rose = count_rose_at_broken_call s now kind result changes;
-  failed = store_fresh_after_fault s now kind result changes;
+  failed = store_is_fresh_after_fault s now kind result changes;
   store = store;
   active = seen_image_is_active now store.has_image;
   shape = store_has_shape store;

@@ -12,21 +12,21 @@ use Rattle.dfu_slots.specs.StoreView.{SlotsState, spare_slot, held_data_place, d
 use Rattle.dfu_slots.specs.Store.{HasPutBytes, IsStore}
 use Rattle.dfu_slots.specs.Changes.{CallChanges}
 use Rattle.dfu_slots.specs.CallResults.{CallIsRefused, StorePutResult}
-use Rattle.dfu_slots.specs.inside.PlaceMemory.{IsStoreAt}
+use Rattle.dfu_slots.specs.inside.PlaceMemory.{RemembersPlaces}
 use Rattle.dfu_slots.proofs.Stands.{active_image_at_its_place}
-use Rattle.dfu_slots.proofs.Newest.{places_of_active_image, slot_place_ends_within, spare_data_has_capacity}
+use Rattle.dfu_slots.proofs.Newest.{test_finds_active_image, slot_place_ends_within, spare_data_has_capacity}
 use Rattle.dfu_slots.proofs.Sectors.{IsSectorEdge, gate_room_at_least_16}
-use Rattle.dfu_slots.proofs.Multiples.{part_at_most_length, part_after_whole_units, held_bytes_end_at_put_end}
+use Rattle.dfu_slots.proofs.Multiples.{rest_at_most_length, rest_of_sum_by_rests, held_bytes_end_at_put_end}
 use Rattle.dfu_slots.proofs.Series.{AllWritesInside}
-use Rattle.dfu_slots.proofs.SpareData.{SpareDataResult, closed_spare_data_result, spare_data_after_write, spare_data_front_after_write}
-use Rattle.dfu_slots.proofs.Anew.{LeftBytes}
+use Rattle.dfu_slots.proofs.SpareData.{SpareDataResult, closed_spare_data_result, write_is_in_spare_data, write_extends_spare_front}
+use Rattle.dfu_slots.proofs.Anew.{LeavesBytesAt}
 use Rattle.dfu_slots.proofs.Within.{written_bytes_after_front}
 use Rattle.dfu_slots.proofs.Edges.{slot_ends_at_edge}
 use Rattle.dfu_slots.proofs.PutAhead.{erased_ahead_of_put}
-use Rattle.dfu_slots.proofs.Put.{whole_units_at_most_length, put_rest_length, put_writes_lie_inside, put_leaves_whole_units, put_without_sectors, put_with_rest_is_all_bytes, put_after_held_bytes}
-use Rattle.dfu_slots.proofs.Seeing.{room_is_capacity, begun_gate_is_closed, spare_is_data_with_held, begun_only_by_gate}
+use Rattle.dfu_slots.proofs.Put.{whole_units_at_most_length, put_rest_is_all_but_units, put_writes_lie_inside, put_leaves_whole_units, put_is_one_write_in_place, put_with_rest_is_all_bytes, put_follows_held_bytes}
+use Rattle.dfu_slots.proofs.Seeing.{room_is_capacity, begun_gate_is_closed, spare_is_data_with_held, same_gate_same_begun}
 use Rattle.dfu_slots.proofs.Stays.{ActiveImageStays, places_kept_by_store, staying_image_keeps_places, staying_image_exists, active_slot_stays, staying_image_is_seen, staying_room_is_kept, spare_same_by_grain}
-use Rattle.dfu_slots.proofs.AfterCall.{put_refusal_causes, CallWasMade, holds_after_any_result, holds_after_ok_call, holds_at_ok, store_after_any_call, result_common_to_calls}
+use Rattle.dfu_slots.proofs.AfterCall.{put_is_refused_by_cause, CallWasNotRefused, holds_after_any_result, holds_after_ok_call, fact_holds_after_ok, call_leaves_a_store, calls_share_one_result}
 
 module _ (s now : SlotsState) (store : IsStore s) (at : ℕ) (new : List ℕ) (here : at ≡ s.put_end) where
   abbrev g : ℕ
@@ -39,11 +39,11 @@ module _ (s now : SlotsState) (store : IsStore s) (at : ℕ) (new : List ℕ) (h
   whole = whole_part s.medium.grain.unit (length all)
 
   place : store.has_image.active.spare ≡ spare_at g s.medium.bytes
-  place = (places_of_active_image g s.medium.bytes store.has_image.active.at store.has_image.active.spare store.has_image.image
+  place = (test_finds_active_image g s.medium.bytes store.has_image.active.at store.has_image.active.spare store.has_image.image
       (active_image_at_its_place store.has_image.active)).1
 
-  held_and_put_length : length all ≡ length s.held + length new
-  held_and_put_length = length-append s.held new
+  all_length_is_sum : length all ≡ length s.held + length new
+  all_length_is_sum = length-append s.held new
 
   spare_end_is_sector_edge : IsSectorEdge s.medium.grain.sector (store.has_image.active.spare + slot_size s.medium.bytes)
   spare_end_is_sector_edge =
@@ -58,76 +58,76 @@ module _ (s now : SlotsState) (store : IsStore s) (at : ℕ) (new : List ℕ) (h
       put_writes_lie_inside s.medium.grain s.held new (store.has_image.active.spare + 2 * g) (store.has_image.active.spare + slot_size
       s.medium.bytes)
       (data_place s (at - length s.held)) spare_end_is_sector_edge (omega (arith, place))
-      (omega (arith, place, fits, here, held_and_put_length, held_bytes_end_at_put_end s store.puts, store.has_image.active.sized.room))
+      (omega (arith, place, fits, here, all_length_is_sum, held_bytes_end_at_put_end s store.puts, store.has_image.active.sized.room))
 
   -- Facts after a `put` whose writes worked, or were broken off.
-  module _ (came : CallWasMade s now (Put at new)) where
+  module _ (came : CallWasNotRefused s now (Put at new)) where
     fits : at + length new ≤ capacity_of s.medium
     fits = omega (arith, came.fits, room_is_capacity s)
 
     spare_is_closed_before_put : ¬ HasOpenGate (slot g s.medium.bytes store.has_image.active.spare)
     spare_is_closed_before_put = subst (λ (q : ℕ). ¬ HasOpenGate (slot g s.medium.bytes q)) (sym place) (begun_gate_is_closed s came.ready)
 
-    spare_data_after_put : SpareDataResult g s.medium now.medium store.has_image.active.at store.has_image.active.spare
+    put_has_spare_data_result : SpareDataResult g s.medium now.medium store.has_image.active.at store.has_image.active.spare
         store.has_image.image
-    spare_data_after_put =
+    put_has_spare_data_result =
         let a = store.has_image.active in
         closed_spare_data_result g (gate_room_at_least_16 s.medium.grain) s.medium now.medium a.at a.spare store.has_image.image
         (active_image_at_its_place a) spare_is_closed_before_put
         (writes_of s (Put at new)) (put_writes_inside_spare fits) came.ends
 
     active_stays_after_put : ActiveImageStays s now store.has_image
-    active_stays_after_put = record { stands = spare_data_after_put.stands; same = spare_data_after_put.same }
+    active_stays_after_put = record { stands = put_has_spare_data_result.stands; same = put_has_spare_data_result.same }
 
-    spare_gate_after_put : (spare_slot now).gate ≡ (spare_slot s).gate
-    spare_gate_after_put = ap (λ (p : Slot). p.gate) (spare_same_by_grain s.medium now.medium spare_data_after_put.same.grain)
-        ∙ spare_data_after_put.gate
+    put_keeps_spare_gate : (spare_slot now).gate ≡ (spare_slot s).gate
+    put_keeps_spare_gate = ap (λ (p : Slot). p.gate) (spare_same_by_grain s.medium now.medium put_has_spare_data_result.same.grain)
+        ∙ put_has_spare_data_result.gate
 
   -- Facts after a `put` that returned Ok.
-  module _ (came : CallWasMade s now (Put at new)) (worked : CallWorked s (Put at new) now) where
-    held_length_after_put : length now.held ≡ length all % unit_size s.medium.grain.unit
-    held_length_after_put = ap length worked.held_is ∙ put_rest_length s.medium.grain s.held new
-        ∙ omega (arith, part_at_most_length s.medium.grain.unit (length all))
+  module _ (came : CallWasNotRefused s now (Put at new)) (worked : CallWorked s (Put at new) now) where
+    held_length_is_rest_of_all : length now.held ≡ length all % unit_size s.medium.grain.unit
+    held_length_is_rest_of_all = ap length worked.held_is ∙ put_rest_is_all_but_units s.medium.grain s.held new
+        ∙ omega (arith, rest_at_most_length s.medium.grain.unit (length all))
 
-    held_part_after_put : length now.held ≡ now.put_end % unit_size s.medium.grain.unit
-    held_part_after_put =
-        held_length_after_put
-        ∙ ap (λ (n : ℕ). n % unit_size s.medium.grain.unit) (held_and_put_length ∙ ap (λ (n : ℕ). n + length new) store.puts.part)
-        ∙ part_after_whole_units s.medium.grain.unit s.put_end (length new)
+    held_length_is_rest_of_put_end : length now.held ≡ now.put_end % unit_size s.medium.grain.unit
+    held_length_is_rest_of_put_end =
+        held_length_is_rest_of_all
+        ∙ ap (λ (n : ℕ). n % unit_size s.medium.grain.unit) (all_length_is_sum ∙ ap (λ (n : ℕ). n + length new) store.puts.part)
+        ∙ rest_of_sum_by_rests s.medium.grain.unit s.put_end (length new)
         ∙ ap (λ (n : ℕ). n % unit_size s.medium.grain.unit) (ap (λ (n : ℕ). n + length new) (sym here) ∙ sym worked.end_is)
 
-    -- The place of the held bytes moved on by the whole units that were written.
-    held_place_after_put : held_data_place now ≡ held_data_place s + whole
-    held_place_after_put = omega (
+    -- The place of the held bytes advances by the whole units that were written.
+    held_place_advances_by_units : held_data_place now ≡ held_data_place s + whole
+    held_place_advances_by_units = omega (
       arith,
       here,
       worked.end_is,
       ap length worked.held_is,
-      put_rest_length s.medium.grain s.held new,
-      held_and_put_length,
+      put_rest_is_all_but_units s.medium.grain s.held new,
+      all_length_is_sum,
       whole_units_at_most_length s.medium.grain s.held new,
       held_bytes_end_at_put_end s store.puts,
     )
 
-    spare_data_size_before_put : length (spare_slot s).data_bytes ≡ capacity_of s.medium
-    spare_data_size_before_put = spare_data_has_capacity g s.medium.bytes (active_image_at_its_place store.has_image.active).sized
+    spare_data_fills_capacity : length (spare_slot s).data_bytes ≡ capacity_of s.medium
+    spare_data_fills_capacity = spare_data_has_capacity g s.medium.bytes (active_image_at_its_place store.has_image.active).sized
 
     put_bytes_fit_spare_data : held_data_place s + length all ≤ length (spare_slot s).data_bytes
     put_bytes_fit_spare_data = omega (
       arith,
-      spare_data_size_before_put,
+      spare_data_fills_capacity,
       fits came,
       here,
-      held_and_put_length,
+      all_length_is_sum,
       held_bytes_end_at_put_end s
           store.puts,
     )
 
     grain_stays_after_put : now.medium.grain ≡ s.medium.grain
-    grain_stays_after_put = (spare_data_after_put came).same.grain
+    grain_stays_after_put = (put_has_spare_data_result came).same.grain
 
     kept : spare_at g now.medium.bytes ≡ spare_at g s.medium.bytes
-    kept = (spare_data_after_put came).spare_place_stays
+    kept = (put_has_spare_data_result came).spare_place_stays
 
     spare_ends_within_medium : store.has_image.active.spare + slot_size s.medium.bytes ≤ length s.medium.bytes
     spare_ends_within_medium =
@@ -137,35 +137,35 @@ module _ (s now : SlotsState) (store : IsStore s) (at : ℕ) (new : List ℕ) (h
     whole_units_length : length (take whole all) ≡ whole
     whole_units_length = length-take-le whole all (whole_units_at_most_length s.medium.grain s.held new)
 
-    erased_ahead_after_put : IsWritableAhead now.medium (data_place now (held_data_place now))
-    erased_ahead_after_put =
+    put_leaves_writable_ahead : IsWritableAhead now.medium (data_place now (held_data_place now))
+    put_leaves_writable_ahead =
         let a = store.has_image.active in
         let p = data_place s (held_data_place s) in
         let same : data_place s (at - length s.held) ≡ p = ap (λ (n : ℕ). data_place s (n - length s.held)) here in
         let gate : gate_of now.medium ≡ g = ap gate_room grain_stays_after_put in
         let spare_is_there : spare_at (gate_of now.medium) now.medium.bytes ≡ spare_at g s.medium.bytes =
         ap (λ (w : Grain). spare_at (gate_room w) now.medium.bytes) grain_stays_after_put ∙ kept in
-        let there : p + whole ≡ data_place now (held_data_place now) = omega (arith, gate, spare_is_there, held_place_after_put) in
+        let there : p + whole ≡ data_place now (held_data_place now) = omega (arith, gate, spare_is_there, held_place_advances_by_units) in
         let high : p + length all ≤ length s.medium.bytes = omega (
           arith,
           place,
           spare_ends_within_medium,
           put_bytes_fit_spare_data,
-          spare_data_size_before_put,
+          spare_data_fills_capacity,
           a.sized.room,
         ) in
         subst (λ (q : ℕ). IsWritableAhead now.medium q) there
         (erased_ahead_of_put s.medium now.medium p s.held new a.sized high
         (subst (λ (q : ℕ). AllWrites s.medium (put_writes s.medium.grain q s.held new) now.medium) same worked.writes) store.puts.ahead)
 
-    put_bytes_after_put : HasPutBytes now
-    put_bytes_after_put = record {
-      fits = omega (arith, fits came, here, worked.end_is, ap gate_room grain_stays_after_put, (spare_data_after_put came).same.size);
-      ahead = erased_ahead_after_put;
-      part = held_part_after_put ∙ ap (λ (w : Grain). now.put_end % unit_size w.unit) (sym grain_stays_after_put);
+    put_leaves_consistent_puts : HasPutBytes now
+    put_leaves_consistent_puts = record {
+      fits = omega (arith, fits came, here, worked.end_is, ap gate_room grain_stays_after_put, (put_has_spare_data_result came).same.size);
+      ahead = put_leaves_writable_ahead;
+      part = held_length_is_rest_of_put_end ∙ ap (λ (w : Grain). now.put_end % unit_size w.unit) (sym grain_stays_after_put);
     }
 
-    -- The spare's data has the whole units after what was there before.
+    -- The spare's data has the whole units right after the bytes written before.
     spare_data_begins_after_put : take (held_data_place s + whole) (spare_slot now).data_bytes
         ≡ take (held_data_place s) (spare_slot s).data_bytes ++ take whole all
     spare_data_begins_after_put =
@@ -173,45 +173,45 @@ module _ (s now : SlotsState) (store : IsStore s) (at : ℕ) (new : List ℕ) (h
         let p = data_place s (at - length s.held) in
         let to = a.spare + slot_size s.medium.bytes in
         let same : p ≡ data_place s (held_data_place s) = ap (λ (n : ℕ). data_place s (n - length s.held)) here in
-        let high : p + length all ≤ to = omega (arith, place, here, put_bytes_fit_spare_data, spare_data_size_before_put, a.sized.room) in
+        let high : p + length all ≤ to = omega (arith, place, here, put_bytes_fit_spare_data, spare_data_fills_capacity, a.sized.room) in
         ap (λ (q : Slot). take (held_data_place s + whole) q.data_bytes) (spare_same_by_grain s.medium now.medium grain_stays_after_put)
         ∙ ap (λ (n : ℕ). take (held_data_place s + n) (spare g now.medium.bytes).data_bytes) (sym whole_units_length)
-        ∙ spare_data_front_after_write g s.medium.bytes now.medium.bytes (active_image_at_its_place a).sized kept (held_data_place s) (take
+        ∙ write_extends_spare_front g s.medium.bytes now.medium.bytes (active_image_at_its_place a).sized kept (held_data_place s) (take
         whole all) to
         (omega (
           arith,
           put_bytes_fit_spare_data,
-          spare_data_size_before_put,
+          spare_data_fills_capacity,
           whole_units_length,
           whole_units_at_most_length s.medium.grain
               s.held new,
         ))
-        (subst (λ (q : ℕ). LeftBytes q to (take whole all) s.medium.bytes now.medium.bytes) same
+        (subst (λ (q : ℕ). LeavesBytesAt q to (take whole all) s.medium.bytes now.medium.bytes) same
         (put_leaves_whole_units s.medium.grain s.held new s.medium now.medium to p spare_end_is_sector_edge high spare_ends_within_medium
         worked.writes))
 
-    spare_data_length_after_put : length (spare_slot now).data_bytes ≡ capacity_of s.medium
-    spare_data_length_after_put =
+    put_keeps_spare_data_length : length (spare_slot now).data_bytes ≡ capacity_of s.medium
+    put_keeps_spare_data_length =
         ap (λ (q : Slot). length q.data_bytes) (spare_same_by_grain s.medium now.medium grain_stays_after_put)
-        ∙ spare_data_has_capacity g now.medium.bytes (spare_data_after_put came).stands.sized
-        ∙ ap (λ (n : ℕ). n / 2 - 2 * g) (spare_data_after_put came).same.size
+        ∙ spare_data_has_capacity g now.medium.bytes (put_has_spare_data_result came).stands.sized
+        ∙ ap (λ (n : ℕ). n / 2 - 2 * g) (put_has_spare_data_result came).same.size
 
-    spare_front_after_put : take (at + length new) (spare_of now) ≡ take at (spare_of s) ++ new
-    spare_front_after_put =
+    put_appends_to_spare_front : take (at + length new) (spare_of now) ≡ take at (spare_of s) ++ new
+    put_appends_to_spare_front =
         let d = (spare_slot s).data_bytes in
         let k = held_data_place s in
         let rest = put_rest s.medium.grain.unit s.held new in
-        let long = put_rest_length s.medium.grain s.held new in
+        let long = put_rest_is_all_but_units s.medium.grain s.held new in
         let some = whole_units_at_most_length s.medium.grain s.held new in
         let e : k + length s.held ≡ at = held_bytes_end_at_put_end s store.puts ∙ sym here in
-        let f : at + length new ≡ k + whole + length rest = omega (arith, e, long, some, held_and_put_length) in
+        let f : at + length new ≡ k + whole + length rest = omega (arith, e, long, some, all_length_is_sum) in
         ap (λ (l : List ℕ). take (at + length new) l)
-        (spare_is_data_with_held now ∙ (λ i. written (spare_slot now).data_bytes (held_place_after_put i) (worked.held_is i)))
+        (spare_is_data_with_held now ∙ (λ i. written (spare_slot now).data_bytes (held_place_advances_by_units i) (worked.held_is i)))
         ∙ ap (λ (n : ℕ). take n (written (spare_slot now).data_bytes (k + whole) rest)) f
         ∙ written_bytes_after_front (spare_slot now).data_bytes (k + whole) rest (omega (
           arith,
-          spare_data_length_after_put,
-          spare_data_size_before_put,
+          put_keeps_spare_data_length,
+          spare_data_fills_capacity,
           put_bytes_fit_spare_data,
           some,
         ))
@@ -222,39 +222,39 @@ module _ (s now : SlotsState) (store : IsStore s) (at : ℕ) (new : List ℕ) (h
         ∙ ap (λ (l : List ℕ). l ++ new) (sym (written_bytes_after_front d k s.held (omega (
           arith,
           put_bytes_fit_spare_data,
-          held_and_put_length,
+          all_length_is_sum,
         )))
         ∙ (λ i. take (e i) (sym (spare_is_data_with_held s) i)))
 
-    spare_data_without_sectors : s.medium.grain.sector ≡ 0 → (spare_slot now).data_bytes
+    data_is_written_in_place : s.medium.grain.sector ≡ 0 → (spare_slot now).data_bytes
         ≡ written (spare_slot s).data_bytes (held_data_place s) (take whole all)
-    spare_data_without_sectors none =
+    data_is_written_in_place none =
         let a = store.has_image.active in
         ap (λ (p : Slot). p.data_bytes) (spare_same_by_grain s.medium now.medium grain_stays_after_put)
-        ∙ spare_data_after_write g s.medium.bytes now.medium.bytes (active_image_at_its_place a).sized kept (held_data_place s) (take whole
+        ∙ write_is_in_spare_data g s.medium.bytes now.medium.bytes (active_image_at_its_place a).sized kept (held_data_place s) (take whole
         all)
         (omega (
           arith,
           put_bytes_fit_spare_data,
-          spare_data_size_before_put,
+          spare_data_fills_capacity,
           whole_units_length,
           whole_units_at_most_length s.medium.grain
               s.held new,
         ))
-        (put_without_sectors s.medium.grain s.held new s.medium now.medium (data_place s (at - length s.held)) none
-        (omega (arith, place, here, spare_ends_within_medium, put_bytes_fit_spare_data, spare_data_size_before_put, a.sized.room))
+        (put_is_one_write_in_place s.medium.grain s.held new s.medium now.medium (data_place s (at - length s.held)) none
+        (omega (arith, place, here, spare_ends_within_medium, put_bytes_fit_spare_data, spare_data_fills_capacity, a.sized.room))
         worked.writes
         ∙ ap (λ (n : ℕ). written s.medium.bytes (data_place s (n - length s.held)) (take whole all)) here)
 
-    spare_bytes_without_sectors : s.medium.grain.sector ≡ 0 → spare_of now ≡ written (spare_of s) at new
-    spare_bytes_without_sectors none =
+    spare_is_written_in_place : s.medium.grain.sector ≡ 0 → spare_of now ≡ written (spare_of s) at new
+    spare_is_written_in_place none =
         let d = (spare_slot s).data_bytes in
         let k = held_data_place s in
         let e : k + length s.held ≡ at = held_bytes_end_at_put_end s store.puts ∙ sym here in
         spare_is_data_with_held now
-        ∙ (λ i. written (spare_data_without_sectors none i) (held_place_after_put i) (worked.held_is i))
+        ∙ (λ i. written (data_is_written_in_place none i) (held_place_advances_by_units i) (worked.held_is i))
         ∙ put_with_rest_is_all_bytes s.medium.grain s.held new d k put_bytes_fit_spare_data
-        ∙ put_after_held_bytes s.medium.grain s.held new d k put_bytes_fit_spare_data
+        ∙ put_follows_held_bytes s.medium.grain s.held new d k put_bytes_fit_spare_data
         ∙ (λ i. written (sym (spare_is_data_with_held s) i) (e i) new)
 
 module _ {T : Type 0} (s now : SlotsState) (store : IsStore s) (at : ℕ) (new : List ℕ) (here : at ≡ s.put_end) (result : Result T PutFault)
@@ -264,37 +264,37 @@ module _ {T : Type 0} (s now : SlotsState) (store : IsStore s) (at : ℕ) (new :
       (active_slot_stays s now store.has_image)
 
   gate_stays_at_put : (spare_slot now).gate ≡ (spare_slot s).gate
-  gate_stays_at_put = holds_after_any_result s now (Put at new) result refuses changes (spare_gate_after_put s now store at new here)
+  gate_stays_at_put = holds_after_any_result s now (Put at new) result refuses changes (put_keeps_spare_gate s now store at new here)
       (ap (λ (x : SlotsState). (spare_slot x).gate))
 
-  store_after_put : IsStore now
-  store_after_put =
+  put_leaves_a_store : IsStore now
+  put_leaves_a_store =
       let has = staying_image_exists s now store.has_image image_stays_at_put in
-      store_after_any_call s now (Put at new) result changes store has (holds_after_ok_call s now (Put at new) result refuses changes
-      (λ came worked. record { has_image = has; puts = put_bytes_after_put s now store at new here came worked }))
+      call_leaves_a_store s now (Put at new) result changes store has (holds_after_ok_call s now (Put at new) result refuses changes
+      (λ came worked. record { has_image = has; puts = put_leaves_consistent_puts s now store at new here came worked }))
 
   put_result_holds : StorePutResult s at new result now
   put_result_holds = record {
-    common = result_common_to_calls s now (Put at new) result refuses changes store_after_put (staying_room_is_kept s now store.has_image
+    common = calls_share_one_result s now (Put at new) result refuses changes put_leaves_a_store (staying_room_is_kept s now store.has_image
         image_stays_at_put);
     image = staying_image_is_seen s now store.has_image image_stays_at_put;
-    front = holds_after_ok_call s now (Put at new) result refuses changes (spare_front_after_put s now store at new here);
-    spare = holds_after_ok_call s now (Put at new) result refuses changes (spare_bytes_without_sectors s now store at new here);
+    front = holds_after_ok_call s now (Put at new) result refuses changes (put_appends_to_spare_front s now store at new here);
+    spare = holds_after_ok_call s now (Put at new) result refuses changes (spare_is_written_in_place s now store at new here);
     end = holds_after_ok_call s now (Put at new) result refuses changes (λ came worked. worked.end_is);
-    gate = holds_at_ok result gate_stays_at_put;
-    shut = holds_at_ok result (begun_only_by_gate s now gate_stays_at_put);
+    gate = fact_holds_after_ok result gate_stays_at_put;
+    shut = fact_holds_after_ok result (same_gate_same_begun s now gate_stays_at_put);
   }
 
--- The effect of the private `put` on the inside of a store that is seen as `v` is the effect of `put` on that store, and the store keeps
--- its places.
-pub put_keeps_places : {T : Type 0} {s v : SlotsState} {active spare : ℕ} → s ≡ v → IsStoreAt s active spare → (now : SlotsState) (at : ℕ)
+-- The result of `steps::put` on a store that is seen as `v` is what `put` promises for `v`, and the store keeps its places.
+pub put_keeps_places : {T : Type 0} {s v : SlotsState} {active spare : ℕ} → s ≡ v → RemembersPlaces s active spare
+    → (now : SlotsState) (at : ℕ)
     (new : List ℕ) → at ≡ v.put_end → (result : Result T PutFault) → (IsErrOf result NotBegun ↔ HasOpenGate (spare_slot s))
     → (IsErrOf result TooLarge ↔ ((¬ HasOpenGate (spare_slot s)) × (capacity_of s.medium < at + length new)))
-    → CallChanges s (Put at new) result now → IsStoreAt now active spare × StorePutResult v at new result now
+    → CallChanges s (Put at new) result now → RemembersPlaces now active spare × StorePutResult v at new result now
 put_keeps_places {T} {s} {v} view kept now at new place result not_begun too_large changes =
     let store = kept.store in
     let here : at ≡ s.put_end = place ∙ sym (ap (λ (x : SlotsState). x.put_end) view) in
-    let refuses = put_refusal_causes s result not_begun at new too_large in
+    let refuses = put_is_refused_by_cause s result not_begun at new too_large in
     let leaves = put_result_holds s now store at new here result refuses changes in (
       places_kept_by_store kept leaves.common.store (staying_image_keeps_places s now store.has_image (image_stays_at_put s now store at
           new here result refuses changes)),

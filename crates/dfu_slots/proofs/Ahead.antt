@@ -4,24 +4,24 @@ use Rattle.std.proofs.lemmas.List.{length-replicate, get_or-replicate, get_or-ta
 use Rattle.std.proofs.lemmas.Bool.{cases_lt, eqb-true, eqb-false}
 use Rattle.std.proofs.Math.Nat.{add-mod_right}
 use Rattle.dfu_slots.specs.Units.{Grain}
-use Rattle.dfu_slots.specs.Medium.{MediumState, Write, AllWrites, FrameOutside, IsErasedToSector, IsWritableAhead, IsWritable, written}
+use Rattle.dfu_slots.specs.Medium.{MediumState, Write, AllWrites, ChangedWithin, IsErasedToSector, IsWritableAhead, IsWritable, written}
 use Rattle.dfu_slots.specs.Image.{IsSizedMedium}
-use Rattle.dfu_slots.specs.Writes.{erase_write, sector_erases, write_anew, write_some}
+use Rattle.dfu_slots.specs.Writes.{erase_write, sector_erases, erasing_write, write_some}
 use Rattle.dfu_slots.proofs.Torn.{whole_write_is_torn, written_bytes_in_range, byte_kept_outside_write}
-use Rattle.dfu_slots.proofs.Series.{writes_inside_keep_rest, list_has_two_parts, all_if, writes_unless_test, writes_keep_grain}
+use Rattle.dfu_slots.proofs.Series.{writes_inside_keep_rest, list_has_two_parts, all_if, untested_writes_all_worked, writes_keep_grain}
 use Rattle.dfu_slots.proofs.Sectors.{IsSectorEdge, sector_ends_before_edge}
 use Rattle.dfu_slots.proofs.Edges.{sized_medium_ends_at_edge}
 use Rattle.dfu_slots.proofs.Anew.{sector_erases_lie_inside}
-use Rattle.dfu_slots.proofs.SizedOn.{write_anew_with_sectors, erases_keep_size}
+use Rattle.dfu_slots.proofs.SizedOn.{erasing_write_with_sectors, erases_keep_size}
 
--- A place at which a sector begins can be written on from, because the sector is erased first.
-pub writable_ahead_at_edge : (m : MediumState) (at : ℕ) → IsSectorEdge m.grain.sector at → IsWritableAhead m at
-writable_ahead_at_edge m at edge some p low high none = absurd (none at (omega arith) low (edge some))
+-- Writing can go on from the beginning of a sector, because that sector is erased first.
+pub edge_is_writable_ahead : (m : MediumState) (at : ℕ) → IsSectorEdge m.grain.sector at → IsWritableAhead m at
+edge_is_writable_ahead m at edge some p low high none = absurd (none at (omega arith) low (edge some))
 
 -- Each byte of a range that was written with FFh is FFh.
-byte_of_erased_range : (old : List ℕ) (at n p : ℕ) → at + n ≤ length old → at ≤ p → p < at + n
+erased_range_reads_ff : (old : List ℕ) (at n p : ℕ) → at + n ≤ length old → at ≤ p → p < at + n
     → slice_index (written old at (replicate n 255)) p ≡ 255
-byte_of_erased_range old at n p fits low high =
+erased_range_reads_ff old at n p fits low high =
     let now = written old at (replicate n 255) in
     let size : length (replicate {A = ℕ} n 255) ≡ n = length-replicate {A = ℕ} n 255 in
     let e : at + (p - at) ≡ p = omega (arith, low) in
@@ -34,18 +34,18 @@ byte_of_erased_range old at n p fits low high =
 
 module _ (sector : ℕ) (some : 0 < sector) where
   -- After the erase of the sector that begins at a place, the bytes from the next place on are erased up to the next sector.
-  erased_after_sector_erase : (old : List ℕ) (at : ℕ) → at + sector ≤ length old → at % sector ≡ 0
+  sector_erase_erases_ahead : (old : List ℕ) (at : ℕ) → at + sector ≤ length old → at % sector ≡ 0
       → IsErasedToSector sector (written old at (replicate sector 255)) (at + 1) (at + 1)
-  erased_after_sector_erase old at fits begins p low high none =
+  sector_erase_erases_ahead old at fits begins p low high none =
       ⊎_elim
-      (λ inner. byte_of_erased_range old at sector p fits (omega (arith, low)) inner)
+      (λ inner. erased_range_reads_ff old at sector p fits (omega (arith, low)) inner)
       (λ past. absurd (none (at + sector) (omega (arith, some)) past (add-mod_right at sector ∙ begins)))
       (cases_lt p (at + sector))
 
-  -- If no sector begins at a place from which on bytes are erased up to the next sector, they are so from the next place on.
-  erased_from_next_byte : (bytes : List ℕ) (at : ℕ) → at % sector ≢ 0 → IsErasedToSector sector bytes at at →
+  -- If the bytes from `at` on are erased up to the next sector, and no sector begins at `at`, so are the bytes from `at + 1` on.
+  next_byte_on_stays_erased : (bytes : List ℕ) (at : ℕ) → at % sector ≢ 0 → IsErasedToSector sector bytes at at →
       IsErasedToSector sector bytes (at + 1) (at + 1)
-  erased_from_next_byte bytes at inner erased p low high none =
+  next_byte_on_stays_erased bytes at inner erased p low high none =
       erased p (omega (arith, low)) high (λ q from to. by_place q from to (cases_lt at q))
     where
       by_place : (q : ℕ) → at ≤ q → q ≤ p → ((at < q) ⊎ (q ≤ at)) → q % sector ≢ 0
@@ -58,7 +58,7 @@ module _ (sector : ℕ) (some : 0 < sector) where
       erased at (omega arith) fits
       (λ q from to. let e : at ≡ q = omega (arith, from, to) in subst (λ (k : ℕ). k % sector ≢ 0) e inner)
 
-  -- Medium after the erase of the sector that begins at a place; the same medium if none begins there.
+  -- Byte `at` is FFh, the bytes after it are erased up to the next beginning of a sector, and the length of the medium is unchanged.
   abbrev FirstSectorErased : MediumState → ℕ → MediumState → Type 0
   FirstSectorErased s at mid = (length mid.bytes ≡ length s.bytes) × (slice_index mid.bytes at ≡ 255)
       × IsErasedToSector sector mid.bytes (at + 1) (at + 1)
@@ -85,20 +85,20 @@ module _ (sector : ℕ) (some : 0 < sector) where
           let is : mid.bytes ≡ written s.bytes at (replicate sector 255) = ap (λ (m : MediumState). m.bytes) one.2 ∙ one.1.bytes in
           let torn = whole_write_is_torn s.bytes at (replicate sector 255) (omega (arith, room, length-replicate {A = ℕ} sector 255)) in (
             ap length is ∙ torn.size,
-            ap (λ (l : List ℕ). slice_index l at) is ∙ byte_of_erased_range s.bytes at sector at room (omega arith) (omega (arith, some)),
-            subst (λ (l : List ℕ). IsErasedToSector sector l (at + 1) (at + 1)) (sym is) (erased_after_sector_erase s.bytes at room begins),
+            ap (λ (l : List ℕ). slice_index l at) is ∙ erased_range_reads_ff s.bytes at sector at room (omega arith) (omega (arith, some)),
+            subst (λ (l : List ℕ). IsErasedToSector sector l (at + 1) (at + 1)) (sym is) (sector_erase_erases_ahead s.bytes at room begins),
           )
       begun {mid} (inr (missing, same)) =
           let inner : at % sector ≢ 0 = eqb-false _ _ missing in
           subst (λ (m : MediumState). FirstSectorErased s at m) (sym same)
-          (refl, byte_here_is_erased s.bytes at (omega (arith, fits)) inner erased, erased_from_next_byte s.bytes at inner erased)
+          (refl, byte_here_is_erased s.bytes at (omega (arith, fits)) inner erased, next_byte_on_stays_erased s.bytes at inner erased)
 
       further : (mid : MediumState) → FirstSectorErased s at mid → AllWrites mid (sector_erases sector (at + 1) n) e
           → (at + 1 + n ≤ length mid.bytes → length mid.bytes % sector ≡ 0 → AllWrites mid (sector_erases sector (at + 1) n) e
           → IsErasedToSector sector mid.bytes (at + 1) (at + 1) → IsErasedToSector sector e.bytes (at + 1) (at + 1 + n))
           → IsErasedToSector sector e.bytes at (at + suc n)
       further mid first rest later p low high none =
-          let keeps : FrameOutside (at + 1) (length mid.bytes) mid.bytes e.bytes =
+          let keeps : ChangedWithin (at + 1) (length mid.bytes) mid.bytes e.bytes =
           writes_inside_keep_rest (at + 1) (length mid.bytes) (sector_erases sector (at + 1) n) mid e (omega arith)
           (sector_erases_lie_inside sector (at + 1) (length mid.bytes) (ap (λ (k : ℕ). k % sector) first.0 ∙ end) (at + 1) n (omega arith)
           (omega (arith, first.0, fits))) rest in
@@ -113,21 +113,22 @@ module _ (sector : ℕ) (some : 0 < sector) where
           (cases_lt at p)
 
 -- After the erases of the sectors that begin in a range, the range is writable.
-pub range_writable_after_erases : (m e : MediumState) (at n : ℕ) → IsSizedMedium m → 0 < m.grain.sector → at + n ≤ length m.bytes
+pub erases_make_range_writable : (m e : MediumState) (at n : ℕ) → IsSizedMedium m → 0 < m.grain.sector → at + n ≤ length m.bytes
     → AllWrites m (sector_erases m.grain.sector at n) e → IsWritableAhead m at → IsWritable e at n
-range_writable_after_erases m e at n sized some fits all ahead other p low high =
+erases_make_range_writable m e at n sized some fits all ahead other p low high =
     range_erased_by_erases m.grain.sector some at n m e fits (sized_medium_ends_at_edge m sized some) all (ahead some) p low
     (omega (arith, high, fits, (erases_keep_size m e at n sized some fits all).size))
     (λ q from to. absurd (omega (arith, from, to, high)))
 
 -- After a write with its erases, the bytes that follow it are erased up to the next sector.
-pub erased_ahead_of_write : (m now : MediumState) (at : ℕ) (bytes : List ℕ) → IsSizedMedium m → at + length bytes ≤ length m.bytes
-    → AllWrites m (write_anew m.grain.sector at bytes) now → IsWritableAhead m at → IsWritableAhead now (at + length bytes)
-erased_ahead_of_write m now at bytes sized fits all ahead other p low high none =
-    let grain : now.grain ≡ m.grain = writes_keep_grain (write_anew m.grain.sector at bytes) m now all in
+pub write_leaves_erased_ahead : (m now : MediumState) (at : ℕ) (bytes : List ℕ) → IsSizedMedium m → at + length bytes ≤ length m.bytes
+    → AllWrites m (erasing_write m.grain.sector at bytes) now → IsWritableAhead m at → IsWritableAhead now (at + length bytes)
+write_leaves_erased_ahead m now at bytes sized fits all ahead other p low high none =
+    let grain : now.grain ≡ m.grain = writes_keep_grain (erasing_write m.grain.sector at bytes) m now all in
     let some : 0 < m.grain.sector = subst (λ (w : Grain). 0 < w.sector) grain other in
     let cut : AllWrites m (sector_erases m.grain.sector at (length bytes) ++ record { at = at; bytes = bytes } ∷ []) now =
-    subst (λ (ws : List Write). AllWrites m ws now) (write_anew_with_sectors m.grain.sector at bytes (λ e. omega (arith, some, e))) all in
+    subst (λ (ws : List Write). AllWrites m ws now)
+    (erasing_write_with_sectors m.grain.sector at bytes (λ e. omega (arith, some, e))) all in
     let parts = list_has_two_parts (sector_erases m.grain.sector at (length bytes)) (record { at = at; bytes = bytes } ∷ []) m now cut in
     let e = parts.0 in
     let size = (erases_keep_size m e at (length bytes) sized some fits parts.1.first).size in
@@ -140,14 +141,14 @@ erased_ahead_of_write m now at bytes sized fits all ahead other p low high none 
     (omega (arith, low)) (omega (arith, high, ap length is, torn.size))
     (subst (λ (w : Grain). (q : ℕ) → at + length bytes ≤ q → q ≤ p → q % w.sector ≢ 0) grain none)
 
--- After a write of some bytes with its erases, or of none, the bytes that follow are erased up to the next sector.
-pub erased_ahead_of_some_bytes : (m now : MediumState) (at : ℕ) (bytes : List ℕ) → IsSizedMedium m → at + length bytes ≤ length m.bytes
+-- After a write of any number of bytes with its erases, the bytes that follow are erased up to the next sector.
+pub some_bytes_leave_blank_ahead : (m now : MediumState) (at : ℕ) (bytes : List ℕ) → IsSizedMedium m → at + length bytes ≤ length m.bytes
     → AllWrites m (write_some m.grain.sector at bytes) now → IsWritableAhead m at → IsWritableAhead now (at + length bytes)
-erased_ahead_of_some_bytes m now at bytes sized fits all ahead =
+some_bytes_leave_blank_ahead m now at bytes sized fits all ahead =
     ⊎_elim
     (λ none.
     let zero_is : length bytes ≡ 0 = eqb-true _ _ none.0 in
     let e : at ≡ at + length bytes = omega (arith, zero_is) in
     subst (λ (s : MediumState). IsWritableAhead s (at + length bytes)) (sym none.1) (subst (λ (k : ℕ). IsWritableAhead m k) e ahead))
-    (λ one. erased_ahead_of_write m now at bytes sized fits one.1 ahead)
-    (writes_unless_test m now (length bytes == 0) (write_anew m.grain.sector at bytes) all)
+    (λ one. write_leaves_erased_ahead m now at bytes sized fits one.1 ahead)
+    (untested_writes_all_worked m now (length bytes == 0) (erasing_write m.grain.sector at bytes) all)

@@ -7,31 +7,31 @@ use Rattle.dfu_slots.specs.declared.fault.WriteFault.{WriteFault}
 use Rattle.dfu_slots.specs.Medium.{MediumState, Write, AllWrites, BrokenWrites}
 use Rattle.dfu_slots.specs.Operations.{op_writes, ops_writes, op_at}
 use Rattle.dfu_slots.specs.inside.Carry.{MayCarryOp, MayCarryAll}
-use Rattle.dfu_slots.proofs.Series.{writes_keep_grain, writes_one_after_other, broken_in_first_part, broken_in_second_part}
+use Rattle.dfu_slots.proofs.Series.{writes_keep_grain, two_lists_work_as_one, first_part_may_break, second_part_may_break}
 
--- The first n operations of a list are carried out, and the others may be.
+-- The first n operations of a list are carried out, and the others may be carried out.
 pub record FirstOpsCarried (m now : MediumState) (held block header : List ℕ) (os : List Op) (n : ℕ) : Type 0 where
   pub done : AllWrites m (ops_writes m.grain.sector held block header (take n os)) now
   pub may : MayCarryAll now held block header (drop n os)
 
--- The operations up to number n and that one are the first n, and operation n after them.
-take_next_op : (os : List Op) (n : ℕ) (o : Op) → op_at os n ≡ Some o → take (suc n) os ≡ take n os ++ o ∷ []
-take_next_op [] n o is = absurd (none-some o is)
-take_next_op (p ∷ os) zero o is = ap (λ (q : Op). q ∷ []) (same_Some _ _ is)
-take_next_op (p ∷ os) (suc n) o is = ap (λ (l : List Op). p ∷ l) (take_next_op os n o is)
+-- The first n + 1 operations are the first n, and then operation n.
+next_op_follows_first_ops : (os : List Op) (n : ℕ) (o : Op) → op_at os n ≡ Some o → take (suc n) os ≡ take n os ++ o ∷ []
+next_op_follows_first_ops [] n o is = absurd (none-some o is)
+next_op_follows_first_ops (p ∷ os) zero o is = ap (λ (q : Op). q ∷ []) (same_Some _ _ is)
+next_op_follows_first_ops (p ∷ os) (suc n) o is = ap (λ (l : List Op). p ∷ l) (next_op_follows_first_ops os n o is)
 
 -- A list without its first n operations begins with operation n.
-drop_begins_with_op : (os : List Op) (n : ℕ) (o : Op) → op_at os n ≡ Some o → drop n os ≡ o ∷ drop (suc n) os
-drop_begins_with_op [] n o is = absurd (none-some o is)
-drop_begins_with_op (p ∷ os) zero o is = ap (λ (q : Op). q ∷ os) (same_Some _ _ is)
-drop_begins_with_op (p ∷ os) (suc n) o is = drop_begins_with_op os n o is
+rest_begins_with_op : (os : List Op) (n : ℕ) (o : Op) → op_at os n ≡ Some o → drop n os ≡ o ∷ drop (suc n) os
+rest_begins_with_op [] n o is = absurd (none-some o is)
+rest_begins_with_op (p ∷ os) zero o is = ap (λ (q : Op). q ∷ os) (same_Some _ _ is)
+rest_begins_with_op (p ∷ os) (suc n) o is = rest_begins_with_op os n o is
 
 -- If a list has no operation of number n, its first n operations are all of them.
-take_all_ops : (os : List Op) (n : ℕ) → op_at os n ≡ None → take n os ≡ os
-take_all_ops [] zero is = refl
-take_all_ops [] (suc n) is = refl
-take_all_ops (p ∷ os) zero is = absurd (none-some p (sym is))
-take_all_ops (p ∷ os) (suc n) is = ap (λ (l : List Op). p ∷ l) (take_all_ops os n is)
+first_n_are_all : (os : List Op) (n : ℕ) → op_at os n ≡ None → take n os ≡ os
+first_n_are_all [] zero is = refl
+first_n_are_all [] (suc n) is = refl
+first_n_are_all (p ∷ os) zero is = absurd (none-some p (sym is))
+first_n_are_all (p ∷ os) (suc n) is = ap (λ (l : List Op). p ∷ l) (first_n_are_all os n is)
 
 module _ (sector : ℕ) (held block header : List ℕ) where
   -- The writes of two lists of operations are the writes of the first, and then those of the second.
@@ -43,16 +43,16 @@ module _ (sector : ℕ) (held block header : List ℕ) where
       ∙ sym (append_assoc (op_writes sector held block header x) (ops_writes sector held block header xs)
       (ops_writes sector held block header ys))
 
-  -- The writes up to an operation and its own are the writes before it, and then its own.
+  -- The writes of the first n + 1 operations are those of the first n, and then those of operation n.
   ops_writes_to_next_op : (os : List Op) (n : ℕ) (o : Op) → op_at os n ≡ Some o → ops_writes sector held block header (take (suc n) os)
       ≡ ops_writes sector held block header (take n os) ++ op_writes sector held block header o
   ops_writes_to_next_op os n o is =
-      ap (λ (l : List Op). ops_writes sector held block header l) (take_next_op os n o is)
+      ap (λ (l : List Op). ops_writes sector held block header l) (next_op_follows_first_ops os n o is)
       ∙ ops_writes_append (take n os) (o ∷ [])
       ∙ ap (λ (l : List Write). ops_writes sector held block header (take n os) ++ l)
       (append-nil (op_writes sector held block header o))
 
-  -- The writes of a list are those before an operation, its own, and those after it.
+  -- The writes of a list are those before operation n, those of operation n, and those after it.
   ops_writes_cut_at_op : (os : List Op) (n : ℕ) (o : Op) → op_at os n ≡ Some o → ops_writes sector held block header os
       ≡ ops_writes sector held block header (take n os)
       ++ (op_writes sector held block header o ++ ops_writes sector held block header (drop (suc n) os))
@@ -64,31 +64,27 @@ module _ (sector : ℕ) (held block header : List ℕ) where
       ∙ sym (append_assoc (op_writes sector held block header p) (ops_writes sector held block header (take n os)) _)
 
 module _ {m : MediumState} {held block header : List ℕ} {os : List Op} where
-  -- At first no operation is carried out.
-  pub no_op_carried_yet : MayCarryAll m held block header os → FirstOpsCarried m m held block header os 0
-  no_op_carried_yet may = record { done = refl; may = may }
-
   module _ {mid : MediumState} {n : ℕ} (so : FirstOpsCarried m mid held block header os n) where
-    grain_after_ops : mid.grain ≡ m.grain
-    grain_after_ops = writes_keep_grain (ops_writes m.grain.sector held block header (take n os)) m mid so.done
+    ops_keep_grain : mid.grain ≡ m.grain
+    ops_keep_grain = writes_keep_grain (ops_writes m.grain.sector held block header (take n os)) m mid so.done
 
     -- The next operation may be carried out.
     pub next_op_may_be_carried : (o : Op) → op_at os n ≡ Some o → MayCarryOp mid held block o
-    next_op_may_be_carried o is = (subst (λ (l : List Op). MayCarryAll mid held block header l) (drop_begins_with_op os n o is) so.may).0
+    next_op_may_be_carried o is = (subst (λ (l : List Op). MayCarryAll mid held block header l) (rest_begins_with_op os n o is) so.may).0
 
-    -- If the next operation is carried out, one operation more is.
+    -- After the next operation, one more operation of the list is carried out.
     pub next_op_carried : (o : Op) (now : MediumState) → op_at os n ≡ Some o
         → AllWrites mid (op_writes mid.grain.sector held block header o) now → FirstOpsCarried m now held block header os (n + 1)
     next_op_carried o now is all = let next : suc n ≡ n + 1 = omega arith in
         subst (λ (k : ℕ). FirstOpsCarried m now held block header os k) next (record {
           done = subst (λ (ws : List Write). AllWrites m ws now) (sym (ops_writes_to_next_op m.grain.sector held block header os n o is))
-              (writes_one_after_other (ops_writes m.grain.sector held block header (take n os)) (op_writes m.grain.sector held block header
+              (two_lists_work_as_one (ops_writes m.grain.sector held block header (take n os)) (op_writes m.grain.sector held block header
               o) m mid now
-              so.done (subst (λ (k : ℕ). AllWrites mid (op_writes k held block header o) now) (λ i. (grain_after_ops i).sector) all));
-          may = (subst (λ (l : List Op). MayCarryAll mid held block header l) (drop_begins_with_op os n o is) so.may).1 now all;
+              so.done (subst (λ (k : ℕ). AllWrites mid (op_writes k held block header o) now) (λ i. (ops_keep_grain i).sector) all));
+          may = (subst (λ (l : List Op). MayCarryAll mid held block header l) (rest_begins_with_op os n o is) so.may).1 now all;
         })
 
-    -- If the next operation fails, the writes of the list are broken off by its fault.
+    -- If the next operation fails, its fault breaks off the writes of the list.
     pub next_op_broke_off : (o : Op) (now : MediumState) (fault : WriteFault) → op_at os n ≡ Some o
         → BrokenWrites fault mid (op_writes mid.grain.sector held block header o) now
         → BrokenWrites fault m (ops_writes m.grain.sector held block header os) now
@@ -96,11 +92,11 @@ module _ {m : MediumState} {held block header : List ℕ} {os : List Op} where
         let mine = op_writes m.grain.sector held block header o in
         let rest = ops_writes m.grain.sector held block header (drop (suc n) os) in
         subst (λ (ws : List Write). BrokenWrites fault m ws now) (sym (ops_writes_cut_at_op m.grain.sector held block header os n o is))
-        (broken_in_second_part fault (ops_writes m.grain.sector held block header (take n os)) (mine ++ rest) m mid now so.done
-        (broken_in_first_part fault mine rest mid now
-        (subst (λ (k : ℕ). BrokenWrites fault mid (op_writes k held block header o) now) (λ i. (grain_after_ops i).sector) broken)))
+        (second_part_may_break fault (ops_writes m.grain.sector held block header (take n os)) (mine ++ rest) m mid now so.done
+        (first_part_may_break fault mine rest mid now
+        (subst (λ (k : ℕ). BrokenWrites fault mid (op_writes k held block header o) now) (λ i. (ops_keep_grain i).sector) broken)))
 
     -- If no operation is left, all are carried out.
     pub all_ops_carried : op_at os n ≡ None → AllWrites m (ops_writes m.grain.sector held block header os) mid
-    all_ops_carried is = subst (λ (l : List Op). AllWrites m (ops_writes m.grain.sector held block header l) mid) (take_all_ops os n is)
+    all_ops_carried is = subst (λ (l : List Op). AllWrites m (ops_writes m.grain.sector held block header l) mid) (first_n_are_all os n is)
         so.done

@@ -1,4 +1,4 @@
--- Result of the comparison of a slot's header with what it should be.
+-- Comparison of a slot's header with the well-formed one.
 use Rattle.std.proofs.Common.{◌≡◌, ◌↔◌, Bool, true, false, ◌&&◌, nat_le, IsTrue, ℕ, ◌*◌, ◌+◌, ◌≤◌, ◌<◌, List, length, take, drop, refl, sym, ◌∙◌, ap, subst, arith}
 use Rattle.std.specs.Int.{w32, from_le_bytes}
 use Rattle.std.specs.Str.{bytes_eq}
@@ -10,19 +10,19 @@ use Rattle.dfu_slots.specs.Image.{is_intact}
 use Rattle.dfu_slots.proofs.Headers.{IsHeaderOfOwnFields}
 use Rattle.dfu_slots.proofs.Parts.{data_length}
 
--- Two tests that tell the same fact give the same answer.
-equal_tests : (a b : Bool) {P : Type 0} → IsTrue a ↔ P → (b ≡ true → P) × (P → b ≡ true) → a ≡ b
-equal_tests true b t d = sym (d.1 (t.0 refl))
-equal_tests false true t d = t.1 (d.0 refl)
-equal_tests false false t d = refl
+-- Two tests that each decide one fact give the same answer.
+tests_of_one_fact_agree : (a b : Bool) {P : Type 0} → IsTrue a ↔ P → (b ≡ true → P) × (P → b ≡ true) → a ≡ b
+tests_of_one_fact_agree true b t d = sym (d.1 (t.0 refl))
+tests_of_one_fact_agree false true t d = t.1 (d.0 refl)
+tests_of_one_fact_agree false false t d = refl
 
 module _ (g : ℕ) (bytes : List ℕ) (at : ℕ) (end : at + slot_size bytes ≤ length bytes) (room : 2 * g ≤ slot_size bytes) (shown : List ℕ)
     (shown_is : shown ≡ (slot g bytes at).header) (len : ℕ) (len_is : len ≡ from_le_bytes w32 (take 4 (drop 4 shown))) where
   abbrev s : Slot
   s = slot g bytes at
 
-  told_length_is_headers : len ≡ header_length s
-  told_length_is_headers = len_is ∙ ap (λ (h : List ℕ). from_le_bytes w32 (take 4 (drop 4 h))) shown_is
+  read_length_is_header_length : len ≡ header_length s
+  read_length_is_header_length = len_is ∙ ap (λ (h : List ℕ). from_le_bytes w32 (take 4 (drop 4 h))) shown_is
 
   slot_data_has_capacity : length s.data_bytes ≡ capacity g bytes
   slot_data_has_capacity = data_length g bytes at end room
@@ -33,7 +33,7 @@ module _ (g : ℕ) (bytes : List ℕ) (at : ℕ) (end : at + slot_size bytes ≤
   long_header_not_intact large = sym (and_left (nat_le (header_length s) (length s.data_bytes)) _ (lt-leb _ _ (omega (
     arith,
     large,
-    told_length_is_headers,
+    read_length_is_header_length,
     slot_data_has_capacity,
   ))))
 
@@ -44,14 +44,14 @@ module _ (g : ℕ) (bytes : List ℕ) (at : ℕ) (end : at + slot_size bytes ≤
   compared_header_is_intact fits same crc crc_is test =
       let made : List ℕ = header 2 (generation s) (header_length s) (register (take (header_length s) s.data_bytes)) in
       let crc_told : crc ≡ register (take (header_length s) s.data_bytes) =
-      crc_is ∙ ap (λ (n : ℕ). register (take n s.data_bytes)) told_length_is_headers in
+      crc_is ∙ ap (λ (n : ℕ). register (take n s.data_bytes)) read_length_is_header_length in
       let test' : IsTrue same ↔ (s.header ≡ made) =
       subst (λ (n : ℕ). IsTrue same ↔ IsHeaderOfOwnFields s.header 2 n) crc_told
       (subst (λ (l : List ℕ). IsTrue same ↔ IsHeaderOfOwnFields l 2 crc) shown_is test) in
-      equal_tests same (bytes_eq s.header made) test' (bytes_decides s.header made)
+      tests_of_one_fact_agree same (bytes_eq s.header made) test' (bytes_decides s.header made)
       ∙ sym (ap (λ (b : Bool). b && bytes_eq s.header made) (le-leb _ _ (omega (
         arith,
         fits,
-        told_length_is_headers,
+        read_length_is_header_length,
         slot_data_has_capacity,
       ))))

@@ -8,23 +8,23 @@ use Rattle.dfu_suffix.specs.Register.{register}
 use Rattle.dfu_slots.specs.Layout.{Slot, OPEN, HasOpenGate, generation, header_version, header_length, header, HasHeader}
 use Rattle.dfu_slots.specs.Image.{SlotCounts, is_intact, slot_counts}
 
--- A well-formed header says the length of its image.
-pub length_in_formed_header : (s : Slot) (len : ℕ) → HasHeader s len → len < 2 ^ 32 → header_length s ≡ len
-length_in_formed_header s len has fits = ⊎_elim
+-- A well-formed header gives the length of its image.
+pub formed_header_has_its_length : (s : Slot) (len : ℕ) → HasHeader s len → len < 2 ^ 32 → header_length s ≡ len
+formed_header_has_its_length s len has fits = ⊎_elim
     (λ e. ap (λ (h : List ℕ). from_le_bytes w32 (take 4 (drop 4 h))) e ∙ from_le_bytes-to_le_bytes_4 len fits)
     (λ e. ap (λ (h : List ℕ). from_le_bytes w32 (take 4 (drop 4 h))) e ∙ from_le_bytes-to_le_bytes_4 len fits)
     has.well_formed
 
--- A header of version 2 with the register of the front of the slot's data is well formed.
-pub version_two_header_formed : (s : Slot) (gen len : ℕ) → s.header ≡ header 2 gen len (register (take len s.data_bytes)) → len
+-- A header of version 2 with the register over the first `len` data bytes of its slot is well formed.
+pub version_two_header_is_formed : (s : Slot) (gen len : ℕ) → s.header ≡ header 2 gen len (register (take len s.data_bytes)) → len
     ≤ length s.data_bytes
     → HasHeader s len
-version_two_header_formed s gen len is fits = record {
+version_two_header_is_formed s gen len is fits = record {
   well_formed = inr (is ∙ (λ i. header 2 (slice_index (sym is i) 0) len (register (take len s.data_bytes))));
   fits = fits;
 }
 
--- A well-formed header depends only on the header and the data.
+-- A slot's header is well formed if that of a slot with the same header and data is.
 pub same_bytes_same_header : (s t : Slot) (len : ℕ) → s.header ≡ t.header → s.data_bytes ≡ t.data_bytes → HasHeader s len → HasHeader t len
 same_bytes_same_header s t len head body has = record {
   well_formed = ⊎_elim
@@ -34,9 +34,9 @@ same_bytes_same_header s t len head body has = record {
   fits = omega (arith, ap length body, has.fits);
 }
 
--- An open slot counts if another one with the same header and the same data does.
-pub slot_counts_as_same : (s t : Slot) → s.header ≡ t.header → s.data_bytes ≡ t.data_bytes → HasOpenGate t → SlotCounts s → SlotCounts t
-slot_counts_as_same s t head body is_open c = record {
+-- An open slot counts if a slot with the same header and the same data counts.
+pub equal_open_slot_counts : (s t : Slot) → s.header ≡ t.header → s.data_bytes ≡ t.data_bytes → HasOpenGate t → SlotCounts s → SlotCounts t
+equal_open_slot_counts s t head body is_open c = record {
   is_open = is_open;
   intact = λ two.
       subst (λ (n : ℕ). HasHeader t n) (ap (λ (h : List ℕ). from_le_bytes w32 (take 4 (drop 4 h))) head)
@@ -89,8 +89,8 @@ passing_slot_counts s test =
     }
 
 -- A slot that fails the test does not count.
-pub failing_slot_counts_not : (s : Slot) → slot_counts s ≡ false → ¬ SlotCounts s
-failing_slot_counts_not s test c = both_ways (slot_counts s) test (counting_slot_passes s c)
+pub failing_slot_does_not_count : (s : Slot) → slot_counts s ≡ false → ¬ SlotCounts s
+failing_slot_does_not_count s test c = both_ways (slot_counts s) test (counting_slot_passes s c)
 
 -- A slot that does not count fails the test.
 pub uncounted_slot_fails : (s : Slot) → ¬ SlotCounts s → slot_counts s ≡ false
@@ -101,9 +101,9 @@ pub neither_slot_counts : (x y : Slot) (p q : Bool) → p ≡ slot_counts x → 
     × (¬ SlotCounts y)
 neither_slot_counts x y p q a b e =
     let parts = and_parts (not p) (not q) e in
-    (failing_slot_counts_not x (sym a ∙ not-true p parts.0), failing_slot_counts_not y (sym b ∙ not-true q parts.1))
+    (failing_slot_does_not_count x (sym a ∙ not-true p parts.0), failing_slot_does_not_count y (sym b ∙ not-true q parts.1))
 
--- If one of two slots passes the test, not both fail to count.
+-- If one of two slots passes the test, at least one counts.
 pub one_slot_counts : (x y : Slot) (p q : Bool) → p ≡ slot_counts x → q ≡ slot_counts y → (not p && not q) ≡ false
     → ¬ ((¬ SlotCounts x) × (¬ SlotCounts y))
 one_slot_counts x y p q a b e none =

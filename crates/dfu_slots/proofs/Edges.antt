@@ -15,7 +15,7 @@ module _ (w : Grain) (bytes : List ℕ) (sized : HasTwoSlots (gate_room w) bytes
   gate_room_is_edge : IsSectorEdge w.sector g
   gate_room_is_edge = gate_room_ends_at_edge w (capacity g bytes) whole
 
-  -- The second slot begins with a sector.
+  -- The second slot begins at a sector edge.
   pub second_slot_begins_sector : IsSectorEdge w.sector (slot_size bytes)
   second_slot_begins_sector =
       let e : g + g + capacity g bytes ≡ slot_size bytes = omega (arith, sized.room) in
@@ -23,7 +23,7 @@ module _ (w : Grain) (bytes : List ℕ) (sized : HasTwoSlots (gate_room w) bytes
       (edge_sum_is_edge w.sector (g + g) (capacity g bytes) (edge_sum_is_edge w.sector g g gate_room_is_edge gate_room_is_edge)
       whole.sectors)
 
-  -- The medium ends where a sector does.
+  -- The medium ends at a sector edge.
   pub medium_end_is_edge : IsSectorEdge w.sector (length bytes)
   medium_end_is_edge =
       let e : slot_size bytes + slot_size bytes ≡ length bytes = omega (arith, sized.even) in
@@ -31,37 +31,37 @@ module _ (w : Grain) (bytes : List ℕ) (sized : HasTwoSlots (gate_room w) bytes
       second_slot_begins_sector)
 
   module _ (at other : ℕ) (places : ArePlaces bytes at other) where
-    -- Each slot begins with a sector.
+    -- Each slot begins at a sector edge.
     pub slot_begins_at_edge : IsSectorEdge w.sector other
     slot_begins_at_edge =
         ⊎_elim (λ p. subst (λ (n : ℕ). IsSectorEdge w.sector n) (sym p.1) second_slot_begins_sector)
         (λ p. subst (λ (n : ℕ). IsSectorEdge w.sector n) (sym p.1) (first_byte_is_edge w.sector)) places
 
-    -- The header of a slot begins with a sector.
+    -- The header of a slot begins at a sector edge.
     pub header_begins_at_edge : IsSectorEdge w.sector (other + g)
     header_begins_at_edge = edge_sum_is_edge w.sector other g slot_begins_at_edge gate_room_is_edge
 
-    -- The data of a slot begins with a sector.
+    -- The data of a slot begins at a sector edge.
     pub data_begins_at_edge : IsSectorEdge w.sector (other + 2 * g)
     data_begins_at_edge =
         let e : other + g + g ≡ other + 2 * g = omega arith in
         subst (λ (n : ℕ). IsSectorEdge w.sector n) e (edge_sum_is_edge w.sector (other + g) g header_begins_at_edge gate_room_is_edge)
 
-    -- A slot ends where a sector does.
+    -- A slot ends at a sector edge.
     pub slot_ends_at_edge : IsSectorEdge w.sector (other + slot_size bytes)
     slot_ends_at_edge = edge_sum_is_edge w.sector other (slot_size bytes) slot_begins_at_edge second_slot_begins_sector
 
--- A medium of a proper length ends where a sector does.
+-- A medium of a proper length ends at a sector edge.
 pub sized_medium_ends_at_edge : (m : MediumState) → IsSizedMedium m → IsSectorEdge m.grain.sector (length m.bytes)
 sized_medium_ends_at_edge m sized = medium_end_is_edge m.grain m.bytes (sized_medium_has_two_slots m sized) sized.whole
 
--- The spare slot begins with a sector.
+-- The spare slot begins at a sector edge.
 pub spare_begins_at_edge : (m : MediumState) → IsSizedMedium m → IsSectorEdge m.grain.sector (spare_at (gate_of m) m.bytes)
 spare_begins_at_edge m sized = slot_begins_at_edge m.grain m.bytes (sized_medium_has_two_slots m sized) sized.whole (active_at (gate_of m)
     m.bytes)
     (spare_at (gate_of m) m.bytes) (tested_places_are_slots (gate_of m) m.bytes)
 
--- The data of the spare slot begins with a sector.
+-- The data of the spare slot begins at a sector edge.
 pub spare_data_begins_at_edge : (m : MediumState) → IsSizedMedium m →
     IsSectorEdge m.grain.sector (spare_at (gate_of m) m.bytes + 2 * gate_of m)
 spare_data_begins_at_edge m sized = data_begins_at_edge m.grain m.bytes (sized_medium_has_two_slots m sized) sized.whole (active_at

@@ -10,15 +10,15 @@ use Rattle.dfu_slots.specs.Image.{IsSizedMedium}
 use Rattle.dfu_slots.specs.Writes.{erase_write, sector_erases}
 use Rattle.dfu_slots.proofs.Edges.{sized_medium_ends_at_edge}
 use Rattle.dfu_slots.proofs.Torn.{whole_write_is_torn}
-use Rattle.dfu_slots.proofs.Series.{writes_one_after_other, broken_in_second_part}
+use Rattle.dfu_slots.proofs.Series.{two_lists_work_as_one, second_part_may_break}
 use Rattle.dfu_slots.proofs.Sectors.{remainder_of_next_byte, edge_sum_is_edge, sector_ends_before_edge}
 
--- At a place where no sector begins the erases go on from the next place.
+-- If no sector begins at `at`, the erases from `at` on are those from `at + 1` on.
 no_erase_within_sector : (sector at n : ℕ) → 0 < at % sector → sector_erases sector at (suc n) ≡ sector_erases sector (at + 1) n
 no_erase_within_sector sector at n inner = ap (λ (l : List Write). l ++ sector_erases sector (at + 1) n)
     (cond-false (at % sector == 0) (erase_write sector at ∷ []) [] (ne_eqb (at % sector) 0 (λ e. omega (arith, inner, e))))
 
--- No sector is erased before the end of the one that a place lies in.
+-- If no sector begins at `at`, the erases from `at` on are those from the end of its sector on.
 pub no_erase_to_sector_end : (sector d at n : ℕ) → 0 < sector → 0 < at % sector → at % sector + d ≡ sector
     → sector_erases sector at n ≡ sector_erases sector (at + d) (n - d)
 no_erase_to_sector_end sector zero at n some inner is = absurd (omega (arith, mod-lt at some, is))
@@ -38,10 +38,10 @@ no_erase_to_sector_end sector (suc (suc d)) at (suc n) some inner is =
     ∙ (λ i. sector_erases sector (e i) (f i))
 
 -- If a sector begins at a place, it is erased first.
-pub first_sector_erase : (sector at n : ℕ) → 1 < sector → at % sector ≡ 0 → 0 < n
+pub first_sector_is_erased_first : (sector at n : ℕ) → 1 < sector → at % sector ≡ 0 → 0 < n
     → sector_erases sector at n ≡ erase_write sector at ∷ sector_erases sector (at + sector) (n - sector)
-first_sector_erase sector at zero some begins more = absurd (omega (arith, more))
-first_sector_erase sector at (suc n) some begins more =
+first_sector_is_erased_first sector at zero some begins more = absurd (omega (arith, more))
+first_sector_is_erased_first sector at (suc n) some begins more =
     let next : (at + 1) % sector ≡ 1 = remainder_of_next_byte sector at (omega (arith, begins, some)) ∙ ap (λ (k : ℕ). k + 1) begins in
     let e : at + 1 + (sector - 1) ≡ at + sector = omega (arith, some) in
     let f : n - (sector - 1) ≡ suc n - sector = omega (arith, some) in
@@ -65,7 +65,7 @@ module _ (s : MediumState) (at n : ℕ) (sized : IsSizedMedium s) (some : 0 < s.
   abbrev sector : ℕ
   sector = s.grain.sector
 
-  -- Nothing is erased yet, and the first sector begins at the place itself.
+  -- Nothing is erased yet, and the first sector begins at `at`.
   pub erased_to_first_edge : at % sector ≡ 0 → ErasedTo s s sector at n at
   erased_to_first_edge begins =
       let all : n ≡ at + n - at = omega arith in
@@ -79,7 +79,7 @@ module _ (s : MediumState) (at n : ℕ) (sized : IsSizedMedium s) (some : 0 < s.
         size = refl;
       }
 
-  -- Nothing is erased yet, and the first sector begins where the one that the place lies in ends.
+  -- Nothing is erased yet, and the first sector begins at the end of the one in which `at` lies.
   pub erased_to_next_edge : 0 < at % sector → ErasedTo s s sector at n (at + (sector - at % sector))
   erased_to_next_edge inner =
       let d = sector - at % sector in
@@ -108,7 +108,7 @@ module _ (s : MediumState) (at n : ℕ) (sized : IsSizedMedium s) (some : 0 < s.
         size = refl;
       }
 
-  -- Nothing is erased yet, by the two cases that the code tells apart.
+  -- Nothing is erased yet, in both cases of the code: a sector begins at `at`, or none does.
   pub erased_up_to_first_sector : (size : ℕ) → size ≡ sector → (place : ℕ) → (at % size ≡ 0 → place ≡ at → ErasedTo s s sector at n place)
       × (at % size ≢ 0 → place ≡ at + (size - at % size) → ErasedTo s s sector at n place)
   erased_up_to_first_sector size is place = (
@@ -122,7 +122,7 @@ module _ (s : MediumState) (at n : ℕ) (sized : IsSizedMedium s) (some : 0 < s.
 
 module _ {old mid : MediumState} {at n place : ℕ} (to : ErasedTo old mid old.grain.sector at n place) (sized : IsSizedMedium old)
     (some : 0 < old.grain.sector) (more : place < at + n) (fits : at + n ≤ length old.bytes) where
-  -- Bytes of a sector.
+  -- Size of a sector in bytes.
   abbrev span : ℕ
   span = old.grain.sector
 
@@ -148,11 +148,11 @@ module _ {old mid : MediumState} {at n place : ℕ} (to : ErasedTo old mid old.g
   pub next_sector_within_medium : place + mid.grain.sector ≤ length mid.bytes
   next_sector_within_medium = omega (arith, sector_size_kept, end_there)
 
-  next_sector_erase_step : sector_erases span place (at + n - place)
+  next_sector_erase_comes_first : sector_erases span place (at + n - place)
       ≡ erase_write span place ∷ sector_erases span (place + span) (at + n - place - span)
-  next_sector_erase_step = first_sector_erase span place (at + n - place) sector_above_one to.edge (omega (arith, more))
+  next_sector_erase_comes_first = first_sector_is_erased_first span place (at + n - place) sector_above_one to.edge (omega (arith, more))
 
-  -- If the next sector is erased, one sector more is.
+  -- After the erase of the next sector, the sectors up to its end are erased.
   pub erased_to_next_sector : (now : MediumState) → WroteBytes mid place (replicate mid.grain.sector 255) now
       → ErasedTo old now span at n (place + span)
   erased_to_next_sector now answered =
@@ -163,8 +163,8 @@ module _ {old mid : MediumState} {at n place : ℕ} (to : ErasedTo old mid old.g
       let left : at + n - place - span ≡ at + n - (place + span) = omega arith in
       record {
         front = to.front ++ first;
-        all = writes_one_after_other to.front first old mid now to.all (now, wrote, refl);
-        pieces = to.pieces ∙ ap (λ (ws : List Write). to.front ++ ws) (next_sector_erase_step
+        all = two_lists_work_as_one to.front first old mid now to.all (now, wrote, refl);
+        pieces = to.pieces ∙ ap (λ (ws : List Write). to.front ++ ws) (next_sector_erase_comes_first
             ∙ ap (λ (k : ℕ). erase_write span place ∷ sector_erases span (place + span) k) left)
             ∙ sym (append_assoc to.front first (sector_erases span (place + span) (at + n - (place + span))));
         edge = edge_sum_is_edge span place span (λ s. to.edge) (λ s. mod_self span) (omega (arith, sector_above_one));
@@ -173,17 +173,17 @@ module _ {old mid : MediumState} {at n place : ℕ} (to : ErasedTo old mid old.g
         size = kept ∙ to.size;
       }
 
-  -- If the next erase fails, the erases are broken off by its fault.
+  -- If the next erase fails, its fault breaks off the erases.
   pub erases_broken_at_sector : (now : MediumState) (fault : WriteFault) → FailedWrite fault mid place (replicate mid.grain.sector 255) now
       → BrokenWrites fault old (sector_erases span at n) now
   erases_broken_at_sector now fault failed =
       subst (λ (ws : List Write). BrokenWrites fault old ws now) (sym (to.pieces ∙ ap (λ (ws : List Write). to.front
-      ++ ws) next_sector_erase_step))
-      (broken_in_second_part fault to.front (erase_write span place ∷ sector_erases span (place + span) (at + n - place - span)) old mid
+      ++ ws) next_sector_erase_comes_first))
+      (second_part_may_break fault to.front (erase_write span place ∷ sector_erases span (place + span) (at + n - place - span)) old mid
       now to.all
       (inl (subst (λ (k : ℕ). FailedWrite fault mid place (replicate k 255) now) sector_size_kept failed)))
 
--- If no sector is left, all are erased.
+-- If no sector is left to erase, all sectors of the range are erased.
 pub all_sectors_erased : {old mid : MediumState} {sector at n place : ℕ} → ErasedTo old mid sector at n place → at + n ≤ place
     → AllWrites old (sector_erases sector at n) mid
 all_sectors_erased {old} {mid} {sector} {at} {n} {place} to done =

@@ -14,19 +14,19 @@ use Rattle.dfu_slots.specs.Operations.{held_from}
 use Rattle.dfu_slots.specs.StoreView.{SlotsState, store_of, image_of, format_series}
 use Rattle.dfu_slots.specs.Changes.{CanFormat}
 use Rattle.dfu_slots.proofs.Stands.{sized_medium_has_two_slots}
-use Rattle.dfu_slots.proofs.Series.{AllWritesInside, SameSize, all_writes_keep_size, size_is_transitive, writes_one_after_other, broken_in_first_part, broken_in_second_part, series_after, appended_writes_inside}
+use Rattle.dfu_slots.proofs.Series.{AllWritesInside, SameSize, all_writes_keep_size, size_is_transitive, two_lists_work_as_one, first_part_may_break, second_part_may_break, series_extends, appended_writes_inside}
 use Rattle.dfu_slots.proofs.Pieces.{piece_writes_lie_inside}
-use Rattle.dfu_slots.proofs.ImagePieces.{can_format_same_size}
+use Rattle.dfu_slots.proofs.ImagePieces.{same_size_can_be_formatted}
 use Rattle.dfu_slots.proofs.Sectors.{IsSectorEdge, first_byte_is_edge, gate_room_is_multiple}
 use Rattle.dfu_slots.proofs.SlotOpened.{open_writes_in_gate_and_header}
-use Rattle.dfu_slots.proofs.Multiples.{zero_is_multiple, sum_is_multiple, filled_bytes_within, sized_on_same_size}
+use Rattle.dfu_slots.proofs.Multiples.{zero_is_multiple, sum_is_multiple, filled_bytes_within, same_size_is_sized}
 use Rattle.dfu_slots.proofs.Seeing.{active_on_same_size, image_is, IsFreshStore, medium_makes_fresh_store}
 use Rattle.dfu_slots.proofs.Formatted.{formatted_image_is_active}
 use Rattle.dfu_slots.proofs.Edges.{sized_medium_ends_at_edge, data_begins_at_edge}
-use Rattle.dfu_slots.proofs.Ahead.{writable_ahead_at_edge}
+use Rattle.dfu_slots.proofs.Ahead.{edge_is_writable_ahead}
 use Rattle.dfu_slots.proofs.Begun.{closed_gate_fits_room}
 
--- An image that fits in the data of a slot fits when it is filled up with zeros.
+-- An image that fits in the data of a slot still fits when it is filled up with zeros.
 filled_image_fits_capacity : (s : MediumState) (image : List ℕ) → CanFormat s image → length (filled_units s.grain.unit image)
     ≤ capacity_of s
 filled_image_fits_capacity s image can = filled_bytes_within s.grain.unit (capacity_of s) image can.sized.whole.units can.fits
@@ -73,12 +73,12 @@ pub record MayOpenFirst (m : MediumState) : Type 0 where
   pub within : held_from m.grain 0 0 0 + length (filled_units m.grain.unit []) ≤ length m.bytes
   pub whole : IsMultiple m.grain.unit (held_from m.grain 0 0 0)
 
--- No bytes, filled up to a unit, are no bytes.
-no_bytes_fill_no_unit : (u : WriteUnit) → filled_units u [] ≡ []
-no_bytes_fill_no_unit Byte = refl
-no_bytes_fill_no_unit U16 = refl
-no_bytes_fill_no_unit U64 = refl
-no_bytes_fill_no_unit U256 = refl
+-- No bytes, filled up to a unit, are still no bytes.
+filling_no_bytes_gives_none : (u : WriteUnit) → filled_units u [] ≡ []
+filling_no_bytes_gives_none Byte = refl
+filling_no_bytes_gives_none U16 = refl
+filling_no_bytes_gives_none U64 = refl
+filling_no_bytes_gives_none U256 = refl
 
 -- Steps of the code: it closes the gates, writes the pieces, and opens the first slot.
 module _ {s : MediumState} {image : List ℕ} (can : CanFormat s image) (mid : MediumState)
@@ -87,29 +87,29 @@ module _ {s : MediumState} {image : List ℕ} (can : CanFormat s image) (mid : M
   size_kept_after_close = all_writes_keep_size (close_writes s.grain s.bytes) s mid (close_writes_lie_inside s can.sized) closed
 
   -- After the gates are closed the image can be written.
-  pub can_format_after_close : CanFormat mid image
-  can_format_after_close = can_format_same_size size_kept_after_close can
+  pub closed_medium_can_be_formatted : CanFormat mid image
+  closed_medium_can_be_formatted = same_size_can_be_formatted size_kept_after_close can
 
-  image_writes_after_close : image_writes mid.grain image ≡ image_writes s.grain image
-  image_writes_after_close = ap (λ (w : Grain). image_writes w image) size_kept_after_close.grain
+  close_keeps_image_writes : image_writes mid.grain image ≡ image_writes s.grain image
+  close_keeps_image_writes = ap (λ (w : Grain). image_writes w image) size_kept_after_close.grain
 
-  -- If a piece fails, the `format` is broken off by its fault.
+  -- If the write of a piece fails, its fault breaks off the `format`.
   pub format_broken_at_pieces : (fault : WriteFault) (now : MediumState) → BrokenWrites fault mid (image_writes mid.grain image) now
       → BrokenWrites fault s (format_series s image) now
   format_broken_at_pieces fault now broken =
-      broken_in_first_part fault (close_writes s.grain s.bytes ++ image_writes s.grain image)
+      first_part_may_break fault (close_writes s.grain s.bytes ++ image_writes s.grain image)
       (open_writes s.grain 0 0 (length image) (register image)) s now
-      (broken_in_second_part fault (close_writes s.grain s.bytes) (image_writes s.grain image) s mid now closed
-      (subst (λ (ws : List Write). BrokenWrites fault mid ws now) image_writes_after_close broken))
+      (second_part_may_break fault (close_writes s.grain s.bytes) (image_writes s.grain image) s mid now closed
+      (subst (λ (ws : List Write). BrokenWrites fault mid ws now) close_keeps_image_writes broken))
 
   -- Facts after all pieces are written.
   module _ (filling : MediumState) (all : AllWrites mid (image_writes mid.grain image) filling) where
     pieces_written_on_medium : AllWrites mid (image_writes s.grain image) filling
-    pieces_written_on_medium = subst (λ (ws : List Write). AllWrites mid ws filling) image_writes_after_close all
+    pieces_written_on_medium = subst (λ (ws : List Write). AllWrites mid ws filling) close_keeps_image_writes all
 
     size_kept_by_pieces : SameSize mid filling
     size_kept_by_pieces = all_writes_keep_size (image_writes mid.grain image) mid filling (image_writes_lie_inside mid image
-        can_format_after_close) all
+        closed_medium_can_be_formatted) all
 
     size_kept_after_pieces : SameSize s filling
     size_kept_after_pieces = size_is_transitive size_kept_after_close size_kept_by_pieces
@@ -117,7 +117,7 @@ module _ {s : MediumState} {image : List ℕ} (can : CanFormat s image) (mid : M
     -- After all pieces the first slot may be opened.
     pub first_slot_may_open : MayOpenFirst filling
     first_slot_may_open =
-        let sized = sized_on_same_size size_kept_after_pieces can.sized in
+        let sized = same_size_is_sized size_kept_after_pieces can.sized in
         let w = filling.grain in
         let g = gate_of filling in
         let here : 0 + 2 * g ≡ held_from w 0 0 0 = omega arith in
@@ -128,10 +128,10 @@ module _ {s : MediumState} {image : List ℕ} (can : CanFormat s image) (mid : M
           slot = omega (arith, sized.even);
           place = zero_is_multiple w.unit;
           sector = first_byte_is_edge w.sector;
-          ahead = writable_ahead_at_edge filling (held_from w 0 0 0) (subst (λ (n : ℕ). IsSectorEdge w.sector n) here
+          ahead = edge_is_writable_ahead filling (held_from w 0 0 0) (subst (λ (n : ℕ). IsSectorEdge w.sector n) here
               (data_begins_at_edge w filling.bytes (sized_medium_has_two_slots filling sized) sized.whole (slot_size filling.bytes) 0 (inr
               (refl, refl))));
-          within = omega (arith, ap length (no_bytes_fill_no_unit w.unit), sized.room, sized.even);
+          within = omega (arith, ap length (filling_no_bytes_gives_none w.unit), sized.room, sized.even);
           whole = subst (λ (n : ℕ). IsMultiple w.unit n) there (sum_is_multiple w.unit g g room room);
         }
 
@@ -142,17 +142,17 @@ module _ {s : MediumState} {image : List ℕ} (can : CanFormat s image) (mid : M
         → Series s (format_series s image) r now
     format_ends_with_opening now r series =
         let w = filling.grain in
-        series_after (close_writes s.grain s.bytes ++ image_writes s.grain image)
+        series_extends (close_writes s.grain s.bytes ++ image_writes s.grain image)
         (open_writes s.grain 0 0 (length image) (register image)) s filling now r
-        (writes_one_after_other (close_writes s.grain s.bytes) (image_writes s.grain image) s mid filling closed pieces_written_on_medium)
+        (two_lists_work_as_one (close_writes s.grain s.bytes) (image_writes s.grain image) s mid filling closed pieces_written_on_medium)
         (subst (λ (v : Grain). Series filling (open_writes v 0 0 (length image) (register image)) r now) size_kept_after_pieces.grain
         (subst (λ (ws : List Write). Series filling (ws ++ open_writes w 0 0 (length image) (register image)) r now)
-        (ap (λ (l : List ℕ). write_some w.sector (held_from w 0 0 0) l) (no_bytes_fill_no_unit w.unit)) series))
+        (ap (λ (l : List ℕ). write_some w.sector (held_from w 0 0 0) l) (filling_no_bytes_gives_none w.unit)) series))
 
--- The test before a `format` gives the facts that it needs.
-pub can_format_from_test : {s : MediumState} (image : List ℕ) {a b : ℕ} → IsSizedMedium s → length image ≤ b → b ≡ a → a ≡ capacity_of s
+-- A medium and an image that pass the checks of `format` can be formatted.
+pub tested_can_be_formatted : {s : MediumState} (image : List ℕ) {a b : ℕ} → IsSizedMedium s → length image ≤ b → b ≡ a → a ≡ capacity_of s
     → CanFormat s image
-can_format_from_test image sized le one two = record { sized = sized; fits = omega (arith, le, one, two) }
+tested_can_be_formatted image sized le one two = record { sized = sized; fits = omega (arith, le, one, two) }
 
 -- The store after a `format` has the image, and nothing was put on it.
 pub record StoreAfterFormat (x : SlotsState) (image : List ℕ) : Type 0 where
@@ -173,8 +173,8 @@ format_leaves_its_store {s} {image} now can all {held} {put_end} none zero_is =
     }
 
 -- The data of the first slot can be written from its beginning, because a sector begins there.
-pub first_data_writable_ahead : (m : MediumState) → IsSizedMedium m → IsWritableAhead m (2 * gate_of m)
-first_data_writable_ahead m sized =
+pub first_data_is_writable_ahead : (m : MediumState) → IsSizedMedium m → IsWritableAhead m (2 * gate_of m)
+first_data_is_writable_ahead m sized =
     let here : 0 + 2 * gate_of m ≡ 2 * gate_of m = omega arith in
-    writable_ahead_at_edge m (2 * gate_of m) (subst (λ (n : ℕ). IsSectorEdge m.grain.sector n) here
+    edge_is_writable_ahead m (2 * gate_of m) (subst (λ (n : ℕ). IsSectorEdge m.grain.sector n) here
     (data_begins_at_edge m.grain m.bytes (sized_medium_has_two_slots m sized) sized.whole (slot_size m.bytes) 0 (inr (refl, refl))))

@@ -1,4 +1,4 @@
--- Bytes of the puts that are held back.
+-- Bytes that a put holds back.
 use Rattle.std.proofs.Common.{◌≡◌, ◌≢◌, ℕ, ◌+◌, ◌-◌, ◌%◌, ◌≤◌, ◌<◌, min, List, ◌++◌, length, take, drop, ⊎_elim, sym, ◌∙◌, ap, arith, length-append}
 use Rattle.std.proofs.lemmas.Bool.{cases_lt}
 use Rattle.std.proofs.lemmas.List.{append-nil, drop_at, length-take-le, take-append-le, take-take}
@@ -8,16 +8,16 @@ use Rattle.dfu_slots.specs.Medium.{written}
 use Rattle.dfu_slots.specs.Writes.{put_rest}
 use Rattle.dfu_slots.proofs.Torn.{drop_in_two_steps}
 use Rattle.dfu_slots.proofs.Within.{take_past_first_list}
-use Rattle.dfu_slots.proofs.Multiples.{part_at_most_length, whole_part_is_multiple, multiple_has_a_unit}
+use Rattle.dfu_slots.proofs.Multiples.{rest_at_most_length, whole_part_is_multiple, multiple_has_a_unit}
 
--- If the put makes a unit full, the end of the block is held back.
-pub block_end_held : (u : WriteUnit) (held bytes : List ℕ) (n size : ℕ) → n ≡ length held → size ≡ unit_size u → length held < unit_size u
+-- If the put fills a unit, the bytes held back afterwards are the end of the block.
+pub rest_ends_block : (u : WriteUnit) (held bytes : List ℕ) (n size : ℕ) → n ≡ length held → size ≡ unit_size u → length held < unit_size u
     → (n + length bytes) % size ≢ n + length bytes
     → drop (length bytes - (n + length bytes) % size) bytes ≡ put_rest u held bytes
-block_end_held u held bytes n size n_is size_is part more =
+rest_ends_block u held bytes n size n_is size_is part more =
     let all = length held + length bytes in
     let rest : (n + length bytes) % size ≡ all % unit_size u = λ i. (n_is i + length bytes) % size_is i in
-    let le = part_at_most_length u all in
+    let le = rest_at_most_length u all in
     let some : 0 < all - all % unit_size u = omega (arith, le, rest, n_is, more) in
     let full = multiple_has_a_unit u (all - all % unit_size u) (whole_part_is_multiple u all) some in
     let whole : whole_part u (length (held ++ bytes)) ≡ all - all % unit_size u = ap (λ (k : ℕ). whole_part u k) (length-append held bytes) in
@@ -27,10 +27,10 @@ block_end_held u held bytes n size n_is size_is part more =
     ∙ sym (drop_in_two_steps (held ++ bytes) (length held) k (omega (arith, whole, full, part))
     ∙ ap (λ (l : List ℕ). drop (k - length held) l) (drop_at held bytes (length held) (omega arith)))
 
--- A front of the data, and then one of the held bytes, are the front of the data with the held bytes written at their place.
-pub front_with_held_bytes : (d held : List ℕ) (at len front : ℕ) → front ≡ min at len → at ≤ length d → len ≤ at + length held
+-- A prefix of the data with the held bytes written at their place is a prefix of the data, followed by a prefix of the held bytes.
+pub front_splits_at_held_bytes : (d held : List ℕ) (at len front : ℕ) → front ≡ min at len → at ≤ length d → len ≤ at + length held
     → take front d ++ take (len - front) held ≡ take len (written d at held)
-front_with_held_bytes d held at len front is fits le =
+front_splits_at_held_bytes d held at len front is fits le =
     let size = length-take-le at d fits in
     let cut = take-append-le len (take at d ++ held) (drop (at + length held) d) (omega (arith, size, le, length-append (take at d) held)) in
     ⊎_elim

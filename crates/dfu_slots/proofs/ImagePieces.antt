@@ -1,4 +1,4 @@
--- An image that is written piece by piece, as the operations of its sequence go.
+-- An image that is written piece by piece, by the operations of its sequence.
 use Rattle.std.proofs.Common.{◌≡◌, ℕ, ◌+◌, ◌*◌, ◌≤◌, ◌<◌, List, [], length, take, drop, refl, sym, ◌∙◌, ap, subst, arith, length-drop}
 use Rattle.std.proofs.lemmas.List.{length-take, drop_all, drop-drop}
 use Rattle.dfu_slots.specs.Units.{Grain, gate_room, IsMultiple, fill_size, filled_units}
@@ -6,25 +6,25 @@ use Rattle.dfu_slots.specs.declared.sequence.Sequence.TheVariants.{Image}
 use Rattle.dfu_slots.specs.declared.fault.WriteFault.{WriteFault}
 use Rattle.dfu_slots.specs.Medium.{MediumState, Write, AllWrites, BrokenWrites, IsWritableAhead}
 use Rattle.dfu_slots.specs.Image.{gate_of, capacity_of}
-use Rattle.dfu_slots.specs.Writes.{write_anew, write_some, image_writes}
+use Rattle.dfu_slots.specs.Writes.{erasing_write, write_some, image_writes}
 use Rattle.dfu_slots.specs.Operations.{ops_writes, operations}
 use Rattle.dfu_slots.specs.Changes.{CanFormat}
 use Rattle.dfu_slots.specs.inside.Carry.{MayWritePiece}
 use Rattle.dfu_slots.proofs.Series.{SameSize, size_is_transitive}
 use Rattle.dfu_slots.proofs.SizedOn.{write_some_keeps_size}
-use Rattle.dfu_slots.proofs.Ahead.{erased_ahead_of_some_bytes}
-use Rattle.dfu_slots.proofs.Multiples.{zero_is_multiple, sum_is_multiple, piece_size_is_multiple, filled_units_length, filled_bytes_within, sized_on_same_size}
+use Rattle.dfu_slots.proofs.Ahead.{some_bytes_leave_blank_ahead}
+use Rattle.dfu_slots.proofs.Multiples.{zero_is_multiple, sum_is_multiple, piece_size_is_multiple, filled_length_sums, filled_bytes_within, same_size_is_sized}
 use Rattle.dfu_slots.proofs.Pieces.{PiecesWrittenTo, no_piece_written, next_piece_written, pieces_broken_at_next, all_pieces_written}
-use Rattle.dfu_slots.proofs.Sequences.{write_some_is_write_anew, image_ops_make_writes}
+use Rattle.dfu_slots.proofs.Sequences.{nonempty_write_is_erasing, image_ops_make_writes}
 
 -- A medium of the same size can be formatted if the first one can.
-pub can_format_same_size : {s mid : MediumState} {image : List ℕ} → SameSize s mid → CanFormat s image → CanFormat mid image
-can_format_same_size same can = record {
-  sized = sized_on_same_size same can.sized;
+pub same_size_can_be_formatted : {s mid : MediumState} {image : List ℕ} → SameSize s mid → CanFormat s image → CanFormat mid image
+same_size_can_be_formatted same can = record {
+  sized = same_size_is_sized same can.sized;
   fits = omega (arith, can.fits, same.size, ap gate_room same.grain);
 }
 
--- Units of an image as they are written to a medium.
+-- Image as it is written to a medium: filled up to a unit.
 abbrev pub image_units : MediumState → List ℕ → List ℕ
 image_units m image = filled_units m.grain.unit image
 
@@ -58,22 +58,22 @@ module _ {old mid : MediumState} {image : List ℕ} {from : ℕ} (can : CanForma
   abbrev g : ℕ
   g = gate_of old
 
-  -- After the last piece all is written.
+  -- After the last piece, all writes of the image are made.
   pub all_image_pieces_written : length image + fill_size old.grain.unit (length image) ≤ from →
       AllWrites old (image_writes old.grain image) mid
   all_image_pieces_written end =
-      all_pieces_written (way.told (2 * g + from) refl) (drop_all from units (omega (arith, end, filled_units_length old.grain.unit image)))
+      all_pieces_written (way.told (2 * g + from) refl) (drop_all from units (omega (arith, end, filled_length_sums old.grain.unit image)))
 
   module _ (more : from < length image + fill_size old.grain.unit (length image)) where
     some : from < length units
-    some = omega (arith, more, filled_units_length old.grain.unit image)
+    some = omega (arith, more, filled_length_sums old.grain.unit image)
 
     -- The next piece may be written.
     pub next_piece_may_be_written : MayWritePiece mid image from
     next_piece_may_be_written =
         let grain = way.same.grain in
         record {
-          can = can_format_same_size way.same can;
+          can = same_size_can_be_formatted way.same can;
           more = omega (arith, more, ap (λ (w : Grain). fill_size w.unit (length image)) grain);
           whole = subst (λ (w : Grain). IsMultiple w.unit from) (sym grain) way.whole;
           ahead = subst (λ (w : Grain). IsWritableAhead mid (2 * gate_room w + from)) (sym grain) (way.ahead some);
@@ -85,26 +85,26 @@ module _ {old mid : MediumState} {image : List ℕ} {from : ℕ} (can : CanForma
     abbrev next_piece_writes : List Write
     next_piece_writes = ops_writes mid.grain.sector [] image [] (operations mid.grain (Image from (length image)))
 
-    -- The writes of the next piece are those on the medium of before, because it has the same grain.
+    -- The writes of the next piece are the same as on the medium before the first piece, because the grain is the same.
     next_writes_are_write_some : next_piece_writes ≡ write_some old.grain.sector (2 * g + from) next_bytes
     next_writes_are_write_some =
         image_ops_make_writes mid.grain image [] from
         ∙ (λ i. write_some (way.same.grain i).sector (2 * gate_room (way.same.grain i) + from)
         (take 4096 (drop from (filled_units (way.same.grain i).unit image))))
 
-    next_piece_writes_anew : next_piece_writes ≡ write_anew old.grain.sector (2 * g + from) next_bytes
+    next_piece_writes_anew : next_piece_writes ≡ erasing_write old.grain.sector (2 * g + from) next_bytes
     next_piece_writes_anew = next_writes_are_write_some
-        ∙ write_some_is_write_anew old.grain.sector (2 * g + from) next_bytes
+        ∙ nonempty_write_is_erasing old.grain.sector (2 * g + from) next_bytes
         (omega (arith, some, length-take 4096 (drop from units), length-drop from units))
 
-    unwritten_units_left : 0 < length (drop from units)
-    unwritten_units_left = omega (arith, some, length-drop from units)
+    bytes_left_before_last_piece : 0 < length (drop from units)
+    bytes_left_before_last_piece = omega (arith, some, length-drop from units)
 
-    -- If the next piece fails, the writes of the image are broken off by its fault.
+    -- If the write of the next piece fails, its fault breaks off the writes of the image.
     pub broken_piece_breaks_image : (fault : WriteFault) (now : MediumState) → BrokenWrites fault mid next_piece_writes now
         → BrokenWrites fault old (image_writes old.grain image) now
     broken_piece_breaks_image fault now broken =
-        pieces_broken_at_next (way.told (2 * g + from) refl) unwritten_units_left now fault
+        pieces_broken_at_next (way.told (2 * g + from) refl) bytes_left_before_last_piece now fault
         (subst (λ (ws : List Write). BrokenWrites fault mid ws now) next_piece_writes_anew broken)
 
     next_piece_fits_medium : 2 * g + from + length next_bytes ≤ length mid.bytes
@@ -119,10 +119,10 @@ module _ {old mid : MediumState} {image : List ℕ} {from : ℕ} (can : CanForma
       some,
     )
 
-    -- If the next piece is written, one piece more is.
+    -- After the next piece is written, the image is written up to the end of that piece.
     pub next_image_piece_written : (now : MediumState) → AllWrites mid next_piece_writes now → ImageWrittenUpTo old now image (from + 4096)
     next_image_piece_written now all =
-        let sized = (can_format_same_size way.same can).sized in
+        let sized = (same_size_can_be_formatted way.same can).sized in
         let put : AllWrites mid (write_some mid.grain.sector (2 * g + from) next_bytes) now =
         subst (λ (ws : List Write). AllWrites mid ws now)
         (next_writes_are_write_some ∙ ap (λ (w : Grain). write_some w.sector (2 * g + from) next_bytes) (sym way.same.grain)) all in
@@ -132,13 +132,13 @@ module _ {old mid : MediumState} {image : List ℕ} {from : ℕ} (can : CanForma
           ahead = λ further.
               let there : 2 * g + from + length next_bytes ≡ 2 * g + (from + 4096) =
               omega (arith, further, length-take 4096 (drop from units), length-drop from units) in
-              subst (λ (k : ℕ). IsWritableAhead now k) there (erased_ahead_of_some_bytes mid now (2 * g + from) next_bytes sized
+              subst (λ (k : ℕ). IsWritableAhead now k) there (some_bytes_leave_blank_ahead mid now (2 * g + from) next_bytes sized
               next_piece_fits_medium put (way.ahead some));
           told = λ place is.
               let there : 2 * g + from + 4096 ≡ place = omega (arith, is) in
               subst (λ (k : ℕ). PiecesWrittenTo old now old.grain.sector (length units) (2 * g) units k (drop (from + 4096) units)) there
               (subst (λ (l : List ℕ). PiecesWrittenTo old now old.grain.sector (length units) (2 * g) units (2 * g + from + 4096) l)
               (drop-drop 4096 from units)
-              (next_piece_written (way.told (2 * g + from) refl) unwritten_units_left now
+              (next_piece_written (way.told (2 * g + from) refl) bytes_left_before_last_piece now
               (subst (λ (ws : List Write). AllWrites mid ws now) next_piece_writes_anew all)));
         }

@@ -12,7 +12,7 @@ use Rattle.dfu_slots.proofs.Stands.{sized_medium_has_two_slots}
 use Rattle.dfu_slots.proofs.Newest.{spare_place_ends_within}
 use Rattle.dfu_slots.proofs.Series.{SameSize}
 
--- Sums.
+-- Multiples of a unit, and their sums.
 
 -- 0 is a multiple of every unit.
 pub zero_is_multiple : (u : WriteUnit) → IsMultiple u 0
@@ -34,72 +34,72 @@ pub sum_is_multiple : (u : WriteUnit) (a b : ℕ) → IsMultiple u a → IsMulti
 sum_is_multiple Byte a b x y = omega (arith, x, y)
 sum_is_multiple _ a b x y = omega (arith, x, y)
 
--- Parts.
+-- Rests: the bytes of a length after its whole units.
 
--- The part of a length that makes no whole unit is no more than the length.
-pub part_at_most_length : (u : WriteUnit) (n : ℕ) → n % unit_size u ≤ n
-part_at_most_length Byte n = omega arith
-part_at_most_length _ n = omega arith
+-- The rest of a length is at most the length.
+pub rest_at_most_length : (u : WriteUnit) (n : ℕ) → n % unit_size u ≤ n
+rest_at_most_length Byte n = omega arith
+rest_at_most_length _ n = omega arith
 
--- The whole units of a length make a multiple.
+-- The whole units of a length are a multiple of the unit.
 pub whole_part_is_multiple : (u : WriteUnit) (n : ℕ) → IsMultiple u (whole_part u n)
 whole_part_is_multiple Byte n = omega arith
 whole_part_is_multiple _ n = omega arith
 
--- No bytes leave no part.
-pub no_part_of_no_bytes : (u : WriteUnit) → 0 % unit_size u ≡ 0
-no_part_of_no_bytes u = zero_is_multiple u
+-- The length 0 has no rest.
+pub zero_length_has_no_rest : (u : WriteUnit) → 0 % unit_size u ≡ 0
+zero_length_has_no_rest u = zero_is_multiple u
 
--- The part that makes no whole unit does not depend on the whole units before it.
-pub part_after_whole_units : (u : WriteUnit) (n k : ℕ) → (n % unit_size u + k) % unit_size u ≡ (n + k) % unit_size u
-part_after_whole_units Byte n k = omega arith
-part_after_whole_units _ n k = omega arith
+-- The rest of n + k is the rest of k plus the rest of n.
+pub rest_of_sum_by_rests : (u : WriteUnit) (n k : ℕ) → (n % unit_size u + k) % unit_size u ≡ (n + k) % unit_size u
+rest_of_sum_by_rests Byte n k = omega arith
+rest_of_sum_by_rests _ n k = omega arith
 
--- A multiple that is not 0 has a unit at least.
+-- A multiple of the unit other than 0 is at least one unit.
 pub multiple_has_a_unit : (u : WriteUnit) (w : ℕ) → IsMultiple u w → 0 < w → unit_size u ≤ w
 multiple_has_a_unit Byte w x some = omega (arith, x, some)
 multiple_has_a_unit _ w x some = omega (arith, x, some)
 
 -- Lengths that are filled up with zeros.
 
--- If bytes from a whole place on end within a whole length, they end within it filled up too.
+-- Bytes that begin at a multiple of the unit and end within one still do so when filled up with zeros.
 fill_ends_within_multiple : (u : WriteUnit) (k n c : ℕ) → IsMultiple u k → IsMultiple u c → k + n ≤ c → k + (n + fill_size u n) ≤ c
 fill_ends_within_multiple Byte k n c x y le = omega (arith, x, y, le)
 fill_ends_within_multiple _ k n c x y le = omega (arith, x, y, le)
 
--- Filled bytes are as long as the bytes and the zeros.
-pub filled_units_length : (u : WriteUnit) (bytes : List ℕ) → length (filled_units u bytes) ≡ length bytes + fill_size u (length bytes)
-filled_units_length u bytes = length-append bytes (replicate (fill_size u (length bytes)) 0)
+-- The length of filled bytes is that of the bytes plus the number of zeros.
+pub filled_length_sums : (u : WriteUnit) (bytes : List ℕ) → length (filled_units u bytes) ≡ length bytes + fill_size u (length bytes)
+filled_length_sums u bytes = length-append bytes (replicate (fill_size u (length bytes)) 0)
     ∙ ap (λ (n : ℕ). length bytes + n) (length-replicate {A = ℕ} (fill_size u (length bytes)) 0)
 
 filled_units_end_within : (u : WriteUnit) (k c : ℕ) (bytes : List ℕ) → IsMultiple u k → IsMultiple u c → k + length bytes ≤ c
     → k + length (filled_units u bytes) ≤ c
 filled_units_end_within u k c bytes x y le = omega (
   arith,
-  filled_units_length u bytes,
+  filled_length_sums u bytes,
   fill_ends_within_multiple u k (length bytes) c x y
       le,
 )
 
--- If bytes fit in a whole length, they fit filled up too.
+-- Bytes that fit in a multiple of the unit still fit when filled up with zeros.
 pub filled_bytes_within : (u : WriteUnit) (c : ℕ) (bytes : List ℕ) → IsMultiple u c → length bytes ≤ c → length (filled_units u bytes) ≤ c
 filled_bytes_within u c bytes whole le = omega
-    (arith, filled_units_length u bytes, fill_ends_within_multiple u 0 (length bytes) c (zero_is_multiple u) whole (omega (arith, le)))
+    (arith, filled_length_sums u bytes, fill_ends_within_multiple u 0 (length bytes) c (zero_is_multiple u) whole (omega (arith, le)))
 
--- Places of a medium.
+-- Media of the same size.
 
 -- A capacity that is whole in the grain is whole on a medium of the same size.
-pub whole_on_same_size : {m n : MediumState} → SameSize m n → IsWhole m.grain (capacity_of m) → IsWhole n.grain (capacity_of n)
-whole_on_same_size {m} {n} same whole = subst (λ (w : Grain). IsWhole w (length n.bytes / 2 - 2 * gate_room w)) (sym same.grain)
+pub same_size_is_whole : {m n : MediumState} → SameSize m n → IsWhole m.grain (capacity_of m) → IsWhole n.grain (capacity_of n)
+same_size_is_whole {m} {n} same whole = subst (λ (w : Grain). IsWhole w (length n.bytes / 2 - 2 * gate_room w)) (sym same.grain)
     (subst (λ (k : ℕ). IsWhole m.grain (k / 2 - 2 * gate_of m)) (sym same.size) whole)
 
 -- A medium of the same size as one of two slots has two slots.
-pub sized_on_same_size : {m n : MediumState} → SameSize m n → IsSizedMedium m → IsSizedMedium n
-sized_on_same_size same sized = record {
+pub same_size_is_sized : {m n : MediumState} → SameSize m n → IsSizedMedium m → IsSizedMedium n
+same_size_is_sized same sized = record {
   even = omega (arith, same.size, sized.even);
   room = omega (arith, same.size, ap gate_room same.grain, sized.room);
   bound = omega (arith, same.size, ap gate_room same.grain, sized.bound);
-  whole = whole_on_same_size same sized.whole;
+  whole = same_size_is_whole same sized.whole;
 }
 
 -- Held bytes.
@@ -107,7 +107,7 @@ sized_on_same_size same sized = record {
 module _ (s : SlotsState) (puts : HasPutBytes s) where
   -- The held bytes end where the puts end.
   pub held_bytes_end_at_put_end : held_data_place s + length s.held ≡ s.put_end
-  held_bytes_end_at_put_end = omega (arith, puts.part, part_at_most_length s.medium.grain.unit s.put_end)
+  held_bytes_end_at_put_end = omega (arith, puts.part, rest_at_most_length s.medium.grain.unit s.put_end)
 
   held_place_is_multiple : IsMultiple s.medium.grain.unit (held_data_place s)
   held_place_is_multiple =

@@ -5,7 +5,7 @@ use Rattle.dfu_slots.specs.Layout.{slot_size, capacity, Slot, slot, next_generat
 use Rattle.dfu_slots.specs.Image.{IsNewest, slot_counts, is_newest, first_is_active, active_at, spare_at, spare}
 use Rattle.dfu_slots.proofs.Parts.{data_length}
 use Rattle.dfu_slots.proofs.Stands.{HasTwoSlots, ActiveAt}
-use Rattle.dfu_slots.proofs.Counting.{counting_slot_passes, uncounted_slot_fails, passing_slot_counts, failing_slot_counts_not}
+use Rattle.dfu_slots.proofs.Counting.{counting_slot_passes, uncounted_slot_fails, passing_slot_counts, failing_slot_does_not_count}
 
 -- The newest slot passes the test.
 pub newest_slot_passes_test : (mine other : Slot) → IsNewest mine other → is_newest mine other ≡ true
@@ -22,7 +22,7 @@ tested_slot_is_newest mine other test =
     let parts = and_parts (slot_counts mine) _ test in
     record {
       counts = passing_slot_counts mine parts.0;
-      other_is_older = ⊎_elim (λ off. inl (failing_slot_counts_not other (not-true _ off))) (λ other_is_older. inr (eqb-true _ _
+      other_is_older = ⊎_elim (λ off. inl (failing_slot_does_not_count other (not-true _ off))) (λ other_is_older. inr (eqb-true _ _
           other_is_older))
           (or_cases (not (slot_counts other)) _ parts.1);
     }
@@ -39,10 +39,10 @@ other_slot_fails_test mine other a =
     (ne_eqb _ _ (λ e. generations_not_each_next _ _ other_is_older e))))
     a.other_is_older
 
--- The newest slot is at the place that the test finds, and the other one is at the spare's.
-pub places_of_newest_slot : (g : ℕ) (bytes : List ℕ) (mine other : ℕ) → ArePlaces bytes mine other
+-- The test finds the newest slot as the active one, and the other slot as the spare.
+pub test_finds_newest_slot : (g : ℕ) (bytes : List ℕ) (mine other : ℕ) → ArePlaces bytes mine other
     → IsNewest (slot g bytes mine) (slot g bytes other) → (mine ≡ active_at g bytes) × (other ≡ spare_at g bytes)
-places_of_newest_slot g bytes mine other places newest =
+test_finds_newest_slot g bytes mine other places newest =
     ⊎_elim
     (λ p.
     let is_first : first_is_active g bytes ≡ true =
@@ -61,12 +61,12 @@ places_of_newest_slot g bytes mine other places newest =
     places
 
 -- The test finds the places of an active image and of its spare.
-pub places_of_active_image : (g : ℕ) (bytes : List ℕ) (mine other : ℕ) (image : List ℕ) → ActiveAt g bytes mine other image → (mine
+pub test_finds_active_image : (g : ℕ) (bytes : List ℕ) (mine other : ℕ) (image : List ℕ) → ActiveAt g bytes mine other image → (mine
     ≡ active_at g bytes)
     × (other ≡ spare_at g bytes)
-places_of_active_image g bytes mine other image a = places_of_newest_slot g bytes mine other a.places a.newest
+test_finds_active_image g bytes mine other image a = test_finds_newest_slot g bytes mine other a.places a.newest
 
--- The test finds the places of the two slots, in one order or the other.
+-- The test finds the places of the two slots, in either order.
 pub tested_places_are_slots : (g : ℕ) (bytes : List ℕ) → ArePlaces bytes (active_at g bytes) (spare_at g bytes)
 tested_places_are_slots g bytes = elim (cases_Bool (first_is_active g bytes)) [
   | inl first ↦ inl (
@@ -96,7 +96,7 @@ pub spare_place_ends_within : (g : ℕ) (bytes : List ℕ) → HasTwoSlots g byt
 spare_place_ends_within g bytes sized = (slot_place_ends_within g bytes (active_at g bytes) (spare_at g bytes) sized
     (tested_places_are_slots g bytes)).1
 
--- The spare's data has as many bytes as the gate and the header leave of the slot.
+-- The spare's data has as many bytes as the capacity.
 pub spare_data_has_capacity : (g : ℕ) (bytes : List ℕ) → HasTwoSlots g bytes → length (spare g bytes).data_bytes ≡ capacity g bytes
 spare_data_has_capacity g bytes sized = data_length g bytes (spare_at g bytes) (spare_place_ends_within g bytes sized) (omega (
   arith,

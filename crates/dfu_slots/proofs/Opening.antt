@@ -6,8 +6,8 @@ use Rattle.dfu_slots.specs.Medium.{MediumState}
 use Rattle.dfu_slots.specs.Layout.{slot_size, Slot, slot, HasHeader, ArePlaces}
 use Rattle.dfu_slots.specs.Image.{SlotCounts, gate_of, slot_of, IsSizedMedium, IsNewest, HasImage, slot_counts, is_newest, first_is_active, active_at, spare_at}
 use Rattle.dfu_slots.specs.Changes.{FirstSlotCounts, SecondSlotCounts, HasNewest, HasBadHeader}
-use Rattle.dfu_slots.proofs.Counting.{passing_slot_counts, failing_slot_counts_not}
-use Rattle.dfu_slots.proofs.Newest.{newest_slot_passes_test, tested_slot_is_newest, places_of_newest_slot, tested_places_are_slots}
+use Rattle.dfu_slots.proofs.Counting.{passing_slot_counts, failing_slot_does_not_count}
+use Rattle.dfu_slots.proofs.Newest.{newest_slot_passes_test, tested_slot_is_newest, test_finds_newest_slot, tested_places_are_slots}
 
 neither_newest_so_both_count : (x y : Slot) → is_newest x y ≡ false → is_newest y x ≡ false → ¬ ((¬ SlotCounts x) × (¬ SlotCounts y)) →
     SlotCounts x
@@ -16,12 +16,12 @@ neither_newest_so_both_count x y a b some = elim (cases_Bool (slot_counts x)) [
   | inl p ↦ elim (cases_Bool (slot_counts y)) [
     | inl q ↦ (passing_slot_counts x p, passing_slot_counts y q)
     | inr q ↦ absurd (both_ways (is_newest x y) a (newest_slot_passes_test x y
-        (record { counts = passing_slot_counts x p; other_is_older = inl (failing_slot_counts_not y q) })))
+        (record { counts = passing_slot_counts x p; other_is_older = inl (failing_slot_does_not_count y q) })))
   ]
   | inr p ↦ elim (cases_Bool (slot_counts y)) [
     | inl q ↦ absurd (both_ways (is_newest y x) b (newest_slot_passes_test y x
-        (record { counts = passing_slot_counts y q; other_is_older = inl (failing_slot_counts_not x p) })))
-    | inr q ↦ absurd (some (failing_slot_counts_not x p, failing_slot_counts_not y q))
+        (record { counts = passing_slot_counts y q; other_is_older = inl (failing_slot_does_not_count x p) })))
+    | inr q ↦ absurd (some (failing_slot_does_not_count x p, failing_slot_does_not_count y q))
   ]
 ]
 
@@ -43,21 +43,21 @@ module _ (m : MediumState) where
   abbrev g : ℕ
   g = gate_of m
 
-  -- True if the slot at the active place passes the test beside the one at the spare place.
+  -- True if the slot at the active place is the newest beside the one at the spare place.
   abbrev is_found_slot_newest : Bool
   is_found_slot_newest = is_newest (slot_of m (active_at g m.bytes)) (slot_of m (spare_at g m.bytes))
 
-  two_counting_slots : is_found_slot_newest ≡ false → ¬ ((¬ FirstSlotCounts m) × (¬ SecondSlotCounts m)) → FirstSlotCounts m
+  both_slots_count : is_found_slot_newest ≡ false → ¬ ((¬ FirstSlotCounts m) × (¬ SecondSlotCounts m)) → FirstSlotCounts m
       × SecondSlotCounts m
       × (¬ HasNewest m)
-  two_counting_slots test some =
+  both_slots_count test some =
       let tests = both_newest_tests_fail g m.bytes test (first_is_active g m.bytes) refl in
       let both = neither_newest_so_both_count (slot_of m 0) (slot_of m (slot_size m.bytes)) tests.0 tests.1 some in
       (both.0, both.1, λ one. none one)
     where
       none : ¬ HasNewest m
       none one =
-          let p = places_of_newest_slot g m.bytes one.at one.other one.places one.newest in
+          let p = test_finds_newest_slot g m.bytes one.at one.other one.places one.newest in
           both_ways _ test (newest_slot_passes_test _ _ (subst (λ (q : ℕ). IsNewest (slot_of m q) (slot_of m (spare_at g m.bytes))) p.0
           (subst (λ (q : ℕ). IsNewest (slot_of m one.at) (slot_of m q)) p.1 one.newest)))
 
@@ -83,25 +83,25 @@ module _ (m : MediumState) where
 
   -- Results of the test at the places that were found.
   module _ {p q : ℕ} (at_active : p ≡ active_at g m.bytes) (at_spare : q ≡ spare_at g m.bytes) where
-    test_at_found_places : (b : Bool) → is_newest (slot_of m p) (slot_of m q) ≡ b → is_found_slot_newest ≡ b
-    test_at_found_places b test = sym (λ i. is_newest (slot_of m (at_active i)) (slot_of m (at_spare i))) ∙ test
+    found_places_decide_test : (b : Bool) → is_newest (slot_of m p) (slot_of m q) ≡ b → is_found_slot_newest ≡ b
+    found_places_decide_test b test = sym (λ i. is_newest (slot_of m (at_active i)) (slot_of m (at_spare i))) ∙ test
 
-    -- If neither slot is the newest, and one counts, both do, and neither follows the other.
-    pub two_counting_slots_found : is_newest (slot_of m p) (slot_of m q) ≡ false → ¬ ((¬ FirstSlotCounts m) × (¬ SecondSlotCounts m))
+    -- If neither slot is the newest, and one counts, both count, and neither is one generation newer.
+    pub found_places_have_two_counting : is_newest (slot_of m p) (slot_of m q) ≡ false → ¬ ((¬ FirstSlotCounts m) × (¬ SecondSlotCounts m))
         → FirstSlotCounts m
         × SecondSlotCounts m × (¬ HasNewest m)
-    two_counting_slots_found test some = two_counting_slots (test_at_found_places false test) some
+    found_places_have_two_counting test some = both_slots_count (found_places_decide_test false test) some
 
     -- If the slot that was found is the newest and has a well-formed header, the medium has an active image.
-    pub image_at_found_places : (len : ℕ) → IsSizedMedium m → is_newest (slot_of m p) (slot_of m q) ≡ true → HasHeader (slot_of m p) len
+    pub tested_places_have_image : (len : ℕ) → IsSizedMedium m → is_newest (slot_of m p) (slot_of m q) ≡ true → HasHeader (slot_of m p) len
         → HasImage m
-    image_at_found_places len sized test head = tested_medium_has_image len sized (test_at_found_places true test)
+    tested_places_have_image len sized test head = tested_medium_has_image len sized (found_places_decide_test true test)
         (subst (λ (r : ℕ). HasHeader (slot_of m r) len) at_active head)
 
     -- If the slot that was found is the newest and has no well-formed header, the medium has a bad header.
-    pub bad_header_at_found_places : is_newest (slot_of m p) (slot_of m q) ≡ true → ((len : ℕ) → ¬ HasHeader (slot_of m p) len) →
+    pub found_places_have_bad_header : is_newest (slot_of m p) (slot_of m q) ≡ true → ((len : ℕ) → ¬ HasHeader (slot_of m p) len) →
         HasBadHeader m
-    bad_header_at_found_places test none = record {
+    found_places_have_bad_header test none = record {
       newest = record {
         at = p;
         other = q;

@@ -1,23 +1,23 @@
--- Parts of a slot, and what a change elsewhere leaves of them.
+-- Parts of a slot, which stay when other bytes change.
 use Rattle.std.proofs.Common.{◌≡◌, ◌⊎◌, inl, inr, ⊎_elim, ℕ, ◌+◌, ◌-◌, ◌*◌, ◌/◌, ◌≤◌, ◌<◌, List, length, get_or, drop, replicate, slice_index, slice_range, sym, ◌∙◌, ap, arith, length-append, length-drop}
 use Rattle.std.proofs.lemmas.List.{get_or-take, get_or-drop, length-take-le, length-replicate}
-use Rattle.dfu_slots.specs.Medium.{FrameOutside}
+use Rattle.dfu_slots.specs.Medium.{ChangedWithin}
 use Rattle.dfu_slots.specs.Layout.{slot_size, capacity, slot, generation, header, HasHeader, gate_unit, header_unit}
 use Rattle.dfu_slots.proofs.Stands.{HasTwoSlots}
 use Rattle.dfu_slots.proofs.Torn.{range_kept_outside_write, byte_kept_outside_write}
 
--- A gate unit as it is written has the size of a gate.
-pub gate_unit_length : (g gate : ℕ) → 16 ≤ g → length (gate_unit g gate) ≡ g
-gate_unit_length g gate wide = omega (arith, length-replicate {A = ℕ} (g - 1) 0)
+-- A gate unit has the size of a gate.
+pub gate_unit_has_size : (g gate : ℕ) → 16 ≤ g → length (gate_unit g gate) ≡ g
+gate_unit_has_size g gate wide = omega (arith, length-replicate {A = ℕ} (g - 1) 0)
 
--- A header unit as it is written has the size of a gate.
-pub header_unit_length : (g gen len crc : ℕ) → 16 ≤ g → length (header_unit g gen len crc) ≡ g
-header_unit_length g gen len crc wide = omega
+-- A header unit has the size of a gate.
+pub header_unit_has_size : (g gen len crc : ℕ) → 16 ≤ g → length (header_unit g gen len crc) ≡ g
+header_unit_has_size g gen len crc wide = omega
     (arith, length-append (header 2 gen len crc) (replicate (g - 16) 0), length-replicate {A = ℕ} (g - 16) 0)
 
--- The first byte after the gate unit is the generation.
-pub generation_byte_in_slot : (g : ℕ) (bytes : List ℕ) (at : ℕ) → slice_index bytes (at + g) ≡ generation (slot g bytes at)
-generation_byte_in_slot g bytes at =
+-- The first byte behind the gate of a slot is the slot's generation.
+pub generation_follows_gate : (g : ℕ) (bytes : List ℕ) (at : ℕ) → slice_index bytes (at + g) ≡ generation (slot g bytes at)
+generation_follows_gate g bytes at =
     let e : at + g ≡ at + g + 0 = omega arith in
     ap (λ (k : ℕ). get_or bytes k 0) e ∙ sym (get_or-drop (at + g) bytes 0 0)
     ∙ sym (get_or-take (at + g + 16 - (at + g)) (drop (at + g) bytes) 0 0 (omega arith))
@@ -31,7 +31,7 @@ data_length g bytes at end room = omega (
       (omega (arith, length-drop (at + 2 * g) bytes, end)),
 )
 
--- Sixteen bytes that were read after the gate unit, and are a header of version 1 that fits, make the slot's header well formed.
+-- If the header bytes read from a slot are a header of version 1 that fits, the slot's header is well formed.
 pub read_header_is_formed : (g : ℕ) (bytes : List ℕ) (at len : ℕ) (out : List ℕ) → out ≡ (slot g bytes at).header
     → out ≡ header 1 (get_or out 0 0) len 0 → len ≤ capacity g bytes
     → at + slot_size bytes ≤ length bytes → 2 * g ≤ slot_size bytes → HasHeader (slot g bytes at) len
@@ -41,18 +41,18 @@ read_header_is_formed g bytes at len out read is fits end room = record {
 }
 
 -- A change within a range keeps the size of a slot.
-pub slot_size_kept_by_change : (from to : ℕ) (old now : List ℕ) → FrameOutside from to old now → slot_size now ≡ slot_size old
+pub slot_size_kept_by_change : (from to : ℕ) (old now : List ℕ) → ChangedWithin from to old now → slot_size now ≡ slot_size old
 slot_size_kept_by_change from to old now keeps = ap (λ (n : ℕ). n / 2) keeps.size
 
--- Bytes of the same length as two slots are two slots.
-pub two_slots_of_same_length : (g : ℕ) (old now : List ℕ) → length now ≡ length old → HasTwoSlots g old → HasTwoSlots g now
-two_slots_of_same_length g old now same sized = record {
+-- Bytes form two slots if as many other bytes do.
+pub same_length_has_two_slots : (g : ℕ) (old now : List ℕ) → length now ≡ length old → HasTwoSlots g old → HasTwoSlots g now
+same_length_has_two_slots g old now same sized = record {
   even = omega (arith, same, sized.even);
   room = omega (arith, same, sized.room);
   bound = omega (arith, same, sized.bound);
 }
 
-module _ (g from to : ℕ) (old now : List ℕ) (p : ℕ) (keeps : FrameOutside from to old now) where
+module _ (g from to : ℕ) (old now : List ℕ) (p : ℕ) (keeps : ChangedWithin from to old now) where
   -- The gate of a slot stays if it lies outside a change.
   pub gate_kept_outside_change : (p < from) ⊎ (to ≤ p) → (slot g now p).gate ≡ (slot g old p).gate
   gate_kept_outside_change apart = byte_kept_outside_write from to old now p keeps apart

@@ -7,7 +7,7 @@ use Rattle.dfu_slots.specs.Medium.{MediumState, AllWrites, written}
 use Rattle.dfu_slots.specs.Writes.{write_some, head_write_size, put_writes, put_rest}
 use Rattle.dfu_slots.proofs.Sectors.{IsSectorEdge}
 use Rattle.dfu_slots.proofs.Series.{AllWritesInside, list_has_two_parts, appended_writes_inside}
-use Rattle.dfu_slots.proofs.Anew.{LeftBytes, write_some_lies_inside, write_some_leaves_bytes, left_bytes_join, write_some_without_sectors}
+use Rattle.dfu_slots.proofs.Anew.{LeavesBytesAt, write_some_lies_inside, write_some_leaves_bytes, left_bytes_join, write_some_is_write_in_place}
 use Rattle.dfu_slots.proofs.Within.{two_writes_are_one}
 
 chosen_number_at_most : (b : Bool) (m n k : ℕ) → m ≤ k → n ≤ k → (if b then m else n) ≤ k
@@ -27,32 +27,32 @@ module _ (w : Grain) (held bytes : List ℕ) where
   abbrev head : ℕ
   head = head_write_size u held bytes
 
-  -- The unit that is written by itself is one of the whole units.
+  -- The first write of a `put` has at most as many bytes as its whole units.
   pub head_at_most_whole_units : head ≤ whole
   head_at_most_whole_units = chosen_number_at_most (length held == 0) 0 (min (unit_size u) whole) whole (omega arith) (omega arith)
 
-  -- The whole units have no more bytes than all.
+  -- The whole units have at most as many bytes as the held bytes and the block together.
   pub whole_units_at_most_length : whole ≤ length all
   whole_units_at_most_length = omega arith
 
-  -- The bytes that are held back are those after the whole units.
-  pub put_rest_length : length (put_rest u held bytes) ≡ length all - whole
-  put_rest_length = length-drop whole all
+  -- The length of the bytes held back is that of all bytes minus the whole units.
+  pub put_rest_is_all_but_units : length (put_rest u held bytes) ≡ length all - whole
+  put_rest_is_all_but_units = length-drop whole all
 
-  head_and_further_units : take head all ++ drop head (take whole all) ≡ take whole all
-  head_and_further_units = ap (λ (l : List ℕ). l ++ drop head (take whole all)) (sym (take-take head whole all head_at_most_whole_units))
+  head_and_units_are_whole : take head all ++ drop head (take whole all) ≡ take whole all
+  head_and_units_are_whole = ap (λ (l : List ℕ). l ++ drop head (take whole all)) (sym (take-take head whole all head_at_most_whole_units))
       ∙ take-append-drop head (take whole all)
 
   -- The first write has `head` bytes.
-  pub head_write_length : length (take head all) ≡ head
-  head_write_length = length-take-le head all (omega (arith, head_at_most_whole_units, whole_units_at_most_length))
+  pub head_write_has_head : length (take head all) ≡ head
+  head_write_has_head = length-take-le head all (omega (arith, head_at_most_whole_units, whole_units_at_most_length))
 
   whole_units_taken_length : length (take whole all) ≡ whole
   whole_units_taken_length = length-take-le whole all whole_units_at_most_length
 
   -- The write of the further units has the rest of the whole units.
-  pub further_units_length : length (drop head (take whole all)) ≡ whole - head
-  further_units_length = length-drop head (take whole all) ∙ ap (λ (n : ℕ). n - head) whole_units_taken_length
+  pub further_units_are_rest : length (drop head (take whole all)) ≡ whole - head
+  further_units_are_rest = length-drop head (take whole all) ∙ ap (λ (n : ℕ). n - head) whole_units_taken_length
 
   abbrev back : List ℕ
   back = drop head (take whole all)
@@ -65,24 +65,24 @@ module _ (w : Grain) (held bytes : List ℕ) where
       (write_some_lies_inside w.sector from to at (take head all) edge low (omega (
         arith,
         high,
-        head_write_length,
+        head_write_has_head,
         head_at_most_whole_units,
         whole_units_at_most_length,
       )))
       (write_some_lies_inside w.sector from to (at + head) back edge (omega (arith, low))
-      (omega (arith, high, further_units_length, head_at_most_whole_units, whole_units_at_most_length)))
+      (omega (arith, high, further_units_are_rest, head_at_most_whole_units, whole_units_at_most_length)))
 
   module _ (s now : MediumState) (to at : ℕ) (edge : IsSectorEdge w.sector to) (high : at + length all ≤ to) (room : to ≤ length s.bytes)
       (came : AllWrites s (put_writes w at held bytes) now) where
-    -- After the writes of a `put` all whole units are there, and nothing before them changed.
-    pub put_leaves_whole_units : LeftBytes at to (take whole all) s.bytes now.bytes
+    -- After the writes of a `put` all whole units are on the medium, and nothing before them changed.
+    pub put_leaves_whole_units : LeavesBytesAt at to (take whole all) s.bytes now.bytes
     put_leaves_whole_units =
         let parts = list_has_two_parts (write_some w.sector at (take head all)) (write_some w.sector (at + head) back) s now came in
         let mid = parts.0 in
         let first = write_some_leaves_bytes w.sector to at (take head all) edge (omega (
           arith,
           high,
-          head_write_length,
+          head_write_has_head,
           head_at_most_whole_units,
           whole_units_at_most_length,
         )) s mid room
@@ -90,33 +90,33 @@ module _ (w : Grain) (held bytes : List ℕ) where
         let second = write_some_leaves_bytes w.sector to (at + head) back edge (omega (
           arith,
           high,
-          further_units_length,
+          further_units_are_rest,
           head_at_most_whole_units,
           whole_units_at_most_length,
         )) mid now
         (omega (arith, room, first.0.size)) parts.1.second in
-        subst (λ (l : List ℕ). LeftBytes at to l s.bytes now.bytes) head_and_further_units
-        (left_bytes_join at to head (take head all) back s.bytes mid.bytes now.bytes (sym head_write_length)
-        (omega (arith, high, head_write_length, further_units_length, head_at_most_whole_units, whole_units_at_most_length)) room first
+        subst (λ (l : List ℕ). LeavesBytesAt at to l s.bytes now.bytes) head_and_units_are_whole
+        (left_bytes_join at to head (take head all) back s.bytes mid.bytes now.bytes (sym head_write_has_head)
+        (omega (arith, high, head_write_has_head, further_units_are_rest, head_at_most_whole_units, whole_units_at_most_length)) room first
         second)
 
-  -- On a medium without sectors the writes of a `put` leave what one write of all whole units leaves.
-  pub put_without_sectors : (s now : MediumState) (at : ℕ) → w.sector ≡ 0 → at + length all ≤ length s.bytes
+  -- On a medium without sectors a `put` leaves the same bytes as one write of all whole units.
+  pub put_is_one_write_in_place : (s now : MediumState) (at : ℕ) → w.sector ≡ 0 → at + length all ≤ length s.bytes
       → AllWrites s (put_writes w at held bytes) now → now.bytes ≡ written s.bytes at (take whole all)
-  put_without_sectors s now at none fits came =
+  put_is_one_write_in_place s now at none fits came =
       let plain : AllWrites s (write_some 0 at (take head all) ++ write_some 0 (at + head) back) now =
       subst (λ (n : ℕ). AllWrites s (write_some n at (take head all) ++ write_some n (at + head) back) now) none came in
       let parts = list_has_two_parts (write_some 0 at (take head all)) (write_some 0 (at + head) back) s now plain in
       let half = parts.0 in
-      let one : half.bytes ≡ written s.bytes at (take head all) = write_some_without_sectors s half at (take head all) parts.1.first in
-      let two : now.bytes ≡ written half.bytes (at + head) back = write_some_without_sectors half now (at + head) back parts.1.second in
+      let one : half.bytes ≡ written s.bytes at (take head all) = write_some_is_write_in_place s half at (take head all) parts.1.first in
+      let two : now.bytes ≡ written half.bytes (at + head) back = write_some_is_write_in_place half now (at + head) back parts.1.second in
       two
-      ∙ (λ i. written (one i) (at + sym head_write_length i) back)
+      ∙ (λ i. written (one i) (at + sym head_write_has_head i) back)
       ∙ two_writes_are_one s.bytes at (take head all) back
-      (omega (arith, fits, head_write_length, further_units_length, head_at_most_whole_units, whole_units_at_most_length))
-      ∙ ap (λ (l : List ℕ). written s.bytes at l) head_and_further_units
+      (omega (arith, fits, head_write_has_head, further_units_are_rest, head_at_most_whole_units, whole_units_at_most_length))
+      ∙ ap (λ (l : List ℕ). written s.bytes at l) head_and_units_are_whole
 
-  -- The whole units, and the held bytes after them, are all bytes.
+  -- Writing the whole units, and then the bytes held back, is writing all bytes.
   pub put_with_rest_is_all_bytes : (d : List ℕ) (k : ℕ) → k + length all ≤ length d
       → written (written d k (take whole all)) (k + whole) (put_rest u held bytes) ≡ written d k all
   put_with_rest_is_all_bytes d k fits =
@@ -125,12 +125,12 @@ module _ (w : Grain) (held bytes : List ℕ) where
         arith,
         fits,
         whole_units_taken_length,
-        put_rest_length,
+        put_rest_is_all_but_units,
         whole_units_at_most_length,
       ))
       ∙ ap (λ (l : List ℕ). written d k l) (take-append-drop whole all)
 
-  -- All bytes at the place of the held ones are the held bytes, and then the bytes of the put.
-  pub put_after_held_bytes : (d : List ℕ) (k : ℕ) → k + length all ≤ length d → written d k all
+  -- Writing all bytes is writing the held bytes, and then the bytes of the put.
+  pub put_follows_held_bytes : (d : List ℕ) (k : ℕ) → k + length all ≤ length d → written d k all
       ≡ written (written d k held) (k + length held) bytes
-  put_after_held_bytes d k fits = sym (two_writes_are_one d k held bytes (omega (arith, fits, length-append held bytes)))
+  put_follows_held_bytes d k fits = sym (two_writes_are_one d k held bytes (omega (arith, fits, length-append held bytes)))

@@ -6,9 +6,9 @@ use Rattle.dfu_slots.specs.Image.{IsSizedMedium}
 use Rattle.dfu_slots.specs.Writes.{head_write_size, write_some, put_writes}
 use Rattle.dfu_slots.proofs.Series.{SameSize, list_has_two_parts}
 use Rattle.dfu_slots.proofs.SizedOn.{write_some_keeps_size}
-use Rattle.dfu_slots.proofs.Multiples.{sized_on_same_size}
-use Rattle.dfu_slots.proofs.Ahead.{erased_ahead_of_some_bytes}
-use Rattle.dfu_slots.proofs.Put.{head_at_most_whole_units, whole_units_at_most_length, head_write_length, further_units_length}
+use Rattle.dfu_slots.proofs.Multiples.{same_size_is_sized}
+use Rattle.dfu_slots.proofs.Ahead.{some_bytes_leave_blank_ahead}
+use Rattle.dfu_slots.proofs.Put.{head_at_most_whole_units, whole_units_at_most_length, head_write_has_head, further_units_are_rest}
 
 module _ (s now : MediumState) (at : ℕ) (held bytes : List ℕ) (sized : IsSizedMedium s)
     (fits : at + length (held ++ bytes) ≤ length s.bytes)
@@ -28,7 +28,7 @@ module _ (s now : MediumState) (at : ℕ) (held bytes : List ℕ) (sized : IsSiz
   head_write_fits_medium : at + length (take head all) ≤ length s.bytes
   head_write_fits_medium = omega (
     arith,
-    head_write_length s.grain held bytes,
+    head_write_has_head s.grain held bytes,
     fits,
     head_at_most_whole_units s.grain held bytes,
     whole_units_at_most_length s.grain held bytes,
@@ -40,14 +40,14 @@ module _ (s now : MediumState) (at : ℕ) (held bytes : List ℕ) (sized : IsSiz
     size_kept_by_head_write = write_some_keeps_size s mid at (take head all) sized head_write_fits_medium first
 
     erased_ahead_of_further_units : IsWritableAhead mid (at + head)
-    erased_ahead_of_further_units = subst (λ (k : ℕ). IsWritableAhead mid (at + k)) (head_write_length s.grain held bytes)
-        (erased_ahead_of_some_bytes s mid at (take head all) sized head_write_fits_medium first ahead)
+    erased_ahead_of_further_units = subst (λ (k : ℕ). IsWritableAhead mid (at + k)) (head_write_has_head s.grain held bytes)
+        (some_bytes_leave_blank_ahead s mid at (take head all) sized head_write_fits_medium first ahead)
 
     further_units_fit_medium : at + head + length back ≤ length mid.bytes
     further_units_fit_medium = omega (
       arith,
       size_kept_by_head_write.size,
-      further_units_length s.grain held bytes,
+      further_units_are_rest s.grain held bytes,
       fits,
       head_at_most_whole_units s.grain held bytes,
       whole_units_at_most_length s.grain held bytes,
@@ -57,12 +57,12 @@ module _ (s now : MediumState) (at : ℕ) (held bytes : List ℕ) (sized : IsSiz
     erased_behind_whole_units =
         let e : at + head + length back ≡ at + whole = omega (
           arith,
-          further_units_length s.grain held bytes,
+          further_units_are_rest s.grain held bytes,
           head_at_most_whole_units
               s.grain held bytes,
         ) in
         subst (λ (k : ℕ). IsWritableAhead now k) e
-        (erased_ahead_of_some_bytes mid now (at + head) back (sized_on_same_size size_kept_by_head_write sized) further_units_fit_medium
+        (some_bytes_leave_blank_ahead mid now (at + head) back (same_size_is_sized size_kept_by_head_write sized) further_units_fit_medium
         (subst (λ (w : Grain). AllWrites mid (write_some w.sector (at + head) back) now) (sym size_kept_by_head_write.grain) second)
         erased_ahead_of_further_units)
 

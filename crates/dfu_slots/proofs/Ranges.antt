@@ -7,11 +7,11 @@ use Rattle.std.proofs.lemmas.Slice.{between_is, between_from_start}
 use Rattle.dfu_slots.proofs.Torn.{drop_in_two_steps}
 use Rattle.dfu_slots.proofs.Within.{take_past_first_list}
 
--- A buffer that was filled byte by byte has a range at its front.
-pub gathered : (all : List ℕ) (skip n : ℕ) (out : List ℕ) → length out ≡ 256 → n ≤ 256 → skip ≤ length all
+-- A buffer that was filled byte by byte from a list begins with a range of the list.
+pub gathered_is_a_range : (all : List ℕ) (skip n : ℕ) (out : List ℕ) → length out ≡ 256 → n ≤ 256 → skip ≤ length all
     → ((k : ℕ) → k < n → get_or out k 0 ≡ get_or (all ++ replicate 256 0) (skip + k) 0)
     → take n out ≡ slice_range (all ++ replicate 256 0) skip (skip + n)
-gathered all skip n out size few front each =
+gathered_is_a_range all skip n out size few front each =
     let l = all ++ replicate 256 0 in
     let long : length l ≡ length all + 256 = omega (arith, length-append all (replicate 256 0), length-replicate {A = ℕ} 256 0) in
     let e : n ≡ skip + n - skip = omega arith in
@@ -22,7 +22,7 @@ gathered all skip n out size few front each =
     get_or-take n out k 0 low ∙ each k low ∙ sym (get_or-drop skip l k 0) ∙ sym (get_or-take n (drop skip l) k 0 low))
     ∙ ap (λ (j : ℕ). take j (drop skip l)) e
 
--- A range from 0 on that is longer than the bytes has zeros after them.
+-- The first n bytes of a list with zeros after it, with n past its end, are the list and then zeros.
 pub range_front_with_zeros : (l : List ℕ) (n : ℕ) → length l ≤ n → n ≤ 256
     → slice_range (l ++ replicate 256 0) 0 (0 + n) ≡ l ++ replicate (n - length l) 0
 range_front_with_zeros l n low high =
@@ -49,7 +49,7 @@ range_within_block held block skip n low high =
     ∙ ap (λ (l : List ℕ). drop (skip - length held) l) (drop_at held block (length held) (omega arith)))
     ∙ ap (λ (j : ℕ). take j (drop (skip - length held) block)) e
 
--- A range that begins in an image goes on in the zeros after it.
+-- A range that begins in an image is the rest of the image, and then zeros.
 pub image_range_into_zeros : (image : List ℕ) (skip n : ℕ) → skip ≤ length image
     → slice_range (([] ++ image) ++ replicate 256 0) skip (skip + n) ≡ take n (slice_range image skip (length image) ++ replicate 256 0)
 image_range_into_zeros image skip n high =
@@ -60,9 +60,9 @@ image_range_into_zeros image skip n high =
     ∙ ap (λ (l : List ℕ). l ++ replicate 256 0)
     (sym (take_all (length image - skip) (drop skip image) (omega (arith, length-drop skip image)))))
 
--- A range within a list has as many bytes as were asked for.
-pub length_of_range_within : (all : List ℕ) (skip n : ℕ) → skip + n ≤ length all → length (slice_range all skip (skip + n)) ≡ n
-length_of_range_within all skip n within =
+-- A range within a list has the length asked for.
+pub range_within_has_its_length : (all : List ℕ) (skip n : ℕ) → skip + n ≤ length all → length (slice_range all skip (skip + n)) ≡ n
+range_within_has_its_length all skip n within =
     let k : skip + n - skip ≡ n = omega arith in
     ap (λ (j : ℕ). length (take j (drop skip all))) k
     ∙ length-take-le n (drop skip all) (omega (arith, within, length-drop skip all))

@@ -9,22 +9,22 @@ pub record AreSameUpTo (read piece : List ℕ) (at : ℕ) : Type 0 where
   pub within : at ≤ length piece
   pub same : take at read ≡ take at piece
 
--- The bytes are on the medium from `at` on, all of them.
-abbrev pub BytesStandAt : List ℕ → ℕ → List ℕ → Type 0
-BytesStandAt m at bytes = slice_range m at (at + length bytes) ≡ bytes
+-- The medium has these bytes, from `at` on.
+abbrev pub HasBytesAt : List ℕ → ℕ → List ℕ → Type 0
+HasBytesAt m at bytes = slice_range m at (at + length bytes) ≡ bytes
 
--- A range is the next n bytes after the first `at`.
+-- A range of n bytes is the first n bytes after the first `at`.
 pub range_by_its_length : (m : List ℕ) (at n : ℕ) → slice_range m at (at + n) ≡ take n (drop at m)
 range_by_its_length m at n = let e : at + n - at ≡ n = omega arith in ap (λ (k : ℕ). take k (drop at m)) e
 
--- No bytes are at any place.
-pub no_bytes_stand_anywhere : (m : List ℕ) (at : ℕ) → BytesStandAt m at []
-no_bytes_stand_anywhere m at = range_by_its_length m at 0
+-- A medium has the empty list at any place.
+pub empty_list_is_at_any_place : (m : List ℕ) (at : ℕ) → HasBytesAt m at []
+empty_list_is_at_any_place m at = range_by_its_length m at 0
 
--- A range of two lengths is the range of the first, and then that of the second.
-range_of_two_pieces : (m : List ℕ) (at a b : ℕ) → slice_range m at (at + (a + b)) ≡ slice_range m at (at + a)
+-- A range of a + b bytes is the range of the first a, and then that of the next b.
+range_is_two_pieces : (m : List ℕ) (at a b : ℕ) → slice_range m at (at + (a + b)) ≡ slice_range m at (at + a)
     ++ slice_range m (at + a) (at + a + b)
-range_of_two_pieces m at a b =
+range_is_two_pieces m at a b =
     range_by_its_length m at (a + b) ∙ take-add a b (drop at m)
     ∙ ap (λ (l : List ℕ). take a (drop at m) ++ take b l) (drop-drop a at m)
     ∙ sym (ap (λ (l : List ℕ). l ++ slice_range m (at + a) (at + a + b)) (range_by_its_length m at a)
@@ -36,29 +36,29 @@ module _ (m : List ℕ) (at : ℕ) (xs ys : List ℕ) (room : at + length xs + l
 
   range_of_both_parts : slice_range m at (at + length (xs ++ ys))
       ≡ slice_range m at (at + length xs) ++ slice_range m (at + length xs) (at + length xs + length ys)
-  range_of_both_parts = ap (λ (n : ℕ). slice_range m at (at + n)) (length-append xs ys) ∙ range_of_two_pieces m at (length xs) (length ys)
+  range_of_both_parts = ap (λ (n : ℕ). slice_range m at (at + n)) (length-append xs ys) ∙ range_is_two_pieces m at (length xs) (length ys)
 
-  -- If both parts of some bytes are there, one after the other, all of them are.
-  pub joined_parts_stand : BytesStandAt m at xs → BytesStandAt m (at + length xs) ys → BytesStandAt m at (xs ++ ys)
-  joined_parts_stand a b = range_of_both_parts ∙ (λ i. a i ++ b i)
+  -- If a medium has `xs` at a place, and `ys` right after it, it has both together.
+  pub joined_parts_are_stored : HasBytesAt m at xs → HasBytesAt m (at + length xs) ys → HasBytesAt m at (xs ++ ys)
+  joined_parts_are_stored a b = range_of_both_parts ∙ (λ i. a i ++ b i)
 
-  -- If all bytes are there, their first part is.
-  pub first_part_stands : BytesStandAt m at (xs ++ ys) → BytesStandAt m at xs
-  first_part_stands s =
+  -- If a medium has `xs ++ ys` at a place, it has `xs` there.
+  pub first_part_is_stored : HasBytesAt m at (xs ++ ys) → HasBytesAt m at xs
+  first_part_is_stored s =
       sym (take_at (slice_range m at (at + length xs)) (slice_range m (at + length xs) (at + length xs + length ys)) (length xs) size)
       ∙ ap (λ (l : List ℕ). take (length xs) l) (sym range_of_both_parts ∙ s) ∙ take_at xs ys (length xs) refl
 
-  -- If all bytes are there, their second part is.
-  pub second_part_stands : BytesStandAt m at (xs ++ ys) → BytesStandAt m (at + length xs) ys
-  second_part_stands s =
+  -- If a medium has `xs ++ ys` at a place, it has `ys` right after `xs`.
+  pub second_part_is_stored : HasBytesAt m at (xs ++ ys) → HasBytesAt m (at + length xs) ys
+  second_part_is_stored s =
       sym (drop_at (slice_range m at (at + length xs)) (slice_range m (at + length xs) (at + length xs + length ys)) (length xs) size)
       ∙ ap (λ (l : List ℕ). drop (length xs) l) (sym range_of_both_parts ∙ s) ∙ drop_at xs ys (length xs) refl
 
--- The medium has `ahead` bytes left to be read, and all `bytes` are at `at` exactly if `rest` is where those begin.
+-- The medium has `ahead` bytes left to be read, and it has `bytes` at `at` exactly if `rest` begins there.
 pub record ReadBack (m : List ℕ) (at : ℕ) (bytes : List ℕ) (ahead : ℕ) (rest : List ℕ) : Type 0 where
   pub within : ahead ≤ length m
   pub room : length rest ≤ ahead
-  pub same : BytesStandAt m at bytes ↔ BytesStandAt m (length m - ahead) rest
+  pub same : HasBytesAt m at bytes ↔ HasBytesAt m (length m - ahead) rest
 
 -- At first nothing is read back, and `rest` is all bytes.
 pub nothing_read_back : (m : List ℕ) (at : ℕ) (bytes : List ℕ) → at + length bytes ≤ length m → (len : ℕ) → len ≡ length m
@@ -69,8 +69,8 @@ nothing_read_back m at bytes fits len is =
       within = omega (arith, is);
       room = omega (arith, fits, is);
       same = (
-        λ s. subst (λ (p : ℕ). BytesStandAt m p bytes) (sym place) s,
-        λ s. subst (λ (p : ℕ). BytesStandAt m p bytes) place s,
+        λ s. subst (λ (p : ℕ). HasBytesAt m p bytes) (sym place) s,
+        λ s. subst (λ (p : ℕ). HasBytesAt m p bytes) place s,
       );
     }
 
@@ -82,9 +82,9 @@ module _ {m : List ℕ} {at : ℕ} {bytes : List ℕ} {ahead : ℕ} {rest : List
   fits : length m - ahead + length piece + length next ≤ length m
   fits = omega (arith, piece_and_rest_length, far.within, far.room)
 
-  -- If the next piece is there, all bytes are exactly if the rest after it is.
-  pub piece_read_back : BytesStandAt m (length m - ahead) piece → ReadBack m at bytes (ahead - length piece) next
-  piece_read_back stands =
+  -- If the next piece is on the medium, all bytes are on it exactly if the bytes after the piece are.
+  pub read_piece_leaves_rest : HasBytesAt m (length m - ahead) piece → ReadBack m at bytes (ahead - length piece) next
+  read_piece_leaves_rest stands =
       let on : length m - (ahead - length piece) ≡ length m - ahead + length piece = omega (
         arith,
         piece_and_rest_length,
@@ -95,29 +95,29 @@ module _ {m : List ℕ} {at : ℕ} {bytes : List ℕ} {ahead : ℕ} {rest : List
         within = omega (arith, far.within);
         room = omega (arith, piece_and_rest_length, far.room);
         same = (
-          λ s. subst (λ (p : ℕ). BytesStandAt m p next) (sym on) (second_part_stands m (length m - ahead) piece next fits
-              (subst (λ (l : List ℕ). BytesStandAt m (length m - ahead) l) parts (far.same.0 s))),
-          λ s. far.same.1 (subst (λ (l : List ℕ). BytesStandAt m (length m - ahead) l) (sym parts)
-              (joined_parts_stand m (length m - ahead) piece next fits stands (subst (λ (p : ℕ). BytesStandAt m p next) on s))),
+          λ s. subst (λ (p : ℕ). HasBytesAt m p next) (sym on) (second_part_is_stored m (length m - ahead) piece next fits
+              (subst (λ (l : List ℕ). HasBytesAt m (length m - ahead) l) parts (far.same.0 s))),
+          λ s. far.same.1 (subst (λ (l : List ℕ). HasBytesAt m (length m - ahead) l) (sym parts)
+              (joined_parts_are_stored m (length m - ahead) piece next fits stands (subst (λ (p : ℕ). HasBytesAt m p next) on s))),
         );
       }
 
-  -- If the next piece is not there, not all bytes are.
-  pub bytes_missing_with_piece : ¬ BytesStandAt m (length m - ahead) piece → ¬ BytesStandAt m at bytes
-  bytes_missing_with_piece none s = none (first_part_stands m (length m - ahead) piece next fits
-      (subst (λ (l : List ℕ). BytesStandAt m (length m - ahead) l) parts (far.same.0 s)))
+  -- If the next piece is not on the medium, the medium does not have all the bytes.
+  pub missing_piece_misses_bytes : ¬ HasBytesAt m (length m - ahead) piece → ¬ HasBytesAt m at bytes
+  missing_piece_misses_bytes none s = none (first_part_is_stored m (length m - ahead) piece next fits
+      (subst (λ (l : List ℕ). HasBytesAt m (length m - ahead) l) parts (far.same.0 s)))
 
--- A list that was cut in two is its first part and then its second.
+-- The two parts of a list that was cut join to the list.
 pub cut_list_joins : {rest front back : List ℕ} (n : ℕ) → front ≡ take n rest → back ≡ drop n rest → rest ≡ front ++ back
 cut_list_joins {rest} n a b = sym ((λ i. a i ++ b i) ∙ take-append-drop n rest)
 
--- Bytes that were read of a range are there.
+-- Bytes read from a range of the medium are those of the range.
 pub read_bytes_are_there : (m piece : List ℕ) {place from n : ℕ} {read : List ℕ} → from ≡ place → n ≡ length piece
     → read ≡ slice_range m from (from + n) → slice_range m place (place + length piece) ≡ read
 read_bytes_are_there m piece here size is = sym (is ∙ (λ i. slice_range m (here i) (here i + size i)))
 
--- If nothing is left to be read back, all bytes are there.
+-- If nothing is left to be read back, the medium has all bytes.
 pub all_read_back : {m : List ℕ} {at : ℕ} {bytes : List ℕ} {ahead : ℕ} {rest : List ℕ} → ReadBack m at bytes ahead rest → length rest ≡ 0
-    → BytesStandAt m at bytes
+    → HasBytesAt m at bytes
 all_read_back {m = m} {ahead = ahead} {rest = []} far none = far.same.1 (range_by_its_length m (length m - ahead) 0)
 all_read_back {rest = x ∷ xs} far none = absurd (omega (arith, none))

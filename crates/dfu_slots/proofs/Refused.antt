@@ -1,5 +1,5 @@
--- A medium with an active image is not refused.
-use Rattle.std.proofs.Common.{⊎_elim, ℕ, length, Result, Ok, Err, OnErr, IfErr, sym, ◌∙◌, subst}
+-- Faults of `open`, none of which a medium with an active image has.
+use Rattle.std.proofs.Common.{⊎_elim, ℕ, length, sym, ◌∙◌, subst}
 use Rattle.dfu_slots.specs.Medium.{MediumState}
 use Rattle.dfu_slots.specs.Layout.{HasHeader}
 use Rattle.dfu_slots.specs.Image.{SlotCounts, gate_of, slot_of, HasImage}
@@ -7,7 +7,7 @@ use Rattle.dfu_slots.specs.Changes.{FirstOpenFault}
 use Rattle.dfu_slots.specs.declared.fault.OpenFault.{OpenFault}
 use Rattle.dfu_slots.specs.declared.fault.OpenFault.TheVariants.{WrongSize, NoImage, TwoImages, BadHeader}
 use Rattle.dfu_slots.proofs.Stands.{active_image_at_its_place}
-use Rattle.dfu_slots.proofs.Newest.{places_of_active_image, places_of_newest_slot}
+use Rattle.dfu_slots.proofs.Newest.{test_finds_active_image, test_finds_newest_slot}
 
 -- A medium with a fault of `open` has no active image.
 pub faulty_medium_has_no_image : (fault : OpenFault) (m : MediumState) → FirstOpenFault fault m → ¬ HasImage m
@@ -21,13 +21,6 @@ faulty_medium_has_no_image TwoImages m bad has =
     bad.3 (record { at = a.at; other = a.spare; places = a.places; newest = a.newest })
 faulty_medium_has_no_image BadHeader m (sized, bad) has =
     let a = has.active in
-    let same = (places_of_active_image (gate_of m) m.bytes a.at a.spare has.image (active_image_at_its_place a)).0
-    ∙ sym (places_of_newest_slot (gate_of m) m.bytes bad.newest.at bad.newest.other bad.newest.places bad.newest.newest).0 in
+    let same = (test_finds_active_image (gate_of m) m.bytes a.at a.spare has.image (active_image_at_its_place a)).0
+    ∙ sym (test_finds_newest_slot (gate_of m) m.bytes bad.newest.at bad.newest.other bad.newest.places bad.newest.newest).0 in
     bad.none (length has.image) (subst (λ (q : ℕ). HasHeader (slot_of m q) (length has.image)) same a.header_is)
-
--- If `open` returns an error for a medium, the medium has no active image.
-pub refused_medium_has_no_image : {T M : Type 0} (m : MediumState) (result : Result T (OpenFault × M))
-    → IfErr result (λ e. FirstOpenFault e.0 m)
-    → OnErr result (¬ HasImage m)
-refused_medium_has_no_image m (Ok x) h = tt
-refused_medium_has_no_image m (Err e) h = faulty_medium_has_no_image e.0 m h

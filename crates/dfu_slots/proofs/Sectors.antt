@@ -20,14 +20,14 @@ pub edge_sum_is_edge : (sector a b : ℕ) → IsSectorEdge sector a → IsSector
 edge_sum_is_edge sector a b x y some =
     mod-eq-zero_of_dvd sector (dvd-add sector (dvd_of_mod-eq-zero sector (x some)) (dvd_of_mod-eq-zero sector (y some)))
 
--- A sector that begins before an edge ends there at the latest.
+-- A sector that begins before an edge ends at the edge or before it.
 pub sector_ends_before_edge : (sector at to : ℕ) → at % sector ≡ 0 → to % sector ≡ 0 → at < to → at + sector ≤ to
 sector_ends_before_edge sector at to x y lt =
     let divides = (dvd-sub_iff_left sector (omega (arith, lt)) (dvd_of_mod-eq-zero sector x)).1 (dvd_of_mod-eq-zero sector y) in
     let least : sector ≤ to - at = le_of_dvd (omega (arith, lt)) divides in
     omega (arith, least, lt)
 
--- The next byte of a sector is one place further in it.
+-- The offset of a byte in its sector grows by 1 at the next byte.
 pub remainder_of_next_byte : (sector at : ℕ) → at % sector + 1 < sector → (at + 1) % sector ≡ at % sector + 1
 remainder_of_next_byte sector at lt = sym (mod-add-mod at sector 1) ∙ mod-eq_of_lt lt
 
@@ -50,27 +50,28 @@ gate_unit_at_most_256 Byte = omega arith
 gate_unit_at_most_256 _ = omega arith
 
 -- A multiple of 256 is a multiple of every unit.
-pub pages_are_multiples : (u : WriteUnit) (n : ℕ) → n % 256 ≡ 0 → IsMultiple u n
-pages_are_multiples Byte n e = omega (arith, e)
-pages_are_multiples _ n e = omega (arith, e)
+pub page_multiple_is_unit_multiple : (u : WriteUnit) (n : ℕ) → n % 256 ≡ 0 → IsMultiple u n
+page_multiple_is_unit_multiple Byte n e = omega (arith, e)
+page_multiple_is_unit_multiple _ n e = omega (arith, e)
 
 module _ (w : Grain) (n : ℕ) (whole : IsWhole w n) where
   -- With sectors the room of a gate is one sector.
   pub gate_room_is_a_sector : 0 < w.sector → gate_room w ≡ w.sector
   gate_room_is_a_sector some = omega (arith, gate_unit_at_most_256 w.unit, whole.pages, some)
 
-  -- A sector begins after the room of a gate.
+  -- The room of a gate ends at a sector edge.
   pub gate_room_ends_at_edge : IsSectorEdge w.sector (gate_room w)
   gate_room_ends_at_edge some = ap (λ (k : ℕ). k % w.sector) (gate_room_is_a_sector some) ∙ mod_self w.sector
 
   -- The room of a gate is a multiple of the unit.
   pub gate_room_is_multiple : IsMultiple w.unit (gate_room w)
-  gate_room_is_multiple = by_sector (cases_eq w.sector 0)
+  gate_room_is_multiple = with_or_without_sectors (cases_eq w.sector 0)
     where
-      by_sector : (w.sector ≡ 0) ⊎ (w.sector ≢ 0) → IsMultiple w.unit (gate_room w)
-      by_sector (inl none) =
+      with_or_without_sectors : (w.sector ≡ 0) ⊎ (w.sector ≢ 0) → IsMultiple w.unit (gate_room w)
+      with_or_without_sectors (inl none) =
           let e : gate_size w.unit ≡ gate_room w = omega (arith, none) in
           subst (λ (k : ℕ). IsMultiple w.unit k) e (gate_size_is_multiple w.unit)
-      by_sector (inr some) =
-          subst (λ (k : ℕ). IsMultiple w.unit k) (sym (gate_room_is_a_sector (omega (arith, some)))) (pages_are_multiples w.unit w.sector
+      with_or_without_sectors (inr some) =
+          subst (λ (k : ℕ). IsMultiple w.unit k) (sym (gate_room_is_a_sector (omega (arith, some))))
+          (page_multiple_is_unit_multiple w.unit w.sector
           whole.pages)

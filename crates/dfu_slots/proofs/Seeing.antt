@@ -1,4 +1,4 @@
--- A store with an active image as the layers above see it.
+-- Stores with an active image as the layers above see them.
 use Rattle.std.proofs.Common.{◌≡◌, ◌==◌, not, true, false, ℕ, ◌+◌, ◌-◌, ◌*◌, ◌/◌, ◌^◌, ◌≤◌, nat_le, List, [], length, take, refl, sym, ◌∙◌, ap, subst, arith}
 use Rattle.std.proofs.lemmas.Bool.{and_from, le-leb, ne_eqb, eqb-true, eqb-false, not_from_false, not_from_true, not-true, not-false, eq-eqb}
 use Rattle.dfu_slots.specs.Units.{IsWhole, gate_room, Grain}
@@ -10,15 +10,15 @@ use Rattle.dfu_slots.specs.Store.{HasPutBytes, IsStore}
 use Rattle.dfu_slots.specs.CallResults.{FuseResult}
 use Rattle.dfu_slots.proofs.Stands.{ActiveAt, active_image_at_its_place, image_at_place_is_active}
 use Rattle.dfu_slots.proofs.Torn.{whole_write_is_torn}
-use Rattle.dfu_slots.proofs.Counting.{length_in_formed_header}
+use Rattle.dfu_slots.proofs.Counting.{formed_header_has_its_length}
 use Rattle.dfu_slots.proofs.Newest.{spare_data_has_capacity}
-use Rattle.dfu_slots.proofs.Unique.{active_slot_header, active_image_fits, image_is_data_front}
-use Rattle.dfu_slots.proofs.Within.{write_of_no_bytes}
+use Rattle.dfu_slots.proofs.Unique.{active_slot_has_its_header, active_image_fits, image_is_data_front}
+use Rattle.dfu_slots.proofs.Within.{empty_write_keeps_all}
 use Rattle.dfu_slots.proofs.Series.{SameSize}
-use Rattle.dfu_slots.proofs.Multiples.{held_bytes_end_at_put_end, no_part_of_no_bytes, whole_on_same_size}
+use Rattle.dfu_slots.proofs.Multiples.{held_bytes_end_at_put_end, zero_length_has_no_rest, same_size_is_whole}
 use Rattle.dfu_slots.proofs.Sectors.{IsSectorEdge}
 use Rattle.dfu_slots.proofs.Edges.{spare_data_begins_at_edge}
-use Rattle.dfu_slots.proofs.Ahead.{writable_ahead_at_edge}
+use Rattle.dfu_slots.proofs.Ahead.{edge_is_writable_ahead}
 
 -- Image of a store.
 
@@ -30,7 +30,7 @@ image_is s image active =
     let here : active_at (gate_of m) m.bytes ≡ active_at (gate_of m) m.bytes = refl in
     let x = slot_of m (active_at (gate_of m) m.bytes) in
     let len : header_length x ≡ length image =
-    length_in_formed_header x (length image) (active_slot_header here active) (omega (
+    formed_header_has_its_length x (length image) (active_slot_has_its_header here active) (omega (
       arith,
       active_image_fits here active,
       active.sized.bound,
@@ -41,49 +41,49 @@ image_is s image active =
 pub seen_image_is_active : (s : SlotsState) → HasImage s.medium → Active s.medium (image_of s)
 seen_image_is_active s has = subst (λ (l : List ℕ). Active s.medium l) (image_is s has.image has.active) has.active
 
--- An image at its place on a medium of the same size is active there.
+-- An image that is active at its place on a medium of the same size is the active image of that medium.
 pub active_on_same_size : {m n : MediumState} (at spare : ℕ) (image : List ℕ) → SameSize m n → IsWhole m.grain (capacity_of m)
     → ActiveAt (gate_of m) n.bytes at spare image → Active n image
-active_on_same_size {m} {n} at spare image same whole stands = image_at_place_is_active n at spare image (whole_on_same_size same whole)
+active_on_same_size {m} {n} at spare image same whole stands = image_at_place_is_active n at spare image (same_size_is_whole same whole)
     (subst (λ (w : Grain). ActiveAt (gate_room w) n.bytes at spare image) (sym same.grain) stands)
 
--- A store that is opened anew shows the same image.
-pub reopened_image : (s : SlotsState) → image_of (store_on s.medium) ≡ image_of s
+-- A store that is reopened shows the same image.
+pub reopening_keeps_image : (s : SlotsState) → image_of (store_on s.medium) ≡ image_of s
 unfolding image_of
-reopened_image s = refl
+reopening_keeps_image s = refl
 
 -- Bytes that were put.
 
 -- If nothing is held back, the spare's data is that of the medium.
 pub fresh_spare_is_medium_data : (m : MediumState) → spare_of (store_on m) ≡ (spare (gate_of m) m.bytes).data_bytes
 unfolding spare_of
-fresh_spare_is_medium_data m = write_of_no_bytes (spare (gate_of m) m.bytes).data_bytes 0
+fresh_spare_is_medium_data m = empty_write_keeps_all (spare (gate_of m) m.bytes).data_bytes 0
 
 -- The spare's data is that of the medium, with the held bytes written over it.
 pub spare_is_data_with_held : (s : SlotsState) → spare_of s ≡ written (spare_slot s).data_bytes (held_data_place s) s.held
 unfolding spare_of
 spare_is_data_with_held s = refl
 
--- On a store to which nothing was put the puts are as they should be.
-fresh_store_put_bytes : (m : MediumState) → IsSizedMedium m → HasPutBytes (store_on m)
-fresh_store_put_bytes m sized =
+-- On a store to which nothing was put the puts are consistent (`HasPutBytes`).
+fresh_store_has_put_bytes : (m : MediumState) → IsSizedMedium m → HasPutBytes (store_on m)
+fresh_store_has_put_bytes m sized =
     let here : spare_at (gate_of m) m.bytes + 2 * gate_of m ≡ data_place (store_on m) (held_data_place (store_on m)) = omega arith in
     record {
       fits = omega arith;
-      part = sym (no_part_of_no_bytes m.grain.unit);
-      ahead = writable_ahead_at_edge m (data_place (store_on m) (held_data_place (store_on m)))
+      part = sym (zero_length_has_no_rest m.grain.unit);
+      ahead = edge_is_writable_ahead m (data_place (store_on m) (held_data_place (store_on m)))
           (subst (λ (n : ℕ). IsSectorEdge m.grain.sector n) here (spare_data_begins_at_edge m sized));
     }
 
 -- A medium with an active image makes a store to which nothing was put.
 pub medium_makes_store : (m : MediumState) → HasImage m → IsStore (store_on m)
-medium_makes_store m has = record { has_image = has; puts = fresh_store_put_bytes m has.active.sized }
+medium_makes_store m has = record { has_image = has; puts = fresh_store_has_put_bytes m has.active.sized }
 
 -- A store that holds nothing back, and whose puts end at 0, is fresh.
 pub store_is_fresh : (m : MediumState) (held : List ℕ) (put_end : ℕ) → held ≡ [] → put_end ≡ 0 → store_of m held put_end ≡ store_on m
 store_is_fresh m held put_end none zero_is = λ i. store_of m (none i) (zero_is i)
 
--- The functions that the clauses cite.
+-- Functions that the contracts cite.
 
 -- A number that is the capacity of the medium is the room of the store.
 pub capacity_is_room : (s : SlotsState) (n : ℕ) → n ≡ capacity_of s.medium → n ≡ room_of s
@@ -95,7 +95,7 @@ pub room_is_capacity : (s : SlotsState) → room_of s ≡ capacity_of s.medium
 unfolding room_of
 room_is_capacity s = refl
 
--- A store on a medium of the same size has the same room.
+-- Two stores on media of the same size have the same room.
 pub room_kept_on_same_size : (s now : SlotsState) → SameSize s.medium now.medium → room_of now ≡ room_of s
 unfolding room_of
 room_kept_on_same_size s now same = λ i. same.size i / 2 - 2 * gate_room (same.grain i)
@@ -125,7 +125,7 @@ store_has_shape {s} store =
     (and_from (nat_le (room_of s) (2 ^ 24)) _ (le-leb _ _ (omega (arith, room_is_capacity s, store.has_image.active.sized.bound)))
     (le-leb _ _ (seen_image_fits_room s store)))
 
--- A fresh store: nothing was put yet, and all that is seen of it is its medium.
+-- A store is fresh: nothing was put yet, so that its medium determines it.
 pub record IsFreshStore (x : SlotsState) : Type 0 where
   pub active : Active x.medium (image_of x)
   pub shape : is_shaped x ≡ true
@@ -168,13 +168,13 @@ unfolding is_begun
 not_begun_gate_is_open s off = eqb-true _ _ (not-false _ off)
 
 -- Two stores with the same gate of the spare were both begun, or neither was.
-pub begun_only_by_gate : (s now : SlotsState) → (spare_slot now).gate ≡ (spare_slot s).gate → is_begun now ≡ is_begun s
+pub same_gate_same_begun : (s now : SlotsState) → (spare_slot now).gate ≡ (spare_slot s).gate → is_begun now ≡ is_begun s
 unfolding is_begun
-begun_only_by_gate s now same = ap (λ (g : ℕ). not (g == OPEN)) same
+same_gate_same_begun s now same = ap (λ (g : ℕ). not (g == OPEN)) same
 
 -- Media with another fuse.
 
--- A store that was seen as `v` looks the same over a medium with another fuse.
+-- A store that is seen as `v` shows the same images and the same room if its medium gets another fuse.
 pub fuse_leaves_store : {s v : SlotsState} → s ≡ v → IsStore s → (m : MediumState) (fuse : Fuse) → m ≡ record s.medium { fuse = fuse }
     → FuseResult v fuse (store_of m s.held s.put_end)
 fuse_leaves_store {s} {v} view store m fuse is =

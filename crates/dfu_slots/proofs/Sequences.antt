@@ -12,18 +12,19 @@ use Rattle.dfu_slots.specs.declared.layout.Unit.TheVariants.{Byte}
 use Rattle.dfu_slots.specs.Units.{Grain, unit_size, gate_size, gate_room, whole_part, fill_size, filled_units}
 use Rattle.dfu_slots.specs.Medium.{Write}
 use Rattle.dfu_slots.specs.Layout.{OPEN, header, gate_unit, header_unit}
-use Rattle.dfu_slots.specs.Writes.{sector_erases, closed_gate, write_anew, write_some, head_write_size, put_writes, held_writes, open_writes}
+use Rattle.dfu_slots.specs.Writes.{sector_erases, closed_gate, erasing_write, write_some, head_write_size, put_writes, held_writes, open_writes}
 use Rattle.dfu_slots.specs.Operations.{range_of, ops_writes, held_from, operations}
 use Rattle.dfu_slots.proofs.Sectors.{gate_unit_at_least_16, gate_unit_at_most_256}
-use Rattle.dfu_slots.proofs.Multiples.{largest_unit_is_multiple, filled_units_length, filled_bytes_within}
-use Rattle.dfu_slots.proofs.Parts.{gate_unit_length, header_unit_length}
+use Rattle.dfu_slots.proofs.Multiples.{largest_unit_is_multiple, filled_length_sums, filled_bytes_within}
+use Rattle.dfu_slots.proofs.Parts.{gate_unit_has_size, header_unit_has_size}
 use Rattle.dfu_slots.proofs.Put.{head_at_most_whole_units, whole_units_at_most_length}
 use Rattle.dfu_slots.proofs.Ranges.{range_front_with_zeros, range_before_appended_bytes}
 
 -- A write of one byte or more has the erases before it.
-pub write_some_is_write_anew : (sector at : ℕ) (bytes : List ℕ) → 0 < length bytes → write_some sector at bytes ≡ write_anew sector at bytes
-write_some_is_write_anew sector at bytes some =
-    cond-false (length bytes == 0) [] (write_anew sector at bytes) (ne_eqb (length bytes) 0 (λ e. omega (arith, some, e)))
+pub nonempty_write_is_erasing : (sector at : ℕ) (bytes : List ℕ) → 0 < length bytes
+    → write_some sector at bytes ≡ erasing_write sector at bytes
+nonempty_write_is_erasing sector at bytes some =
+    cond-false (length bytes == 0) [] (erasing_write sector at bytes) (ne_eqb (length bytes) 0 (λ e. omega (arith, some, e)))
 
 -- A range of one byte and zeros is a gate unit.
 pub range_is_gate_unit : (g first : ℕ) → 16 ≤ g → g ≤ 256 → slice_range ((first ∷ []) ++ replicate 256 0) 0 (0 + g) ≡ gate_unit g first
@@ -47,7 +48,7 @@ pub range_is_filled_held_bytes : (u : WriteUnit) (held : List ℕ) → length he
     → slice_range (held ++ replicate 256 0) 0 (0 + (length held + fill_size u (length held))) ≡ filled_units u held
 range_is_filled_held_bytes u held few =
     let n = length held + fill_size u (length held) in
-    let most : n ≤ 256 = omega (arith, filled_bytes_within u 256 held (largest_unit_is_multiple u) few, filled_units_length u held) in
+    let most : n ≤ 256 = omega (arith, filled_bytes_within u 256 held (largest_unit_is_multiple u) few, filled_length_sums u held) in
     range_front_with_zeros held n (omega arith) most
     ∙ (let e : n - length held ≡ fill_size u (length held) = omega arith in ap (λ (k : ℕ). held ++ replicate k 0) e)
 
@@ -83,31 +84,31 @@ module _ (w : Grain) (held block : List ℕ) where
       ∙ (λ i. drop (is i) (take (end i) all))
 
 module _ (w : Grain) (held block head : List ℕ) where
-  -- The operations that close a gate make the write that closes it.
+  -- The operations that close a gate make the write of a closed gate.
   pub close_ops_make_writes : (slot : ℕ) → ops_writes w.sector held block head (operations w (Close slot))
       ≡ record { at = slot; bytes = closed_gate w } ∷ []
-  close_ops_make_writes slot = by_sector (cases_eq w.sector 0)
+  close_ops_make_writes slot = with_or_without_sectors (cases_eq w.sector 0)
     where
       g : ℕ
       g = gate_size w.unit
 
-      by_sector : (w.sector ≡ 0) ⊎ (w.sector ≢ 0) → ops_writes w.sector held block head (operations w (Close slot))
+      with_or_without_sectors : (w.sector ≡ 0) ⊎ (w.sector ≢ 0) → ops_writes w.sector held block head (operations w (Close slot))
           ≡ record { at = slot; bytes = closed_gate w } ∷ []
-      by_sector (inl none) =
+      with_or_without_sectors (inl none) =
           let e : (w.sector == 0) ≡ true = eq-eqb w.sector 0 none in
           let bytes = range_is_closed_gate_unit g (gate_unit_at_least_16 w.unit) (gate_unit_at_most_256 w.unit) in
           let unit = gate_unit g 0 in
-          let some : 0 < length unit = omega (arith, gate_unit_length g 0 (gate_unit_at_least_16 w.unit), gate_unit_at_least_16 w.unit) in
+          let some : 0 < length unit = omega (arith, gate_unit_has_size g 0 (gate_unit_at_least_16 w.unit), gate_unit_at_least_16 w.unit) in
           ap (λ (o : Op). ops_writes w.sector held block head (o ∷ []))
           (cond-true (w.sector == 0) (Program slot Closed 0 g) (Erase slot) e)
           ∙ append-nil (write_some w.sector slot (range_of Closed held block head 0 g))
           ∙ ap (λ (l : List ℕ). write_some w.sector slot l) bytes
-          ∙ write_some_is_write_anew w.sector slot unit some
+          ∙ nonempty_write_is_erasing w.sector slot unit some
           ∙ ap (λ (ws : List Write). ws ++ record { at = slot; bytes = unit } ∷ [])
           (cond-true (w.sector == 0) [] (sector_erases w.sector slot (length unit)) e)
           ∙ ap (λ (l : List ℕ). record { at = slot; bytes = l } ∷ [])
           (sym (cond-true (w.sector == 0) unit (replicate w.sector 255) e))
-      by_sector (inr some) =
+      with_or_without_sectors (inr some) =
           let e : (w.sector == 0) ≡ false = ne_eqb w.sector 0 some in
           ap (λ (o : Op). ops_writes w.sector held block head (o ∷ []))
           (cond-false (w.sector == 0) (Program slot Closed 0 g) (Erase slot) e)
@@ -143,16 +144,16 @@ module _ (w : Grain) (held block head : List ℕ) where
       let header_bytes = range_is_header_unit g gen len crc head (gate_unit_at_least_16 w.unit) (gate_unit_at_most_256 w.unit) is in
       let gate_bytes = range_is_gate_unit g OPEN (gate_unit_at_least_16 w.unit) (gate_unit_at_most_256 w.unit) in
       let header_writes : write_some w.sector (slot + gate_room w) (range_of Header held block head 0 g)
-      ≡ write_anew w.sector (slot + gate_room w) (header_unit g gen len crc) =
+      ≡ erasing_write w.sector (slot + gate_room w) (header_unit g gen len crc) =
       ap (λ (l : List ℕ). write_some w.sector (slot + gate_room w) l) header_bytes
-      ∙ write_some_is_write_anew w.sector (slot + gate_room w) (header_unit g gen len crc)
-      (omega (arith, header_unit_length g gen len crc (gate_unit_at_least_16 w.unit), gate_unit_at_least_16 w.unit)) in
+      ∙ nonempty_write_is_erasing w.sector (slot + gate_room w) (header_unit g gen len crc)
+      (omega (arith, header_unit_has_size g gen len crc (gate_unit_at_least_16 w.unit), gate_unit_at_least_16 w.unit)) in
       let gate_writes : write_some w.sector slot (range_of Opened held block head 0 g)
-      ≡ write_anew w.sector slot (gate_unit g OPEN) =
+      ≡ erasing_write w.sector slot (gate_unit g OPEN) =
       ap (λ (l : List ℕ). write_some w.sector slot l) gate_bytes
-      ∙ write_some_is_write_anew w.sector slot (gate_unit g OPEN) (omega (
+      ∙ nonempty_write_is_erasing w.sector slot (gate_unit g OPEN) (omega (
         arith,
-        gate_unit_length g OPEN (gate_unit_at_least_16 w.unit),
+        gate_unit_has_size g OPEN (gate_unit_at_least_16 w.unit),
         gate_unit_at_least_16 w.unit,
       )) in
       (λ i. write_some w.sector at (range_is_filled_held_bytes w.unit held few i)
@@ -165,7 +166,7 @@ pub range_is_image_piece : (u : WriteUnit) (image : List ℕ) (from skip n : ℕ
 range_is_image_piece u image from skip n first size =
     let fill = fill_size u (length image) in
     let units = filled_units u image in
-    let few : fill ≤ 256 = fill_few u (length image) in
+    let few : fill ≤ 256 = fill_is_at_most_256 u (length image) in
     let count : 256 ≡ fill + (256 - fill) = omega (arith, few) in
     let zeros : image ++ replicate 256 0 ≡ units ++ replicate (256 - fill) 0 =
     ap (λ (l : List ℕ). image ++ l)
@@ -181,16 +182,16 @@ range_is_image_piece u image from skip n first size =
     ∙ ap (λ (j : ℕ). take j (drop from units)) same
     ∙ take_min 4096 (drop from units)
   where
-    fill_few : (v : WriteUnit) (m : ℕ) → fill_size v m ≤ 256
-    fill_few Byte m = omega arith
-    fill_few _ m = omega arith
+    fill_is_at_most_256 : (v : WriteUnit) (m : ℕ) → fill_size v m ≤ 256
+    fill_is_at_most_256 Byte m = omega arith
+    fill_is_at_most_256 _ m = omega arith
 
 pub image_ops_make_writes : (w : Grain) (image head : List ℕ) (from : ℕ)
     → ops_writes w.sector [] image head (operations w (Image from (length image)))
     ≡ write_some w.sector (2 * gate_room w + from) (take 4096 (drop from (filled_units w.unit image)))
 image_ops_make_writes w image head from =
     let size = length image + fill_size w.unit (length image) in
-    let long : size ≡ length (filled_units w.unit image) = sym (filled_units_length w.unit image) in
+    let long : size ≡ length (filled_units w.unit image) = sym (filled_length_sums w.unit image) in
     let skip = min from size in
     let n = min (size - skip) 4096 in
     append-nil (write_some w.sector (2 * gate_room w + from) (range_of Joined [] image head skip n))

@@ -1,9 +1,9 @@
 -- Lists of writes: the bytes that they leave outside a range, the count of failures, and parts of a list.
 use Rattle.std.proofs.Common.{◌≡◌, ◌⊎◌, inl, inr, Bool, true, false, if◌then◌else◌, ℕ, ◌+◌, ◌≤◌, List, [], ◌∷◌, ◌++◌, length, Result, Ok, Err, OnOk, IfErr, refl, sym, ◌∙◌, ap, subst, arith}
 use Rattle.dfu_slots.specs.declared.fault.WriteFault.{WriteFault}
-use Rattle.dfu_slots.specs.Medium.{MediumState, Write, FrameOutside, Torn, CountRose, WroteBytes, FailedWrite, AllWrites, BrokenWrites}
+use Rattle.dfu_slots.specs.Medium.{MediumState, Write, ChangedWithin, Torn, CountRose, WroteBytes, FailedWrite, AllWrites, BrokenWrites}
 use Rattle.dfu_slots.specs.inside.Series.{Series}
-use Rattle.dfu_slots.proofs.Torn.{whole_write_is_torn, wider_frame_holds, no_change_keeps_all, two_changes_of_range}
+use Rattle.dfu_slots.proofs.Torn.{whole_write_is_torn, wider_frame_holds, no_change_keeps_all, two_changes_are_one_change}
 
 -- Every write of the list lies in the range from `from` to `to`.
 abbrev pub AllWritesInside : ℕ → ℕ → List Write → Type 0
@@ -16,7 +16,7 @@ WritesEnded s ws now = AllWrites s ws now ⊎ ((fault : WriteFault) × BrokenWri
 
 module _ (from to : ℕ) where
   write_inside_keeps_rest : (s now : MediumState) (w : Write) → to ≤ length s.bytes → from ≤ w.at → w.at + length w.bytes ≤ to
-      → WroteBytes s w.at w.bytes now → FrameOutside from to s.bytes now.bytes
+      → WroteBytes s w.at w.bytes now → ChangedWithin from to s.bytes now.bytes
   write_inside_keeps_rest s now w room low high wrote =
       let torn : Torn s.bytes w.at w.bytes now.bytes = subst (λ (l : List ℕ). Torn s.bytes w.at w.bytes l) (sym wrote.bytes)
       (whole_write_is_torn s.bytes w.at w.bytes (omega arith)) in
@@ -25,30 +25,30 @@ module _ (from to : ℕ) where
   -- Writes in a range that all worked keep the bytes outside it.
   pub writes_inside_keep_rest : (ws : List Write) (s now : MediumState) → to ≤ length s.bytes → AllWritesInside from to ws →
       AllWrites s ws now
-      → FrameOutside from to s.bytes now.bytes
+      → ChangedWithin from to s.bytes now.bytes
   writes_inside_keep_rest [] s now room inside same = no_change_keeps_all from to s.bytes now.bytes (ap (λ (m : MediumState). m.bytes) same)
   writes_inside_keep_rest (w ∷ ws) s now room (low, high, inside) (next, wrote, more) =
       let first = write_inside_keeps_rest s next w room low high wrote in
-      two_changes_of_range from to s.bytes next.bytes now.bytes first (writes_inside_keep_rest ws next now (omega (arith, first.size))
+      two_changes_are_one_change from to s.bytes next.bytes now.bytes first (writes_inside_keep_rest ws next now (omega (arith, first.size))
       inside more)
 
-  -- Writes in a range up to one that failed, and that one, keep the bytes outside it.
+  -- Writes in a range keep the bytes outside it, also if one of them fails.
   pub broken_writes_keep_rest : (fault : WriteFault) (ws : List Write) (s now : MediumState) → to ≤ length s.bytes →
       AllWritesInside from to ws
       → BrokenWrites fault s ws now
-      → FrameOutside from to s.bytes now.bytes
+      → ChangedWithin from to s.bytes now.bytes
   broken_writes_keep_rest fault [] s now room inside none = absurd none
   broken_writes_keep_rest fault (w ∷ ws) s now room (low, high, inside) (inl failed) =
       wider_frame_holds w.at (w.at + length w.bytes) from to s.bytes now.bytes failed.bytes low high
   broken_writes_keep_rest fault (w ∷ ws) s now room (low, high, inside) (inr (next, wrote, more)) =
       let first = write_inside_keeps_rest s next w room low high wrote in
-      two_changes_of_range from to s.bytes next.bytes now.bytes first
+      two_changes_are_one_change from to s.bytes next.bytes now.bytes first
       (broken_writes_keep_rest fault ws next now (omega (arith, first.size)) inside more)
 
   -- Writes in a range keep the bytes outside it, whether all worked or one failed.
   pub ended_writes_keep_rest : (ws : List Write) (s now : MediumState) → to ≤ length s.bytes → AllWritesInside from to ws →
       WritesEnded s ws now
-      → FrameOutside from to s.bytes now.bytes
+      → ChangedWithin from to s.bytes now.bytes
   ended_writes_keep_rest ws s now room inside (inl all) = writes_inside_keep_rest ws s now room inside all
   ended_writes_keep_rest ws s now room inside (inr (fault, broken)) = broken_writes_keep_rest fault ws s now room inside broken
 
@@ -88,7 +88,7 @@ pub all_writes_keep_size : (ws : List Write) (s now : MediumState) → AllWrites
     SameSize s now
 all_writes_keep_size ws s now inside all = writes_keep_size 0 (length s.bytes) ws s now (omega arith) inside (inl all)
 
--- If a medium has the size of a second one, and that has the size of a third one, the first has the size of the third.
+-- Media of the same size as one medium have the same size.
 pub size_is_transitive : {m n k : MediumState} → SameSize m n → SameSize n k → SameSize m k
 size_is_transitive a b = record { grain = b.grain ∙ a.grain; size = b.size ∙ a.size }
 
@@ -118,94 +118,94 @@ broken_writes_lower_no_count fault ws s now broken = omega (arith, broken_writes
 
 -- Parts of a list.
 
--- Two lists of writes that worked one after the other are one list that worked.
-pub writes_one_after_other : (ws vs : List Write) (s mid now : MediumState) → AllWrites s ws mid → AllWrites mid vs now →
+-- If two lists of writes work one after the other, the second appended to the first works.
+pub two_lists_work_as_one : (ws vs : List Write) (s mid now : MediumState) → AllWrites s ws mid → AllWrites mid vs now →
     AllWrites s (ws ++ vs) now
-writes_one_after_other [] vs s mid now same all = subst (λ (m : MediumState). AllWrites m vs now) same all
-writes_one_after_other (w ∷ ws) vs s mid now (next, wrote, rest) all = (next, wrote, writes_one_after_other ws vs next mid now rest all)
+two_lists_work_as_one [] vs s mid now same all = subst (λ (m : MediumState). AllWrites m vs now) same all
+two_lists_work_as_one (w ∷ ws) vs s mid now (next, wrote, rest) all = (next, wrote, two_lists_work_as_one ws vs next mid now rest all)
 
--- A list that was broken off in its first part is broken off.
-pub broken_in_first_part : (fault : WriteFault) (ws vs : List Write) (s now : MediumState) → BrokenWrites fault s ws now
+-- A fault in the first of two lists of writes breaks off the appended list.
+pub first_part_may_break : (fault : WriteFault) (ws vs : List Write) (s now : MediumState) → BrokenWrites fault s ws now
     → BrokenWrites fault s (ws ++ vs) now
-broken_in_first_part fault [] vs s now broken = absurd broken
-broken_in_first_part fault (w ∷ ws) vs s now (inl failed) = inl failed
-broken_in_first_part fault (w ∷ ws) vs s now (inr (next, wrote, broken)) =
-    inr (next, wrote, broken_in_first_part fault ws vs next now broken)
+first_part_may_break fault [] vs s now broken = absurd broken
+first_part_may_break fault (w ∷ ws) vs s now (inl failed) = inl failed
+first_part_may_break fault (w ∷ ws) vs s now (inr (next, wrote, broken)) =
+    inr (next, wrote, first_part_may_break fault ws vs next now broken)
 
--- A list that was broken off in its second part is broken off.
-pub broken_in_second_part : (fault : WriteFault) (ws vs : List Write) (s mid now : MediumState) → AllWrites s ws mid
+-- A fault in the second of two lists of writes breaks off the appended list.
+pub second_part_may_break : (fault : WriteFault) (ws vs : List Write) (s mid now : MediumState) → AllWrites s ws mid
     → BrokenWrites fault mid vs now
     → BrokenWrites fault s (ws ++ vs) now
-broken_in_second_part fault [] vs s mid now same broken = subst (λ (m : MediumState). BrokenWrites fault m vs now) same broken
-broken_in_second_part fault (w ∷ ws) vs s mid now (next, wrote, rest) broken =
-    inr (next, wrote, broken_in_second_part fault ws vs next mid now rest broken)
+second_part_may_break fault [] vs s mid now same broken = subst (λ (m : MediumState). BrokenWrites fault m vs now) same broken
+second_part_may_break fault (w ∷ ws) vs s mid now (next, wrote, rest) broken =
+    inr (next, wrote, second_part_may_break fault ws vs next mid now rest broken)
 
--- A list of writes that all worked, and a series after it, are one series.
-pub series_after : {T : Type 0} (ws vs : List Write) (s mid now : MediumState) (r : Result T WriteFault) → AllWrites s ws mid
+-- Writes that all worked, and a series after them, are one series.
+pub series_extends : {T : Type 0} (ws vs : List Write) (s mid now : MediumState) (r : Result T WriteFault) → AllWrites s ws mid
     → Series mid vs r now
     → Series s (ws ++ vs) r now
-series_after ws vs s mid now (Ok x) first second = writes_one_after_other ws vs s mid now first second
-series_after ws vs s mid now (Err fault) first second = broken_in_second_part fault ws vs s mid now first second
+series_extends ws vs s mid now (Ok x) first second = two_lists_work_as_one ws vs s mid now first second
+series_extends ws vs s mid now (Err fault) first second = second_part_may_break fault ws vs s mid now first second
 
--- One write is a series, at Ok and at its fault.
-pub series_of_one_write : {T : Type 0} (s now : MediumState) (at : ℕ) (bytes : List ℕ) (r : Result T WriteFault) →
+-- One write is a series of one write, at Ok and at its fault.
+pub one_write_is_series : {T : Type 0} (s now : MediumState) (at : ℕ) (bytes : List ℕ) (r : Result T WriteFault) →
     OnOk r (WroteBytes s at bytes now)
     → IfErr r (λ fault. FailedWrite fault s at bytes now) → Series s (record { at = at; bytes = bytes } ∷ []) r now
-series_of_one_write s now at bytes (Ok x) wrote failed = (now, wrote, refl)
-series_of_one_write s now at bytes (Err fault) wrote failed = inl failed
+one_write_is_series s now at bytes (Ok x) wrote failed = (now, wrote, refl)
+one_write_is_series s now at bytes (Err fault) wrote failed = inl failed
 
--- A list of writes in two parts: the first part worked up to `mid`, and the second went as `rest` says.
-pub record BetweenTwoParts (ws vs : List Write) (s : MediumState) (mid : MediumState) (rest : Type 0) : Type 0 where
+-- A list of writes has two parts: the first one worked and left the medium `mid`, and the fact `rest` holds of the second.
+pub record HasTwoParts (ws vs : List Write) (s : MediumState) (mid : MediumState) (rest : Type 0) : Type 0 where
   pub first : AllWrites s ws mid
   pub second : rest
 
--- A list that worked has a medium between its two parts, up to which the first worked and from which on the second did.
+-- If an appended list of writes worked, both its parts worked, with a medium between them.
 pub list_has_two_parts : (ws vs : List Write) (s now : MediumState) → AllWrites s (ws ++ vs) now → (mid : MediumState)
-    × BetweenTwoParts ws vs s mid (AllWrites mid vs now)
+    × HasTwoParts ws vs s mid (AllWrites mid vs now)
 list_has_two_parts [] vs s now all = (s, record { first = refl; second = all })
 list_has_two_parts (w ∷ ws) vs s now (next, wrote, rest) =
     let parts = list_has_two_parts ws vs next now rest in
     (parts.0, record { first = (next, wrote, parts.1.first); second = parts.1.second })
 
--- A list that was broken off was so in its first part or in its second.
-pub broken_in_either_part : (fault : WriteFault) (ws vs : List Write) (s now : MediumState) → BrokenWrites fault s (ws ++ vs) now
+-- A list of writes that was broken off was broken off in its first part or in its second.
+pub either_part_was_broken : (fault : WriteFault) (ws vs : List Write) (s now : MediumState) → BrokenWrites fault s (ws ++ vs) now
     → BrokenWrites fault s ws now
-    ⊎ ((mid : MediumState) × BetweenTwoParts ws vs s mid (BrokenWrites fault mid vs now))
-broken_in_either_part fault [] vs s now broken = inr (s, record { first = refl; second = broken })
-broken_in_either_part fault (w ∷ ws) vs s now (inl failed) = inl (inl failed)
-broken_in_either_part fault (w ∷ ws) vs s now (inr (next, wrote, rest)) = elim (broken_in_either_part fault ws vs next now rest) [
+    ⊎ ((mid : MediumState) × HasTwoParts ws vs s mid (BrokenWrites fault mid vs now))
+either_part_was_broken fault [] vs s now broken = inr (s, record { first = refl; second = broken })
+either_part_was_broken fault (w ∷ ws) vs s now (inl failed) = inl (inl failed)
+either_part_was_broken fault (w ∷ ws) vs s now (inr (next, wrote, rest)) = elim (either_part_was_broken fault ws vs next now rest) [
   | inl early ↦ inl (inr (next, wrote, early))
   | inr late ↦ inr (late.0, record { first = (next, wrote, late.1.first); second = late.1.second })
 ]
 
--- Writes that a test asks for ended, or nothing was written because the test does not ask for them.
-pub ended_writes_by_test : (s now : MediumState) (b : Bool) (ws : List Write) → WritesEnded s (if b then ws else []) now → ((b ≡ true)
+-- Writes under a test: if it is true the writes ended, and if it is false nothing was written.
+pub tested_writes_ended : (s now : MediumState) (b : Bool) (ws : List Write) → WritesEnded s (if b then ws else []) now → ((b ≡ true)
     × WritesEnded s ws now)
     ⊎ ((b ≡ false) × (now ≡ s))
-ended_writes_by_test s now true ws ends = inl (refl, ends)
-ended_writes_by_test s now false ws (inl same) = inr (refl, same)
-ended_writes_by_test s now false ws (inr (fault, none)) = absurd none
+tested_writes_ended s now true ws ends = inl (refl, ends)
+tested_writes_ended s now false ws (inl same) = inr (refl, same)
+tested_writes_ended s now false ws (inr (fault, none)) = absurd none
 
--- Writes that a test asks for worked, or nothing was written because the test does not ask for them.
+-- Writes under a test: if it is true all of them worked, and if it is false nothing was written.
 pub all_if : (s now : MediumState) (b : Bool) (ws : List Write) → AllWrites s (if b then ws else []) now → ((b ≡ true) × AllWrites s ws now)
     ⊎ ((b ≡ false) × (now ≡ s))
 all_if s now true ws all = inl (refl, all)
 all_if s now false ws same = inr (refl, same)
 
--- Writes that a test leaves out were left out, or they worked.
-pub writes_unless_test : (s now : MediumState) (b : Bool) (ws : List Write) → AllWrites s (if b then [] else ws) now → ((b ≡ true)
+-- Writes under the opposite of a test: if it is true nothing was written, and if it is false all writes worked.
+pub untested_writes_all_worked : (s now : MediumState) (b : Bool) (ws : List Write) → AllWrites s (if b then [] else ws) now → ((b ≡ true)
     × (now ≡ s))
     ⊎ ((b ≡ false) × AllWrites s ws now)
-writes_unless_test s now true ws same = inl (refl, same)
-writes_unless_test s now false ws all = inr (refl, all)
+untested_writes_all_worked s now true ws same = inl (refl, same)
+untested_writes_all_worked s now false ws all = inr (refl, all)
 
--- A list that a test chooses of two lies in a range if both do.
+-- If two lists of writes lie in a range, so does the one that a test chooses.
 pub chosen_writes_inside : (from to : ℕ) (b : Bool) (ws vs : List Write) → AllWritesInside from to ws → AllWritesInside from to vs
     → AllWritesInside from to (if b then ws else vs)
 chosen_writes_inside from to true ws vs a b = a
 chosen_writes_inside from to false ws vs a b = b
 
--- Two lists, one after the other, lie in a range if each does.
+-- An appended list of writes lies in a range if both its parts do.
 pub appended_writes_inside : (from to : ℕ) (ws vs : List Write) → AllWritesInside from to ws → AllWritesInside from to vs →
     AllWritesInside from to (ws ++ vs)
 appended_writes_inside from to [] vs a b = b

@@ -3,7 +3,7 @@ use Rattle.std.proofs.Common.{◌≡◌, ◌≢◌, ◌==◌, false, ◌∙◌, 
 use Rattle.std.proofs.lemmas.Bool.{cond-false, ne_eqb}
 use Rattle.dfu_slots.specs.Medium.{MediumState, Write, AllWrites}
 use Rattle.dfu_slots.specs.Image.{IsSizedMedium}
-use Rattle.dfu_slots.specs.Writes.{sector_erases, write_anew, write_some}
+use Rattle.dfu_slots.specs.Writes.{sector_erases, erasing_write, write_some}
 use Rattle.dfu_slots.proofs.Series.{SameSize, all_writes_keep_size}
 use Rattle.dfu_slots.proofs.Anew.{sector_erases_lie_inside, write_some_lies_inside}
 use Rattle.dfu_slots.proofs.Edges.{sized_medium_ends_at_edge}
@@ -15,19 +15,19 @@ erases_keep_size m mid at n sized some fits all = all_writes_keep_size (sector_e
     (sector_erases_lie_inside m.grain.sector 0 (length m.bytes) (sized_medium_ends_at_edge m sized some) at n (omega arith) fits) all
 
 module _ (m mid : MediumState) (at : ℕ) (bytes : List ℕ) (sized : IsSizedMedium m) (fits : at + length bytes ≤ length m.bytes) where
-  -- A write of some bytes with its erases, or of none, keeps the size of a medium.
+  -- A write of any number of bytes with its erases keeps the size of a medium.
   pub write_some_keeps_size : AllWrites m (write_some m.grain.sector at bytes) mid → SameSize m mid
   write_some_keeps_size all = all_writes_keep_size (write_some m.grain.sector at bytes) m mid
       (write_some_lies_inside m.grain.sector 0 (length m.bytes) at bytes (sized_medium_ends_at_edge m sized) (omega arith) fits) all
 
 -- On a medium with sectors a write with its erases is the erases, and then the write.
-pub write_anew_with_sectors : (sector at : ℕ) (bytes : List ℕ) → sector ≢ 0
-    → write_anew sector at bytes ≡ sector_erases sector at (length bytes) ++ record { at = at; bytes = bytes } ∷ []
-write_anew_with_sectors sector at bytes some = ap (λ (ws : List Write). ws ++ record { at = at; bytes = bytes } ∷ [])
+pub erasing_write_with_sectors : (sector at : ℕ) (bytes : List ℕ) → sector ≢ 0
+    → erasing_write sector at bytes ≡ sector_erases sector at (length bytes) ++ record { at = at; bytes = bytes } ∷ []
+erasing_write_with_sectors sector at bytes some = ap (λ (ws : List Write). ws ++ record { at = at; bytes = bytes } ∷ [])
     (cond-false (sector == 0) [] (sector_erases sector at (length bytes)) (ne_eqb sector 0 some))
 
 -- On a medium with sectors a write of one byte or more is the erases, and then the write.
 pub write_some_with_sectors : (sector at : ℕ) (bytes : List ℕ) → (length bytes == 0) ≡ false → sector ≢ 0
     → write_some sector at bytes ≡ sector_erases sector at (length bytes) ++ record { at = at; bytes = bytes } ∷ []
 write_some_with_sectors sector at bytes filled some =
-    cond-false (length bytes == 0) [] (write_anew sector at bytes) filled ∙ write_anew_with_sectors sector at bytes some
+    cond-false (length bytes == 0) [] (erasing_write sector at bytes) filled ∙ erasing_write_with_sectors sector at bytes some

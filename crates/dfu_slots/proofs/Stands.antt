@@ -1,17 +1,17 @@
--- Content of a medium, by its bytes and by the bytes that a gate takes up.
+-- Two slots and the active image, given the bytes of a medium and the room of a gate.
 use Rattle.std.proofs.Common.{◌≡◌, ℕ, ◌*◌, ◌^◌, ◌≤◌, ◌<◌, List, length, take}
 use Rattle.dfu_slots.specs.Units.{IsWhole}
 use Rattle.dfu_slots.specs.Medium.{MediumState}
 use Rattle.dfu_slots.specs.Layout.{slot_size, capacity, ArePlaces, slot, HasHeader}
 use Rattle.dfu_slots.specs.Image.{gate_of, capacity_of, IsSizedMedium, IsNewest, Active}
 
--- The bytes are two slots of one size, with 1 to 2^24 bytes of data each.
+-- The bytes are two slots of equal size, with 1 to 2^24 bytes of data each.
 pub record HasTwoSlots (g : ℕ) (bytes : List ℕ) : Type 0 where
   pub even : length bytes ≡ 2 * slot_size bytes
   pub room : 2 * g < slot_size bytes
   pub bound : capacity g bytes ≤ 2 ^ 24
 
--- The slot at one of the two places is the newest, and has this image.
+-- The slot at `at` is the newest beside the slot at `spare`, and has this image.
 pub record ActiveAt (g : ℕ) (bytes : List ℕ) (at spare : ℕ) (image : List ℕ) : Type 0 where
   pub sized : HasTwoSlots g bytes
   pub places : ArePlaces bytes at spare
@@ -23,7 +23,7 @@ pub record ActiveAt (g : ℕ) (bytes : List ℕ) (at spare : ℕ) (image : List 
 pub sized_medium_has_two_slots : (m : MediumState) → IsSizedMedium m → HasTwoSlots (gate_of m) m.bytes
 sized_medium_has_two_slots m sized = record { even = sized.even; room = sized.room; bound = sized.bound }
 
--- An active image is at its place.
+-- An active image is active at its place (`ActiveAt`).
 pub active_image_at_its_place : {m : MediumState} {image : List ℕ} (a : Active m image) → ActiveAt (gate_of m) m.bytes a.at a.spare image
 active_image_at_its_place {m} a = record {
   sized = sized_medium_has_two_slots m a.sized;

@@ -1,4 +1,4 @@
--- The active slot and its image stay, and what a store shows then.
+-- Stores whose active slot and image stay: they show the same image and room.
 use Rattle.std.proofs.Common.{◌≡◌, ℕ, length, refl, sym, ◌∙◌, ap, subst}
 use Rattle.dfu_slots.specs.Units.{gate_room, Grain}
 use Rattle.dfu_slots.specs.Medium.{MediumState, Fuse}
@@ -6,13 +6,13 @@ use Rattle.dfu_slots.specs.Layout.{Slot}
 use Rattle.dfu_slots.specs.Image.{gate_of, Active, HasImage, active_at, spare_at, spare}
 use Rattle.dfu_slots.specs.StoreView.{SlotsState, store_of, image_of, room_of}
 use Rattle.dfu_slots.specs.Store.{IsStore}
-use Rattle.dfu_slots.specs.inside.PlaceMemory.{IsStoreAt}
+use Rattle.dfu_slots.specs.inside.PlaceMemory.{RemembersPlaces}
 use Rattle.dfu_slots.proofs.Stands.{ActiveAt, active_image_at_its_place}
-use Rattle.dfu_slots.proofs.Newest.{places_of_active_image}
+use Rattle.dfu_slots.proofs.Newest.{test_finds_active_image}
 use Rattle.dfu_slots.proofs.Series.{SameSize}
 use Rattle.dfu_slots.proofs.Seeing.{image_is, seen_image_is_active, active_on_same_size, room_kept_on_same_size, fuse_leaves_store}
 
--- The active slot and its image stay.
+-- The image is active at its place afterwards too, on a medium of the same size.
 pub record ActiveImageStays (s now : SlotsState) (has : HasImage s.medium) : Type 0 where
   pub stands : ActiveAt (gate_of s.medium) now.medium.bytes has.active.at has.active.spare has.image
   pub same : SameSize s.medium now.medium
@@ -44,16 +44,17 @@ pub staying_image_keeps_places : (s now : SlotsState) (has : HasImage s.medium) 
 staying_image_keeps_places s now has stays =
     let a = has.active in
     let g = gate_of s.medium in
-    let was = places_of_active_image g s.medium.bytes a.at a.spare has.image (active_image_at_its_place a) in
-    let is = places_of_active_image g now.medium.bytes a.at a.spare has.image stays.stands in
+    let was = test_finds_active_image g s.medium.bytes a.at a.spare has.image (active_image_at_its_place a) in
+    let is = test_finds_active_image g now.medium.bytes a.at a.spare has.image stays.stands in
     record {
       active = ap (λ (w : Grain). active_at (gate_room w) now.medium.bytes) stays.same.grain ∙ sym is.0 ∙ was.0;
       spare = ap (λ (w : Grain). spare_at (gate_room w) now.medium.bytes) stays.same.grain ∙ sym is.1 ∙ was.1;
     }
 
--- If two media have their slots at the same places, the places that a store remembers are right for the other one too.
-pub places_kept_by_store : {s now : SlotsState} {active spare : ℕ} → IsStoreAt s active spare → IsStore now → SamePlaces s.medium now.medium
-    → IsStoreAt now active spare
+-- If two media have their slots at the same places, the places that a store remembers are right for both media.
+pub places_kept_by_store : {s now : SlotsState} {active spare : ℕ} → RemembersPlaces s active spare → IsStore now
+    → SamePlaces s.medium now.medium
+    → RemembersPlaces now active spare
 places_kept_by_store kept store same = record {
   store = store;
   active_there = kept.active_there ∙ sym same.active;
@@ -61,12 +62,12 @@ places_kept_by_store kept store same = record {
 }
 
 -- The image that a store with remembered places shows is the active one.
-pub image_at_kept_places_active : {s : SlotsState} {active spare : ℕ} → IsStoreAt s active spare → Active s.medium (image_of s)
+pub image_at_kept_places_active : {s : SlotsState} {active spare : ℕ} → RemembersPlaces s active spare → Active s.medium (image_of s)
 image_at_kept_places_active {s} kept = seen_image_is_active s kept.store.has_image
 
--- The places that a store remembers are right if the medium gets another fuse.
-pub places_kept_with_other_fuse : {s : SlotsState} {active spare : ℕ} → IsStoreAt s active spare → (m : MediumState) (fuse : Fuse)
-    → m ≡ record s.medium { fuse = fuse } → IsStoreAt (store_of m s.held s.put_end) active spare
+-- The places that a store remembers stay right if the medium gets another fuse.
+pub places_kept_with_other_fuse : {s : SlotsState} {active spare : ℕ} → RemembersPlaces s active spare → (m : MediumState) (fuse : Fuse)
+    → m ≡ record s.medium { fuse = fuse } → RemembersPlaces (store_of m s.held s.put_end) active spare
 places_kept_with_other_fuse kept m fuse is = places_kept_by_store kept (fuse_leaves_store refl kept.store m fuse is).store
     (record {
       active = ap (λ (x : MediumState). active_at (gate_of x) x.bytes) is;

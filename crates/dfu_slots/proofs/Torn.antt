@@ -2,7 +2,7 @@
 use Rattle.std.proofs.Common.{◌≡◌, ◌⊎◌, inl, inr, ℕ, ◌+◌, ◌-◌, ◌≤◌, ◌<◌, List, ◌∷◌, ◌++◌, length, get_or, take, drop, slice_index, slice_range, sym, ◌∙◌, ap, subst, arith, length-append, length-drop}
 use Rattle.std.proofs.lemmas.List.{take-take, drop-drop, get_or-take, get_or-drop, take_at, drop_at, append_assoc, length-take-le, length-take}
 use Rattle.std.proofs.lemmas.Slice.{between_is}
-use Rattle.dfu_slots.specs.Medium.{FrameOutside, Torn, written}
+use Rattle.dfu_slots.specs.Medium.{ChangedWithin, Torn, written}
 
 -- A range that ends before the write stays.
 range_kept_below_write : (old now : List ℕ) (from i j : ℕ) → take from now ≡ take from old → j ≤ from → slice_range now i j
@@ -23,13 +23,13 @@ range_kept_above_write old now to i j same le =
     ∙ sym (drop_in_two_steps old to i le))
 
 -- A range that the write does not touch stays.
-pub range_kept_outside_write : (from to : ℕ) (old now : List ℕ) (i j : ℕ) → FrameOutside from to old now → (j ≤ from) ⊎ (to ≤ i)
+pub range_kept_outside_write : (from to : ℕ) (old now : List ℕ) (i j : ℕ) → ChangedWithin from to old now → (j ≤ from) ⊎ (to ≤ i)
     → slice_range now i j ≡ slice_range old i j
 range_kept_outside_write from to old now i j keeps (inl below) = range_kept_below_write old now from i j keeps.before below
 range_kept_outside_write from to old now i j keeps (inr above) = range_kept_above_write old now to i j keeps.after above
 
 -- A byte that the write does not touch stays.
-pub byte_kept_outside_write : (from to : ℕ) (old now : List ℕ) (i : ℕ) → FrameOutside from to old now → (i < from) ⊎ (to ≤ i)
+pub byte_kept_outside_write : (from to : ℕ) (old now : List ℕ) (i : ℕ) → ChangedWithin from to old now → (i < from) ⊎ (to ≤ i)
     → slice_index now i ≡ slice_index old i
 byte_kept_outside_write from to old now i keeps (inl below) =
     sym (get_or-take from now i 0 below) ∙ ap (λ (l : List ℕ). get_or l i 0) keeps.before ∙ get_or-take from old i 0 below
@@ -40,22 +40,22 @@ byte_kept_outside_write from to old now i keeps (inr above) =
     ∙ ap (λ (k : ℕ). get_or old k 0) e
 
 -- The byte at which a range begins is the first of the range.
-pub first_of_range : (l : List ℕ) (i j x : ℕ) (xs : List ℕ) → i < j → slice_range l i j ≡ x ∷ xs → slice_index l i ≡ x
-first_of_range l i j x xs lt is =
+pub range_begins_there : (l : List ℕ) (i j x : ℕ) (xs : List ℕ) → i < j → slice_range l i j ≡ x ∷ xs → slice_index l i ≡ x
+range_begins_there l i j x xs lt is =
     let e : i ≡ i + 0 = omega arith in
     ap (λ (k : ℕ). get_or l k 0) e ∙ sym (get_or-drop i l 0 0) ∙ sym (get_or-take (j - i) (drop i l) 0 0 (omega arith))
     ∙ ap (λ (r : List ℕ). get_or r 0 0) is
 
 -- A change within a range is a change within each wider range.
-pub wider_frame_holds : (a b from to : ℕ) (old now : List ℕ) → FrameOutside a b old now → from ≤ a → b ≤ to → FrameOutside from to old now
+pub wider_frame_holds : (a b from to : ℕ) (old now : List ℕ) → ChangedWithin a b old now → from ≤ a → b ≤ to → ChangedWithin from to old now
 wider_frame_holds a b from to old now keeps low high = record {
   size = keeps.size;
   before = sym (take-take from a now low) ∙ ap (λ (l : List ℕ). take from l) keeps.before ∙ take-take from a old low;
   after = drop_in_two_steps now b to high ∙ ap (λ (l : List ℕ). drop (to - b) l) keeps.after ∙ sym (drop_in_two_steps old b to high);
 }
 
--- If nothing changed, all outside any range stays.
-pub no_change_keeps_all : (from to : ℕ) (old now : List ℕ) → now ≡ old → FrameOutside from to old now
+-- If no byte changed, nothing changed outside any range.
+pub no_change_keeps_all : (from to : ℕ) (old now : List ℕ) → now ≡ old → ChangedWithin from to old now
 no_change_keeps_all from to old now same = record {
   size = ap length same;
   before = ap (λ (l : List ℕ). take from l) same;
@@ -63,9 +63,9 @@ no_change_keeps_all from to old now same = record {
 }
 
 -- Two changes within a range, one after the other, are one change within it.
-pub two_changes_of_range : (from to : ℕ) (old mid now : List ℕ) → FrameOutside from to old mid → FrameOutside from to mid now
-    → FrameOutside from to old now
-two_changes_of_range from to old mid now first second = record {
+pub two_changes_are_one_change : (from to : ℕ) (old mid now : List ℕ) → ChangedWithin from to old mid → ChangedWithin from to mid now
+    → ChangedWithin from to old now
+two_changes_are_one_change from to old mid now first second = record {
   size = second.size ∙ first.size;
   before = second.before ∙ first.before;
   after = second.after ∙ first.after;

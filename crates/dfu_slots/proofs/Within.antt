@@ -33,14 +33,14 @@ take_of_written_bytes old m k new le fits =
     (sym (drop-take (k + n) (m - (k + n)) old) ∙ ap (λ (j : ℕ). drop (k + n) (take j old)) (sym e))
     ∙ ap (λ (l : List ℕ). l ++ new ++ drop (k + n) (take m old)) (sym (take-take k m old (omega arith)))
 
--- After a write within a range, the range is what it was with the bytes written in it.
+-- A write within a range writes its bytes in that range.
 pub range_written_within : (old : List ℕ) (p q k : ℕ) (new : List ℕ) → p + k + length new ≤ q → q ≤ length old
     → slice_range (written old (p + k) new) p q ≡ written (slice_range old p q) k new
 range_written_within old p q k new le fits =
     ap (λ (l : List ℕ). take (q - p) l) (drop_of_written_bytes old p k new (omega arith))
     ∙ take_of_written_bytes (drop p old) (q - p) k new (omega arith) (omega (arith, length-drop p old))
 
--- Two writes, one right after the other, are one write of both.
+-- Two writes to adjacent ranges are one write of both lists.
 pub two_writes_are_one : (d : List ℕ) (p : ℕ) (a b : List ℕ) → p + length a + length b ≤ length d
     → written (written d p a) (p + length a) b ≡ written d p (a ++ b)
 two_writes_are_one d p a b fits =
@@ -57,15 +57,15 @@ two_writes_are_one d p a b fits =
     ∙ ap (λ (n : ℕ). take p d ++ (a ++ b) ++ drop n d) e
 
 -- A write of no bytes changes nothing.
-pub write_of_no_bytes : (l : List ℕ) (k : ℕ) → written l k [] ≡ l
-write_of_no_bytes l k =
+pub empty_write_keeps_all : (l : List ℕ) (k : ℕ) → written l k [] ≡ l
+empty_write_keeps_all l k =
     let e : k + 0 ≡ k = omega arith in
     ap (λ (f : List ℕ). f ++ drop (k + 0) l) (append-nil (take k l)) ∙ ap (λ (j : ℕ). take k l ++ drop j l) e ∙ take-append-drop k l
 
--- The front of a write of two lists that ends within the first is the front of a write of the first.
-pub front_of_written : (d : List ℕ) (k : ℕ) (xs zs : List ℕ) (len : ℕ) → k ≤ length d → len ≤ k + length xs
+-- After a write of two lists, a prefix that ends within the first does not depend on the second.
+pub front_ignores_second_list : (d : List ℕ) (k : ℕ) (xs zs : List ℕ) (len : ℕ) → k ≤ length d → len ≤ k + length xs
     → take len (written d k (xs ++ zs)) ≡ take len (written d k xs)
-front_of_written d k xs zs len fits le =
+front_ignores_second_list d k xs zs len fits le =
     let a = take k d ++ xs in
     let room : len ≤ length a = omega (arith, le, length-append (take k d) xs, length-take-le k d fits) in
     let past = drop (k + length (xs ++ zs)) d in
@@ -73,12 +73,12 @@ front_of_written d k xs zs len fits le =
     ∙ take-append-le len a (zs ++ past) room
     ∙ sym (take-append-le len a (drop (k + length xs) d) room)
 
--- The front of a list up to the end of a write is what was before the write, and then its bytes.
+-- After a write at k, the first bytes are the old first k bytes, and then the bytes written.
 pub written_bytes_after_front : (d : List ℕ) (k : ℕ) (xs : List ℕ) → k ≤ length d → take (k + length xs) (written d k xs) ≡ take k d ++ xs
 written_bytes_after_front d k xs fits =
     take_at (take k d ++ xs) (drop (k + length xs) d) (k + length xs) (omega (arith, length-append (take k d) xs, length-take-le k d fits))
 
--- If a list begins like a write of two lists, its front within the first is that of a write of the first.
+-- If a list begins with k old bytes and two written lists, its prefix within the first is that of a write of the first.
 pub front_shows_written_bytes : (d now : List ℕ) (k : ℕ) (xs zs : List ℕ) (len : ℕ) → k ≤ length d → len ≤ k + length xs
     → take (k + length (xs ++ zs)) now ≡ take k d ++ (xs ++ zs) → take len now ≡ take len (written d k xs)
 front_shows_written_bytes d now k xs zs len fits le is =
@@ -88,4 +88,4 @@ front_shows_written_bytes d now k xs zs len fits le is =
     ∙ ap (λ (l : List ℕ). take len l) is
     ∙ sym (take-append-le len (take k d ++ all) (drop (k + length all) d)
     (omega (arith, le, long, length-append (take k d) all, length-take-le k d fits)))
-    ∙ front_of_written d k xs zs len fits le
+    ∙ front_ignores_second_list d k xs zs len fits le

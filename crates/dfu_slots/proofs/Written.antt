@@ -5,13 +5,13 @@ use Rattle.dfu_slots.specs.declared.fault.WriteFault.TheVariants.{NotVerified}
 use Rattle.dfu_slots.specs.Medium.{MediumState, Fuse, Torn, WriteMayWork, WriteMayFail, WroteBytes, FailedWrite, WroteOrLied, written}
 use Rattle.dfu_slots.specs.Medium.Fuse.{Unknown, Whole, Armed, Lying, Stopped}
 use Rattle.dfu_slots.proofs.Torn.{written_bytes_in_range}
-use Rattle.dfu_slots.proofs.ReadBack.{BytesStandAt}
+use Rattle.dfu_slots.proofs.ReadBack.{HasBytesAt}
 
 -- A torn write whose range has all its bytes worked.
-torn_write_with_its_bytes : (old : List ℕ) (at : ℕ) (new left : List ℕ) → at + length new ≤ length old → Torn old at new left →
-    BytesStandAt left at new
+torn_write_with_bytes_worked : (old : List ℕ) (at : ℕ) (new left : List ℕ) → at + length new ≤ length old → Torn old at new left →
+    HasBytesAt left at new
     → left ≡ written old at new
-torn_write_with_its_bytes old at new left fits torn stands =
+torn_write_with_bytes_worked old at new left fits torn stands =
     sym (take-append-drop at left)
     ∙ ap (λ (l : List ℕ). take at left ++ l) (sym (take-append-drop (length new) (drop at left)))
     ∙ ap (λ (l : List ℕ). take at left ++ (take (length new) (drop at left) ++ l)) (drop-drop (length new) at left)
@@ -30,12 +30,12 @@ true_lie_may_work (Armed writes tear stop) old at new left next lied right = abs
 true_lie_may_work (Lying writes tear) old at new left next lied right = absurd (lied.2 right)
 true_lie_may_work Stopped old at new left next lied right = absurd lied
 
--- If the bytes of a write that returned Ok are there, the write worked.
+-- A write that returned Ok worked if its bytes are on the medium.
 pub write_worked : {old : MediumState} {at : ℕ} {new : List ℕ} {now : MediumState} → at + length new ≤ length old.bytes
-    → WroteOrLied old at new now → BytesStandAt now.bytes at new → WroteBytes old at new now
+    → WroteOrLied old at new now → HasBytesAt now.bytes at new → WroteBytes old at new now
 write_worked fits (inl wrote) stands = wrote
 write_worked {old} {at} {new} {now} fits (inr lied) stands =
-    let right = torn_write_with_its_bytes old.bytes at new now.bytes fits lied.bytes stands in
+    let right = torn_write_with_bytes_worked old.bytes at new now.bytes fits lied.bytes stands in
     record {
       bytes = right;
       failures = omega (arith, lied.failures);
@@ -44,9 +44,9 @@ write_worked {old} {at} {new} {now} fits (inr lied) stands =
       tag = lied.tag;
     }
 
--- If the bytes of a write that returned Ok are not there, the write lied.
+-- A write that returned Ok lied if its bytes are not on the medium.
 pub write_lied : {old : MediumState} {at : ℕ} {new : List ℕ} {now : MediumState} → at + length new ≤ length old.bytes
-    → WroteOrLied old at new now → ¬ BytesStandAt now.bytes at new → FailedWrite NotVerified old at new now
+    → WroteOrLied old at new now → ¬ HasBytesAt now.bytes at new → FailedWrite NotVerified old at new now
 write_lied {old} {at} {new} fits (inl wrote) missing =
     absurd (missing (ap (λ (l : List ℕ). slice_range l at (at + length new)) wrote.bytes ∙ written_bytes_in_range old.bytes at new fits))
 write_lied fits (inr lied) missing = lied

@@ -1,4 +1,4 @@
--- Results of `begin`, `put` and `commit`: what each of them leaves of the store, at Ok and at each error.
+-- Results of `begin`, `put` and `commit`: the store that each leaves, at Ok and at each error.
 use Rattle.std.specs.Prelude.{◌≡◌, ◌⊎◌, ◌↔◌, ℕ, ◌+◌, ◌≤◌, ◌<◌, Bool, true, false, List, ◌++◌, length, take, Result, OnOk, OnErr, IsErrOf}
 use Rattle.dfu_slots.specs.declared.fault.PutFault.{PutFault}
 use Rattle.dfu_slots.specs.declared.fault.PutFault.TheVariants.{TooLarge, NotBegun}
@@ -25,17 +25,17 @@ reached_end (Commit len) = len
 pub record CallIsRefused {T : Type 0} (s : SlotsState) (kind : StoreCall) (result : Result T PutFault) : Type 0 where
   -- NotBegun is returned exactly if the spare's gate is not as the call needs it.
   pub not_begun : IsErrOf result NotBegun ↔ (is_gate_ready s kind ≡ false)
-  -- TooLarge is returned exactly if the gate is as it should be, and the call reaches past the room of the store.
+  -- TooLarge is returned exactly if the gate is as the call needs it, and the call reaches past the room of the store.
   pub too_large : IsErrOf result TooLarge ↔ ((is_gate_ready s kind ≡ true) × (room_of s < reached_end kind))
 
--- Part of the result that `begin`, `put` and `commit` have in common.
+-- Result of a call, as far as `begin`, `put` and `commit` have it in common.
 pub record StoreCallResult {T : Type 0} (old : SlotsState) (kind : StoreCall) (result : Result T PutFault) (now : SlotsState) : Type 0 where
   pub refuses : CallIsRefused old kind result
   -- A call that is not refused made all its writes, or the fault that it returns broke it off.
   pub call : is_gate_ready old kind ≡ true → reached_end kind ≤ room_of old → CallEnding old kind (ending_of result) now
-  -- The result tells which writes were made; a refused call changes nothing.
+  -- The result says which writes were made; a refused call changes nothing.
   pub writes : CallChanges old kind result now
-  -- Failed and NotVerified come only if the medium's count of failures rose, or is at its last value.
+  -- Failed and NotVerified are returned only if the medium's count of failures rose, or is at its maximum.
   pub rose : CallIsBroken result → CountRose old.medium.failures now.medium.failures
   -- After Failed and NotVerified nothing is held back, and the puts end at 0.
   pub failed : CallIsBroken result → now ≡ store_on now.medium
@@ -52,10 +52,10 @@ pub record StoreBeginResult {T : Type 0} (old : SlotsState) (result : Result T P
   pub fault : OnErr result (CallIsBroken result)
   -- The active image stays.
   pub image : image_of now ≡ image_of old
-  -- Whatever `begin` returns, nothing is held back afterwards, and the puts end at 0.
+  -- After any result of `begin` nothing is held back, and the puts end at 0.
   pub fresh : now ≡ store_on now.medium
   pub end : now.put_end ≡ 0
-  -- Ok leaves the spare's gate closed, and its data as it is on the medium.
+  -- After Ok the spare's gate is closed, and the spare's data is that on the medium.
   pub shut : OnOk result (is_begun now ≡ true)
   pub spare : OnOk result (spare_of now ≡ (spare_slot old).data_bytes)
 
@@ -65,7 +65,7 @@ pub record StorePutResult {T : Type 0} (old : SlotsState) (at : ℕ) (bytes : Li
   pub common : StoreCallResult old (Put at bytes) result now
   -- The active image stays.
   pub image : image_of now ≡ image_of old
-  -- After Ok the spare's data begins with what was put before, and then `bytes`; the puts end after them.
+  -- After Ok the spare's data begins with the bytes put before, followed by `bytes`; the puts end after them.
   pub front : OnOk result (take (at + length bytes) (spare_of now) ≡ take at (spare_of old) ++ bytes)
   -- On a medium without sectors the rest of the spare's data stays as it was.
   pub spare : OnOk result (old.medium.grain.sector ≡ 0 → spare_of now ≡ written (spare_of old) at bytes)
@@ -88,7 +88,7 @@ pub record StoreCommitResult {T : Type 0} (old : SlotsState) (len : ℕ) (result
 pub record FuseResult (old : SlotsState) (fuse : Fuse) (now : SlotsState) : Type 0 where
   pub medium : now ≡ store_with_fuse old fuse
   pub store : IsStore now
-  -- All that a caller sees of the images stays, because the fuse is no part of them.
+  -- The images, the gate of the spare and the room stay, because the fuse is no part of them.
   pub image : image_of now ≡ image_of old
   pub spare : spare_of now ≡ spare_of old
   pub begun : is_begun now ≡ is_begun old

@@ -1,4 +1,4 @@
--- Results and effects of the calls.
+-- Effects of a store's calls, and the causes for which `format` and `open` fail.
 use Rattle.std.specs.Prelude.{◌≡◌, ◌≤◌, ◌<◌, ℕ, List, length, Result, Ok, Err}
 use Rattle.dfu_slots.specs.Medium.{MediumState}
 use Rattle.dfu_slots.specs.Layout.{slot_size, ArePlaces, HasHeader}
@@ -13,7 +13,7 @@ use Rattle.dfu_slots.specs.declared.fault.PutFault.TheVariants.{TooLarge, Failed
 use Rattle.dfu_slots.specs.declared.fault.WriteFault.{WriteFault}
 use Rattle.dfu_slots.specs.declared.fault.WriteFault.TheVariants.{Failed as WriteFailed, NotVerified as WriteNotVerified}
 
--- A call is broken off if one of its writes failed, or if the bytes of a write were not there when they were read back.
+-- A call is broken off if one of its writes failed, or if other bytes than those of a write were read back.
 abbrev pub CallIsBroken : {T : Type 0} → Result T PutFault → Type 0
 CallIsBroken (Ok _) = ⊥
 CallIsBroken (Err Failed) = Unit {0}
@@ -21,7 +21,7 @@ CallIsBroken (Err NotVerified) = Unit {0}
 CallIsBroken (Err TooLarge) = ⊥
 CallIsBroken (Err NotBegun) = ⊥
 
--- Fault of the write that a failed call returns: NotVerified if the call returned NotVerified, and Failed else.
+-- Fault of the write that broke a call off: NotVerified if the call returned NotVerified, else Failed.
 abbrev pub fault_of : PutFault → WriteFault
 fault_of NotVerified = WriteNotVerified
 fault_of fault = WriteFailed
@@ -31,8 +31,8 @@ abbrev pub ending_of : {T : Type 0} → Result T PutFault → Ending
 ending_of (Ok _) = AllWorked
 ending_of (Err fault) = BrokenBy (fault_of fault)
 
--- Writes that a result tells of. Ok: the call made all of them. Failed and NotVerified: it made those up to one with this fault. At any
--- other fault the store is as it was.
+-- Writes made by a call, by its result. Ok: all of them. Failed or NotVerified: those up to one with this fault. Any other fault: none, and
+-- the store is as it was.
 abbrev pub CallChanges : {T : Type 0} → SlotsState → StoreCall → Result T PutFault → SlotsState → Type 0
 CallChanges old call (Ok _) now = CallEnds old call AllWorked now
 CallChanges old call (Err Failed) now = CallEnds old call (BrokenBy WriteFailed) now
@@ -45,7 +45,7 @@ pub record CanFormat (m : MediumState) (image : List ℕ) : Type 0 where
   pub sized : IsSizedMedium m
   pub fits : length image ≤ capacity_of m
 
--- First cause for which a medium and an image cannot be formatted. A write that failed is no such cause: they can be formatted then.
+-- First cause for which a `format` fails. If that is a failed write, the medium can be formatted with the image.
 abbrev pub IsFormatFault : FormatFault → MediumState → List ℕ → Type 0
 IsFormatFault NotSized m image = ¬ IsSizedMedium m
 IsFormatFault ImageTooLarge m image = IsSizedMedium m × (capacity_of m < length image)
@@ -63,11 +63,11 @@ pub record HasBadHeader (m : MediumState) : Type 0 where
   pub newest : HasNewest m
   pub none : (len : ℕ) → ¬ HasHeader (slot_of m newest.at) len
 
--- The slot at the front of the medium counts.
+-- The first slot of the medium counts.
 abbrev pub FirstSlotCounts : MediumState → Type 0
 FirstSlotCounts m = SlotCounts (slot_of m 0)
 
--- The slot in the second half of the medium counts.
+-- The second slot of the medium counts.
 abbrev pub SecondSlotCounts : MediumState → Type 0
 SecondSlotCounts m = SlotCounts (slot_of m (slot_size m.bytes))
 

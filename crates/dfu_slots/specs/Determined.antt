@@ -1,4 +1,4 @@
--- Results that the start fixes: if the fuse of a medium is known, its bytes, its fuse and its grain fix what a list of writes leaves.
+-- Lists of writes are deterministic: if the fuse of a medium is known, its bytes, fuse and grain determine what the writes leave.
 use Rattle.std.specs.Prelude.{◌≡◌, ◌+◌, ◌-◌, ◌*◌, List, [], ◌∷◌, ◌++◌, length, take}
 use Rattle.std.proofs.Common.{inl, inr, refl, sym, ap, ◌∙◌, subst}
 use Rattle.dfu_suffix.specs.Register.{register}
@@ -62,15 +62,15 @@ broken_writes_same_end f (w ∷ ws) s t x y same k (inr (p, a, more)) (inl b) = 
 broken_writes_same_end f (w ∷ ws) s t x y same k (inr (p, a, more)) (inr (q, b, rest)) =
     broken_writes_same_end f ws p q x y (worked_writes_same_medium w s t p q same a b) (fuse_known_after_write w s p k a) more rest
 
--- Calls.
+-- One call on two equal stores.
 
--- Two stores are the same if their media are equal, they hold back the same bytes, and their puts end at the same place.
+-- Two stores are equal if their media are equal, they hold back the same bytes, and their puts end at the same place.
 pub record SameStore (a b : SlotsState) : Type 0 where
   pub medium : SameMedium a.medium b.medium
   pub held : a.held ≡ b.held
   pub put_end : a.put_end ≡ b.put_end
 
--- If a store is the same as another one, the other one is the same as it.
+-- SameStore is symmetric.
 same_store_symmetric : (s t : SlotsState) → SameStore s t → SameStore t s
 same_store_symmetric s t same = record {
   medium = same_medium_symmetric s.medium t.medium same.medium;
@@ -79,7 +79,7 @@ same_store_symmetric s t same = record {
       same.put_end;
 }
 
--- The same stores show the same bytes of the spare's data.
+-- Equal stores show the same bytes of the spare's data.
 same_stores_same_spare : (s t : SlotsState) → SameStore s t → spare_of s ≡ spare_of t
 unfolding spare_of
 same_stores_same_spare s t same =
@@ -87,7 +87,7 @@ same_stores_same_spare s t same =
     written (spare (gate_room (same.medium.grain i)) (same.medium.bytes i)).data_bytes
     (same.put_end i - length (same.held i)) (same.held i)
 
--- A call has the same writes on the same stores.
+-- A call has the same writes on equal stores.
 same_stores_same_writes : (s t : SlotsState) (call : StoreCall) → SameStore s t → writes_of s call ≡ writes_of t call
 same_stores_same_writes s t Begin same = λ i. begin_writes (same.medium.grain i) (same.medium.bytes i)
 same_stores_same_writes s t (Put at bytes) same =
@@ -103,7 +103,7 @@ same_stores_same_writes s t (Commit len) same =
     (same.held i)
     ++ commit_writes (same.medium.grain i) (same.medium.bytes i) len (register (take len (same_stores_same_spare s t same i)))
 
--- A call leaves the same bytes held back on the same stores.
+-- A call leaves the same bytes held back on equal stores.
 same_stores_hold_back_same : (s t : SlotsState) (call : StoreCall) → SameStore s t → held_after_call s call ≡ held_after_call t call
 same_stores_hold_back_same s t Begin same = refl
 same_stores_hold_back_same s t (Put at bytes) same = λ i. put_rest (same.medium.grain i).unit (same.held i) bytes
@@ -115,12 +115,12 @@ module _ (s t x y : SlotsState) (call : StoreCall) (same : SameStore s t) where
   call_writes_on_other_store b = subst (λ (ws : List Write). AllWrites t.medium ws y.medium) (sym (same_stores_same_writes s t call same))
       b.writes
 
-  -- If a fault broke a call on the store t off, the writes up to it are those of the call on s.
+  -- If a fault broke off a call on the store t, the writes up to it are those of the call on s.
   broken_call_on_other_store : (f : WriteFault) → CallFailed f t call y → BrokenWrites f t.medium (writes_of s call) y.medium
   broken_call_on_other_store f b = subst (λ (ws : List Write). BrokenWrites f t.medium ws y.medium) (sym (same_stores_same_writes s t call
       same)) b.writes
 
-  -- If all writes of a call work on both stores, it leaves the same store.
+  -- If all writes of a call work on both stores, it leaves equal stores.
   worked_calls_same_store : CallWorked s call x → CallWorked t call y → SameStore x y
   worked_calls_same_store a b = record {
     medium = same_writes_same_end (writes_of s call) s.medium t.medium x.medium y.medium same.medium a.writes (call_writes_on_other_store
@@ -129,12 +129,12 @@ module _ (s t x y : SlotsState) (call : StoreCall) (same : SameStore s t) where
     put_end = a.end_is ∙ sym b.end_is;
   }
 
-  -- If a call is broken off on both stores, it is broken off by the same fault.
+  -- If a call is broken off on both stores, the same fault breaks it off.
   broken_calls_same_fault : (f g : WriteFault) → IsKnownFuse s.medium.fuse → CallFailed f s call x → CallFailed g t call y → f ≡ g
   broken_calls_same_fault f g k a b = broken_writes_same_fault f g (writes_of s call) s.medium t.medium x.medium y.medium same.medium k
       a.writes (broken_call_on_other_store g b)
 
-  -- A call that the same fault breaks off on both stores leaves the same store.
+  -- A call that the same fault breaks off on both stores leaves equal stores.
   broken_calls_same_store : (f : WriteFault) → IsKnownFuse s.medium.fuse → CallFailed f s call x → CallFailed f t call y → SameStore x y
   broken_calls_same_store f k a b = record {
     medium = broken_writes_same_end f (writes_of s call) s.medium t.medium x.medium y.medium same.medium k a.writes
@@ -154,7 +154,7 @@ fuse_known_after_call s x call k a = fuse_known_after_writes (writes_of s call) 
 
 -- Lists of calls.
 
--- A list of calls does not make all its writes on one store and break off on the same other store.
+-- If the fuse is known, a list of calls does not make all its writes on one store and break off on an equal one.
 calls_work_or_break : (f : WriteFault) (calls : List StoreCall) (s t x y : SlotsState) → SameStore s t → IsKnownFuse s.medium.fuse
     → CallsEnd s calls AllWorked x
     → CallsEnd t calls (BrokenBy f) y → ⊥
@@ -163,7 +163,7 @@ calls_work_or_break f (call ∷ calls) s t x y same k (p, a, more) (inl b) = cal
 calls_work_or_break f (call ∷ calls) s t x y same k (p, a, more) (inr (q, b, rest)) =
     calls_work_or_break f calls p q x y (worked_calls_same_store s t p q call same a b) (fuse_known_after_call s p call k a) more rest
 
--- If a list of calls is broken off on both stores, it is broken off by the same fault.
+-- If a list of calls is broken off on two equal stores, the same fault breaks it off.
 broken_call_lists_same_fault : (f g : WriteFault) (calls : List StoreCall) (s t x y : SlotsState) → SameStore s t →
     IsKnownFuse s.medium.fuse
     → CallsEnd s calls (BrokenBy f) x → CallsEnd t calls (BrokenBy g) y → f ≡ g
@@ -177,7 +177,7 @@ broken_call_lists_same_fault f g (call ∷ calls) s t x y same k (inr (p, a, mor
     broken_call_lists_same_fault f g calls p q x y (worked_calls_same_store s t p q call same a b) (fuse_known_after_call s p call k a)
     more rest
 
--- A list of calls ends in the same way on both stores.
+-- If the fuse is known, a list of calls ends in the same way on equal stores.
 pub same_calls_same_ending : (calls : List StoreCall) (e d : Ending) (s t x y : SlotsState) → SameStore s t → IsKnownFuse s.medium.fuse
     → CallsEnd s calls e x
     → CallsEnd t calls d y → e ≡ d
@@ -188,7 +188,7 @@ same_calls_same_ending calls (BrokenBy f) AllWorked s t x y same k a b =
 same_calls_same_ending calls (BrokenBy f) (BrokenBy g) s t x y same k a b = ap BrokenBy (broken_call_lists_same_fault f g calls s t x y
     same k a b)
 
--- A list of calls that ends in the same way on both stores leaves the same store.
+-- A list of calls that ends in the same way on two equal stores leaves equal stores.
 pub same_calls_same_store : (calls : List StoreCall) (e : Ending) (s t x y : SlotsState) → SameStore s t → IsKnownFuse s.medium.fuse
     → CallsEnd s calls e x
     → CallsEnd t calls e y → SameStore x y

@@ -1,4 +1,4 @@
--- Active image of a medium.
+-- Slots of a medium, and its active image.
 use Rattle.std.specs.Prelude.{◌≡◌, ◌⊎◌, ◌&&◌, ◌||◌, not, ℕ, ◌+◌, ◌*◌, ◌%◌, ◌^◌, ◌<◌, ◌≤◌, Bool, List, length, take, if◌then◌else◌, ◌==◌, nat_le}
 use Rattle.std.specs.Str.{bytes_eq}
 use Rattle.dfu_suffix.specs.Register.{register}
@@ -6,7 +6,7 @@ use Rattle.dfu_slots.specs.Units.{gate_room, IsWhole}
 use Rattle.dfu_slots.specs.Medium.{MediumState, Fuse}
 use Rattle.dfu_slots.specs.Layout.{Slot, slot, slot_size, capacity, OPEN, generation, next_generation, header_version, header_length, header, HasHeader}
 
--- Bytes that the gate of a slot takes up on a medium; its header takes up as many.
+-- Number of bytes that the gate of a slot takes up on a medium; its header takes up as many.
 abbrev pub gate_of : MediumState → ℕ
 gate_of m = gate_room m.grain
 
@@ -14,19 +14,19 @@ gate_of m = gate_room m.grain
 abbrev pub slot_of : MediumState → ℕ → Slot
 slot_of m at = slot (gate_room m.grain) m.bytes at
 
--- Bytes of data of each slot of a medium.
+-- Number of bytes of data of each slot of a medium.
 abbrev pub capacity_of : MediumState → ℕ
 capacity_of m = capacity (gate_of m) m.bytes
 
--- Lengths that a medium of two slots may have: two halves of one size, each with 1 to 2^24 bytes of data, whole in units and in sectors of
--- a size that the store takes.
+-- Lengths that a medium of two slots may have: two equal halves, each with 1 to 2^24 bytes of data, a multiple of the unit and of the
+-- sector, whose size the store supports.
 pub record IsSizedMedium (m : MediumState) : Type 0 where
   pub even : length m.bytes ≡ 2 * slot_size m.bytes
   pub room : 2 * gate_room m.grain < slot_size m.bytes
   pub bound : capacity (gate_room m.grain) m.bytes ≤ 2 ^ 24
   pub whole : IsWhole m.grain (capacity (gate_room m.grain) m.bytes)
 
--- A slot counts if its gate is open, and its header is well formed if that is of version 2. Another version counts by the gate alone.
+-- A slot counts if its gate is open and, for version 2, its header is well formed. A slot of another version counts by its gate alone.
 pub record SlotCounts (s : Slot) : Type 0 where
   pub is_open : s.gate ≡ OPEN
   pub intact : header_version s ≡ 2 → HasHeader s (header_length s)
@@ -36,7 +36,7 @@ pub record IsNewest (mine other : Slot) : Type 0 where
   pub counts : SlotCounts mine
   pub other_is_older : ¬ SlotCounts other ⊎ generation mine ≡ (generation other + 1) % 256
 
--- Active image of a medium: as many bytes from the front of the newest slot's data as that slot's header says.
+-- Active image of a medium: the first bytes of the newest slot's data, as many as the slot's header says.
 pub record Active (m : MediumState) (image : List ℕ) : Type 0 where
   pub sized : IsSizedMedium m
   pub at : ℕ
@@ -51,7 +51,7 @@ pub record HasImage (m : MediumState) : Type 0 where
   pub image : List ℕ
   pub active : Active m image
 
--- The active image stays if the medium gets another fuse.
+-- An active image stays active if the medium gets another fuse.
 pub active_image_on_other_fuse : (m : MediumState) (fuse : Fuse) (image : List ℕ) → Active m image → Active (record m { fuse = fuse }) image
 active_image_on_other_fuse m fuse image active = record {
   sized = record { even = active.sized.even; room = active.sized.room; bound = active.sized.bound; whole = active.sized.whole };
@@ -63,11 +63,11 @@ active_image_on_other_fuse m fuse image active = record {
   image_is = active.image_is;
 }
 
--- A medium with an active image has one too if it gets another fuse.
+-- A medium with an active image still has one if its fuse changes.
 pub has_image_on_other_fuse : (m : MediumState) (fuse : Fuse) → HasImage m → HasImage (record m { fuse = fuse })
 has_image_on_other_fuse m fuse has = record { image = has.image; active = active_image_on_other_fuse m fuse has.image has.active }
 
--- Tests of these facts, by which the places of the two slots are found.
+-- Tests by which the active and the spare slot are found.
 
 -- True if a slot has a well-formed header of version 2.
 unfoldable pub is_intact : Slot → Bool
@@ -83,7 +83,7 @@ slot_counts s = (s.gate == OPEN) && (not (header_version s == 2) || is_intact s)
 abbrev pub is_newest : Slot → Slot → Bool
 is_newest mine other = slot_counts mine && (not (slot_counts other) || (generation mine == next_generation (generation other)))
 
--- True if the first slot is the active one. Of a medium without an active image the test tells nothing, nor do the places below.
+-- True if the first slot is the active one. On a medium without an active image, this test and the places below mean nothing.
 abbrev pub first_is_active : ℕ → List ℕ → Bool
 first_is_active g bytes = is_newest (slot g bytes 0) (slot g bytes (slot_size bytes))
 

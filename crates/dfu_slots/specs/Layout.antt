@@ -1,4 +1,4 @@
--- Places of the two slots of a medium, and their content. The gate and the header of a slot take up `g` bytes each, 16 at least.
+-- Places of the two slots of a medium, and their content. The gate and the header of a slot take up `g` bytes each.
 use Rattle.std.specs.Prelude.{◌≡◌, ◌⊎◌, ℕ, ◌+◌, ◌-◌, ◌*◌, ◌/◌, ◌%◌, ◌≤◌, Bool, List, ◌∷◌, ◌++◌, length, take, drop, replicate, slice_index, slice_range, if◌then◌else◌}
 use Rattle.std.specs.Int.{w32, to_le_bytes, from_le_bytes}
 use Rattle.dfu_suffix.specs.Register.{register}
@@ -11,11 +11,11 @@ slot_size bytes = length bytes / 2
 abbrev pub slot_place : Bool → List ℕ → ℕ
 slot_place first bytes = if first then 0 else slot_size bytes
 
--- Bytes of data of a slot: what the gate and the header leave of it.
+-- Number of data bytes of a slot: its size without the gate and the header.
 abbrev pub capacity : ℕ → List ℕ → ℕ
 capacity g bytes = slot_size bytes - 2 * g
 
--- Two places are those of the two slots, in one order or the other.
+-- Two places are those of the two slots, in either order.
 abbrev pub ArePlaces : List ℕ → ℕ → ℕ → Type 0
 ArePlaces bytes at other = ((at ≡ 0) × (other ≡ slot_size bytes)) ⊎ ((at ≡ slot_size bytes) × (other ≡ 0))
 
@@ -33,7 +33,7 @@ slot g bytes at = record {
   data_bytes = slice_range bytes (at + 2 * g) (at + slot_size bytes);
 }
 
--- The byte of an open gate, A5h.
+-- First byte of an open gate, A5h.
 abbrev pub OPEN : ℕ
 OPEN = 165
 
@@ -45,7 +45,7 @@ HasOpenGate s = s.gate ≡ OPEN
 abbrev pub generation : Slot → ℕ
 generation s = slice_index s.header 0
 
--- Generation after another one; after 255 comes 0.
+-- Generation that follows another one; 0 follows 255.
 abbrev pub next_generation : ℕ → ℕ
 next_generation gen = (gen + 1) % 256
 
@@ -53,15 +53,16 @@ next_generation gen = (gen + 1) % 256
 abbrev pub header_version : Slot → ℕ
 header_version s = slice_index s.header 1
 
--- Length of the image, in bytes, as a slot's header says it.
+-- Length of the image, in bytes, from a slot's header.
 abbrev pub header_length : Slot → ℕ
 header_length s = from_le_bytes w32 (take 4 (drop 4 s.header))
 
--- The header of an image: generation, version, two zero bytes, length, register, four zero bytes.
+-- Header of an image: generation, version, two zero bytes, length, register, four zero bytes.
 abbrev pub header : ℕ → ℕ → ℕ → ℕ → List ℕ
 header version gen len crc = gen ∷ version ∷ 0 ∷ 0 ∷ to_le_bytes w32 len ++ to_le_bytes w32 crc ++ replicate 4 0
 
--- The header of a slot is well formed for `len` bytes of data: of version 2 with their register, or of version 1 with zeros in its place.
+-- The header of a slot is well formed for its first `len` bytes of data: of version 2 with their register, or of version 1 with zeros in
+-- the register's place. The slot has that many bytes of data.
 pub record HasHeader (s : Slot) (len : ℕ) : Type 0 where
   pub well_formed : (s.header ≡ header 1 (generation s) len 0) ⊎ (s.header ≡ header 2 (generation s) len (register (take len s.data_bytes)))
   pub fits : len ≤ length s.data_bytes

@@ -1,10 +1,10 @@
--- A medium as the proofs see it, and the effects that a write may have on it.
+-- Media as the proofs see them, and the effects that a write may have on one.
 use Rattle.std.specs.Prelude.{◌≡◌, ◌≢◌, ◌⊎◌, ℕ, ◌+◌, ◌-◌, ◌^◌, ◌%◌, ◌≤◌, ◌<◌, min, max, Bool, true, false, List, [], ◌∷◌, ◌++◌, length, take, drop, replicate, slice_index, slice_range}
 use Rattle.dfu_slots.specs.Units.{Grain}
 use Rattle.dfu_slots.specs.declared.fault.WriteFault.{WriteFault}
 use Rattle.dfu_slots.specs.declared.fault.WriteFault.TheVariants.{Failed, NotVerified}
 
--- Fuse of a medium: what its next writes will do.
+-- Fuse of a medium: the known behaviour of its next writes.
 pub data Fuse : Type 0 where
   -- Nothing is known of the next writes: any of them may fail.
   Unknown : Fuse
@@ -19,7 +19,7 @@ pub data Fuse : Type 0 where
   -- Every write fails and leaves the old bytes.
   Stopped : Fuse
 
--- A medium: its bytes, how often a write has failed, its fuse, its grain, and a tag by which its owner knows it.
+-- A medium: its bytes, its count of failed writes, its fuse, its grain, and a tag by which its owner knows it.
 pub record MediumState : Type 0 where
   pub bytes : List ℕ
   pub failures : ℕ
@@ -31,7 +31,7 @@ pub record MediumState : Type 0 where
 abbrev pub blank_medium : Grain → ℕ → MediumState
 blank_medium grain len = record { bytes = replicate len 255; failures = 0; fuse = Whole; grain = grain; tag = [] }
 
--- Bytes of a medium after new ones were written over those from `at` on.
+-- Bytes `old` of a medium after `new` was written over them from `at` on.
 abbrev pub written : List ℕ → ℕ → List ℕ → List ℕ
 written old at new = take at old ++ new ++ drop (at + length new) old
 
@@ -39,12 +39,12 @@ written old at new = take at old ++ new ++ drop (at + length new) old
 abbrev pub IsBlank : List ℕ → ℕ → ℕ → Type 0
 IsBlank bytes at n = slice_range bytes at (at + n) ≡ replicate n 255
 
--- All bytes from one place on are FFh, up to the first sector that begins at a second place or after it.
+-- Each byte of the medium from `at` on is FFh, up to the first sector that begins at `to` or later.
 abbrev pub IsErasedToSector : ℕ → List ℕ → ℕ → ℕ → Type 0
 IsErasedToSector sector bytes at to = (p : ℕ) → at ≤ p → p < length bytes → ((q : ℕ) → to ≤ q → q ≤ p → q % sector ≢ 0) →
     slice_index bytes p ≡ 255
 
--- Bytes can be written ahead from a place on, because the medium has no sectors, or because all bytes up to the next sector are erased.
+-- Writing can go on from a place: the medium has no sectors, or all bytes from the place to the next beginning of a sector are erased.
 abbrev pub IsWritableAhead : MediumState → ℕ → Type 0
 IsWritableAhead m at = 0 < m.grain.sector → IsErasedToSector m.grain.sector m.bytes at at
 
@@ -52,47 +52,48 @@ IsWritableAhead m at = 0 < m.grain.sector → IsErasedToSector m.grain.sector m.
 abbrev pub IsWritable : MediumState → ℕ → ℕ → Type 0
 IsWritable m at n = 0 < m.grain.sector → (p : ℕ) → at ≤ p → p < at + n → slice_index m.bytes p ≡ 255
 
--- A change within a range: from `from` to `to` any bytes may be there now, and elsewhere the old ones are.
-pub record FrameOutside (from to : ℕ) (old now : List ℕ) : Type 0 where
+-- A change within a range: only bytes from `from` to before `to` may differ from the old ones.
+pub record ChangedWithin (from to : ℕ) (old now : List ℕ) : Type 0 where
   pub size : length now ≡ length old
   pub before : take from now ≡ take from old
   pub after : drop to now ≡ drop to old
 
--- A torn write: any bytes may be in its range, and elsewhere the old ones are.
+-- A torn write: its range may hold any bytes, and all other bytes are the old ones.
 abbrev pub Torn : List ℕ → ℕ → List ℕ → List ℕ → Type 0
-Torn old at new left = FrameOutside at (at + length new) old left
+Torn old at new left = ChangedWithin at (at + length new) old left
 
--- The count of failures rose, or it was at its last value and still is.
+-- The count of failures rose, or it stays at its maximum, 2^64 - 1.
 abbrev pub CountRose : ℕ → ℕ → Type 0
 CountRose before now = max before (min (before + 1) (2 ^ 64 - 1)) ≤ now
 
--- Bytes after a torn write: the first bytes of the tear, at most as many as were to be written, are at the beginning of the range.
-abbrev pub torn_by : List ℕ → ℕ → List ℕ → List ℕ → List ℕ
-torn_by old at new tear = written old at (take (length new) tear)
+-- Bytes after a torn write: its range begins with the first bytes of the tear, at most as many as were to be written, and has the old ones
+-- after them.
+abbrev pub torn_bytes : List ℕ → ℕ → List ℕ → List ℕ → List ℕ
+torn_bytes old at new tear = written old at (take (length new) tear)
 
--- A write may work with one fuse, and leave another one. A lie whose tear is what was written works too.
+-- A write may work with one fuse, and leave the next one. A lie that leaves the bytes that were to be written works too.
 abbrev pub WriteMayWork : Fuse → List ℕ → ℕ → List ℕ → Fuse → Type 0
 WriteMayWork Unknown old at new next = next ≡ Unknown
 WriteMayWork Whole old at new next = next ≡ Whole
 WriteMayWork (Armed writes tear stop) old at new next = (more : ℕ) × (writes ≡ more + 1) × (next ≡ Armed more tear stop)
 WriteMayWork (Lying writes tear) old at new next = ((more : ℕ) × (writes ≡ more + 1) × (next ≡ Lying more tear))
-    ⊎ ((writes ≡ 0) × (torn_by old at new tear ≡ written old at new) × (next ≡ Whole))
+    ⊎ ((writes ≡ 0) × (torn_bytes old at new tear ≡ written old at new) × (next ≡ Whole))
 WriteMayWork Stopped old at new next = ⊥
 
--- A write may fail with one fuse, or return Ok and leave other bytes than its own; it leaves these bytes and the next fuse.
+-- A write may fail or lie with one fuse, and leaves the bytes `left` and the next fuse.
 abbrev pub WriteMayFail : Fuse → WriteFault → List ℕ → ℕ → List ℕ → List ℕ → Fuse → Type 0
 WriteMayFail Unknown fault old at new left next = next ≡ Unknown
 WriteMayFail Whole fault old at new left next = ⊥
-WriteMayFail (Armed writes tear true) Failed old at new left next = (writes ≡ 0) × (left ≡ torn_by old at new tear) × (next ≡ Stopped)
-WriteMayFail (Armed writes tear false) Failed old at new left next = (writes ≡ 0) × (left ≡ torn_by old at new tear) × (next ≡ Whole)
+WriteMayFail (Armed writes tear true) Failed old at new left next = (writes ≡ 0) × (left ≡ torn_bytes old at new tear) × (next ≡ Stopped)
+WriteMayFail (Armed writes tear false) Failed old at new left next = (writes ≡ 0) × (left ≡ torn_bytes old at new tear) × (next ≡ Whole)
 WriteMayFail (Armed writes tear stop) NotVerified old at new left next = ⊥
 WriteMayFail (Lying writes tear) Failed old at new left next = ⊥
 WriteMayFail (Lying writes tear) NotVerified old at new left next =
-    (writes ≡ 0) × (left ≡ torn_by old at new tear) × (left ≢ written old at new) × (next ≡ Whole)
+    (writes ≡ 0) × (left ≡ torn_bytes old at new tear) × (left ≢ written old at new) × (next ≡ Whole)
 WriteMayFail Stopped Failed old at new left next = (left ≡ old) × (next ≡ Stopped)
 WriteMayFail Stopped NotVerified old at new left next = ⊥
 
--- A write worked: it returned Ok, and exactly its bytes are there.
+-- A write worked: its range holds exactly its bytes, and the count of failures did not fall.
 pub record WroteBytes (old : MediumState) (at : ℕ) (new : List ℕ) (now : MediumState) : Type 0 where
   pub bytes : now.bytes ≡ written old.bytes at new
   pub failures : old.failures ≤ now.failures
@@ -100,7 +101,7 @@ pub record WroteBytes (old : MediumState) (at : ℕ) (new : List ℕ) (now : Med
   pub grain : now.grain ≡ old.grain
   pub tag : now.tag ≡ old.tag
 
--- A write that returned Failed, or that lied: its range may be torn, and the count of failures rose.
+-- A write returned Failed, or lied: its range may be torn, and the count of failures rose, or is at its maximum.
 pub record FailedWrite (fault : WriteFault) (old : MediumState) (at : ℕ) (new : List ℕ) (now : MediumState) : Type 0 where
   pub bytes : Torn old.bytes at new now.bytes
   pub failures : CountRose old.failures now.failures
@@ -108,11 +109,11 @@ pub record FailedWrite (fault : WriteFault) (old : MediumState) (at : ℕ) (new 
   pub grain : now.grain ≡ old.grain
   pub tag : now.tag ≡ old.tag
 
--- A write that returned Ok: it worked, or it lied.
+-- A write returned Ok: it worked, or it lied.
 abbrev pub WroteOrLied : MediumState → ℕ → List ℕ → MediumState → Type 0
 WroteOrLied old at new now = WroteBytes old at new now ⊎ FailedWrite NotVerified old at new now
 
--- A write: the place from which on it writes, and its bytes.
+-- A write: its place and its bytes.
 pub record Write : Type 0 where
   pub at : ℕ
   pub bytes : List ℕ

@@ -1,4 +1,4 @@
--- Results of one write: if the fuse of a medium is known, its bytes, its fuse and its grain fix what the write leaves.
+-- One write is deterministic: if the fuse of a medium is known, its bytes, fuse and grain determine what the write leaves.
 use Rattle.std.specs.Prelude.{◌≡◌, ℕ, ◌+◌, true, false, List}
 use Rattle.std.proofs.Common.{inl, inr, refl, sym, ap, ◌∙◌, subst, arith}
 use Rattle.dfu_slots.specs.declared.fault.WriteFault.{WriteFault}
@@ -11,18 +11,18 @@ abbrev pub IsKnownFuse : Fuse → Type 0
 IsKnownFuse Unknown = ⊥
 IsKnownFuse fuse = Unit {0}
 
--- Two media are the same if they have equal bytes, fuses and grains.
+-- Two equal media: they have the same bytes, fuse and grain, but maybe other counts of failures.
 pub record SameMedium (a b : MediumState) : Type 0 where
   pub bytes : a.bytes ≡ b.bytes
   pub fuse : a.fuse ≡ b.fuse
   pub grain : a.grain ≡ b.grain
 
--- If two counts of writes are equal, the fuses that count with them are equal.
+-- Fuses with equal counts of writes are equal.
 equal_counts_equal_fuses : {more less : ℕ} (fuse : ℕ → Fuse) → more + 1 ≡ less + 1 → fuse more ≡ fuse less
 equal_counts_equal_fuses fuse e = ap fuse (omega (arith, e))
 
 module _ (old : List ℕ) (at : ℕ) (new : List ℕ) where
-  -- A write that works leaves one fuse only.
+  -- The fuse before a write that works determines the fuse after it.
   worked_write_fixes_fuse : (f g h : Fuse) → WriteMayWork f old at new g → WriteMayWork f old at new h → g ≡ h
   worked_write_fixes_fuse Unknown g h a b = a ∙ sym b
   worked_write_fixes_fuse Whole g h a b = a ∙ sym b
@@ -44,7 +44,7 @@ module _ (old : List ℕ) (at : ℕ) (new : List ℕ) where
   worked_write_keeps_known (Lying n tear) g k (inr (e, same, a)) = subst IsKnownFuse (sym a) tt
   worked_write_keeps_known Stopped g k a = absurd a
 
-  -- A write with a fault leaves one list of bytes and one fuse only, if the fuse before is known.
+  -- A known fuse determines the bytes and the next fuse that a write with a given fault leaves.
   fault_fixes_bytes_and_fuse : (f : Fuse) (w : WriteFault) (l r : List ℕ) (g h : Fuse) → IsKnownFuse f → WriteMayFail f w old at new l g
       → WriteMayFail f w old at new r h → (l ≡ r) × (g ≡ h)
   fault_fixes_bytes_and_fuse Unknown w l r g h k a b = absurd k
@@ -57,7 +57,7 @@ module _ (old : List ℕ) (at : ℕ) (new : List ℕ) where
   fault_fixes_bytes_and_fuse Stopped Failed l r g h k a b = (a.0 ∙ sym b.0, a.1 ∙ sym b.1)
   fault_fixes_bytes_and_fuse Stopped NotVerified l r g h k a b = absurd a
 
-  -- A known fuse says with which fault a write fails.
+  -- A known fuse determines the fault with which a write fails.
   fuse_fixes_fault : (f : Fuse) (w v : WriteFault) (l r : List ℕ) (g h : Fuse) → IsKnownFuse f → WriteMayFail f w old at new l g
       → WriteMayFail f v old at new r h → w ≡ v
   fuse_fixes_fault f Failed Failed l r g h k a b = refl
@@ -71,36 +71,36 @@ module _ (old : List ℕ) (at : ℕ) (new : List ℕ) where
   fuse_fixes_fault Stopped Failed NotVerified l r g h k a b = absurd b
   fuse_fixes_fault Stopped NotVerified Failed l r g h k a b = absurd a
 
-  -- With a known fuse a write works or has a fault, and never either of them by chance.
-  write_not_both_ways : (f g h : Fuse) (w : WriteFault) (l : List ℕ) → IsKnownFuse f → WriteMayWork f old at new g →
+  -- With a known fuse no write may both work and fail.
+  write_works_or_fails_only : (f g h : Fuse) (w : WriteFault) (l : List ℕ) → IsKnownFuse f → WriteMayWork f old at new g →
       WriteMayFail f w old at new l h → ⊥
-  write_not_both_ways Unknown g h w l k a b = k
-  write_not_both_ways Whole g h w l k a b = b
-  write_not_both_ways (Armed n tear true) g h Failed l k (m, e, a) b = omega (arith, e, b.0)
-  write_not_both_ways (Armed n tear false) g h Failed l k (m, e, a) b = omega (arith, e, b.0)
-  write_not_both_ways (Armed n tear stop) g h NotVerified l k a b = b
-  write_not_both_ways (Lying n tear) g h Failed l k a b = b
-  write_not_both_ways (Lying n tear) g h NotVerified l k (inl (m, e, a)) b = omega (arith, e, b.0)
-  write_not_both_ways (Lying n tear) g h NotVerified l k (inr (e, same, a)) b = b.2 (b.1 ∙ same)
-  write_not_both_ways Stopped g h w l k a b = a
+  write_works_or_fails_only Unknown g h w l k a b = k
+  write_works_or_fails_only Whole g h w l k a b = b
+  write_works_or_fails_only (Armed n tear true) g h Failed l k (m, e, a) b = omega (arith, e, b.0)
+  write_works_or_fails_only (Armed n tear false) g h Failed l k (m, e, a) b = omega (arith, e, b.0)
+  write_works_or_fails_only (Armed n tear stop) g h NotVerified l k a b = b
+  write_works_or_fails_only (Lying n tear) g h Failed l k a b = b
+  write_works_or_fails_only (Lying n tear) g h NotVerified l k (inl (m, e, a)) b = omega (arith, e, b.0)
+  write_works_or_fails_only (Lying n tear) g h NotVerified l k (inr (e, same, a)) b = b.2 (b.1 ∙ same)
+  write_works_or_fails_only Stopped g h w l k a b = a
 
 module _ (w : Write) (s t x y : MediumState) (same : SameMedium s t) where
-  -- If the fuse of one of two same media is known, that of the other one is too.
+  -- If the fuse of a medium is known, the fuse of an equal medium is known too.
   fuse_known_on_same_medium : IsKnownFuse s.fuse → IsKnownFuse t.fuse
   fuse_known_on_same_medium k = subst IsKnownFuse same.fuse k
 
-  -- If a write may work on one of two same media, it may work on the other.
+  -- A write that may work on a medium may work on an equal one.
   may_work_on_same_medium : (next : Fuse) → WriteMayWork s.fuse s.bytes w.at w.bytes next → WriteMayWork t.fuse t.bytes w.at w.bytes next
   may_work_on_same_medium next a = subst (λ (f : Fuse). WriteMayWork f t.bytes w.at w.bytes next) same.fuse
       (subst (λ (l : List ℕ). WriteMayWork s.fuse l w.at w.bytes next) same.bytes a)
 
-  -- If a write may have a fault on one of two same media, it may have that fault on the other.
+  -- A write that may have a fault on a medium may have that fault on an equal one.
   may_fail_on_same_medium : (fault : WriteFault) (left : List ℕ) (next : Fuse) → WriteMayFail s.fuse fault s.bytes w.at w.bytes left next
       → WriteMayFail t.fuse fault t.bytes w.at w.bytes left next
   may_fail_on_same_medium fault left next a = subst (λ (f : Fuse). WriteMayFail f fault t.bytes w.at w.bytes left next) same.fuse
       (subst (λ (l : List ℕ). WriteMayFail s.fuse fault l w.at w.bytes left next) same.bytes a)
 
-  -- If a write works on two same media, it leaves the same medium.
+  -- A write that works on two equal media leaves equal media.
   pub worked_writes_same_medium : WroteBytes s w.at w.bytes x → WroteBytes t w.at w.bytes y → SameMedium x y
   worked_writes_same_medium a b = record {
     bytes = a.bytes ∙ ap (λ (l : List ℕ). written l w.at w.bytes) same.bytes ∙ sym b.bytes;
@@ -108,14 +108,14 @@ module _ (w : Write) (s t x y : MediumState) (same : SameMedium s t) where
     grain = a.grain ∙ same.grain ∙ sym b.grain;
   }
 
-  -- If a write has a fault on two same media, it has the same fault on both.
+  -- If the fuse is known, a write that fails on two equal media has the same fault on both.
   pub failed_writes_same_fault : (f g : WriteFault) → IsKnownFuse s.fuse → FailedWrite f s w.at w.bytes x →
       FailedWrite g t w.at w.bytes y → f ≡ g
   failed_writes_same_fault f g k a b = fuse_fixes_fault t.bytes w.at w.bytes t.fuse f g x.bytes y.bytes x.fuse y.fuse
       (fuse_known_on_same_medium k)
       (may_fail_on_same_medium f x.bytes x.fuse a.fuse) b.fuse
 
-  -- If a write has the same fault on two same media, it leaves the same medium.
+  -- A write with the same fault on two equal media leaves equal media.
   pub failed_writes_same_medium : (f : WriteFault) → IsKnownFuse s.fuse → FailedWrite f s w.at w.bytes x →
       FailedWrite f t w.at w.bytes y → SameMedium x y
   failed_writes_same_medium f k a b =
@@ -124,15 +124,15 @@ module _ (w : Write) (s t x y : MediumState) (same : SameMedium s t) where
       b.fuse in
       record { bytes = both.0; fuse = both.1; grain = a.grain ∙ same.grain ∙ sym b.grain }
 
-  -- A write does not work on one of two same media and have a fault on the other.
+  -- A write does not work on one of two equal media and fail on the other.
   pub write_works_or_fails : (f : WriteFault) → IsKnownFuse s.fuse → WroteBytes s w.at w.bytes x → FailedWrite f t w.at w.bytes y → ⊥
-  write_works_or_fails f k a b = write_not_both_ways t.bytes w.at w.bytes t.fuse x.fuse y.fuse f y.bytes (fuse_known_on_same_medium k)
+  write_works_or_fails f k a b = write_works_or_fails_only t.bytes w.at w.bytes t.fuse x.fuse y.fuse f y.bytes (fuse_known_on_same_medium k)
       (may_work_on_same_medium x.fuse a.fuse) b.fuse
 
 -- If the fuse is known before a write that works, it is known after the write.
 pub fuse_known_after_write : (w : Write) (s x : MediumState) → IsKnownFuse s.fuse → WroteBytes s w.at w.bytes x → IsKnownFuse x.fuse
 fuse_known_after_write w s x k a = worked_write_keeps_known s.bytes w.at w.bytes s.fuse x.fuse k a.fuse
 
--- If a medium is the same as another one, the other one is the same as it.
+-- SameMedium is symmetric.
 pub same_medium_symmetric : (s t : MediumState) → SameMedium s t → SameMedium t s
 same_medium_symmetric s t same = record { bytes = sym same.bytes; fuse = sym same.fuse; grain = sym same.grain }

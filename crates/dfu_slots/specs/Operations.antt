@@ -12,7 +12,7 @@ use Rattle.dfu_slots.specs.Medium.{Write}
 use Rattle.dfu_slots.specs.Layout.{OPEN}
 use Rattle.dfu_slots.specs.Writes.{erase_write, write_some}
 
--- Bytes of a source, by the bytes held back, the block and the header.
+-- Bytes of a source, given the bytes held back, the block and the header.
 abbrev pub source_content : Source → List ℕ → List ℕ → List ℕ → List ℕ
 source_content Joined held block header = held ++ block
 source_content Held held block header = held
@@ -20,11 +20,11 @@ source_content Header held block header = header
 source_content Opened held block header = OPEN ∷ []
 source_content Closed held block header = []
 
--- Range of a source that an operation writes: without the first bytes, and with zeros after the last one.
+-- Bytes that an operation writes: n bytes of a source after the first `skip`, with zeros past its end, 256 at most.
 abbrev pub range_of : Source → List ℕ → List ℕ → List ℕ → ℕ → ℕ → List ℕ
 range_of source held block header skip n = slice_range (source_content source held block header ++ replicate 256 0) skip (skip + n)
 
--- The writes of an operation.
+-- Writes of an operation.
 abbrev pub op_writes : ℕ → List ℕ → List ℕ → List ℕ → Op → List Write
 op_writes sector held block header (Erase at) = erase_write sector at ∷ []
 op_writes sector held block header (Program at source skip len) = write_some sector at (range_of source held block header skip len)
@@ -34,7 +34,7 @@ abbrev pub ops_writes : ℕ → List ℕ → List ℕ → List ℕ → List Op �
 ops_writes sector held block header [] = []
 ops_writes sector held block header (o ∷ os) = op_writes sector held block header o ++ ops_writes sector held block header os
 
--- Operation of a number in a list; none if the list is shorter.
+-- Operation number n of a list, from 0 on; None if the list is shorter.
 abbrev pub op_at : List Op → ℕ → Option Op
 op_at [] n = None
 op_at (o ∷ os) zero = Some o
@@ -45,11 +45,11 @@ abbrev pub op_place : Op → ℕ
 op_place (Erase at) = at
 op_place (Program at source skip len) = at
 
--- Operations that close a gate: a gate unit of zeros is programmed; with sectors the gate's sector is erased.
+-- Operation that closes a gate: a gate unit of zeros is written; with sectors, instead, the gate's sector is erased.
 abbrev pub close_ops : Grain → ℕ → List Op
 close_ops grain slot = (if grain.sector == 0 then Program slot Closed 0 (gate_size grain.unit) else Erase slot) ∷ []
 
--- Place of the held bytes on the medium, in a slot that begins at a place.
+-- Place of the held bytes on the medium, in the slot that begins at `slot`.
 abbrev pub held_from : Grain → ℕ → ℕ → ℕ → ℕ
 held_from grain slot end held = slot + 2 * gate_room grain + (end - held)
 

@@ -11,7 +11,7 @@ pub record HasPutBytes (s : SlotsState) : Type 0 where
   pub part : length s.held ≡ s.put_end % unit_size s.medium.grain.unit
   pub ahead : IsWritableAhead s.medium (data_place s (held_data_place s))
 
--- A store: its medium has an active image, and its puts are as they should be.
+-- A store: its medium has an active image, and its puts are consistent (`HasPutBytes`).
 pub record IsStore (s : SlotsState) : Type 0 where
   pub has_image : HasImage s.medium
   pub puts : HasPutBytes s

@@ -1,4 +1,4 @@
--- A slot store as the layers above see it.
+-- Slot stores as the layers above see them.
 use Rattle.std.specs.Prelude.{refl, ◌≡◌, ◌⊎◌, ℕ, ◌+◌, ◌-◌, ◌*◌, ◌^◌, ◌≤◌, Bool, not, ◌==◌, ◌&&◌, nat_le, List, [], ◌∷◌, ◌++◌, length, take}
 use Rattle.dfu_suffix.specs.Register.{register}
 use Rattle.dfu_slots.specs.declared.fault.WriteFault.{WriteFault}
@@ -21,11 +21,11 @@ store_of m held put_end = record { medium = m; held = held; put_end = put_end }
 abbrev pub store_on : MediumState → SlotsState
 store_on m = store_of m [] 0
 
--- Store over the same bytes, on a medium with another fuse.
+-- Store that differs from another one only in the fuse of its medium.
 abbrev pub store_with_fuse : SlotsState → Fuse → SlotsState
 store_with_fuse s fuse = record s { medium = record s.medium { fuse = fuse } }
 
--- Store after a loss of power: the bytes stay, the fuse is another one, and what was put is forgotten.
+-- Store after a loss of power: the bytes stay, the fuse may be another one, and the bytes put are discarded.
 abbrev pub store_restarted : SlotsState → Fuse → SlotsState
 store_restarted s fuse = store_on (record s.medium { fuse = fuse })
 
@@ -37,7 +37,7 @@ active_slot s = slot (gate_of s.medium) s.medium.bytes (active_at (gate_of s.med
 abbrev pub spare_slot : SlotsState → Slot
 spare_slot s = spare (gate_of s.medium) s.medium.bytes
 
--- The active image, if the medium has one.
+-- Active image, if the medium has one.
 unfoldable pub image_of : SlotsState → List ℕ
 image_of s = take (header_length (active_slot s)) (active_slot s).data_bytes
 
@@ -45,7 +45,7 @@ image_of s = take (header_length (active_slot s)) (active_slot s).data_bytes
 abbrev pub held_data_place : SlotsState → ℕ
 held_data_place s = s.put_end - length s.held
 
--- Place on the medium that belongs to a place in the spare's data.
+-- Place on the medium of a place in the spare's data.
 abbrev pub data_place : SlotsState → ℕ → ℕ
 data_place s at = spare_at (gate_of s.medium) s.medium.bytes + 2 * gate_of s.medium + at
 
@@ -53,11 +53,11 @@ data_place s at = spare_at (gate_of s.medium) s.medium.bytes + 2 * gate_of s.med
 unfoldable pub spare_of : SlotsState → List ℕ
 spare_of s = written (spare_slot s).data_bytes (held_data_place s) s.held
 
--- True if the spare's gate is closed, because only then `put` and `commit` may write.
+-- True if the spare's gate is closed: only then `put` and `commit` write.
 unfoldable pub is_begun : SlotsState → Bool
 is_begun s = not ((spare_slot s).gate == OPEN)
 
--- Most bytes of an image.
+-- Largest number of bytes of an image: the capacity of the store's medium.
 unfoldable pub room_of : SlotsState → ℕ
 room_of s = capacity (gate_of s.medium) s.medium.bytes
 
@@ -94,13 +94,13 @@ put_end_after_call (Commit len) = 0
 abbrev pub format_series : MediumState → List ℕ → List Write
 format_series m image = format_writes m.grain m.bytes image
 
--- A call worked: all its writes did, and it holds back what makes no whole unit.
+-- A call worked: all its writes worked, and the bytes held back and the end of the puts are those after the call.
 pub record CallWorked (old : SlotsState) (call : StoreCall) (now : SlotsState) : Type 0 where
   pub writes : AllWrites old.medium (writes_of old call) now.medium
   pub held_is : now.held ≡ held_after_call old call
   pub end_is : now.put_end ≡ put_end_after_call call
 
--- A call failed: it made its writes up to one that had this fault, and holds nothing back.
+-- A call failed: it made its writes up to one that had this fault, nothing is held back, and the puts end at 0.
 pub record CallFailed (fault : WriteFault) (old : SlotsState) (call : StoreCall) (now : SlotsState) : Type 0 where
   pub writes : BrokenWrites fault old.medium (writes_of old call) now.medium
   pub held_is : now.held ≡ []
@@ -111,18 +111,18 @@ pub data Ending : Type 0 where
   AllWorked : Ending
   BrokenBy : WriteFault → Ending
 
--- A call ended in this way: all its writes worked, or a fault broke them off.
+-- A call has this ending: all its writes worked, or a fault broke them off.
 abbrev pub CallEnds : SlotsState → StoreCall → Ending → SlotsState → Type 0
 CallEnds old call AllWorked now = CallWorked old call now
 CallEnds old call (BrokenBy fault) now = CallFailed fault old call now
 
--- A call ended in this way, and the count of failures rose if it was broken off.
+-- A call has this ending. The count of failures did not fall, and it rose, or is at its maximum, if the call was broken off.
 pub record CallEnding (s : SlotsState) (call : StoreCall) (ending : Ending) (now : SlotsState) : Type 0 where
   pub calls : CallEnds s call ending now
   pub count : s.medium.failures ≤ now.medium.failures
   pub rose : (fault : WriteFault) → ending ≡ BrokenBy fault → CountRose s.medium.failures now.medium.failures
 
--- A list of calls ended in this way: all of them worked, or one was broken off and none came after it.
+-- A list of calls has this ending: all of them worked, or one was broken off and none came after it.
 abbrev pub CallsEnd : SlotsState → List StoreCall → Ending → SlotsState → Type 0
 CallsEnd old [] AllWorked now = now ≡ old
 CallsEnd old [] (BrokenBy fault) now = ⊥
@@ -130,15 +130,15 @@ CallsEnd old (call ∷ calls) AllWorked now = (mid : SlotsState) × CallEnds old
 CallsEnd old (call ∷ calls) (BrokenBy fault) now = CallEnds old call (BrokenBy fault) now
     ⊎ ((mid : SlotsState) × CallEnds old call AllWorked mid × CallsEnd mid calls (BrokenBy fault) now)
 
--- Two stores look alike: they show the same active image, the same gate of the spare, and the same room.
-pub record SameVisible (now old : SlotsState) : Type 0 where
+-- Two stores look alike: they show the same active image and the same room, and the spare's gate is closed in both or in neither.
+pub record LooksAlike (now old : SlotsState) : Type 0 where
   pub image : image_of now ≡ image_of old
   pub begun : is_begun now ≡ is_begun old
   pub room : room_of now ≡ room_of old
 
--- A store looks the same with another fuse, and with other bytes held back.
+-- A store looks the same with another fuse, with other bytes held back, and with another end of the puts.
 pub fuse_changes_nothing_visible : (s : SlotsState) (fuse : Fuse) (held : List ℕ) (put_end : ℕ)
-    → SameVisible (store_of (record s.medium { fuse = fuse }) held put_end) s
+    → LooksAlike (store_of (record s.medium { fuse = fuse }) held put_end) s
 unfolding image_of is_begun room_of
 fuse_changes_nothing_visible s fuse held put_end = record { image = refl; begun = refl; room = refl }
 

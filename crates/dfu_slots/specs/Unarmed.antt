@@ -10,7 +10,7 @@ use Rattle.dfu_slots.specs.StoreView.{SlotsState, StoreCall, AllWorked, BrokenBy
 whole_fuse_after_write : (s next : MediumState) (w : Write) → s.fuse ≡ Whole → WroteBytes s w.at w.bytes next → next.fuse ≡ Whole
 whole_fuse_after_write s next w e wrote = subst (λ (f : Fuse). WriteMayWork f s.bytes w.at w.bytes next.fuse) e wrote.fuse
 
--- A list of writes that work leaves the fuse whole.
+-- Writes that all work leave the fuse whole.
 pub whole_fuse_after_writes : (s now : MediumState) (ws : List Write) → s.fuse ≡ Whole → AllWrites s ws now → now.fuse ≡ Whole
 whole_fuse_after_writes s now [] e same = ap (λ (m : MediumState). m.fuse) same ∙ e
 whole_fuse_after_writes s now (w ∷ ws) e (next, wrote, more) = whole_fuse_after_writes next now ws (whole_fuse_after_write s next w e
@@ -25,7 +25,7 @@ whole_fuse_fails_no_write fault s now (w ∷ ws) e (inl failed) =
 whole_fuse_fails_no_write fault s now (w ∷ ws) e (inr (next, wrote, more)) = whole_fuse_fails_no_write fault next now ws
     (whole_fuse_after_write s next w e wrote) more
 
--- A list of calls that work leaves the fuse whole.
+-- Calls that all work leave the fuse whole.
 pub whole_fuse_after_calls : (s now : SlotsState) (calls : List StoreCall) → s.medium.fuse ≡ Whole → CallsEnd s calls AllWorked now
     → now.medium.fuse ≡ Whole
 whole_fuse_after_calls s now [] e same = ap (λ (x : SlotsState). x.medium.fuse) same ∙ e

@@ -10,7 +10,8 @@ unit_size U16 = 16
 unit_size U64 = 64
 unit_size U256 = 256
 
--- Grain of a medium: the unit in which it is written, and the size of the sectors that are erased before; at 0 it is written over in place.
+-- Grain of a medium: the unit in which it is written, and the size of the sectors that are erased before a write; with 0 the medium is
+-- written over in place.
 pub record Grain : Type 0 where
   pub unit : WriteUnit
   pub sector : ℕ
@@ -19,11 +20,11 @@ pub record Grain : Type 0 where
 abbrev pub in_place_grain : WriteUnit → Grain
 in_place_grain unit = record { unit = unit; sector = 0 }
 
--- Bytes of a gate unit: 16, or a unit if that is more. A header unit has as many.
+-- Number of bytes of a gate unit: 16, or a unit if that is more. A header unit has as many.
 abbrev pub gate_size : WriteUnit → ℕ
 gate_size unit = max 16 (unit_size unit)
 
--- Bytes that the gate of a slot takes up, and its header as well: 16, a unit or a sector, whichever is most.
+-- Number of bytes that the gate of a slot takes up, and its header as well: the largest of 16, a unit and a sector.
 abbrev pub gate_room : Grain → ℕ
 gate_room grain = max (max 16 (unit_size grain.unit)) grain.sector
 
@@ -31,18 +32,18 @@ gate_room grain = max (max 16 (unit_size grain.unit)) grain.sector
 abbrev pub IsMultiple : WriteUnit → ℕ → Type 0
 IsMultiple unit n = n % unit_size unit ≡ 0
 
--- A length of n bytes is whole in units and in sectors, and the store takes sectors of that size.
+-- A length of n bytes is whole in units and in sectors, whose size is 0 or a multiple of 256 up to 2^18.
 pub record IsWhole (grain : Grain) (n : ℕ) : Type 0 where
   pub units : n % unit_size grain.unit ≡ 0
   pub sectors : 0 < grain.sector → n % grain.sector ≡ 0
   pub pages : grain.sector % 256 ≡ 0
   pub bound : grain.sector ≤ 2 ^ 18
 
--- Number of those of n bytes that make whole units: 19 bytes in units of 8 make 16.
+-- Number of bytes, out of n, that fill whole units: with units of 16 bytes, 16 out of 19.
 abbrev pub whole_part : WriteUnit → ℕ → ℕ
 whole_part unit n = n - n % unit_size unit
 
--- Number of zeros that fill n bytes up to the end of a unit: 19 bytes in units of 8 take 5.
+-- Number of zeros that fill n bytes up to the end of a unit: with units of 16 bytes, 13 for 19.
 abbrev pub fill_size : WriteUnit → ℕ → ℕ
 fill_size unit n = (unit_size unit - n % unit_size unit) % unit_size unit
 

@@ -16,14 +16,14 @@ abbrev pub sector_erases : ℕ → ℕ → ℕ → List Write
 sector_erases sector at zero = []
 sector_erases sector at (suc n) = (if at % sector == 0 then erase_write sector at ∷ [] else []) ++ sector_erases sector (at + 1) n
 
--- Write of some bytes at a place; with sectors the erases of those that begin in its range come before.
-abbrev pub write_anew : ℕ → ℕ → List ℕ → List Write
-write_anew sector at bytes =
+-- Write of bytes at a place; on a medium with sectors, after the erases of the sectors that begin in its range.
+abbrev pub erasing_write : ℕ → ℕ → List ℕ → List Write
+erasing_write sector at bytes =
     (if sector == 0 then [] else sector_erases sector at (length bytes)) ++ record { at = at; bytes = bytes } ∷ []
 
--- Write of some bytes with the erases before it; without bytes there is no write and no erase.
+-- Write of bytes with the erases before it; without bytes there is no write and no erase.
 abbrev pub write_some : ℕ → ℕ → List ℕ → List Write
-write_some sector at bytes = if length bytes == 0 then [] else write_anew sector at bytes
+write_some sector at bytes = if length bytes == 0 then [] else erasing_write sector at bytes
 
 -- Bytes that close a gate: a gate unit of zeros, or with sectors a whole sector of FFh.
 abbrev pub closed_gate : Grain → List ℕ
@@ -35,7 +35,7 @@ begin_writes grain bytes =
     let g = gate_room grain in
     if (spare g bytes).gate == OPEN then record { at = spare_at g bytes; bytes = closed_gate grain } ∷ [] else []
 
--- Bytes of the first write of a `put`: the unit that the held bytes begin, if the put makes it full; else 0.
+-- Number of bytes of the first write of a `put`: those of the unit that the held bytes begin, if the put fills it; else 0.
 abbrev pub head_write_size : WriteUnit → List ℕ → List ℕ → ℕ
 head_write_size unit held bytes = if length held == 0 then 0 else min (unit_size unit) (whole_part unit (length (held ++ bytes)))
 
@@ -58,8 +58,8 @@ held_writes grain at held = write_some grain.sector at (filled_units grain.unit 
 -- Writes that open the slot at a place: its header, and then its open gate.
 abbrev pub open_writes : Grain → ℕ → ℕ → ℕ → ℕ → List Write
 open_writes grain at gen len crc =
-    write_anew grain.sector (at + gate_room grain) (header_unit (gate_size grain.unit) gen len crc)
-    ++ write_anew grain.sector at (gate_unit (gate_size grain.unit) OPEN)
+    erasing_write grain.sector (at + gate_room grain) (header_unit (gate_size grain.unit) gen len crc)
+    ++ erasing_write grain.sector at (gate_unit (gate_size grain.unit) OPEN)
 
 -- Last writes of a `commit`: they open the spare, one generation after the active slot.
 abbrev pub commit_writes : Grain → List ℕ → ℕ → ℕ → List Write
@@ -67,14 +67,14 @@ commit_writes grain bytes len crc =
     let g = gate_room grain in
     open_writes grain (spare_at g bytes) (next_generation (generation (slot g bytes (active_at g bytes)))) len crc
 
--- Writes of `bytes` from a place on, in pieces of 4096 and a shorter last one. The count is at least their length.
+-- Writes of `bytes` from a place on, in pieces of 4096 bytes and a last one of as many or fewer. The count n must be at least their length.
 abbrev pub piece_writes : ℕ → ℕ → ℕ → List ℕ → List Write
 piece_writes sector zero at bytes = []
 piece_writes sector (suc n) at [] = []
 piece_writes sector (suc n) at (b ∷ bs) =
-    write_anew sector at (take 4096 (b ∷ bs)) ++ piece_writes sector n (at + 4096) (drop 4096 (b ∷ bs))
+    erasing_write sector at (take 4096 (b ∷ bs)) ++ piece_writes sector n (at + 4096) (drop 4096 (b ∷ bs))
 
--- First writes of a `format`: they close the gates, the second slot's before the first's.
+-- First writes of a `format`: they close both gates, open or not, the second slot's before the first's.
 abbrev pub close_writes : Grain → List ℕ → List Write
 close_writes grain bytes =
     record { at = slot_size bytes; bytes = closed_gate grain } ∷ record { at = 0; bytes = closed_gate grain } ∷ []

@@ -1,4 +1,4 @@
-//! Carrying out the operations of a change on a medium.
+//! Operations of a change, which are performed on a medium.
 ghost use Rattle.std.specs.Prelude.{◌≡◌, ◌+◌, ◌^◌, ◌≤◌, ◌<◌, ◌++◌, length, take, replicate, slice_index, slice_range};
 ghost use Rattle.dfu_slots.specs.inside.Series.{Series};
 ghost use Rattle.dfu_slots.specs.inside.Carry.{MayWriteRange, IsSourceAtHand, MayCarryOp, MayCarryAll};
@@ -12,18 +12,18 @@ use crate::sequence::{MAX_OPERATIONS, Sequence};
 use crate::writes::write_some;
 use crate::{Medium, WriteFault};
 
-/// The bytes from which the operations of a change take the bytes that they write.
+/// Bytes that the operations of a change write: the held bytes, the block and the header.
 #[derive(Clone, Copy)]
 pub(crate) struct Sources<'b> {
-    /// The bytes held back.
+    /// Bytes held back by earlier puts.
     pub held: &'b [u8],
-    /// The block.
+    /// Block of a `put`.
     pub block: &'b [u8],
-    /// The header.
+    /// Header that a `commit` or a `format` writes.
     pub header: &'b [u8; 16],
 }
 
-// The byte at this place of two slices, one after the other, with zeros after both.
+// Returns byte `at` of `front`, `back` and zeros, one after the other.
 fn byte_in(front: &[u8], back: &[u8], at: usize) -> u8
     requires { at < length front.now + length back.now + 256 }
     ensures { result ≡ slice_index ((front.now ++ back.now) ++ replicate 256 0) at }
@@ -35,7 +35,7 @@ fn byte_in(front: &[u8], back: &[u8], at: usize) -> u8
     if behind < back.len() { back[behind] } else { 0 }
 }
 
-// The byte at this place of a source, given the bytes held back, the block and the header.
+// Returns byte `at` of a source, given the bytes held back, the block and the header.
 fn byte_of(source: Source, held: &[u8], block: &[u8], header: &[u8; 16], at: usize) -> u8
     requires { at < length (source_content source held.now block.now header.now) + 256 }
     ensures { result ≡ slice_index (source_content source held.now block.now header.now ++ replicate 256 0) at }
@@ -50,7 +50,7 @@ fn byte_of(source: Source, held: &[u8], block: &[u8], header: &[u8; 16], at: usi
 }
 
 impl Sources<'_> {
-    // Puts bytes of a source, without its first ones, at the front of a buffer.
+    // Copies `len` bytes of a source, from byte `skip` on, to the front of a buffer.
     fn gather(self, source: Source, skip: usize, len: usize, out: &mut [u8; MAX_UNIT])
         requires few { len ≤ 256 }
         requires front { skip ≤ length (source_content source self.held.now self.block.now self.header.now) }
@@ -62,7 +62,7 @@ impl Sources<'_> {
         }
     }
 
-    // Writes bytes of a source, at most 256, with the erases before.
+    // Writes `len` bytes of a source, at most 256, from byte `skip` on, after the erases that they need. No bytes mean no write.
     fn write_gathered<M: Medium>(
         self,
         medium: &mut M,
@@ -84,7 +84,8 @@ impl Sources<'_> {
         write_some(medium, at, &unit[..len])
     }
 
-    // Writes bytes of what is held back and the block, with the erases before: straight from the block if all of them lie there.
+    // Writes `len` bytes of the held bytes and the block, from byte `skip` on, after the erases that they need: straight from the block if
+    // all lie there.
     fn write_joined<M: Medium>(
         self,
         medium: &mut M,
@@ -107,7 +108,7 @@ impl Sources<'_> {
         write_some(medium, at, &self.block[begin..begin + len])
     }
 
-    // Carries an operation out.
+    // Performs one operation.
     fn carry_op<M: Medium>(self, medium: &mut M, op: Op) -> Result<(), WriteFault>
         requires { MayCarryOp (M.state medium.old) self.held.now self.block.now op }
         ensures { let was = M.state medium.old in
@@ -138,7 +139,7 @@ impl Sources<'_> {
     ///
     /// # Errors
     ///
-    /// The fault of the write at which the operations are broken off.
+    /// The fault of the first write that fails. No later operation is performed.
     pub(crate) fn carry_out<M: Medium>(
         self,
         medium: &mut M,

@@ -1,4 +1,4 @@
-//! Erasing sectors.
+//! Erases of sectors, which are read back.
 ghost use Rattle.std.specs.Prelude.{◌≡◌, ◌+◌, ◌%◌, ◌≤◌, ◌<◌, ◌↔◌, IsTrue, length, replicate, OnOk, IfErr};
 ghost use Rattle.dfu_slots.specs.Medium.{WroteBytes, FailedWrite, IsBlank};
 ghost use Rattle.dfu_slots.specs.inside.Series.{Series};
@@ -9,7 +9,7 @@ use crate::layout::MAX_UNIT;
 use crate::read::stands_at;
 use crate::{Medium, WriteFault};
 
-/// Returns true if the `len` bytes from `at` on are FFh.
+/// Returns whether the `len` bytes from `at` on are all FFh.
 pub(crate) fn is_blank<M: Medium>(medium: &M, at: u32, len: u32) -> bool
     requires { at + len ≤ length (M.state medium.now).bytes }
     ensures { IsTrue result ↔ IsBlank (M.state medium.now).bytes at len }

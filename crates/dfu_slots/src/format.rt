@@ -1,4 +1,4 @@
-//! Formatting a medium: an image goes into the first slot, whatever was on the medium.
+//! Format of a medium: an image is written into the first slot, whatever the medium held before.
 ghost use Rattle.std.specs.Prelude.{◌≤◌, ◌+◌, ◌++◌, [], length, take, replicate};
 ghost use Rattle.dfu_slots.specs.inside.Carry.{MayWriteRange, MayWritePiece};
 ghost use Rattle.dfu_slots.specs.inside.Series.{Series};
@@ -18,7 +18,7 @@ use crate::sequence::{MAX_WRITE, Sequence};
 use crate::writes::write_some;
 use crate::{Medium, WriteFault};
 
-// Writes these bytes and zeros after them: at most 4,096 together, at most 256 of them zeros.
+// Writes `bytes` and zeros after them, `len` bytes together: at most 4,096, at most 256 of them zeros.
 #[inline(never)]
 fn write_padded<M: Medium>(
     medium: &mut M,
@@ -38,7 +38,7 @@ fn write_padded<M: Medium>(
     write_some(medium, at, &padded[..len])
 }
 
-// Writes so many bytes of an image without its first ones, and zeros if it has fewer.
+// Writes `len` bytes of an image from byte `skip` on, with zeros past its end.
 fn write_part<M: Medium>(
     medium: &mut M,
     at: u32,
@@ -59,7 +59,7 @@ fn write_part<M: Medium>(
     write_some(medium, at, &image[skip..skip + len])
 }
 
-// Carries out the operation of the piece that begins there in an image.
+// Writes the piece of an image that begins at byte `from`: up to 4,096 bytes, filled up to a unit, into the data of the first slot.
 fn write_piece<M: Medium>(medium: &mut M, image: &[u8], from: u32) -> Result<(), WriteFault>
     requires { MayWritePiece (M.state medium.old) image.now from }
     ensures { let was = M.state medium.old in
@@ -83,7 +83,7 @@ fn write_piece<M: Medium>(medium: &mut M, image: &[u8], from: u32) -> Result<(),
     }
 }
 
-// Writes an image into the data of the first slot, in the pieces of its sequence.
+// Writes an image into the data of the first slot, piece by piece.
 fn write_pieces<M: Medium>(medium: &mut M, image: &[u8]) -> Result<(), WriteFault>
     requires { CanFormat (M.state medium.old) image.now }
     ensures { let was = M.state medium.old in Series was (image_writes was.grain image.now) result (M.state medium.new) }

@@ -1,4 +1,4 @@
-//! Closing the gate of a slot, and opening it after a new header.
+//! Gates of slots: one is closed, or is opened after a new header.
 ghost use Rattle.std.specs.Prelude.{◌≡◌, ℕ, [], ◌∷◌, ◌++◌, ◌+◌, ◌%◌, ◌≤◌, ◌<◌, length};
 ghost use Rattle.dfu_slots.specs.Units.{IsMultiple, filled_units};
 ghost use Rattle.dfu_slots.specs.Medium.{IsWritableAhead};
@@ -12,7 +12,7 @@ use crate::carry::Sources;
 use crate::sequence::Sequence;
 use crate::{Medium, WriteFault};
 
-/// Closes the gate of the slot that begins at `slot`: writes a gate unit over it, or erases its sector.
+/// Closes the gate of the slot that begins at `slot`: writes a gate unit of zeros over it; with sectors, instead, erases its sector.
 pub(crate) fn close_gate<M: Medium>(medium: &mut M, slot: u32) -> Result<(), WriteFault>
     requires sized { IsSizedMedium (M.state medium.old) }
     requires within { slot + gate_of (M.state medium.old) ≤ length (M.state medium.old).bytes }

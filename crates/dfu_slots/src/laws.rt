@@ -1,11 +1,11 @@
-//! Laws of the slot store. Each is the contract of a function with an empty body, which is proved and
-//! not to be called for what it does. A function above calls one only for its law, as dfu_link does.
+//! Laws of the slot store. Each is the contract of a function with an empty body, which is proved and has no effect. A crate above calls
+//! one only to cite its law, as dfu_link does.
 
 ghost use Rattle.std.specs.Prelude.{◌≡◌, ◌≤◌, ◌+◌, ◌*◌, ℕ, List, [], ◌∷◌, ◌++◌, length, take, drop};
 ghost use Rattle.dfu_slots.specs.declared.layout.Unit.{Unit as WriteUnit};
 ghost use Rattle.dfu_slots.specs.Units.{Grain, in_place_grain, gate_size, gate_room, filled_units};
 ghost use Rattle.dfu_slots.specs.Layout.{gate_unit, header};
-ghost use Rattle.dfu_slots.specs.Writes.{closed_gate, write_anew, write_some, put_writes, held_writes, open_writes};
+ghost use Rattle.dfu_slots.specs.Writes.{closed_gate, erasing_write, write_some, put_writes, held_writes, open_writes};
 ghost use Rattle.dfu_slots.specs.declared.sequence.Sequence.TheVariants.{Close, Put, Commit, Image};
 ghost use Rattle.dfu_slots.specs.Operations.{ops_writes, held_from, operations};
 ghost use Rattle.dfu_slots.specs.Medium.{MediumState, Write, AllWrites, BrokenWrites};
@@ -18,8 +18,8 @@ ghost use Rattle.dfu_slots.specs.Determined.{SameStore};
 ghost use Rattle.dfu_slots.specs.declared.fault.OpenFault.{OpenFault};
 ghost use Rattle.dfu_slots.specs.declared.fault.WriteFault.{WriteFault};
 
-/// No medium has two active images. The image that a store shows is the active image of its medium, and no other is. A
-/// medium that `open` refuses has none.
+/// A medium has at most one active image. The image that a store shows is the active image of its medium, and no other image is. A medium
+/// that `open` refuses has none.
 pub fn active_image_is_one()
     ensures one { (m : MediumState) (a b : List ℕ) → Active m a → Active m b → a ≡ b }
     ensures shown { (s : SlotsState) → HasImage s.medium → Active s.medium (image_of s) }
@@ -30,13 +30,13 @@ pub fn active_image_is_one()
 /// On a medium without sectors nothing is erased: bytes are written over in place in one write, a closed gate is a gate unit
 /// of zeros, and gate and header have a unit each.
 pub fn without_sectors_nothing_is_erased()
-    ensures writes { (at : ℕ) (bytes : List ℕ) → write_anew 0 at bytes ≡ record { at = at; bytes = bytes } ∷ [] }
+    ensures writes { (at : ℕ) (bytes : List ℕ) → erasing_write 0 at bytes ≡ record { at = at; bytes = bytes } ∷ [] }
     ensures gate { (unit : WriteUnit) → closed_gate (in_place_grain unit) ≡ gate_unit (gate_size unit) 0 }
     ensures room { (unit : WriteUnit) → gate_room (in_place_grain unit) ≡ gate_size unit }
 {}
 
-/// The operations of a sequence, in their order, are the writes of the change that it is for: of closing a gate, of a `put`, of a
-/// `commit`, and of the next 4,096 bytes of an image.
+/// The operations of a sequence, in their order, make exactly the writes of its change: closing a gate, a `put`, a `commit`, or the next
+/// 4,096 bytes of an image.
 pub fn operations_are_the_writes()
     ensures close { (w : Grain) (held block head : List ℕ) (slot : ℕ) →
         ops_writes w.sector held block head (operations w (Close slot)) ≡ record { at = slot; bytes = closed_gate w } ∷ [] }
@@ -51,8 +51,8 @@ pub fn operations_are_the_writes()
         ≡ write_some w.sector (2 * gate_room w + from) (take 4096 (drop from (filled_units w.unit image))) }
 {}
 
-/// A medium whose fuse is whole (as `SimMedium::new` and `disarm` leave it) fails no write and no call, and lies in none,
-/// whatever they are, and stays so. It says nothing about a medium whose fuse is unknown.
+/// On a medium with a whole fuse (as `SimMedium::new` and `disarm` leave it) no write and no call fails or lies, and the fuse stays whole.
+/// The law says nothing about a medium whose fuse is unknown.
 pub fn unarmed_never_fails()
     ensures writes { (writes : List Write) (old now : MediumState) →
         old.fuse ≡ Whole → (fault : WriteFault) → ¬ BrokenWrites fault old writes now }
@@ -64,8 +64,8 @@ pub fn unarmed_never_fails()
         old.medium.fuse ≡ Whole → CallsEnd old calls AllWorked now → now.medium.fuse ≡ Whole }
 {}
 
-/// From the same store the same calls end alike, if the fuse is known: all their writes work on both or they are broken off by the
-/// same fault, and leave the same store (the same bytes, fuse and grain, the same bytes held back, the same end of the puts).
+/// Calls end alike on two equal stores if the fuse is known: all their writes work on both, or the same fault breaks them off. They leave
+/// equal stores: equal bytes, fuse and grain, equal bytes held back, and the same end of the puts.
 pub fn same_bytes_same_end()
     ensures outcome { (calls : List StoreCall) (e d : Ending) (a b x y : SlotsState) →
         SameStore a b → IsKnownFuse a.medium.fuse → CallsEnd a calls e x → CallsEnd b calls d y → e ≡ d }

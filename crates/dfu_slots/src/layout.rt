@@ -7,19 +7,19 @@ ghost use Rattle.dfu_slots.specs.Image.{gate_of, IsSizedMedium, capacity_of};
 
 use crate::Medium;
 
-/// Number of bytes of the header, and the smallest number of bytes of the gate unit and the header unit.
+/// Bytes of the header, and the smallest size of a gate unit or a header unit.
 const HEADER_SIZE: u32 = 16;
 
-/// Number of bytes of the largest unit.
+/// Bytes of the largest unit.
 pub const MAX_UNIT: usize = 256;
 
-/// Smallest number of bytes of a sector, whose size is a multiple of this number.
+/// Smallest sector in bytes; the size of every sector is a multiple of it.
 pub const PAGE: u32 = 256;
 
-/// Largest number of bytes of a sector.
+/// Bytes of the largest sector.
 pub const MAX_SECTOR: u32 = 1 << 18;
 
-/// Largest number of bytes of the data of a slot.
+/// Largest number of data bytes of a slot.
 pub const MAX_CAPACITY: u32 = 1 << 24;
 
 /// The first byte of an open gate unit; any other byte is a closed gate.
@@ -28,7 +28,7 @@ pub const OPEN_GATE: u8 = 0xa5;
 /// The first byte of a gate unit that is written to close it.
 pub const CLOSED_GATE: u8 = 0x00;
 
-/// Bytes that a medium writes at a time: the place and the length of a write are multiples of it.
+/// Unit in which a medium is written: the place and the length of a write are multiples of it.
 #[derive(Clone, Copy, Drop)]
 pub enum Unit {
     /// One byte: any place and any length.
@@ -42,7 +42,7 @@ pub enum Unit {
 }
 
 impl Unit {
-    /// Returns the bytes of the unit: 1, 16, 64 or 256.
+    /// Returns the size of the unit in bytes: 1, 16, 64 or 256.
     pub fn size(self) -> u32
         ensures value { result ≡ unit_size self }
         ensures some { 0 < result }
@@ -66,7 +66,7 @@ pub(crate) fn gate_size(unit: Unit) -> u32
     HEADER_SIZE.max(unit.size())
 }
 
-/// Returns the number of bytes that the gate of a slot takes up, and its header as many: 16, a unit or a sector, whichever is most.
+/// Returns the number of bytes that the gate of a slot takes up, and its header as well: the largest of 16, a unit and a sector.
 pub(crate) fn gate_room(unit: Unit, sector: u32) -> u32
     ensures { result ≡ gate_room (record { unit = unit; sector = sector }) }
 {
@@ -82,7 +82,7 @@ pub(crate) fn fill_size(unit: Unit, len: u32) -> u32
     (size - len % size) % size
 }
 
-/// Returns the number of bytes that the gate of a slot takes up, and its header as many: 16, a unit or a sector, whichever is most.
+/// Returns the number of bytes that the gate of a slot takes up, and its header as well: the largest of 16, a unit and a sector.
 pub fn gate_of<M: Medium>(medium: &M) -> u32
     ensures { result ≡ gate_of (M.state medium.now) }
 {
@@ -97,21 +97,21 @@ pub fn capacity_of<M: Medium>(medium: &M) -> u32
     medium.len() / 2 - 2 * gate_of(medium)
 }
 
-// Returns whether the store takes sectors of so many bytes: 0, or a multiple of 256 up to 262,144.
+// Returns whether the store supports this sector size: 0, or a multiple of 256 up to 262,144.
 fn is_sector(sector: u32) -> bool
     ensures { IsTrue result ↔ ((sector % 256 ≡ 0) × (sector ≤ 2 ^ 18)) }
 {
     sector % PAGE == 0 && sector <= MAX_SECTOR
 }
 
-// Returns whether a length is a multiple of the unit's size, and of the sector's.
+// Returns whether a length is a multiple of the unit's size and of the sector's.
 fn is_whole(unit: Unit, sector: u32, len: u32) -> bool
     ensures { IsTrue result ↔ ((len % unit_size unit ≡ 0) × (0 < sector → len % sector ≡ 0)) }
 {
     len % unit.size() == 0 && (sector == 0 || len % sector == 0)
 }
 
-/// Returns whether the medium has a length that two slots can have, with whole units and sectors of data each.
+/// Returns whether the medium has a length that two slots can have, each with whole units and sectors of data.
 pub fn is_sized<M: Medium>(medium: &M) -> bool
     ensures { IsTrue result ↔ IsSizedMedium (M.state medium.now) }
 {
@@ -127,10 +127,10 @@ pub fn is_sized<M: Medium>(medium: &M) -> bool
         && is_whole(medium.unit(), sector, len / 2 - gates)
 }
 
-/// The version of a header that is written. It has the register over the image.
+/// Version of the headers that the store writes, with the register over the image.
 pub const VERSION: u8 = 2;
 
-/// The version of a header without a register, which is read and never written.
+/// Version of a header without a register, which is read and never written.
 pub const OLD_VERSION: u8 = 1;
 
 /// Returns the header with `version`, `generation`, an image of `len` bytes and its `register`: generation, version, two zeros, the
@@ -145,28 +145,28 @@ pub fn make_header(version: u8, generation: u8, len: u32, register: u32) -> [u8;
     ]
 }
 
-/// Returns the length of the image, in bytes, that `header` says.
+/// Returns the length of the image, in bytes, from `header`.
 pub fn length_in(header: &[u8; 16]) -> u32
     ensures { result ≡ from_le_bytes w32 (take 4 (drop 4 header.now)) }
 {
     u32::from_le_bytes([header[4], header[5], header[6], header[7]])
 }
 
-/// Returns the register over the image that `header` says.
+/// Returns the register over the image, from `header`.
 pub(crate) fn register_in(header: &[u8; 16]) -> u32
     ensures { result ≡ from_le_bytes w32 (take 4 (drop 8 header.now)) }
 {
     u32::from_le_bytes([header[8], header[9], header[10], header[11]])
 }
 
-// The last four bytes, which are zeros in every header.
+// Returns the last four bytes of a header as a number: 0 in every well-formed one.
 fn rest_in(header: &[u8; 16]) -> u32
     ensures { result ≡ from_le_bytes w32 (take 4 (drop 12 header.now)) }
 {
     u32::from_le_bytes([header[12], header[13], header[14], header[15]])
 }
 
-/// Returns true if the header `found` is of `version` with `register`, and well formed, whatever its generation and its length are.
+/// Returns true if `found` is a well-formed header of `version` with `register`, of any generation and length.
 pub(crate) fn is_header(found: &[u8; 16], version: u8, register: u32) -> bool
     ensures { IsTrue result ↔ (found.now ≡
         header version (get_or found.now 0 0) (from_le_bytes w32 (take 4 (drop 4 found.now))) register) }
@@ -186,7 +186,7 @@ pub(crate) fn is_header(found: &[u8; 16], version: u8, register: u32) -> bool
     rest_in(found) == 0
 }
 
-/// Returns true if the header `found` is of `version` with `register`, and well formed, with a length up to `room`.
+/// Returns true if `found` is a well-formed header of `version` with `register` and a length up to `room`.
 pub(crate) fn is_formed(found: &[u8; 16], room: u32, version: u8, register: u32) -> bool
     ensures { let len = from_le_bytes w32 (take 4 (drop 4 found.now)) in
         IsTrue result ↔ ((found.now ≡ header version (get_or found.now 0 0) len register) × (len ≤ room)) }

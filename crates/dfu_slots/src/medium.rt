@@ -20,8 +20,8 @@ pub struct Failed;
 /// sector. So erasing within `write` is sound only if `unit` is a multiple of the part's erase unit. A part with larger
 /// sectors says so by `sector`: the store erases each before it writes in it, and writes no unit twice between two erases.
 pub trait Medium: Drop {
-    /// The bytes now, how often a write has failed, what is known about the next writes, the grain (unit and sector), and a tag
-    /// that is always the same: what the tag says is for the implementer to choose.
+    /// Bytes of the medium, count of failed writes, fuse (the known behaviour of the next writes), grain (unit and sector), and a constant
+    /// tag that the implementer chooses.
     ghost state: { Self → MediumState };
 
     /// Returns the bytes of the medium, always the same number.
@@ -33,13 +33,14 @@ pub trait Medium: Drop {
         ensures { result ≡ (state self.now).grain.unit };
 
     /// Returns the number of bytes that are erased at a time, always the same number. At 0 the medium is written over in place, and never
-    /// erased. The store takes 0 and the multiples of 256 up to 262,144. All sectors have this size: of a part with others show a run of
-    /// equal ones.
+    /// erased. The store supports 0 and the multiples of 256 up to 262,144. All sectors have this size; a part with unequal sectors must
+    /// expose a run of equal ones.
     fn sector(&self) -> u32
         ensures { result ≡ (state self.now).grain.sector };
 
-    /// Returns whether the register over its images goes by a table of 64 bytes, in over four times as many instructions, and not by those
-    /// of 8,192 bytes. It is the same register. If all media of a program return the constant `true`, it links without the large tables.
+    /// Returns whether the register over images is computed with a table of 64 bytes, in over four times as many instructions, and not with
+    /// the tables of 8,192 bytes. The register is the same. If all media of a program return the constant `true`, it links without the
+    /// large tables.
     fn has_small_tables(&self) -> bool {
         false
     }
@@ -49,13 +50,12 @@ pub trait Medium: Drop {
         requires { at + length out.old ≤ length (state self.now).bytes }
         ensures { out.new ≡ slice_range (state self.now).bytes at (at + length out.old) };
 
-    /// Writes over the bytes from `at` on, whatever they were: on a medium with sectors all are FFh, and none was written since
-    /// its sector was erased. The range must lie within the length, and `at` and the number of bytes must be multiples of the
-    /// unit's size.
+    /// Writes over the bytes from `at` on. On a medium with sectors all of them are FFh, and none was written since its sector was erased.
+    /// The range must lie within the length, and `at` and the number of bytes must be multiples of the unit's size.
     ///
-    /// After Ok the range has exactly `bytes`; or the part lied: the range may have any bytes, and the count of failures rose.
-    /// After `Failed` the range may have any bytes, and the count rose (at its last value, 2^64 - 1, it stays; a medium
-    /// may say that its count is always there). All other bytes are as they were, also if the power fails during the write.
+    /// After Ok the range holds exactly `bytes`, unless the part lied: then it may hold any bytes, and the count of failures rose. After
+    /// `Failed` the range may hold any bytes, and the count rose (at its maximum, 2^64 - 1, it stays; a medium may report this maximum
+    /// always). All other bytes are as they were, also if the power fails during the write.
     fn write(&mut self, at: u32, bytes: &[u8]) -> Result<(), Failed>
         requires within { at + length bytes.now ≤ length (state self.old).bytes }
         requires place { IsMultiple (state self.old).grain.unit at }
@@ -64,8 +64,8 @@ pub trait Medium: Drop {
         ensures ok { OnOk result (WroteOrLied (state self.old) at bytes.now (state self.new)) }
         ensures failed { OnErr result (FailedWrite WriteFault.Failed (state self.old) at bytes.now (state self.new)) };
 
-    /// Erases the sector that begins at `at`: it writes FFh over it, and may fail or lie as `write` may. The sector must lie
-    /// within the length. If there are no sectors, `at` is 0, and it changes no byte.
+    /// Erases the sector that begins at `at`: fills it with FFh, and may fail or lie as `write` may. The sector must lie within the length.
+    /// Without sectors `at` is 0, and no byte changes.
     fn erase(&mut self, at: u32) -> Result<(), Failed>
         requires within { at + (state self.old).grain.sector ≤ length (state self.old).bytes }
         requires place { at % (state self.old).grain.sector ≡ 0 }
@@ -75,7 +75,7 @@ pub trait Medium: Drop {
             FailedWrite WriteFault.Failed (state self.old) at (replicate (state self.old).grain.sector 255) (state self.new)) };
 }
 
-/// A medium that can be set to fail or to lie at a write, and what that write leaves.
+/// A medium that can be armed to fail or lie at a chosen write, and to leave chosen bytes there.
 pub trait Faulty: Medium {
     /// Arms the medium: the next `writes` writes work; the one after them fails and leaves the first bytes of `tear` at the front of its
     /// range, and the old bytes in the rest of it. Of `tear` at most 4,096 bytes are kept.

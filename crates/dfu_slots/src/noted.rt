@@ -3,16 +3,16 @@
 use crate::Failed;
 use arrayvec::ArrayVec;
 
-/// The way in which a write ended.
+/// Outcome of a write.
 #[derive(Clone, Copy)]
 pub enum WriteEnd {
     Worked,
     Failed,
-    /// The medium was armed to lie in the write: it reported success, whatever bytes it left.
+    /// The medium was armed to lie: it reported success, whatever bytes it left.
     Lied,
 }
 
-/// A write: whether it erased, where, how many bytes, and how it ended.
+/// A write or an erase: its place, its number of bytes, and its outcome.
 #[derive(Clone, Copy)]
 pub struct WriteNote {
     pub erases: bool,
@@ -35,14 +35,14 @@ impl Default for WriteNote {
 /// The last writes of a medium, and the number of all writes.
 #[derive(Drop)]
 pub struct LastWrites {
-    /// The last 16 writes, in their order.
+    /// The last 16 writes, the oldest first.
     pub notes: ArrayVec<WriteNote, 16>,
     /// Number of writes, at most 2^64 - 1.
     pub count: u64,
 }
 
 impl LastWrites {
-    /// Returns a list of no write.
+    /// Returns an empty list of writes.
     pub(crate) fn none() -> LastWrites {
         LastWrites {
             notes: ArrayVec::new(),
@@ -50,7 +50,7 @@ impl LastWrites {
         }
     }
 
-    /// Adds `note` as the last write. The oldest note is removed if there is no room for it.
+    /// Appends `note`. If the list is full, the oldest note is removed first.
     pub(crate) fn add(&mut self, note: WriteNote) {
         if self.notes.is_full() {
             self.notes.remove(0);
@@ -60,7 +60,7 @@ impl LastWrites {
     }
 }
 
-/// Returns the end of a write with the result `answer`, by `lies`, which says that it was set to lie.
+/// Returns the outcome of a write with the result `answer`; `lies` is true if the medium was armed to lie in it.
 pub(crate) fn ended(lies: bool, answer: Result<(), Failed>) -> WriteEnd {
     match answer {
         Ok(()) if lies => WriteEnd::Lied,

@@ -17,14 +17,14 @@ pub struct Places {
     pub spare: u32,
 }
 
-/// Slots that count, of the two.
+/// For each of the two slots, true if it counts.
 #[derive(Clone, Copy, Drop)]
 pub struct Counted {
     pub first: bool,
     pub second: bool,
 }
 
-/// Finds the slots that count, of the two. The whole image of an open slot of version 2 is read once, for its register.
+/// Finds the slots that count. The whole image of an open slot of version 2 is read once, for its register.
 pub(crate) fn count_slots<M: Medium>(medium: &M) -> Counted
     requires { IsSizedMedium (M.state medium.now) }
     ensures first { result.first ≡ slot_counts (slot_of (M.state medium.now) 0) }
@@ -43,7 +43,7 @@ pub(crate) fn is_none(counted: Counted) -> bool
     !counted.first && !counted.second
 }
 
-// Returns whether the first of two slots counts, and the other one does not, or is one generation behind.
+// Returns whether the slot `mine` counts, and the slot `other` does not or is one generation older.
 fn is_newest<M: Medium>(
     medium: &M,
     mine: u32,
@@ -62,7 +62,7 @@ fn is_newest<M: Medium>(
         && (!other_counts || generation(medium, mine) == generation(medium, other).wrapping_add(1))
 }
 
-/// Returns the places of the slots, if the first one or else the second one is active.
+/// Returns the places of the slots: the first slot is the active one if `first` is true, else the second.
 pub(crate) fn places_of<M: Medium>(medium: &M, first: bool) -> Places
     ensures active { result.active ≡ slot_place first (M.state medium.now).bytes }
     ensures spare { result.spare ≡ slot_place (not first) (M.state medium.now).bytes }
@@ -81,7 +81,7 @@ pub(crate) fn places_of<M: Medium>(medium: &M, first: bool) -> Places
     }
 }
 
-/// Returns the places of the two slots; if neither is the newest, as if the second were.
+/// Returns the places of the active slot and the spare one; if neither is the newest, the second is taken as active.
 pub(crate) fn find_places<M: Medium>(medium: &M, counted: Counted) -> Places
     requires sized { IsSizedMedium (M.state medium.now) }
     requires first { counted.first ≡ slot_counts (slot_of (M.state medium.now) 0) }
@@ -94,7 +94,7 @@ pub(crate) fn find_places<M: Medium>(medium: &M, counted: Counted) -> Places
     places_of(medium, first)
 }
 
-/// Returns whether the slot that was found to be the active one is the newest.
+/// Returns whether the slot at `places.active`, one of the two, is the newest.
 pub(crate) fn has_newest<M: Medium>(medium: &M, places: Places, counted: Counted) -> bool
     requires sized { IsSizedMedium (M.state medium.now) }
     requires active { places.active ≡ active_at (gate_of (M.state medium.now)) (M.state medium.now).bytes }
@@ -111,7 +111,7 @@ pub(crate) fn has_newest<M: Medium>(medium: &M, places: Places, counted: Counted
     }
 }
 
-/// Finds which of the two slots is active.
+/// Finds the active slot and the spare one.
 pub(crate) fn look<M: Medium>(medium: &M) -> Places
     requires { IsSizedMedium (M.state medium.now) }
     ensures active { result.active ≡ active_at (gate_of (M.state medium.now)) (M.state medium.now).bytes }

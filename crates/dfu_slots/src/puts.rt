@@ -1,4 +1,4 @@
-//! Bytes that were put since `begin`: whole units go to the medium as they come, and the rest is held back.
+//! Bytes put since `begin`: whole units are written at once, and the rest is held back.
 ghost use Rattle.std.specs.Prelude.{◌≡◌, ◌+◌, ◌≤◌, ◌<◌, ◌++◌, [], length, OnOk};
 ghost use Rattle.dfu_slots.specs.Units.{IsMultiple, unit_size};
 ghost use Rattle.dfu_slots.specs.Medium.{IsWritableAhead};
@@ -23,7 +23,7 @@ pub struct Puts {
 }
 
 impl Puts {
-    /// Returns the puts before the first one: no bytes held back, and an end of 0.
+    /// Returns the state before the first put: no bytes held back, and an end of 0.
     pub(crate) fn nothing() -> Puts
         ensures held { result.held.items ≡ [] }
         ensures end { result.end ≡ 0 }
@@ -34,7 +34,7 @@ impl Puts {
         }
     }
 
-    /// Removes all puts: no bytes are held back, and the end is 0.
+    /// Discards all puts: no bytes are held back, and the end is 0.
     pub(crate) fn clear(&mut self)
         ensures held { self.new.held.items ≡ [] }
         ensures end { self.new.end ≡ 0 }
@@ -44,7 +44,7 @@ impl Puts {
     }
 }
 
-// Holds these bytes back too, after those that are held.
+// Appends `bytes` to the bytes held back.
 fn hold(held: &mut ArrayVec<u8, MAX_UNIT>, bytes: &[u8])
     requires { length held.old.items + length bytes.now ≤ 256 }
     ensures { held.new.items ≡ held.old.items ++ bytes.now }
@@ -52,7 +52,7 @@ fn hold(held: &mut ArrayVec<u8, MAX_UNIT>, bytes: &[u8])
     let _ = held.try_extend_from_slice(bytes);
 }
 
-/// Holds back in `held` what makes no whole unit of the bytes of `held` and `bytes` after them.
+/// Keeps in `held` only the last bytes of `held` and `bytes` together, those that fill no whole unit.
 pub(crate) fn hold_rest(held: &mut ArrayVec<u8, MAX_UNIT>, unit: Unit, bytes: &[u8])
     requires part { length held.old.items < unit_size unit }
     requires short { length bytes.now ≤ 4096 }
@@ -68,8 +68,8 @@ pub(crate) fn hold_rest(held: &mut ArrayVec<u8, MAX_UNIT>, unit: Unit, bytes: &[
     hold(held, &bytes[bytes.len() - rest..]);
 }
 
-/// Puts `bytes` after those of `held`, in the data of the slot that begins at `slot`, at `end`, the end of the puts. The unit that the
-/// held bytes begin is written, if it is full now, and then all further whole units in one write, and the rest is held back.
+/// Puts `bytes` after `held` into the data of the slot that begins at `slot`, where the puts end at `end`. Writes the unit that the held
+/// bytes begin, if it is full now, then all further whole units in one write, and holds the rest back.
 pub(crate) fn put_units<M: Medium>(
     medium: &mut M,
     held: &mut ArrayVec<u8, MAX_UNIT>,

@@ -12,7 +12,7 @@ use dfu_suffix::Crc;
 // Bytes that are read at a time.
 const REGISTER_BYTES: u32 = 64;
 
-// Takes more bytes of an image, by the tables that the medium has chosen.
+// Adds bytes of an image to the register, with the tables that the medium has chosen.
 fn take_piece<M: Medium>(medium: &M, crc: &mut Crc, piece: &[u8])
     ensures { (before : List ℕ) → crc.old ≡ register before → crc.new ≡ register (before ++ piece.now) }
 {
@@ -23,7 +23,7 @@ fn take_piece<M: Medium>(medium: &M, crc: &mut Crc, piece: &[u8])
     }
 }
 
-// The register over the first `len` bytes of the data of the slot that begins there, to go on from.
+// Returns the register over the first `len` data bytes of the slot that begins at `slot_at`; more bytes can be added to it.
 fn crc_of<M: Medium>(medium: &M, slot_at: u32, len: u32) -> Crc
     requires sized { IsSizedMedium (M.state medium.now) }
     requires slot { slot_at + slot_size (M.state medium.now).bytes ≤ length (M.state medium.now).bytes }
@@ -53,8 +53,8 @@ pub(crate) fn register_of<M: Medium>(medium: &M, slot_at: u32, len: u32) -> u32
     crc_of(medium, slot_at, len).value()
 }
 
-/// Returns the register over the first `len` bytes of what was put into the slot that begins at `slot_at`: the first `at` bytes are in its
-/// data, and `held` are held back.
+/// Returns the register over the first `len` bytes put into the slot that begins at `slot_at`: those before `at` are in its data, the
+/// others in `held`.
 pub(crate) fn register_of_put<M: Medium>(
     medium: &M,
     slot_at: u32,
@@ -74,7 +74,7 @@ pub(crate) fn register_of_put<M: Medium>(
     crc.value()
 }
 
-/// Returns the register over `image`, by the tables that `medium` has chosen.
+/// Returns the register over `image`, with the tables that `medium` has chosen.
 pub(crate) fn register_of_image<M: Medium>(medium: &M, image: &[u8]) -> u32
     ensures { result ≡ register image.now }
 {

@@ -1,4 +1,4 @@
-//! The operations of each change of a medium: carried out in their order, they make its writes.
+//! The operations of each change of a medium; performed in their order, they make its writes.
 ghost use Rattle.std.specs.Prelude.{◌≡◌, ◌^◌, ◌<◌, IfSome};
 ghost use Rattle.dfu_slots.specs.Operations.{op_at, op_place, held_from, close_ops, put_ops, commit_ops, image_ops, operations};
 
@@ -6,21 +6,21 @@ use crate::Unit;
 use crate::layout::{fill_size, gate_room, gate_size};
 use crate::operation::{Op, Source};
 
-/// Number of bytes of an image that a format writes at a time: whole units, whatever the unit is.
+/// Number of bytes of an image that a format writes at a time: a multiple of every unit.
 pub(crate) const MAX_WRITE: u32 = 4096;
 
 /// Number of operations of the longest change.
 pub const MAX_OPERATIONS: usize = 3;
 
-/// A change of a medium, by the numbers that its operations depend on.
+/// A change of a medium, with the numbers that determine its operations.
 #[derive(Clone, Copy, Drop)]
 pub enum Sequence {
-    /// The gate of a slot is closed.
+    /// Closes the gate of a slot.
     Close {
         /// Place at which the slot begins.
         slot: u32,
     },
-    /// A block is put after what is held back: the unit that was begun is written, if it is full now, and then all further whole units.
+    /// Puts a block after the bytes held back: writes the unit that they begin, if it is full now, and then all further whole units.
     Put {
         /// Place at which the slot begins.
         slot: u32,
@@ -40,16 +40,16 @@ pub enum Sequence {
         /// Number of bytes that are held back.
         held: u16,
     },
-    /// Up to 4,096 bytes of an image, filled up to a unit, go into the data of the first slot, as `format` writes them.
+    /// Writes up to 4,096 bytes of an image, filled up to a unit, into the data of the first slot, as `format` does.
     Image {
-        /// Number of bytes of the image that come before the bytes written.
+        /// Offset in the image of the first byte that is written.
         from: u32,
         /// Length of the image in bytes.
         image: u32,
     },
 }
 
-// Returns the place at which the bytes held back belong in a slot that begins there.
+// Returns the place on the medium of the bytes held back, in the slot that begins at `slot`.
 fn held_from(unit: Unit, sector: u32, slot: u32, end: u32, held: u16) -> u64
     ensures value { result ≡ held_from (record { unit = unit; sector = sector }) slot end held }
     ensures small { result < 2 ^ 36 }
@@ -58,7 +58,8 @@ fn held_from(unit: Unit, sector: u32, slot: u32, end: u32, held: u16) -> u64
     u64::from(slot) + 2 * u64::from(gate_room(unit, sector)) + u64::from(at)
 }
 
-// The operation that closes a gate: a gate unit is written over it, or its sector is erased.
+// Returns the operation that closes a gate: it writes a gate unit of zeros; with sectors, instead, it erases the gate's sector. None if
+// `index` is over 0.
 fn close_op(unit: Unit, sector: u32, slot: u32, index: usize) -> Option<Op>
     ensures value { result ≡ op_at (close_ops (record { unit = unit; sector = sector }) slot) index }
     ensures small { IfSome result (λ o. op_place o < 2 ^ 40) }
@@ -78,7 +79,7 @@ fn close_op(unit: Unit, sector: u32, slot: u32, index: usize) -> Option<Op>
     Some(Op::Erase { at })
 }
 
-// The operations of a put whose first byte goes there.
+// Returns operation `index` of a put whose first byte goes to the place `at`; None if `index` is over 1.
 fn put_op(unit: Unit, at: u64, held: u16, block: u16, index: usize) -> Option<Op>
     requires { at < 2 ^ 36 }
     ensures value { result ≡ op_at (put_ops unit at held block) index }
@@ -105,7 +106,7 @@ fn put_op(unit: Unit, at: u64, held: u16, block: u16, index: usize) -> Option<Op
     }
 }
 
-// The operations of a commit whose held bytes go there.
+// Returns operation `index` of a commit whose held bytes go to the place `at`; None if `index` is over 2.
 fn commit_op(unit: Unit, sector: u32, slot: u32, at: u64, held: u16, index: usize) -> Option<Op>
     requires { at < 2 ^ 36 }
     ensures value { result ≡ op_at (commit_ops (record { unit = unit; sector = sector }) slot at held) index }
@@ -134,7 +135,7 @@ fn commit_op(unit: Unit, sector: u32, slot: u32, at: u64, held: u16, index: usiz
     }
 }
 
-// The operation that writes a piece of an image.
+// Returns the operation that writes the piece of an image of `image` bytes that begins at byte `from`; None if `index` is over 0.
 fn image_op(unit: Unit, sector: u32, from: u32, image: u32, index: usize) -> Option<Op>
     ensures value { result ≡ op_at (image_ops (record { unit = unit; sector = sector }) from image) index }
     ensures small { IfSome result (λ o. op_place o < 2 ^ 40) }

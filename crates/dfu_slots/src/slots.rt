@@ -15,40 +15,38 @@ use crate::read::{data_at, header_len, is_open, read_data};
 use crate::{Faulty, FormatFault, Medium, OpenFault, WriteFault, format};
 use std::marker::Model;
 
-/// Two image slots on a medium. One of them is active and holds the image; the other one is the
-/// spare, which takes the next image piece by piece. Which one is active is found
-/// when the store is made, and again after each `commit`.
+/// Two image slots on a medium. One of them is active and holds the image; the other one is the spare, which takes the next image piece by
+/// piece. The active slot is found when the store is made, and again after each `commit`.
 ///
-/// The medium is written in whole units; of the bytes put, what makes no whole unit yet is held back.
+/// The medium is written in whole units; bytes put that do not fill a unit yet are held back.
 #[derive(Drop)]
 pub struct Slots<M: Medium> {
     pub(crate) medium: M,
     pub(crate) puts: Puts,
-    // Found when the store was made, and again after each `commit`: to look costs a register over each open slot.
+    // Found when the store is made, and again after each `commit`, because a search computes a register over each open slot.
     pub(crate) places: Places,
 }
 
 impl<M: Medium> Model for Slots<M> {
     ghost use Rattle.dfu_slots.specs.StoreView.{SlotsState, store_of};
-    ghost use Rattle.dfu_slots.specs.inside.PlaceMemory.{IsStoreAt};
+    ghost use Rattle.dfu_slots.specs.inside.PlaceMemory.{RemembersPlaces};
 
     ghost Value = { SlotsState };
 
     ghost view = { λ s. store_of (M.state s.medium) s.puts.held.items s.puts.end };
 
-    ghost invariant = { λ s. IsStoreAt (store_of (M.state s.medium) s.puts.held.items s.puts.end) s.places.active s.places.spare };
+    ghost invariant = { λ s. RemembersPlaces (store_of (M.state s.medium) s.puts.held.items s.puts.end) s.places.active s.places.spare };
 }
 
 impl<M: Medium> Slots<M> {
-    /// Writes an image into the first slot, and makes it the active one, whatever was on the medium.
+    /// Writes an image into the first slot, and makes it the active one, whatever the medium held before.
     ///
     /// # Errors
     ///
-    /// `WrongSize` if the medium's length is not 2 * (2 * G + C) with C from 1 to 16,777,216 and whole in
-    /// the unit and the sector, G being the most of 16, the unit's size and the sector's, or if the sector is not 0, nor a
-    /// multiple of 256 up to 262,144; `TooLarge` if the image has more than C bytes;
-    /// `Failed` if a write failed, or other bytes were read back. They are looked for in this order. The first two hand
-    /// the medium back unchanged.
+    /// `WrongSize` if the medium's length is not 2 * (2 * G + C), with C from 1 to 16,777,216 and a multiple of the unit and of the sector,
+    /// and G the largest of 16, the unit's size and the sector's, or if the sector is neither 0 nor a multiple of 256 up to 262,144;
+    /// `TooLarge` if the image has more than C bytes; `Failed` if a write failed, or other bytes were read back. They are checked in this
+    /// order. The first two hand the medium back unchanged.
     pub fn format(medium: M, image: &[u8]) -> Result<Slots<M>, (FormatFault, M)>
         ensures writes { IfOk result (λ slots.
             AllWrites (M.state medium) (format_series (M.state medium) image.now) slots.medium) }
@@ -86,7 +84,7 @@ impl<M: Medium> Slots<M> {
         }
     }
 
-    /// Takes a medium that has an active image. It writes nothing.
+    /// Opens a medium that has an active image. Writes nothing.
     ///
     /// # Errors
     ///
@@ -114,7 +112,7 @@ impl<M: Medium> Slots<M> {
         }
     }
 
-    /// Returns the most bytes of an image: C, from 1 to 16,777,216.
+    /// Returns the largest number of bytes of an image: C, from 1 to 16,777,216.
     pub fn capacity(&self) -> u32
         ensures value { result ≡ capacity_of self.now.medium }
         ensures room { result ≡ room_of self.now }
@@ -133,7 +131,7 @@ impl<M: Medium> Slots<M> {
         self.puts.end
     }
 
-    /// Returns the bytes held back: those put last that make no whole unit of the medium yet.
+    /// Returns the bytes held back: the last bytes put, which do not fill a unit of the medium yet.
     pub fn held(&self) -> &[u8]
         ensures held { result.now ≡ self.now.held }
         ensures store { IsStore self.now }
@@ -161,7 +159,8 @@ impl<M: Medium> Slots<M> {
         }
     }
 
-    /// Returns the place of the first byte of the active image on the medium: a program may run it there. It holds until the next `commit`.
+    /// Returns the place of the first byte of the active image on the medium: a program may run it there. The place is valid until the next
+    /// `commit`.
     pub fn image_at(&self) -> u32
         ensures value { let m = self.now.medium in result ≡ active_at (gate_of m) m.bytes + 2 * gate_of m }
         ensures within { result + length (image_of self.now) ≤ length self.now.medium.bytes }
@@ -180,8 +179,8 @@ impl<M: Medium> Slots<M> {
         read_data(&self.medium, self.places.active, at, out);
     }
 
-    /// Opens its own medium anew, as after a loss of power: what was put is forgotten. `open` would not
-    /// refuse it. It writes nothing.
+    /// Opens the store's own medium again, as after a loss of power: the bytes put are discarded. Never fails, because `open` would not
+    /// refuse the medium. Writes nothing.
     pub fn reopen(&mut self)
         ensures store { self.new ≡ store_on self.old.medium }
         ensures image { image_of self.new ≡ image_of self.old }

@@ -1,4 +1,4 @@
-//! The steps of the calls that change a medium: each works on the medium and on what was put.
+//! The steps of `begin`, `put` and `commit`, each on a medium and its puts.
 ghost use Rattle.std.specs.Prelude.{◌≡◌, ◌+◌, ◌≤◌, ◌<◌, ◌↔◌, length, IsErrOf, OnErr};
 ghost use Rattle.dfu_slots.specs.inside.Series.{Series};
 ghost use Rattle.dfu_slots.specs.Layout.{HasOpenGate};
@@ -29,7 +29,7 @@ fn close_spare<M: Medium>(medium: &mut M, places: Places) -> Result<(), WriteFau
     Ok(())
 }
 
-/// Closes the spare's gate, if it reads open, and forgets what was put.
+/// Closes the spare's gate, if it reads open, and discards the bytes put.
 pub(crate) fn begin<M: Medium>(
     medium: &mut M,
     puts: &mut Puts,
@@ -49,7 +49,7 @@ pub(crate) fn begin<M: Medium>(
     }
 }
 
-/// Puts `bytes` at `at`, after those that were put, as far as they make whole units, and holds the rest back.
+/// Puts `bytes` at `at`, the end of the puts before: writes their whole units, and holds the rest back.
 pub(crate) fn put<M: Medium>(
     medium: &mut M,
     puts: &mut Puts,
@@ -114,7 +114,7 @@ fn open_spare<M: Medium>(
     open_slot(medium, places.spare, puts.end, held, &head)
 }
 
-/// Makes the first `len` bytes of what was put the image of the spare, and opens it. It forgets what was put.
+/// Makes the first `len` bytes put the image of the spare, opens its gate, and discards the bytes put.
 pub(crate) fn commit<M: Medium>(
     medium: &mut M,
     puts: &mut Puts,

@@ -1,4 +1,4 @@
-//! The one function through which the store writes, and the writes that are made by it.
+//! Writes of the store, which are read back, and the erases before them.
 ghost use Rattle.std.specs.Prelude.{◌+◌, ◌≤◌, length, OnOk, IfErr};
 ghost use Rattle.dfu_slots.specs.Units.{IsMultiple};
 ghost use Rattle.dfu_slots.specs.Medium.{WroteBytes, FailedWrite, IsWritableAhead, IsWritable};

@@ -13,7 +13,7 @@ use Rattle.dfu_wire.specs.declared.ids.Ids.{Ids}
 use Rattle.dfu_suffix.specs.declared.fault.SuffixFault.{SuffixFault}
 use Rattle.dfu_suffix.specs.declared.fault.SuffixFault.TheVariants.{DfuSe}
 
--- A payload and the suffix that it gets are a file.
+-- A payload of at most 16,777,200 bytes and its added suffix are a file.
 pub added_suffix_makes_file : (payload : List ℕ) (ids : Ids) → length payload ≤ 16777200 → ids.device < 2 ^ 16 → ids.product < 2 ^ 16 →
     ids.vendor < 2 ^ 16 → IsFileWithSuffix payload ids (payload ++ added_suffix payload ids)
 unfolding added_fields
@@ -28,38 +28,38 @@ added_suffix_makes_file payload ids small device product vendor = record {
   small = omega (arith, small, length-append payload (added_suffix payload ids));
 }
 
--- The suffix that a payload gets has 16 bytes.
-pub added_length : (payload : List ℕ) (ids : Ids) → length (payload ++ added_suffix payload ids) ≡ length payload + 16
+-- A payload with its added suffix has 16 bytes more than the payload.
+pub suffix_adds_16_bytes : (payload : List ℕ) (ids : Ids) → length (payload ++ added_suffix payload ids) ≡ length payload + 16
 unfolding added_fields
-added_length payload ids = length-append payload (added_suffix payload ids)
+suffix_adds_16_bytes payload ids = length-append payload (added_suffix payload ids)
 
--- A result for the bytes that were gathered is one for all bytes that the reader gave.
-pub gathered_is_all_given : (given : Option (List ℕ)) (bytes : List ℕ) (ids : Ids) (r : Result (Vec ℕ Global) SuffixFault) →
+-- If the gathered bytes are all that the reader gives, a result for them is a result for all that it gives.
+pub gathered_result_is_for_all : (given : Option (List ℕ)) (bytes : List ℕ) (ids : Ids) (r : Result (Vec ℕ Global) SuffixFault) →
     IfSome given (λ all. (bytes ≡ all) × (length all ≤ 16777200)) → MakeResult bytes ids r → IfSome given (λ all. MakeResult all ids r)
-gathered_is_all_given None bytes ids r h m = tt
-gathered_is_all_given (Some all) bytes ids r h m = subst (λ (xs : List ℕ). MakeResult xs ids r) h.0 m
+gathered_result_is_for_all None bytes ids r h m = tt
+gathered_result_is_for_all (Some all) bytes ids r h m = subst (λ (xs : List ℕ). MakeResult xs ids r) h.0 m
 
--- If the test for a suffix was false, the bytes have no suffix.
-pub bytes_without_suffix : (said : Bool) (xs ys : List ℕ) → ((said ≡ true) ↔ HasSuffix xs) → said ≡ false → xs ≡ ys → HasSuffix ys → ⊥
-bytes_without_suffix said xs ys told off same has =
+-- If the test for a suffix was false, the bytes that were tested have no suffix.
+pub false_test_means_no_suffix : (said : Bool) (xs ys : List ℕ) → ((said ≡ true) ↔ HasSuffix xs) → said ≡ false → xs ≡ ys → HasSuffix ys → ⊥
+false_test_means_no_suffix said xs ys told off same has =
     let both = told.1 (subst HasSuffix (sym same) has) in
     let wrong : true ≡ false = sym both ∙ off in
     cc
 
--- A fault of gathering is a fault of making the file.
-pub gathering_fault_makes_none : (given : Option (List ℕ)) (ids : Ids) (fault : GatherFault) →
+-- If gathering all bytes has a fault, the fault of the same name is a result of making their file.
+pub gathering_fault_is_make_result : (given : Option (List ℕ)) (ids : Ids) (fault : GatherFault) →
     IfSome given (λ all. GatherResult 16777200 all (Err fault)) → IfSome given (λ all. MakeResult all ids (Err (gathering_fault fault)))
-gathering_fault_makes_none None ids fault h = tt
-gathering_fault_makes_none (Some all) ids gather.TooLarge h = h
-gathering_fault_makes_none (Some all) ids gather.NoMemory h = tt
-gathering_fault_makes_none (Some all) ids gather.Read h = tt
+gathering_fault_is_make_result None ids fault h = tt
+gathering_fault_is_make_result (Some all) ids gather.TooLarge h = h
+gathering_fault_is_make_result (Some all) ids gather.NoMemory h = tt
+gathering_fault_is_make_result (Some all) ids gather.Read h = tt
 
--- A file that was read has a suffix, and so has one that is refused as a DfuSe file.
-pub read_tells_suffix : (b : List ℕ) (r : Result Content SuffixFault) (said : Bool) (fault : SuffixFault) → r ≡ Err fault →
+-- If bytes are refused by `read`, they have a suffix exactly if the fault is `DfuSe`.
+pub suffix_exactly_if_dfuse_fault : (b : List ℕ) (r : Result Content SuffixFault) (said : Bool) (fault : SuffixFault) → r ≡ Err fault →
     ((p : List ℕ) (i : Ids) (d : ℕ) (x : List ℕ) → IsFile p i d x b → r
     ≡ Ok (record { payload = p; ids = i; dfu = d; suffix = 16 + length x })) →
     ((f : SuffixFault) → (r ≡ Err f) ↔ First f b) → ((said ≡ true) ↔ (fault ≡ DfuSe)) → (said ≡ true) ↔ HasSuffix b
-read_tells_suffix b r said fault is only faults told = (
+suffix_exactly_if_dfuse_fault b r said fault is only faults told = (
   λ on. inr ((faults DfuSe).0 (subst (λ (f : SuffixFault). r ≡ Err f) (told.0 on) is)),
   λ has. elim has [
     | inl reading ↦ (let read : r ≡ Ok _ = only reading.0 reading.1 reading.2 reading.3 reading.4 in cc)

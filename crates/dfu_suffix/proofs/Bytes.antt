@@ -3,11 +3,11 @@ use Rattle.std.proofs.Common.{ℕ, zero, suc, ◌+◌, ◌<◌, List, [], ◌∷
 use Rattle.std.proofs.lemmas.List.{get_or-drop}
 use Rattle.dfu_suffix.specs.Laws.{AreBytes}
 
--- A list of bytes, without its first ones, is one of bytes.
+-- A list of bytes without its first `n` items is a list of bytes.
 pub AreBytes-drop : (xs : List ℕ) (n : ℕ) → AreBytes xs → AreBytes (drop n xs)
 AreBytes-drop xs n f k = omega (arith, f (n + k), get_or-drop n xs k 0)
 
--- The first of some bytes are bytes.
+-- The first `n` items of a list of bytes are a list of bytes.
 pub AreBytes-take : (n : ℕ) (xs : List ℕ) → AreBytes xs → AreBytes (take n xs)
 AreBytes-take zero xs f k = omega arith
 AreBytes-take (suc n) [] f k = f k
@@ -20,7 +20,7 @@ AreBytes-append [] ys f g k = g k
 AreBytes-append (x ∷ xs) ys f g zero = f zero
 AreBytes-append (x ∷ xs) ys f g (suc k) = AreBytes-append xs ys (λ i. f (suc i)) g k
 
--- A list of bytes in which one was set is one of bytes.
+-- A list of bytes in which one item is set to a byte is a list of bytes.
 pub AreBytes-set : (xs : List ℕ) (i c : ℕ) → AreBytes xs → c < 256 → AreBytes (set xs i c)
 AreBytes-set [] i c f h k = f k
 AreBytes-set (x ∷ xs) zero c f h zero = h

@@ -1,4 +1,4 @@
--- Results of checking are those of the bytes.
+-- Results of checking bytes, by the grammar.
 use Rattle.std.proofs.Common.{◌≡◌, ℕ, ◌+◌, ◌-◌, ◌<◌, ◌≤◌, Bool, true, cond, ltb, List, [], ◌∷◌, length, drop, Some, Result, Ok, Err, refl, sym, ap, ◌∙◌, subst, arith}
 use Rattle.std.specs.Prelude.{find}
 use Rattle.std.proofs.lemmas.Bool.Decides.{nat_tests}
@@ -6,8 +6,8 @@ use Rattle.byteorder.specs.Endian.{little_number}
 use Rattle.dfu_suffix.specs.Register.{register}
 use Rattle.dfu_suffix.specs.Grammar.{Content, IsFile, First, before_crc, has_fault}
 use Rattle.dfu_suffix.specs.inside.Reading.{read_content}
-use Rattle.dfu_suffix.specs.inside.TailChecks.{register_checked}
-use Rattle.dfu_suffix.specs.Checking.{CheckResult, UnlessRead, summary_of}
+use Rattle.dfu_suffix.specs.inside.TailChecks.{checked_by_register}
+use Rattle.dfu_suffix.specs.Checking.{CheckResult, UnlessReadFault, summary_of}
 use Rattle.dfu_suffix.specs.Laws.{AreBytes}
 use Rattle.dfu_suffix.proofs.OneReading.{fault_of_reading_is_first, file_bytes_have_no_fault, one_reading}
 use Rattle.dfu_wire.specs.declared.ids.Ids.{Ids}
@@ -15,7 +15,7 @@ use Rattle.dfu_suffix.specs.declared.summary.Summary.{Summary}
 use Rattle.dfu_suffix.specs.declared.fault.SuffixFault.{SuffixFault}
 use Rattle.dfu_suffix.specs.declared.fault.SuffixFault.TheVariants.{TooShort, NoSignature, BadLength, DfuSe, BadCrc, AlreadySuffixed, TooLarge, NoMemory, Read, Write}
 use Rattle.dfu_suffix.proofs.FileLaws.{file_ends_in_its_crc, read_content_is_of_file}
-use Rattle.dfu_suffix.proofs.JudgeLaws.{summaries_of_equal_parts, summary_of_content, summary_result_of_reading, window_check_is_reading}
+use Rattle.dfu_suffix.proofs.JudgeLaws.{parts_determine_summaries, summary_of_content, summary_result_of_reading, window_check_is_reading}
 use Rattle.dfu_suffix.proofs.Windows.{window_of}
 
 -- A file of the grammar is accepted, with its summary.
@@ -26,16 +26,16 @@ file_is_accepted p i d x b h = record {
   fault = λ f. (λ e. cc, λ first. absurd (file_bytes_have_no_fault b f (p, i, d, x, h) first));
 }
 
--- Content that was read of a file has its summary for a result.
-read_content_is_summed_up : (b : List ℕ) (c : Content) (extra : List ℕ) → IsFile c.payload c.ids c.dfu extra b →
+-- Checking a file of the grammar returns the summary of its content.
+content_summary_is_check_result : (b : List ℕ) (c : Content) (extra : List ℕ) → IsFile c.payload c.ids c.dfu extra b →
     c.suffix ≡ 16 + length extra → CheckResult b (Ok (summary_of_content b c))
-read_content_is_summed_up b c extra h long =
+content_summary_is_check_result b c extra h long =
     subst (λ (s : Summary). CheckResult b (Ok s))
-    (sym (summaries_of_equal_parts (length c.payload) (length c.payload) c.suffix (16 + length extra) c.dfu
+    (sym (parts_determine_summaries (length c.payload) (length c.payload) c.suffix (16 + length extra) c.dfu
     (little_number 4 (drop (length b - 4) b)) (register (before_crc c.payload c.ids c.dfu extra)) c.ids refl long
     (file_ends_in_its_crc c.payload c.ids c.dfu extra b h))) (file_is_accepted c.payload c.ids c.dfu extra b h)
 
--- The first fault of the bytes is the result of checking them.
+-- Checking bytes that have a first fault returns that fault.
 first_fault_is_check_result : (b : List ℕ) (f : SuffixFault) → First f b → CheckResult b (Err f)
 first_fault_is_check_result b f first = record {
   found = tt;
@@ -47,29 +47,30 @@ first_fault_is_check_result b f first = record {
   );
 }
 
--- Bytes over the limit are answered by TooLarge.
+-- Checking bytes over the limit returns TooLarge.
 pub large_file_is_too_large : (b : List ℕ) → 16777216 < length b → CheckResult b (Err TooLarge)
 large_file_is_too_large b h =
     let yes : ltb 16777216 (length b) ≡ true = grind (arith, nat_tests) in
     first_fault_is_check_result b TooLarge (ap (λ (t : Bool).
     cond t (Some TooLarge) (find (has_fault b) (TooShort ∷ NoSignature ∷ BadLength ∷ DfuSe ∷ BadCrc ∷ []))) yes)
 
--- The summary of what was read is the result of checking the bytes.
-summed_reading_is_check_result : (b : List ℕ) (r : Result Content SuffixFault) → AreBytes b → read_content b ≡ r →
+-- The result of reading bytes, with their content summed up, is the result of checking them.
+reading_summary_is_check_result : (b : List ℕ) (r : Result Content SuffixFault) → AreBytes b → read_content b ≡ r →
     CheckResult b (summary_result_of_reading b r)
-summed_reading_is_check_result b (Ok c) f e = let (extra, is_file, long) = read_content_is_of_file b c f e in read_content_is_summed_up b c
+reading_summary_is_check_result b (Ok c) f e = let (extra, is_file, long) =
+    read_content_is_of_file b c f e in content_summary_is_check_result b c
     extra is_file long
-summed_reading_is_check_result b (Err x) f e = first_fault_is_check_result b x ((fault_of_reading_is_first b x).0 e)
+reading_summary_is_check_result b (Err x) f e = first_fault_is_check_result b x ((fault_of_reading_is_first b x).0 e)
 
--- The result by the window, the count and the register is the result of checking the bytes.
-pub checked_register_is_check_result : (s : List ℕ) → AreBytes s → length s ≤ 16777216 →
-    CheckResult s (register_checked (window_of s) (length s) (register s))
-checked_register_is_check_result s f small = subst (λ (r : Result Summary SuffixFault). CheckResult s r) (sym (window_check_is_reading s f
+-- For bytes within the limit, the result by their window, their count and their register is the result of checking them.
+pub window_check_is_check_result : (s : List ℕ) → AreBytes s → length s ≤ 16777216 →
+    CheckResult s (checked_by_register (window_of s) (length s) (register s))
+window_check_is_check_result s f small = subst (λ (r : Result Summary SuffixFault). CheckResult s r) (sym (window_check_is_reading s f
     small))
-    (summed_reading_is_check_result s (read_content s) f refl)
+    (reading_summary_is_check_result s (read_content s) f refl)
 
--- A fact holds unless the answer is `Read`, if it holds for any answer.
-pub fact_holds_unless_read : (r : Result Summary SuffixFault) (P : Type 0) → P → UnlessRead r P
+-- A fact gives `UnlessReadFault` of it and of any result.
+pub fact_holds_unless_read : (r : Result Summary SuffixFault) (P : Type 0) → P → UnlessReadFault r P
 fact_holds_unless_read (Ok s) P p = p
 fact_holds_unless_read (Err TooShort) P p = p
 fact_holds_unless_read (Err NoSignature) P p = p

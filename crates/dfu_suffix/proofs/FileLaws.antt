@@ -8,13 +8,14 @@ use Rattle.byteorder.specs.Endian.{little_number}
 use Rattle.dfu_suffix.specs.Register.{register}
 use Rattle.dfu_suffix.specs.Laws.{AreBytes}
 use Rattle.dfu_suffix.specs.Grammar.{Content, IsFile, before_crc, has_fault, fault_order}
-use Rattle.dfu_suffix.specs.inside.Reading.{content_of, content_or, read_content}
+use Rattle.dfu_suffix.specs.inside.Reading.{content_of, content_unless_fault, read_content}
 use Rattle.dfu_wire.specs.declared.ids.Ids.{Ids}
 use Rattle.dfu_suffix.specs.declared.fault.SuffixFault.{SuffixFault}
 use Rattle.dfu_suffix.proofs.OneReading.{register-fits, four_bytes_give_number_back}
-use Rattle.dfu_suffix.proofs.NoFault.{faultless_bytes_are_sound, suffix_length_with_extra, extra_bytes_of, faultless_bytes_are_file}
+use Rattle.dfu_suffix.proofs.NoFault.{faultless_bytes_are_sound, suffix_length_counts_extra, extra_bytes_of, faultless_bytes_are_file}
 
-ok_content_has_no_fault : (o : Option SuffixFault) (c d : Content) → content_or o c ≡ Ok d → (o ≡ None) × (c ≡ d)
+-- If a reading gives a content, no fault was found, and the content is the one by the last 16 bytes.
+ok_content_has_no_fault : (o : Option SuffixFault) (c d : Content) → content_unless_fault o c ≡ Ok d → (o ≡ None) × (c ≡ d)
 ok_content_has_no_fault None c d h = (refl, cc)
 ok_content_has_no_fault (Some x) c d h = (cc, cc)
 
@@ -24,7 +25,7 @@ ok_content_has_no_fault (Some x) c d h = (cc, cc)
 abbrev pub IsContentOf : List ℕ → Content → Type 0
 IsContentOf b c = (extra : List ℕ) × IsFile c.payload c.ids c.dfu extra b × (c.suffix ≡ 16 + length extra)
 
--- Content that is read of bytes is that of a file of the grammar.
+-- If content is read from bytes, they are a file of the grammar with that content.
 pub read_content_is_of_file : (b : List ℕ) (c : Content) → AreBytes b → read_content b ≡ Ok c → IsContentOf b c
 unfolding read_content
 read_content_is_of_file b c f h =
@@ -33,16 +34,16 @@ read_content_is_of_file b c f h =
     subst (λ (d : Content). IsContentOf b d) p.1 (
       extra_bytes_of b,
       faultless_bytes_are_file b s f,
-      sym (suffix_length_with_extra b
+      sym (suffix_length_counts_extra b
           s.formed),
     )
 
--- A fact of each value that an answer may have holds of the value that it has.
-pub fact_of_ok_answer : {T E : Type 0} (r : Result T E) (P : T → Type 0) → ((x : T) → r ≡ Ok x → P x) → IfOk r P
-fact_of_ok_answer (Ok x) P f = f x refl
-fact_of_ok_answer (Err e) P f = tt
+-- `IfOk r P` holds if `P` holds of each value `x` with `r` equal to `Ok x`.
+pub each_value_gives_if_ok : {T E : Type 0} (r : Result T E) (P : T → Type 0) → ((x : T) → r ≡ Ok x → P x) → IfOk r P
+each_value_gives_if_ok (Ok x) P f = f x refl
+each_value_gives_if_ok (Err e) P f = tt
 
--- ---- what a file of the grammar has
+-- ---- the end of a file of the grammar
 
 -- The last four bytes of a file are its CRC.
 pub file_ends_in_its_crc : (payload : List ℕ) (ids : Ids) (dfu : ℕ) (extra b : List ℕ) → IsFile payload ids dfu extra b →

@@ -4,16 +4,17 @@ use Rattle.std.proofs.lemmas.List.{drop-drop, drop-set-add, drop-take, get_or-dr
 use Rattle.std.proofs.lemmas.Nat.{xor_lt}
 use Rattle.std.specs.List.{copy_within}
 use Rattle.dfu_suffix.proofs.Bytes.{AreBytes-drop, AreBytes-set, AreBytes-take}
-use Rattle.dfu_suffix.proofs.Tables.{register_after_more}
+use Rattle.dfu_suffix.proofs.Tables.{register_after_one_more_byte}
 use Rattle.dfu_suffix.specs.Laws.{AreBytes}
 use Rattle.dfu_suffix.specs.Register.{after_bits, bits_of, low_bits}
 use Rattle.dfu_suffix.specs.inside.Folding.{combined_numbers, register_of_residue}
 use Rattle.dfu_suffix.proofs.FoldSteps.{folding_takes_byte, folded_byte}
 
-residue_byte_in_room : (room : List ℕ) (i k : ℕ) → k < 1968 → get_or (take 1968 (drop i room)) k 0 ≡ get_or room (i + k) 0
-residue_byte_in_room room i k h = get_or-take 1968 (drop i room) k 0 h ∙ get_or-drop i room k 0
+-- Byte `k` of the residue at place `i` is byte `i + k` of the room.
+residue_byte_is_room_byte : (room : List ℕ) (i k : ℕ) → k < 1968 → get_or (take 1968 (drop i room)) k 0 ≡ get_or room (i + k) 0
+residue_byte_is_room_byte room i k h = get_or-take 1968 (drop i room) k 0 h ∙ get_or-drop i room k 0
 
--- Once a byte is set behind the residue, the residue from the next place on ends in the byte.
+-- After a byte is set right after the residue, the residue from the next place on ends in that byte.
 residue_slides_by_byte : (room : List ℕ) (i c : ℕ) → i + 1968 < length room →
     take 1968 (drop (i + 1) (set room (i + 1968) c)) ≡ drop 1 (take 1968 (drop i room)) ++ c ∷ []
 residue_slides_by_byte room i c h =
@@ -24,12 +25,13 @@ residue_slides_by_byte room i c h =
     ∙ (take_more_set (drop (i + 1) room) 1967 c fits
     ∙ ap (λ (ys : List ℕ). ys ++ c ∷ []) (ap (take 1967) (sym (drop-drop 1 i room)) ∙ sym (drop-take 1 1967 (drop i room)))))
 
--- The byte that comes behind the residue at place `i` of the room.
+-- The folded byte to set after the residue at place `i` of the room, for byte `m` of the input.
 abbrev pub folded_byte_at : ℕ → List ℕ → ℕ → ℕ
 folded_byte_at m room i =
     bit_xor (bit_xor (bit_xor (bit_xor (bit_xor (bit_xor m (get_or room i 0)) (get_or room (i + 720) 0)) (get_or room (i + 848) 0))
     (get_or room (i + 1184) 0)) (get_or room (i + 1280) 0)) (get_or room (i + 1920) 0)
 
+-- The folded byte of bytes is below 256.
 folded_byte_is_byte : (m : ℕ) (room : List ℕ) (i : ℕ) → m < 256 → AreBytes room → folded_byte_at m room i < 256
 folded_byte_is_byte m room i h f =
     let b = λ (k : ℕ). get_or room k 0 in
@@ -45,25 +47,26 @@ folded_byte_is_byte m room i h f =
     let h4 : n4 < 2 ^ 8 = xor_lt 8 n3 (b (i + 1280)) h3 (f (i + 1280)) in
     xor_lt 8 n4 (b (i + 1920)) h4 (f (i + 1920))
 
-folded_byte_of_residue : (m : ℕ) (room : List ℕ) (i : ℕ) → folded_byte_at m room i ≡ folded_byte m (take 1968 (drop i room))
+-- The folded byte by places of the room is the folded byte of the residue at place `i`.
+folded_byte_at_is_of_residue : (m : ℕ) (room : List ℕ) (i : ℕ) → folded_byte_at m room i ≡ folded_byte m (take 1968 (drop i room))
 unfolding combined_numbers
-folded_byte_of_residue m room i =
+folded_byte_at_is_of_residue m room i =
     let here : i ≡ i + 0 = omega arith in
-    let e0 = ap (λ (k : ℕ). get_or room k 0) here ∙ sym (residue_byte_in_room room i 0 (omega arith)) in
-    let e1 = residue_byte_in_room room i 720 (omega arith) in
-    let e2 = residue_byte_in_room room i 848 (omega arith) in
-    let e3 = residue_byte_in_room room i 1184 (omega arith) in
-    let e4 = residue_byte_in_room room i 1280 (omega arith) in
-    let e5 = residue_byte_in_room room i 1920 (omega arith) in
+    let e0 = ap (λ (k : ℕ). get_or room k 0) here ∙ sym (residue_byte_is_room_byte room i 0 (omega arith)) in
+    let e1 = residue_byte_is_room_byte room i 720 (omega arith) in
+    let e2 = residue_byte_is_room_byte room i 848 (omega arith) in
+    let e3 = residue_byte_is_room_byte room i 1184 (omega arith) in
+    let e4 = residue_byte_is_room_byte room i 1280 (omega arith) in
+    let e5 = residue_byte_is_room_byte room i 1920 (omega arith) in
     cc
 
--- Each turn of folding keeps this: the room has only bytes, and the residue at place `i` represents the register after the first `i` bytes.
+-- Invariant of folding: the room has 6,064 bytes, and the residue at place `i` represents the register `start` after the first `i` bytes.
 pub record FoldedSoFar (start : ℕ) (bytes room : List ℕ) (i : ℕ) : Type 0 where
   pub long : length room ≡ 6064
   pub each : AreBytes room
   pub so_far : register_of_residue (take 1968 (drop i room)) ≡ after_bits start (bits_of (take i bytes))
 
--- A further byte of the input moves the residue on by one place.
+-- If byte `i` of at most 4,096 is folded onto the end of the residue, the invariant holds at place `i + 1`.
 pub fold_turn_takes_byte : (start : ℕ) (bytes room : List ℕ) (i : ℕ) → FoldedSoFar start bytes room i → AreBytes bytes → i < length bytes →
     length bytes ≤ 4096 → FoldedSoFar start bytes (set room (i + 1968) (folded_byte_at (get_or bytes i 0) room i)) (i + 1)
 fold_turn_takes_byte start bytes room i p f h short =
@@ -79,14 +82,15 @@ fold_turn_takes_byte start bytes room i p f h short =
       each = AreBytes-set room (i + 1968) c p.each fits;
       so_far =
           ap register_of_residue (residue_slides_by_byte room i c behind)
-          ∙ (folding_takes_byte m c residue long each (f i) fits (folded_byte_of_residue m room i)
-          ∙ (ap (λ (r : ℕ). after_bits r (low_bits 8 m)) p.so_far ∙ sym (register_after_more start bytes i h)));
+          ∙ (folding_takes_byte m c residue long each (f i) fits (folded_byte_at_is_of_residue m room i)
+          ∙ (ap (λ (r : ℕ). after_bits r (low_bits 8 m)) p.so_far ∙ sym (register_after_one_more_byte start bytes i h)));
     }
 
--- At the end the residue is copied to the front of the room.
-pub fold_ends_in_front : (start i : ℕ) (bytes room : List ℕ) → FoldedSoFar start bytes room i → i ≡ length bytes → length bytes ≤ 4096 →
+-- Once all bytes, at most 4,096, are folded, the residue that is copied to the front represents the register after them.
+pub folded_residue_moves_to_front : (start i : ℕ) (bytes room : List ℕ) → FoldedSoFar start bytes room i → i ≡ length bytes
+    → length bytes ≤ 4096 →
     register_of_residue (take 1968 (copy_within room (length bytes) (length bytes + 1968) 0)) ≡ after_bits start (bits_of bytes)
-fold_ends_in_front start i bytes room p all short =
+folded_residue_moves_to_front start i bytes room p all short =
     let n = length bytes in
     let q : FoldedSoFar start bytes room n = subst (FoldedSoFar start bytes room) all p in
     let size : n + 1968 - n ≡ 1968 = omega arith in

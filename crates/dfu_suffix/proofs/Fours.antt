@@ -7,11 +7,12 @@ use Rattle.dfu_suffix.specs.Laws.{AreBytes}
 use Rattle.dfu_suffix.specs.Register.{shifts}
 use Rattle.dfu_suffix.proofs.Shifts.{shifts_by_low_byte}
 
+-- A number shifted by 8 + n bits is the xor of its lowest byte shifted by as many, and of its other bits shifted by n.
 shifts_split_low_byte : (m n s : ℕ) → m ≡ 8 + n → shifts m s ≡ bit_xor (shifts m (s % 256)) (shifts n (s / 256))
 shifts_split_low_byte m n s e = subst (λ (k : ℕ). shifts k s
     ≡ bit_xor (shifts k (s % 256)) (shifts n (s / 256))) (sym e) (shifts_by_low_byte n s)
 
--- Shifts by 32 + n bits are those of the four bytes of a number below 2^32.
+-- A number below 2^32, shifted by 32 + n bits, is the xor of its bytes, the low one first, shifted by 32 + n, 24 + n, 16 + n and 8 + n.
 pub shifts_of_four_bytes : (n s : ℕ) → s < 2 ^ 32 →
     shifts (32 + n) s ≡ bit_xor (bit_xor (bit_xor (shifts (32 + n) (s % 256)) (shifts (24 + n) (s / 2 ^ 8 % 256)))
     (shifts (16 + n) (s / 2 ^ 16 % 256))) (shifts (8 + n) (s / 2 ^ 24 % 256))
@@ -25,11 +26,11 @@ shifts_of_four_bytes n s h =
     let e3 = ap (shifts (8 + n)) last in
     simp xor_assoc (cc)
 
--- Four bytes make a number below 2^32.
-pub four_bytes_below_2_32 : (xs : List ℕ) → AreBytes xs → little_number 4 xs < 2 ^ 32
-four_bytes_below_2_32 xs f = omega (arith, f 0, f 1, f 2, f 3)
+-- The first four bytes of a list make a number below 2^32.
+pub four_byte_number_fits_32_bits : (xs : List ℕ) → AreBytes xs → little_number 4 xs < 2 ^ 32
+four_byte_number_fits_32_bits xs f = omega (arith, f 0, f 1, f 2, f 3)
 
--- Shifts of the number in four bytes by 32 + n bits are the shifts of each byte by as many bits as its place leaves.
+-- The number in four bytes, shifted by 32 + n bits, is the xor of the shifts of the bytes by 32 + n, 24 + n, 16 + n and 8 + n bits.
 pub shifts_of_number_in_four_bytes : (n : ℕ) (xs : List ℕ) → AreBytes xs →
     shifts (32 + n) (little_number 4 xs) ≡ bit_xor (bit_xor (bit_xor (shifts (32 + n) (get_or xs 0 0)) (shifts (24 + n) (get_or xs 1 0)))
     (shifts (16 + n) (get_or xs 2 0))) (shifts (8 + n) (get_or xs 3 0))
@@ -39,5 +40,5 @@ shifts_of_number_in_four_bytes n xs f =
     let e1 : s / 2 ^ 8 % 256 ≡ get_or xs 1 0 = omega (arith, f 0, f 1, f 2, f 3) in
     let e2 : s / 2 ^ 16 % 256 ≡ get_or xs 2 0 = omega (arith, f 0, f 1, f 2, f 3) in
     let e3 : s / 2 ^ 24 % 256 ≡ get_or xs 3 0 = omega (arith, f 0, f 1, f 2, f 3) in
-    let whole = shifts_of_four_bytes n s (four_bytes_below_2_32 xs f) in
+    let whole = shifts_of_four_bytes n s (four_byte_number_fits_32_bits xs f) in
     cc

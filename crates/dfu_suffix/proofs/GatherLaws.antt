@@ -2,22 +2,22 @@
 use Rattle.std.proofs.Common.{◌≡◌, ℕ, ◌+◌, ◌<◌, ◌≤◌, List, ◌++◌, length, Option, IfSome, subst, sym, arith, length-append}
 use Rattle.std.proofs.KnownBytes.{Consumes-trans}
 use Rattle.std.specs.Io.KnownBytes.{Consumes, IsAtEnd}
-use Rattle.dfu_suffix.proofs.ReadLaws.{fact_of_some_value, consumed_at_end_is_all, consumed_at_most_all}
+use Rattle.dfu_suffix.proofs.ReadLaws.{each_value_gives_if_some, consumed_at_end_is_all, consumed_at_most_all}
 
--- The reader gave `bytes`, at least one byte at each turn, and they are within the limit.
+-- The reader gave `bytes`, at least one byte at each of `turn` turns, and they are within the limit.
 pub record GatheredSoFar (limit : ℕ) (old new : Option (List ℕ)) (turn : ℕ) (bytes : List ℕ) : Type 0 where
   pub given : Consumes old new bytes
   pub small : length bytes ≤ limit
   pub turns : turn ≤ length bytes
 
--- At the end of the reader, the bytes that were gathered are all that it gave.
+-- At the end of the reader, the gathered bytes are all that it gives.
 pub gathered_is_all_at_end : (limit : ℕ) (old new : Option (List ℕ)) (turn : ℕ) (bytes : List ℕ) → GatheredSoFar limit old new turn bytes →
     IsAtEnd new → IfSome old (λ all. (bytes ≡ all) × (length all ≤ limit))
 gathered_is_all_at_end limit old new turn bytes k e =
-    fact_of_some_value old (λ all. (bytes ≡ all) × (length all ≤ limit)) (λ all o. let same =
+    each_value_gives_if_some old (λ all. (bytes ≡ all) × (length all ≤ limit)) (λ all o. let same =
     consumed_at_end_is_all old new bytes all k.given e o in (same, subst (λ (xs : List ℕ). length xs ≤ limit) same k.small))
 
--- Once a further piece is given and appended, the bytes with the piece are gathered.
+-- If the reader gives a further piece that isn't empty, and both are within the limit, the bytes with the piece appended are gathered.
 pub gathered_piece_is_appended : (limit : ℕ) (old mid new : Option (List ℕ)) (turn : ℕ) (bytes more both : List ℕ) →
     GatheredSoFar limit old mid turn bytes → Consumes mid new more → 0 < length more → length bytes + length more ≤ limit →
     both ≡ bytes ++ more → GatheredSoFar limit old new (turn + 1) both
@@ -29,11 +29,11 @@ gathered_piece_is_appended limit old mid new turn bytes more both k given some s
     })
 
 -- If a further piece is over the limit, all bytes that the reader gives are over it.
-pub piece_over_limit_means_more : (limit : ℕ) (old mid new : Option (List ℕ)) (turn : ℕ) (bytes more : List ℕ) →
+pub piece_over_limit_puts_all_over : (limit : ℕ) (old mid new : Option (List ℕ)) (turn : ℕ) (bytes more : List ℕ) →
     GatheredSoFar limit old mid turn bytes → Consumes mid new more → limit < length bytes + length more →
     IfSome old (λ all. limit < length all)
-piece_over_limit_means_more limit old mid new turn bytes more k given over =
-    fact_of_some_value old (λ all. limit < length all) (λ all o. omega (
+piece_over_limit_puts_all_over limit old mid new turn bytes more k given over =
+    each_value_gives_if_some old (λ all. limit < length all) (λ all o. omega (
       arith,
       length-append bytes more,
       consumed_at_most_all old new (bytes ++ more) all (Consumes-trans old mid new bytes more k.given given) o,

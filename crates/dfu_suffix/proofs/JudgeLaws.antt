@@ -1,4 +1,4 @@
--- The last 16 bytes, the count and the register over all bytes decide for `read`, and for `check`, which keeps a window.
+-- `read` and `check` agree: the last 16 bytes, the count and the register over all bytes decide for both.
 use Rattle.std.proofs.Common.{Option, ◌≡◌, ◌↔◌, ℕ, ◌-◌, ◌≤◌, ◌||◌, Bool, true, false, not, cond, eqb, ltb, List, [], ◌∷◌, length, take, drop, get_or, Some, None, Result, Ok, Err, IfOk, refl, sym, ap, ◌∙◌, arith}
 use Rattle.std.specs.Prelude.{find}
 use Rattle.std.proofs.lemmas.Bool.{eqb-true, eq-eqb, ltb-false}
@@ -6,8 +6,8 @@ use Rattle.std.proofs.lemmas.List.{length-take-le}
 use Rattle.byteorder.specs.Endian.{little_number}
 use Rattle.dfu_suffix.specs.Register.{register}
 use Rattle.dfu_suffix.specs.Grammar.{Content, tail_of, is_signed, has_fault, fault_order}
-use Rattle.dfu_suffix.specs.inside.Reading.{content_of, content_or, read_content}
-use Rattle.dfu_suffix.specs.inside.TailChecks.{summary_of_tail, tail_summary, sealed_result, register_checked}
+use Rattle.dfu_suffix.specs.inside.Reading.{content_of, content_unless_fault, read_content}
+use Rattle.dfu_suffix.specs.inside.TailChecks.{summary_of_tail, tail_summary, result_unless_bad_crc, checked_by_register}
 use Rattle.dfu_suffix.specs.Laws.{AreBytes}
 use Rattle.dfu_suffix.proofs.OneReading.{number_is_not_less}
 use Rattle.dfu_suffix.specs.declared.summary.Summary.{Summary}
@@ -17,7 +17,7 @@ use Rattle.dfu_suffix.specs.declared.fault.SuffixFault.TheVariants.{TooShort, No
 use Rattle.dfu_suffix.proofs.LawProofs.{last_four}
 use Rattle.dfu_suffix.proofs.Windows.{window_of, long_window_is_tail, tail_ends_in_last_four}
 
--- Summary of the content that was read of the bytes.
+-- Summary of content that was read from bytes.
 abbrev pub summary_of_content : List ℕ → Content → Summary
 summary_of_content bytes c = record {
   payload = length c.payload;
@@ -28,18 +28,19 @@ summary_of_content bytes c = record {
       little_number 4 (drop (length bytes - 4) bytes);
 }
 
--- Answer of a check, by what was read of the bytes.
+-- Result of a check, by the result of reading the bytes: the summary of the content, or the fault.
 abbrev pub summary_result_of_reading : List ℕ → Result Content SuffixFault → Result Summary SuffixFault
 summary_result_of_reading bytes (Ok c) = Ok (summary_of_content bytes c)
 summary_result_of_reading bytes (Err f) = Err f
 
--- Answer of reading, by what the last 16 bytes say and by the test of dwCRC.
+-- Result of reading, by the result for the last 16 bytes and the test of dwCRC: the content, BadCrc, or the fault of the last 16 bytes.
 abbrev pub reading_by_summary : Bool → Result Summary SuffixFault → Content → Result Content SuffixFault
 reading_by_summary intact (Ok said) c = cond intact (Ok c) (Err BadCrc)
 reading_by_summary intact (Err fault) c = Err fault
 
+-- The first of five tests that is true decides a reading, which is also the reading by the first four tests and then by that of dwCRC.
 fault_order_is_reading_order : (t1 t2 t3 t4 intact : Bool) (said : Summary) (c : Content) →
-    content_or (cond t1 (Some TooShort) (cond t2 (Some NoSignature) (cond t3 (Some BadLength)
+    content_unless_fault (cond t1 (Some TooShort) (cond t2 (Some NoSignature) (cond t3 (Some BadLength)
     (cond t4 (Some DfuSe) (cond (not intact) (Some BadCrc) None))))) c
     ≡ reading_by_summary intact (cond t1 (Err TooShort) (cond t2 (Err NoSignature) (cond t3 (Err BadLength) (cond t4 (Err DfuSe) (Ok
     said))))) c
@@ -50,11 +51,11 @@ fault_order_is_reading_order false false false true intact said c = refl
 fault_order_is_reading_order false false false false true said c = refl
 fault_order_is_reading_order false false false false false said c = refl
 
--- In the last 16 bytes dwCRC is the register over the bytes before it.
+-- True if dwCRC, in the last 16 bytes, is the register over the bytes before it.
 abbrev pub is_intact : List ℕ → Bool
 is_intact s = eqb (little_number 4 (drop 12 (tail_of s))) (register (take (length s - 4) s))
 
--- Reading of bytes within the limit answers what their last 16 say, unless dwCRC is wrong.
+-- Reading bytes within the limit gives what the result for their last 16 and the test of dwCRC give.
 pub reading_is_tail_summary : (s : List ℕ) → length s ≤ 16777216 →
     read_content s ≡ reading_by_summary (is_intact s) (tail_summary (tail_of s) (length s)) (content_of s)
 unfolding read_content tail_summary
@@ -63,19 +64,19 @@ reading_is_tail_summary s small =
     let n = length s in
     let c = content_of s in
     let within : ltb 16777216 n ≡ false = number_is_not_less 16777216 n small in
-    ap (λ (b : Bool). content_or (cond b (Some TooLarge) (find (has_fault s)
+    ap (λ (b : Bool). content_unless_fault (cond b (Some TooLarge) (find (has_fault s)
     (TooShort ∷ NoSignature ∷ BadLength ∷ DfuSe ∷ BadCrc ∷ []))) c) within
     ∙ fault_order_is_reading_order (ltb n 16) (not (is_signed t)) (ltb (get_or t 11 0) 16 || ltb n (get_or t 11 0))
     (eqb (little_number 2 (drop 6 t)) 0x011A) (is_intact s) (summary_of_tail t n) c
 
--- Two tests that hold together are the same.
+-- Two tests are equal if each is true exactly if the other is.
 equivalent_tests_equal : (a b : Bool) → ((a ≡ true) ↔ (b ≡ true)) → a ≡ b
 equivalent_tests_equal true true h = refl
 equivalent_tests_equal true false h = sym (h.0 refl)
 equivalent_tests_equal false true h = h.1 refl
 equivalent_tests_equal false false h = refl
 
--- Two tests for equal numbers are the same if the equalities are equivalent.
+-- The tests of two equalities are equal if each equality holds exactly if the other does.
 equivalent_equalities_equal : (a b c d : ℕ) → ((a ≡ b) ↔ (c ≡ d)) → eqb a b ≡ eqb c d
 equivalent_equalities_equal a b c d h = equivalent_tests_equal (eqb a b) (eqb c d) (
   λ e. eq-eqb c d (h.0 (eqb-true a b e)),
@@ -84,38 +85,38 @@ equivalent_equalities_equal a b c d h = equivalent_tests_equal (eqb a b) (eqb c 
 )
 
 -- Summaries of equal parts are equal.
-pub summaries_of_equal_parts : (p q s t d x y : ℕ) (i : Ids) → p ≡ q → s ≡ t → x ≡ y →
+pub parts_determine_summaries : (p q s t d x y : ℕ) (i : Ids) → p ≡ q → s ≡ t → x ≡ y →
     ◌≡◌ {A = Summary} (record { payload = p; suffix = s; ids = i; dfu = d; crc = x })
     (record { payload = q; suffix = t; ids = i; dfu = d; crc = y })
-summaries_of_equal_parts p q s t d x y i h0 h1 h2 = cc
+parts_determine_summaries p q s t d x y i h0 h1 h2 = cc
 
--- A result without a fault has the summary `b`, if it is made of `a` and the two are equal.
-tail_summary_is_equal : (t1 t2 t3 t4 : Bool) (a b : Summary) → a ≡ b →
+-- If four tests give a fault or else the summary `a`, and `a` equals `b`, a result without a fault is `b`.
+ok_tail_summary_equals : (t1 t2 t3 t4 : Bool) (a b : Summary) → a ≡ b →
     IfOk (cond t1 (Err TooShort) (cond t2 (Err NoSignature) (cond t3 (Err BadLength) (cond t4 (Err DfuSe) (Ok a))))) (λ x. x ≡ b)
-tail_summary_is_equal true t2 t3 t4 a b e = tt
-tail_summary_is_equal false true t3 t4 a b e = tt
-tail_summary_is_equal false false true t4 a b e = tt
-tail_summary_is_equal false false false true a b e = tt
-tail_summary_is_equal false false false false a b e = e
+ok_tail_summary_equals true t2 t3 t4 a b e = tt
+ok_tail_summary_equals false true t3 t4 a b e = tt
+ok_tail_summary_equals false false true t4 a b e = tt
+ok_tail_summary_equals false false false true a b e = tt
+ok_tail_summary_equals false false false false a b e = e
 
--- If the register says whether dwCRC is right, a check of what the last 16 bytes say is a reading.
-sealed_result_is_reading : (x : Result Summary SuffixFault) (intact : Bool) (s : List ℕ) (c : Content) →
-    IfOk x (λ y. y ≡ summary_of_content s c) → sealed_result intact x ≡ summary_result_of_reading s (reading_by_summary intact x c)
-sealed_result_is_reading (Ok y) true s c e = ap Ok e
-sealed_result_is_reading (Ok y) false s c e = refl
-sealed_result_is_reading (Err f) intact s c e = refl
+-- If a result without a fault is the summary of the content, the result with the test of dwCRC is the summary of a reading.
+crc_checked_result_is_reading : (x : Result Summary SuffixFault) (intact : Bool) (s : List ℕ) (c : Content) →
+    IfOk x (λ y. y ≡ summary_of_content s c) → result_unless_bad_crc intact x ≡ summary_result_of_reading s (reading_by_summary intact x c)
+crc_checked_result_is_reading (Ok y) true s c e = ap Ok e
+crc_checked_result_is_reading (Ok y) false s c e = refl
+crc_checked_result_is_reading (Err f) intact s c e = refl
 
--- If the first test holds, the first answer counts.
-first_answer_counts : {X : Type 0} (t : Bool) (x y : X) → t ≡ true → cond t x y ≡ x
-first_answer_counts true x y e = refl
-first_answer_counts false x y e = cc
+-- If the test is true, the result is the first branch.
+true_test_takes_first_branch : {X : Type 0} (t : Bool) (x y : X) → t ≡ true → cond t x y ≡ x
+true_test_takes_first_branch true x y e = refl
+true_test_takes_first_branch false x y e = cc
 
--- Fewer than 16 bytes are too short, whatever they are.
+-- Under 16 bytes the result is TooShort, whatever the bytes are.
 short_tail_is_too_short : (t : List ℕ) (n : ℕ) → ltb n 16 ≡ true → tail_summary t n ≡ Err TooShort
 unfolding tail_summary
-short_tail_is_too_short t n e = first_answer_counts (ltb n 16) (Err TooShort) _ e
+short_tail_is_too_short t n e = true_test_takes_first_branch (ltb n 16) (Err TooShort) _ e
 
--- The summary that the last 16 bytes give is that of their content.
+-- From 16 bytes on, a summary by the last 16 is the summary of the content of all bytes.
 tail_summary_sums_content : (s : List ℕ) → 16 ≤ length s → IfOk (tail_summary (tail_of s) (length s)) (λ y. y
     ≡ summary_of_content s (content_of s))
 unfolding tail_summary
@@ -126,14 +127,14 @@ tail_summary_sums_content s long =
     let moved : drop 12 t ≡ drop (n - 4) s = tail_ends_in_last_four s long in
     let spelled_payload_is_read_back : n - get_or t 11 0 ≡ length c.payload = sym (length-take-le (n - get_or t 11 0) s (omega arith)) in
     let same : summary_of_tail t n ≡ summary_of_content s c =
-    summaries_of_equal_parts (n - get_or t 11 0) (length c.payload) (get_or t 11 0) (get_or t 11 0) c.dfu (little_number 4 (drop 12 t))
+    parts_determine_summaries (n - get_or t 11 0) (length c.payload) (get_or t 11 0) (get_or t 11 0) c.dfu (little_number 4 (drop 12 t))
     (little_number 4 (drop (n - 4) s)) c.ids spelled_payload_is_read_back refl (ap (little_number 4) moved) in
-    tail_summary_is_equal (ltb n 16) (not (is_signed t)) (ltb (get_or t 11 0) 16 || ltb n (get_or t 11 0))
+    ok_tail_summary_equals (ltb n 16) (not (is_signed t)) (ltb (get_or t 11 0) 16 || ltb n (get_or t 11 0))
     (eqb (little_number 2 (drop 6 t)) 0x011A) (summary_of_tail t n) (summary_of_content s c) same
 
--- The register over all bytes is 0 exactly if dwCRC is right.
-zero_register_means_intact : (s : List ℕ) → AreBytes s → 16 ≤ length s → eqb (register s) 0 ≡ is_intact s
-zero_register_means_intact s f long =
+-- The register over 16 bytes or more is 0 exactly if their dwCRC is right.
+zero_register_exactly_if_intact : (s : List ℕ) → AreBytes s → 16 ≤ length s → eqb (register s) 0 ≡ is_intact s
+zero_register_exactly_if_intact s f long =
     let n = length s in
     let last = little_number 4 (drop 12 (tail_of s)) in
     let due = register (take (n - 4) s) in
@@ -145,59 +146,62 @@ zero_register_means_intact s f long =
       λ z. law.1 (sym (ap (little_number 4) moved) ∙ z),
     )
 
--- The window says what the last 16 bytes say, also if there are fewer.
-window_says_what_tail_says : (s : List ℕ) (short : Bool) → ltb (length s) 16 ≡ short →
+-- The window gives the result of the last 16 bytes, even if there are fewer.
+window_summary_is_tail_summary : (s : List ℕ) (short : Bool) → ltb (length s) 16 ≡ short →
     tail_summary (window_of s) (length s) ≡ tail_summary (tail_of s) (length s)
-window_says_what_tail_says s true e = short_tail_is_too_short (window_of s) (length s) e
+window_summary_is_tail_summary s true e = short_tail_is_too_short (window_of s) (length s) e
     ∙ sym (short_tail_is_too_short (tail_of s) (length s) e)
-window_says_what_tail_says s false e = ap (λ (w : List ℕ). tail_summary w (length s)) (long_window_is_tail s (ltb-false (length s) 16 e))
+window_summary_is_tail_summary s false e =
+    ap (λ (w : List ℕ). tail_summary w (length s)) (long_window_is_tail s (ltb-false (length s) 16 e))
 
--- A check by the last 16 bytes, the count and the register is a reading of all bytes.
+-- Within the limit, a check by the last 16 bytes, the count and the register gives the summary of a reading of all bytes.
 tail_check_is_reading : (s : List ℕ) → AreBytes s → length s ≤ 16777216 → (short : Bool) → ltb (length s) 16 ≡ short →
-    register_checked (tail_of s) (length s) (register s) ≡ summary_result_of_reading s (read_content s)
+    checked_by_register (tail_of s) (length s) (register s) ≡ summary_result_of_reading s (read_content s)
 tail_check_is_reading s f small true e =
-    ap (sealed_result (eqb (register s) 0)) (short_tail_is_too_short (tail_of s) (length s) e)
+    ap (result_unless_bad_crc (eqb (register s) 0)) (short_tail_is_too_short (tail_of s) (length s) e)
     ∙ sym (ap (summary_result_of_reading s) (reading_is_tail_summary s small
     ∙ ap (λ (x : Result Summary SuffixFault). reading_by_summary (is_intact s) x (content_of s)) (short_tail_is_too_short (tail_of s)
     (length s) e)))
 tail_check_is_reading s f small false e =
     let long : 16 ≤ length s = ltb-false (length s) 16 e in
-    ap (λ (b : Bool). sealed_result b (tail_summary (tail_of s) (length s))) (zero_register_means_intact s f long)
-    ∙ (sealed_result_is_reading (tail_summary (tail_of s) (length s)) (is_intact s) s (content_of s) (tail_summary_sums_content s long)
+    ap (λ (b : Bool). result_unless_bad_crc b (tail_summary (tail_of s) (length s))) (zero_register_exactly_if_intact s f long)
+    ∙ (crc_checked_result_is_reading (tail_summary (tail_of s) (length s)) (is_intact s) s (content_of s) (tail_summary_sums_content s long)
     ∙ sym (ap (summary_result_of_reading s) (reading_is_tail_summary s small)))
 
--- A check by the window, the count and the register is a reading of all bytes.
+-- Within the limit, a check by the window, the count and the register gives the summary of a reading of all bytes.
 pub window_check_is_reading : (s : List ℕ) → AreBytes s → length s ≤ 16777216
-    → register_checked (window_of s) (length s) (register s) ≡ summary_result_of_reading s (read_content s)
-window_check_is_reading s f small = ap (sealed_result (eqb (register s) 0)) (window_says_what_tail_says s (ltb (length s) 16) refl)
+    → checked_by_register (window_of s) (length s) (register s) ≡ summary_result_of_reading s (read_content s)
+window_check_is_reading s f small =
+    ap (result_unless_bad_crc (eqb (register s) 0)) (window_summary_is_tail_summary s (ltb (length s) 16) refl)
     ∙ tail_check_is_reading s f small (ltb (length s) 16) refl
 
--- Content of a file by its summary: the payload is taken from the bytes.
+-- Content of a file, by its summary and, for the payload, its bytes; or the fault of the check.
 abbrev pub content_of_summary_result : List ℕ → Result Summary SuffixFault → Result Content SuffixFault
 content_of_summary_result s (Ok y) = Ok (record { payload = take (length s - y.suffix) s; ids = y.ids; dfu = y.dfu; suffix = y.suffix })
 content_of_summary_result s (Err fault) = Err fault
 
-summary_gives_content_back : (s : List ℕ) (o : Option SuffixFault) → content_or o (content_of s)
-    ≡ content_of_summary_result s (summary_result_of_reading s (content_or o (content_of s)))
+-- The content that was read, or its fault, is given back by its summary and the bytes.
+summary_gives_content_back : (s : List ℕ) (o : Option SuffixFault) → content_unless_fault o (content_of s)
+    ≡ content_of_summary_result s (summary_result_of_reading s (content_unless_fault o (content_of s)))
 summary_gives_content_back s None = refl
 summary_gives_content_back s (Some fault) = refl
 
--- A reading is the content by the summary that the last 16 bytes, the count and the register give.
-reading_is_filed_check : (s : List ℕ) → AreBytes s → length s ≤ 16777216
-    → read_content s ≡ content_of_summary_result s (register_checked (tail_of s) (length s) (register s))
+-- Within the limit, a reading gives the content by the summary of the last 16 bytes, the count and the register.
+reading_is_content_of_check : (s : List ℕ) → AreBytes s → length s ≤ 16777216
+    → read_content s ≡ content_of_summary_result s (checked_by_register (tail_of s) (length s) (register s))
 unfolding read_content
-reading_is_filed_check s f small =
+reading_is_content_of_check s f small =
     summary_gives_content_back s (find (has_fault s) fault_order)
     ∙ ap (content_of_summary_result s) (sym (tail_check_is_reading s f small (ltb (length s) 16) refl))
 
--- A reading is what the last 16 bytes say, with the payload, unless the register over all bytes isn't 0.
-pub sealed_summary_is_reading : (s t : List ℕ) (due : ℕ) (intact : Bool) (r x : Result Summary SuffixFault) → AreBytes s → length s
+-- Within the limit, a reading gives the result by the last 16 bytes, with BadCrc for a content if the register over all bytes isn't 0.
+pub crc_checked_summary_is_reading : (s t : List ℕ) (due : ℕ) (intact : Bool) (r x : Result Summary SuffixFault) → AreBytes s → length s
     ≤ 16777216 →
     t ≡ tail_of s → r ≡ tail_summary t (length s) → r ≡ x → due ≡ register s → eqb due 0 ≡ intact
-    → content_of_summary_result s (sealed_result intact x) ≡ read_content s
-sealed_summary_is_reading s t due intact r x f small tail answer is register_is zero =
+    → content_of_summary_result s (result_unless_bad_crc intact x) ≡ read_content s
+crc_checked_summary_is_reading s t due intact r x f small tail answer is register_is zero =
     let same : x ≡ tail_summary (tail_of s) (length s) = sym is ∙ (answer ∙ ap (λ (w : List ℕ). tail_summary w (length s)) tail) in
     let sound : intact ≡ eqb (register s) 0 = sym zero ∙ ap (λ (n : ℕ). eqb n 0) register_is in
-    ap (λ (b : Bool). content_of_summary_result s (sealed_result b x)) sound
-    ∙ (ap (λ (y : Result Summary SuffixFault). content_of_summary_result s (sealed_result (eqb (register s) 0) y)) same
-    ∙ sym (reading_is_filed_check s f small))
+    ap (λ (b : Bool). content_of_summary_result s (result_unless_bad_crc b x)) sound
+    ∙ (ap (λ (y : Result Summary SuffixFault). content_of_summary_result s (result_unless_bad_crc (eqb (register s) 0) y)) same
+    ∙ sym (reading_is_content_of_check s f small))

@@ -6,27 +6,29 @@ use Rattle.byteorder.specs.Endian.{little_number}
 use Rattle.dfu_suffix.specs.Register.{register, after_bits, bits_of, low_bits, shifts}
 use Rattle.dfu_suffix.specs.Grammar.{Content, First}
 use Rattle.dfu_suffix.specs.inside.Reading.{read_content}
-use Rattle.dfu_suffix.specs.Laws.{AreBytes, HasReading, EachFileOrFault, LastFour}
+use Rattle.dfu_suffix.specs.Laws.{AreBytes, HasReading, EitherFileOrFault, ZeroRegisterByLastFour}
 use Rattle.dfu_suffix.proofs.OneReading.{register-fits, fault_of_reading_is_first, file_bytes_have_no_fault}
 use Rattle.dfu_suffix.specs.declared.fault.SuffixFault.{SuffixFault}
 use Rattle.dfu_suffix.proofs.Bytes.{AreBytes-drop}
 use Rattle.dfu_suffix.proofs.Shifts.{bits_of_little_number, low_bits_shift_register, register_zero_after_itself, equal_shifts_mean_equal}
-use Rattle.dfu_suffix.proofs.Combined.{xor_twice_is_nothing}
+use Rattle.dfu_suffix.proofs.Combined.{xor_twice_cancels}
 use Rattle.dfu_suffix.proofs.Tables.{register-append}
 use Rattle.dfu_suffix.proofs.FileLaws.{read_content_is_of_file}
 
-file_or_first_fault : (b : List ℕ) (r : Result Content SuffixFault) → AreBytes b → read_content b ≡ r → HasReading b
+-- Bytes are a file of the grammar if a content is read from them, and have a first fault if a fault is.
+bytes_are_file_or_have_fault : (b : List ℕ) (r : Result Content SuffixFault) → AreBytes b → read_content b ≡ r → HasReading b
     ⊎ ((fault : SuffixFault) × First fault b)
-file_or_first_fault b (Ok c) f h =
+bytes_are_file_or_have_fault b (Ok c) f h =
     let found = read_content_is_of_file b c f h in
     inl (c.payload, c.ids, c.dfu, found.0, found.1)
-file_or_first_fault b (Err x) f h = inr (x, (fault_of_reading_is_first b x).0 h)
+bytes_are_file_or_have_fault b (Err x) f h = inr (x, (fault_of_reading_is_first b x).0 h)
 
 -- Bytes have a reading or a first fault, and never both.
-pub each_file_or_fault : EachFileOrFault
-each_file_or_fault b f = (file_or_first_fault b (read_content b) f refl, file_bytes_have_no_fault b)
+pub either_file_or_fault : EitherFileOrFault
+either_file_or_fault b f = (bytes_are_file_or_have_fault b (read_content b) f refl, file_bytes_have_no_fault b)
 
--- The register over four bytes or more is the register over the bytes before the last four, and then the bits of the number in those four.
+-- The register over four bytes or more is the register over the bytes before the last four, after the bits of the number in those four,
+-- which is below 2^32.
 register_by_last_four : (s : List ℕ) → AreBytes s → 4 ≤ length s → (little_number 4 (drop (length s - 4) s) < 2 ^ 32) × (register s
     ≡ after_bits (register (take (length s - 4) s)) (low_bits 32 (little_number 4 (drop (length s - 4) s))))
 register_by_last_four s f h =
@@ -42,7 +44,7 @@ register_by_last_four s f h =
     )
 
 -- The register over four bytes or more is 0 exactly if the number in the last four is the register over the bytes before them.
-pub last_four : LastFour
+pub last_four : ZeroRegisterByLastFour
 last_four s f h =
     let front = take (length s - 4) s in
     let x = little_number 4 (drop (length s - 4) s) in
@@ -50,11 +52,11 @@ last_four s f h =
     let law = register_zero_after_itself (register front) x (register-fits front) whole.0 in
     (λ e. law.0 (sym whole.1 ∙ e), λ e. whole.1 ∙ law.1 e)
 
--- The register over the bytes before the last four is the only number that makes the register over all bytes with those four.
-pub unshifted_register_is_before : (s : List ℕ) (r x : ℕ) → AreBytes s → 4 ≤ length s → r < 2 ^ 32 → x
+-- Only the register over the bytes before the last four makes, with those four, the register over all bytes.
+pub register_before_four_is_unique : (s : List ℕ) (r x : ℕ) → AreBytes s → 4 ≤ length s → r < 2 ^ 32 → x
     ≡ little_number 4 (drop (length s - 4) s) →
     shifts 32 (bit_xor r x) ≡ register s → r ≡ register (take (length s - 4) s)
-unshifted_register_is_before s r x f h fits is e =
+register_before_four_is_unique s r x f h fits is e =
     let front = register (take (length s - 4) s) in
     let y = little_number 4 (drop (length s - 4) s) in
     let whole = register_by_last_four s f h in
@@ -63,4 +65,4 @@ unshifted_register_is_before s r x f h fits is e =
     let fits_front : front < 2 ^ 32 = register-fits (take (length s - 4) s) in
     let same : bit_xor r y ≡ bit_xor front y =
     equal_shifts_mean_equal 32 (bit_xor r y) (bit_xor front y) (xor_lt 32 r y fits whole.0) (xor_lt 32 front y fits_front whole.0) both in
-    sym (xor_twice_is_nothing r y) ∙ (ap (λ (z : ℕ). bit_xor z y) same ∙ xor_twice_is_nothing front y)
+    sym (xor_twice_cancels r y) ∙ (ap (λ (z : ℕ). bit_xor z y) same ∙ xor_twice_cancels front y)

@@ -18,8 +18,8 @@ use Rattle.dfu_suffix.specs.declared.fault.SuffixFault.TheVariants.{TooShort, No
 
 -- ---- numbers and their bytes
 
-two_bytes_of_number : (x y : ℕ) → x < 256 → y < 256 → to_le_bytes w16 (x + 256 * (y + 256 * 0)) ≡ x ∷ y ∷ []
-two_bytes_of_number x y p q =
+number_has_two_bytes : (x y : ℕ) → x < 256 → y < 256 → to_le_bytes w16 (x + 256 * (y + 256 * 0)) ≡ x ∷ y ∷ []
+number_has_two_bytes x y p q =
     let low : (x + 256 * (y + 256 * 0)) % 256 ≡ x = omega arith in
     let high : (x + 256 * (y + 256 * 0)) / 256 % 256 ≡ y = omega arith in
     cc
@@ -29,13 +29,13 @@ two_byte_number_is_spelled : (xs : List ℕ) (i : ℕ) → AreBytes xs → to_le
 two_byte_number_is_spelled xs i f =
     let a : get_or (drop i xs) 0 0 ≡ get_or xs i 0 = get_or-drop i xs 0 0 ∙ ap (λ (k : ℕ). get_or xs k 0) (add-zero i) in
     let b : get_or (drop i xs) 1 0 ≡ get_or xs (i + 1) 0 = get_or-drop i xs 1 0 in
-    let cells = two_bytes_of_number (get_or (drop i xs) 0 0) (get_or (drop i xs) 1 0) (omega (arith, f i)) (omega (arith, f (i + 1))) in
+    let cells = number_has_two_bytes (get_or (drop i xs) 0 0) (get_or (drop i xs) 1 0) (omega (arith, f i)) (omega (arith, f (i + 1))) in
     cells ∙ cc
 
-four_bytes_of_number : (x y z w : ℕ) → x < 256 → y < 256 → z < 256 → w < 256 →
+number_has_four_bytes : (x y z w : ℕ) → x < 256 → y < 256 → z < 256 → w < 256 →
     to_le_bytes w32 (x + 256 * (y + 256 * (z + 256 * (w + 256 * 0))))
     ≡ x ∷ y ∷ z ∷ w ∷ []
-four_bytes_of_number x y z w p q r s =
+number_has_four_bytes x y z w p q r s =
     let n = x + 256 * (y + 256 * (z + 256 * (w + 256 * 0))) in
     let e0 : n % 256 ≡ x = omega arith in
     let e1 : n / 256 % 256 ≡ y = omega arith in
@@ -43,12 +43,12 @@ four_bytes_of_number x y z w p q r s =
     let e3 : n / 16777216 % 256 ≡ w = omega arith in
     cc
 
-two_byte_number_fits : (xs : List ℕ) → AreBytes xs → little_number 2 xs < 2 ^ 16
-two_byte_number_fits xs f = omega (arith, f 0, f 1)
+two_bytes_fit_16_bits : (xs : List ℕ) → AreBytes xs → little_number 2 xs < 2 ^ 16
+two_bytes_fit_16_bits xs f = omega (arith, f 0, f 1)
 
--- ---- cells
+-- ---- numbers of a list
 
--- `n` numbers of a list, from place `i` on.
+-- The `n` numbers of a list from index `i` on.
 abbrev cells : ℕ → ℕ → List ℕ → List ℕ
 cells zero i xs = []
 cells (suc n) i xs = get_or xs i 0 ∷ cells n (suc i) xs
@@ -60,19 +60,20 @@ drop_is_numbers_of_list (suc n) i xs h = drop-cons xs i 0 (omega arith)
 
 -- ---- no fault
 
+-- If a condition for a fault, and those after it, find no fault, the condition is false, and those after it find none.
 no_fault_passes_condition : {X : Type 0} (t : Bool) (x : X) (o : Option X) → cond t (Some x) o ≡ None → (t ≡ false) × (o ≡ None)
 no_fault_passes_condition true x o h = (cc, cc)
 no_fault_passes_condition false x o h = (refl, h)
 
-neither_true_of_or : (a b : Bool) → (a || b) ≡ false → (a ≡ false) × (b ≡ false)
-neither_true_of_or true b h = (h, cc)
-neither_true_of_or false b h = (refl, h)
+false_or_has_both_false : (a b : Bool) → (a || b) ≡ false → (a ≡ false) × (b ≡ false)
+false_or_has_both_false true b h = (h, cc)
+false_or_has_both_false false b h = (refl, h)
 
-both_true_if_and : (a b : Bool) → (a && b) ≡ true → (a ≡ true) × (b ≡ true)
-both_true_if_and true b h = (refl, h)
-both_true_if_and false b h = (h, cc)
+true_and_has_both_true : (a b : Bool) → (a && b) ≡ true → (a ≡ true) × (b ≡ true)
+true_and_has_both_true true b h = (refl, h)
+true_and_has_both_true false b h = (h, cc)
 
--- Bytes are formed like a file if their last 16 have the letters UFD, and a bLength of at least 16 that is within them.
+-- There are 16 to 16,777,216 bytes, and their last 16 have the letters UFD and a bLength from 16 up to the number of bytes.
 pub record HasSuffixForm (b : List ℕ) : Type 0 where
   pub small : length b ≤ 16777216
   pub long : 16 ≤ length b
@@ -82,15 +83,15 @@ pub record HasSuffixForm (b : List ℕ) : Type 0 where
   pub whole : 16 ≤ get_or (tail_of b) 11 0
   pub within : get_or (tail_of b) 11 0 ≤ length b
 
--- Bytes without the first four faults are formed like a file.
+-- Bytes without the first four faults have the form of a suffix.
 pub formed : (b : List ℕ) → has_fault b TooLarge ≡ false → has_fault b TooShort ≡ false → has_fault b NoSignature ≡ false →
     has_fault b BadLength ≡ false → HasSuffixForm b
 formed b large short unsigned bad =
     let t = tail_of b in
-    let s0 = both_true_if_and (eqb (get_or t 8 0) 0x55) (eqb (get_or t 9 0) 0x46 && eqb (get_or t 10 0) 0x44) (not-false (is_signed t)
+    let s0 = true_and_has_both_true (eqb (get_or t 8 0) 0x55) (eqb (get_or t 9 0) 0x46 && eqb (get_or t 10 0) 0x44) (not-false (is_signed t)
     unsigned) in
-    let s1 = both_true_if_and (eqb (get_or t 9 0) 0x46) (eqb (get_or t 10 0) 0x44) s0.1 in
-    let l = neither_true_of_or (ltb (get_or t 11 0) 16) (ltb (length b) (get_or t 11 0)) bad in
+    let s1 = true_and_has_both_true (eqb (get_or t 9 0) 0x46) (eqb (get_or t 10 0) 0x44) s0.1 in
+    let l = false_or_has_both_false (ltb (get_or t 11 0) 16) (ltb (length b) (get_or t 11 0)) bad in
     record {
       small = ltb-false 16777216 (length b) large;
       long = ltb-false (length b) 16 short;
@@ -111,13 +112,13 @@ no_crc_fault_means_intact b h =
     let crc = little_number 4 (drop 12 (tail_of b)) in
     eqb-true crc (register (take (length b - 4) b)) (not-false (eqb crc (register (take (length b - 4) b))) h)
 
--- Bytes with no fault are formed like a file, intact, and not a DfuSe file.
+-- The bytes have the form of a suffix, aren't a DfuSe file, and are intact.
 pub record HasNoFaults (b : List ℕ) : Type 0 where
   pub formed : HasSuffixForm b
   pub not_dfuse : little_number 2 (drop 6 (tail_of b)) ≢ 0x011A
   pub crc : IsIntact b
 
--- Bytes for which no fault is found are sound.
+-- Bytes of which no condition of a fault is true satisfy `HasNoFaults`.
 pub faultless_bytes_are_sound : (b : List ℕ) → find (has_fault b) fault_order ≡ None → HasNoFaults b
 faultless_bytes_are_sound b h =
     let p0 = no_fault_passes_condition (has_fault b TooLarge) TooLarge (find (has_fault b) (TooShort ∷ NoSignature ∷ BadLength ∷ DfuSe ∷
@@ -134,16 +135,16 @@ faultless_bytes_are_sound b h =
       crc = no_crc_fault_means_intact b p5.0;
     }
 
--- Extra bytes of a suffix that is longer than 16 bytes.
+-- Extra bytes: those of the suffix before its last 16.
 abbrev pub extra_bytes_of : List ℕ → List ℕ
 extra_bytes_of b = take (get_or (tail_of b) 11 0 - 16) (drop (length b - get_or (tail_of b) 11 0) b)
 
 tail_has_16_bytes : (b : List ℕ) → 16 ≤ length b → length (tail_of b) ≡ 16
 tail_has_16_bytes b h = length-drop (length b - 16) b ∙ omega arith
 
--- With the extra bytes a suffix is as long as bLength says.
-pub suffix_length_with_extra : (b : List ℕ) → HasSuffixForm b → 16 + length (extra_bytes_of b) ≡ get_or (tail_of b) 11 0
-suffix_length_with_extra b s =
+-- The 16 bytes of a suffix and its extra bytes are bLength bytes.
+pub suffix_length_counts_extra : (b : List ℕ) → HasSuffixForm b → 16 + length (extra_bytes_of b) ≡ get_or (tail_of b) 11 0
+suffix_length_counts_extra b s =
     let l = get_or (tail_of b) 11 0 in
     let w = s.whole in
     let i = s.within in
@@ -151,7 +152,7 @@ suffix_length_with_extra b s =
     let d = length-drop (length b - l) b in
     omega arith
 
--- The payload, the extra bytes and the last 16 bytes make up the bytes.
+-- The payload, the extra bytes and the last 16 bytes together are all bytes of the file.
 payload_extra_and_tail_make_file : (b : List ℕ) → HasSuffixForm b → take (length b - get_or (tail_of b) 11 0) b ++ (extra_bytes_of b
     ++ tail_of b) ≡ b
 payload_extra_and_tail_make_file b s =
@@ -176,7 +177,7 @@ crc_bytes_of_tail t = get_or t 12 0 ∷ get_or t 13 0 ∷ get_or t 14 0 ∷ get_
 tail_is_fields_and_crc : (t : List ℕ) → length t ≡ 16 → t ≡ fields_of_tail t ++ crc_bytes_of_tail t
 tail_is_fields_and_crc t h = drop_is_numbers_of_list 16 0 t (sym h)
 
--- The fields that were read spell the bytes from which they were read.
+-- The fields that are read from the last 16 bytes spell them again.
 read_fields_spell_fields : (b : List ℕ) → HasSuffixForm b → AreBytes b →
     fields_before_crc (content_of b).ids (content_of b).dfu (extra_bytes_of b)
     ≡ fields_of_tail (tail_of b)
@@ -187,7 +188,7 @@ read_fields_spell_fields b s f =
     let p = two_byte_number_is_spelled t 2 ft in
     let v = two_byte_number_is_spelled t 4 ft in
     let u = two_byte_number_is_spelled t 6 ft in
-    let l = suffix_length_with_extra b s in
+    let l = suffix_length_counts_extra b s in
     let lu = s.has_letter_u in
     let lf = s.has_letter_f in
     let ld = s.has_letter_d in
@@ -199,20 +200,20 @@ read_crc_spells_crc t f =
     let b = get_or-drop 12 t 1 0 in
     let c = get_or-drop 12 t 2 0 in
     let d = get_or-drop 12 t 3 0 in
-    let four = four_bytes_of_number (get_or (drop 12 t) 0 0) (get_or (drop 12 t) 1 0) (get_or (drop 12 t) 2 0) (get_or (drop 12 t) 3 0)
+    let four = number_has_four_bytes (get_or (drop 12 t) 0 0) (get_or (drop 12 t) 1 0) (get_or (drop 12 t) 2 0) (get_or (drop 12 t) 3 0)
     (omega (arith, f 12)) (omega (arith, f 13)) (omega (arith, f 14)) (omega (arith, f 15)) in
     four ∙ cc
 
 -- A field of two bytes is below 2^16.
 pub tail_field_fits_two_bytes : (b : List ℕ) (i : ℕ) → AreBytes b → little_number 2 (drop i (tail_of b)) < 2 ^ 16
-tail_field_fits_two_bytes b i f = two_byte_number_fits (drop i (tail_of b)) (AreBytes-drop (tail_of b) i (AreBytes-drop b (length b - 16)
+tail_field_fits_two_bytes b i f = two_bytes_fit_16_bits (drop i (tail_of b)) (AreBytes-drop (tail_of b) i (AreBytes-drop b (length b - 16)
     f))
 
 -- A suffix has at most 239 extra bytes.
 pub extra_fits : (b : List ℕ) → HasSuffixForm b → AreBytes b → length (extra_bytes_of b) ≤ 239
-extra_fits b s f = omega (arith, suffix_length_with_extra b s, AreBytes-drop b (length b - 16) f 11)
+extra_fits b s f = omega (arith, suffix_length_counts_extra b s, AreBytes-drop b (length b - 16) f 11)
 
--- Bytes that are formed like a file, and intact, are spelled by the content that is read from their end.
+-- Bytes that have the form of a suffix, and are intact, are spelled by the content that is read from their end.
 pub spelled : (b : List ℕ) → HasSuffixForm b → IsIntact b → AreBytes b →
     IsSpelledFile (content_of b).payload (content_of b).ids (content_of b).dfu (extra_bytes_of b) b
 spelled b s right f =

@@ -1,4 +1,4 @@
--- Reading from the end answers the parts of a file of the grammar, and the first fault of any other bytes.
+-- Reading from the end returns the parts of a file of the grammar, and the first fault of any other bytes.
 use Rattle.std.specs.Prelude.{find}
 use Rattle.std.specs.Int.{w32, to_le_bytes}
 use Rattle.std.specs.Int.Bits.{bit_xor}
@@ -10,8 +10,8 @@ use Rattle.std.proofs.lemmas.List.{append_assoc, take_at, drop_at}
 use Rattle.byteorder.specs.Endian.{little_number}
 use Rattle.dfu_suffix.specs.Register.{after_bit, after_bits, bits_of, register}
 use Rattle.dfu_suffix.specs.Grammar.{Content, IsFile, First, fields_before_crc, before_crc, tail_of, is_signed, has_fault, fault_order}
-use Rattle.dfu_suffix.specs.inside.Reading.{content_of, content_or, read_content}
-use Rattle.dfu_suffix.specs.Laws.{NoFileFault, OneReading}
+use Rattle.dfu_suffix.specs.inside.Reading.{content_of, content_unless_fault, read_content}
+use Rattle.dfu_suffix.specs.Laws.{FilesHaveNoFault, OneReading}
 use Rattle.dfu_wire.specs.declared.ids.Ids.{Ids}
 use Rattle.dfu_suffix.specs.declared.fault.SuffixFault.{SuffixFault}
 use Rattle.dfu_suffix.specs.declared.fault.SuffixFault.TheVariants.{TooShort, NoSignature, BadLength, DfuSe, BadCrc, TooLarge}
@@ -43,12 +43,12 @@ pub four_bytes_give_number_back : (n : ℕ) → n < 2 ^ 32 → n % 256 + 256 * (
     256 + 256 * 0))) ≡ n
 four_bytes_give_number_back n h = omega arith
 
--- An answer is a fault exactly if that fault was found.
-fault_answer_was_found : (o : Option SuffixFault) (c : Content) (f : SuffixFault) → (content_or o c ≡ Err f) ↔ (o ≡ Some f)
+-- A result is a certain fault exactly if that fault was found.
+fault_answer_was_found : (o : Option SuffixFault) (c : Content) (f : SuffixFault) → (content_unless_fault o c ≡ Err f) ↔ (o ≡ Some f)
 fault_answer_was_found None c f = (λ h. cc, λ h. cc)
 fault_answer_was_found (Some x) c f = (λ h. cc, λ h. cc)
 
--- Reading answers a fault exactly if it is the first one.
+-- Reading returns a fault exactly if it is the first fault of the bytes.
 pub fault_of_reading_is_first : (b : List ℕ) (f : SuffixFault) → (read_content b ≡ Err f) ↔ First f b
 unfolding read_content
 fault_of_reading_is_first b f = fault_answer_was_found (find (has_fault b) fault_order) (content_of b) f
@@ -67,11 +67,11 @@ different_numbers_test_false : (a b : ℕ) → a ≢ b → eqb a b ≡ false
 different_numbers_test_false a b h = elim (eqb_tells a b) [ inl p ↦ absurd (h p.1) | inr p ↦ p.0 ]
 
 -- If two tests are false, the test for either is false.
-neither_of_two_true : (a b : Bool) → a ≡ false → b ≡ false → (a || b) ≡ false
-neither_of_two_true true b h e = h
-neither_of_two_true false b h e = e
+or_of_false_tests_is_false : (a b : Bool) → a ≡ false → b ≡ false → (a || b) ≡ false
+or_of_false_tests_is_false true b h e = h
+or_of_false_tests_is_false false b h e = e
 
--- Bytes are spelled like a file of these parts, with any bcdDFU.
+-- The bytes spell a file of these parts, whose bcdDFU may be that of a DfuSe file.
 abbrev pub IsSpelledFile : List ℕ → Ids → ℕ → List ℕ → List ℕ → Type 0
 IsSpelledFile payload ids dfu extra b = b ≡ before_crc payload ids dfu extra
     ++ to_le_bytes w32 (register (before_crc payload ids dfu extra))
@@ -81,35 +81,35 @@ abbrev pub content_of_parts : List ℕ → Ids → ℕ → ℕ → Content
 content_of_parts payload ids dfu suffix = record { payload = payload; ids = ids; dfu = dfu; suffix = suffix }
 
 -- Contents of equal parts are equal.
-contents_of_equal_parts : (p p' : List ℕ) (d d' e e' v v' u u' s s' : ℕ) → p ≡ p' → d ≡ d' → e ≡ e' → v ≡ v' → u ≡ u' → s ≡ s' →
+parts_determine_contents : (p p' : List ℕ) (d d' e e' v v' u u' s s' : ℕ) → p ≡ p' → d ≡ d' → e ≡ e' → v ≡ v' → u ≡ u' → s ≡ s' →
     content_of_parts p (record { device = d; product = e; vendor = v }) u s
     ≡ content_of_parts p' (record { device = d'; product = e'; vendor = v' }) u'
     s'
-contents_of_equal_parts p p' d d' e e' v v' u u' s s' h0 h1 h2 h3 h4 h5 = cc
+parts_determine_contents p p' d d' e e' v v' u u' s s' h0 h1 h2 h3 h4 h5 = cc
 
--- Bytes that are spelled like a file have their length, and end in the fields and dwCRC.
-spelled_file_length_and_tail : (payload extra b : List ℕ) (ids : Ids) (dfu : ℕ) → IsSpelledFile payload ids dfu extra b →
+-- A spelled file has the length of its payload, of its extra bytes and of 16 bytes more, and ends in the fields and dwCRC.
+spelled_file_ends_in_its_suffix : (payload extra b : List ℕ) (ids : Ids) (dfu : ℕ) → IsSpelledFile payload ids dfu extra b →
     (length b ≡ length payload + length extra + 16)
     × (tail_of b ≡ fields_before_crc ids dfu extra ++ to_le_bytes w32 (register (before_crc payload ids dfu extra)))
-spelled_file_length_and_tail payload extra b ids dfu h =
+spelled_file_ends_in_its_suffix payload extra b ids dfu h =
     let end = fields_before_crc ids dfu extra ++ to_le_bytes w32 (register (before_crc payload ids dfu extra)) in
     let whole : b ≡ (payload ++ extra) ++ end = h ∙ simp append_assoc in
     let len : length b ≡ length payload + length extra + 16 =
     ap length whole ∙ (length-append (payload ++ extra) end ∙ ap (λ (k : ℕ). k + 16) (length-append payload extra)) in
     (len, ap (drop (length b - 16)) whole ∙ drop_at (payload ++ extra) end (length b - 16) (omega (arith, len, length-append payload extra)))
 
--- The payload of a spelled file is all but as many bytes as bLength says.
+-- The payload of a spelled file is all its bytes but the last bLength.
 pub spelled_payload_is_read_back : (payload extra b : List ℕ) (ids : Ids) (dfu : ℕ) → IsSpelledFile payload ids dfu extra b →
     take (length b - get_or (tail_of b) 11 0) b ≡ payload
 spelled_payload_is_read_back payload extra b ids dfu h =
-    let tail = spelled_file_length_and_tail payload extra b ids dfu h in
+    let tail = spelled_file_ends_in_its_suffix payload extra b ids dfu h in
     let l = get_or (tail_of b) 11 0 in
     let length_is : l ≡ 16 + length extra = ap (λ (t : List ℕ). get_or t 11 0) tail.1 in
     let end = fields_before_crc ids dfu extra ++ to_le_bytes w32 (register (before_crc payload ids dfu extra)) in
     let whole : b ≡ payload ++ (extra ++ end) = h ∙ simp append_assoc in
     ap (take (length b - l)) whole ∙ take_at payload (extra ++ end) (length b - l) (omega (arith, length_is, tail.0))
 
--- Bytes that are spelled like a file can only have the fault DfuSe, and their end says the parts.
+-- The bytes have no fault but perhaps DfuSe, and the parts are read from their end.
 pub record PartsAreRead (payload : List ℕ) (ids : Ids) (dfu : ℕ) (extra b : List ℕ) : Type 0 where
   pub small : has_fault b TooLarge ≡ false
   pub long : has_fault b TooShort ≡ false
@@ -119,7 +119,7 @@ pub record PartsAreRead (payload : List ℕ) (ids : Ids) (dfu : ℕ) (extra b : 
   pub version : little_number 2 (drop 6 (tail_of b)) ≡ dfu
   pub content : content_of b ≡ content_of_parts payload ids dfu (16 + length extra)
 
--- Bytes that are spelled of parts are read as those parts, if the numbers fit and the bytes are within the limit.
+-- Bytes that spell parts are read as those parts, if the numbers fit and the bytes are within the limit.
 pub parts_are_read : (payload : List ℕ) (ids : Ids) (dfu : ℕ) (extra b : List ℕ) → IsSpelledFile payload ids dfu extra b →
     ids.device < 2 ^ 16 →
     ids.product < 2 ^ 16 → ids.vendor < 2 ^ 16 → dfu < 2 ^ 16 → length b ≤ 16777216 → PartsAreRead payload ids dfu extra b
@@ -127,7 +127,7 @@ parts_are_read payload ids dfu extra b whole device_fits product_fits vendor_fit
     let front = before_crc payload ids dfu extra in
     let r = register front in
     let q = to_le_bytes w32 r in
-    let tailed = spelled_file_length_and_tail payload extra b ids dfu whole in
+    let tailed = spelled_file_ends_in_its_suffix payload extra b ids dfu whole in
     let len = tailed.0 in
     let tail = tailed.1 in
     let len_front : length front ≡ length b - 4 = omega (arith, ap length whole, length-append front q) in
@@ -147,16 +147,16 @@ parts_are_read payload ids dfu extra b whole device_fits product_fits vendor_fit
       small = number_is_not_less 16777216 (length b) small;
       long = number_is_not_less (length b) 16 (omega (arith, len));
       signed = ap (λ (t : List ℕ). not (is_signed t)) tail;
-      within = neither_of_two_true (ltb (get_or (tail_of b) 11 0) 16) (ltb (length b) (get_or (tail_of b) 11 0))
+      within = or_of_false_tests_is_false (ltb (get_or (tail_of b) 11 0) 16) (ltb (length b) (get_or (tail_of b) 11 0))
           (number_is_not_less (get_or (tail_of b) 11 0) 16 (omega (arith, suffix)))
           (number_is_not_less (length b) (get_or (tail_of b) 11 0) (omega (arith, suffix, len)));
       intact = ap not (eq-eqb (little_number 4 (drop 12 (tail_of b))) (register (take (length b - 4) b)) (crc ∙ ap register (sym cut)));
       version = version;
-      content = contents_of_equal_parts _ _ _ _ _ _ _ _ _ _ _ _ (spelled_payload_is_read_back payload extra b ids dfu whole) d p v version
+      content = parts_determine_contents _ _ _ _ _ _ _ _ _ _ _ _ (spelled_payload_is_read_back payload extra b ids dfu whole) d p v version
           suffix;
     }
 
--- Reading of a file of the grammar answers its parts.
+-- Reading a file of the grammar returns its parts.
 pub grammar_file_is_read : (payload : List ℕ) (ids : Ids) (dfu : ℕ) (extra b : List ℕ) → IsFile payload ids dfu extra b →
     read_content b ≡ Ok (record { payload = payload; ids = ids; dfu = dfu; suffix = 16 + length extra })
 unfolding read_content
@@ -169,9 +169,9 @@ grammar_file_is_read payload ids dfu extra b h =
     (false_fault_is_skipped (has_fault b NoSignature) NoSignature _ r.signed (false_fault_is_skipped (has_fault b BadLength) BadLength _
     r.within
     (false_fault_is_skipped (has_fault b DfuSe) DfuSe _ other (false_fault_is_skipped (has_fault b BadCrc) BadCrc _ r.intact refl))))) in
-    ap (λ (o : Option SuffixFault). content_or o (content_of b)) none ∙ ap Ok r.content
+    ap (λ (o : Option SuffixFault). content_unless_fault o (content_of b)) none ∙ ap Ok r.content
 
--- The extra bytes of a file follow its payload.
+-- The extra bytes of a file follow its payload, and 16 bytes follow them.
 pub extra_bytes_follow_payload : (payload : List ℕ) (ids : Ids) (dfu : ℕ) (extra b : List ℕ) → IsFile payload ids dfu extra b →
     (length b ≡ length payload + length extra + 16) × (extra ≡ take (length extra) (drop (length payload) b))
 extra_bytes_follow_payload payload ids dfu extra b h =
@@ -186,8 +186,8 @@ extra_bytes_follow_payload payload ids dfu extra b h =
     ∙ drop_at payload (extra ++ (a ++ q)) (length payload) refl in
     (len, sym (ap (take (length extra)) after ∙ take_at extra (a ++ q) (length extra) refl))
 
--- A file that follows the grammar has no fault.
-pub file_bytes_have_no_fault : NoFileFault
+-- A file of the grammar has no fault.
+pub file_bytes_have_no_fault : FilesHaveNoFault
 file_bytes_have_no_fault b fault (payload, ids, dfu, extra, h) first =
     let right = grammar_file_is_read payload ids dfu extra b h in
     let wrong = (fault_of_reading_is_first b fault).1 first in

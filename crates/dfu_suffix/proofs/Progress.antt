@@ -3,16 +3,16 @@ use Rattle.std.proofs.Common.{◌≡◌, ℕ, ◌<◌, List, [], ◌++◌, lengt
 use Rattle.std.proofs.KnownBytes.{Appends-nil, Appends-trans, Appends-kept}
 use Rattle.std.proofs.lemmas.List.{append_assoc, take-append-drop, append-nil}
 use Rattle.std.specs.Io.KnownBytes.{Appends, Keeps}
-use Rattle.dfu_suffix.specs.Writing.{IsOutInPart}
+use Rattle.dfu_suffix.specs.Writing.{IsPartlyWritten}
 
 -- A prefix of `text` is written, and `rest` is left.
 abbrev pub WrittenSoFar : Option (List ℕ) → Option (List ℕ) → List ℕ → List ℕ → Type 0
 WrittenSoFar old new text rest = (front : List ℕ) × (text ≡ front ++ rest) × Appends old new front
 
 -- Once the first `n` bytes of the rest are written too, the bytes after them are left.
-pub progress_after_written_bytes : (old mid new : Option (List ℕ)) (text rest : List ℕ) (n : ℕ) →
+pub write_advances_progress : (old mid new : Option (List ℕ)) (text rest : List ℕ) (n : ℕ) →
     WrittenSoFar old mid text rest → Appends mid new (take n rest) → WrittenSoFar old new text (drop n rest)
-progress_after_written_bytes old mid new text rest n p k = (
+write_advances_progress old mid new text rest n p k = (
   p.0 ++ take n rest,
   p.1 ∙ (ap (λ (zs : List ℕ). p.0 ++ zs) (sym (take-append-drop n rest))
       ∙ sym (append_assoc p.0 (take n rest) (drop n rest))),
@@ -20,9 +20,9 @@ progress_after_written_bytes old mid new text rest n p k = (
 )
 
 -- If some of the text is left, and no more was written, a prefix of the text is written, and not all of it.
-pub stopped_progress_is_in_part : (old mid new : Option (List ℕ)) (text rest : List ℕ) →
-    WrittenSoFar old mid text rest → 0 < length rest → Appends mid new [] → IsOutInPart old new text
-stopped_progress_is_in_part old mid new text rest p some k = record {
+pub stopped_text_is_partly_written : (old mid new : Option (List ℕ)) (text rest : List ℕ) →
+    WrittenSoFar old mid text rest → 0 < length rest → Appends mid new [] → IsPartlyWritten old new text
+stopped_text_is_partly_written old mid new text rest p some k = record {
   front = p.0;
   rest = rest;
   whole = p.1;
@@ -31,5 +31,5 @@ stopped_progress_is_in_part old mid new text rest p some k = record {
 }
 
 -- If the contents didn't change, no byte was written.
-pub no_progress_no_bytes : (mid new : Option (List ℕ)) → Keeps mid new → Appends mid new []
-no_progress_no_bytes mid new k = Appends-kept mid mid new [] (Appends-nil mid) k
+pub kept_contents_mean_no_bytes : (mid new : Option (List ℕ)) → Keeps mid new → Appends mid new []
+kept_contents_mean_no_bytes mid new k = Appends-kept mid mid new [] (Appends-nil mid) k

@@ -3,20 +3,21 @@ use Rattle.std.proofs.Common.{◌≡◌, ℕ, zero, suc, ◌+◌, ◌^◌, ◌<�
 use Rattle.std.specs.Int.Bits.{xor_zero_l, xor_zero_r}
 use Rattle.std.proofs.lemmas.List.{drop-take, drop_at, take-append-drop, take-replicate, take-take, take_at}
 use Rattle.std.specs.Int.{w32, to_le_bytes}
-use Rattle.dfu_suffix.proofs.Shifts.{bits_of_bytes_count, shifts_in_two_parts}
-use Rattle.dfu_suffix.proofs.Spread.{spread_over_taps, spread_is_same_number}
+use Rattle.dfu_suffix.proofs.Shifts.{bit_count_of_bytes, shifts_in_two_parts}
+use Rattle.dfu_suffix.proofs.Spread.{spread_over_taps, number_spreads_to_itself}
 use Rattle.dfu_suffix.proofs.Tables.{IsFourByteNumber, after-append, four_bytes_shift_register}
 use Rattle.dfu_suffix.specs.Laws.{AreBytes}
 use Rattle.dfu_suffix.specs.Register.{after_bits, bits_of, shifts}
 use Rattle.dfu_suffix.specs.inside.Folding.{combined_numbers, register_of_residue}
 use Rattle.dfu_suffix.proofs.FoldSteps.{register_takes_first_byte, register_from_zero}
 
+-- The first n + k items are the first n, and then the k after them.
 take_in_two_parts : (n k : ℕ) (xs : List ℕ) → take (n + k) xs ≡ take n xs ++ take k (drop n xs)
 take_in_two_parts n k xs =
     let front : take n (take (n + k) xs) ≡ take n xs = take-take n (n + k) xs (omega arith) in
     sym (take-append-drop n (take (n + k) xs)) ∙ (λ i. front i ++ drop-take n k xs i)
 
--- The register over the first n + k bytes goes on from that over the first n.
+-- The register over the first n + k bytes continues from the register over the first n.
 register_from_zero_goes_on : (n k r s : ℕ) (xs : List ℕ) → r ≡ register_from_zero (take n xs) → s
     ≡ after_bits r (bits_of (take k (drop n xs))) →
     s ≡ register_from_zero (take (n + k) xs)
@@ -25,7 +26,7 @@ register_from_zero_goes_on n k r s xs first second =
     ∙ (ap (λ (z : ℕ). after_bits z (bits_of (take k (drop n xs)))) first
     ∙ (sym (after-append 0 (take n xs) (take k (drop n xs))) ∙ ap register_from_zero (sym (take_in_two_parts n k xs))))
 
--- The registers up to each tap, and over the whole, combined are the register that the residue represents.
+-- The xor of the registers up to each tap and over the whole residue is the register that it represents.
 pub tap_registers_make_residue : (r1 r2 r3 r4 r5 r6 : ℕ) (room : List ℕ) → r1 ≡ after_bits 0 (bits_of (take 720 room)) →
     r2 ≡ after_bits r1 (bits_of (take 128 (drop 720 room))) → r3 ≡ after_bits r2 (bits_of (take 336 (drop 848 room))) →
     r4 ≡ after_bits r3 (bits_of (take 96 (drop 1184 room))) → r5 ≡ after_bits r4 (bits_of (take 640 (drop 1280 room))) →
@@ -45,18 +46,18 @@ tap_registers_make_residue r1 r2 r3 r4 r5 r6 room h1 h2 h3 h4 h5 h6 =
     let w5 = f5 ∙ ap register_from_zero (sym (take-take 1920 1968 room (omega arith))) in
     λ i. bit_xor (bit_xor (bit_xor (bit_xor (bit_xor (f6 i) (w1 i)) (w2 i)) (w3 i)) (w4 i)) (w5 i)
 
--- Bytes 0 shift the register by their bits.
-zero_bytes_shift_register : (n r : ℕ) → after_bits r (bits_of (replicate n 0)) ≡ shifts (bits_of_bytes_count n) r
+-- Zero bytes shift the register by their bits.
+zero_bytes_shift_register : (n r : ℕ) → after_bits r (bits_of (replicate n 0)) ≡ shifts (bit_count_of_bytes n) r
 unfolding after_bits bits_of shifts
 zero_bytes_shift_register zero r = refl
 zero_bytes_shift_register (suc n) r =
     register_takes_first_byte r 0 (replicate n 0) (omega arith)
     ∙ (ap (λ (z : ℕ). after_bits (shifts 8 z) (bits_of (replicate n 0))) (xor_zero_r r)
-    ∙ (zero_bytes_shift_register n (shifts 8 r) ∙ sym (shifts_in_two_parts 8 (bits_of_bytes_count n) r)))
+    ∙ (zero_bytes_shift_register n (shifts 8 r) ∙ sym (shifts_in_two_parts 8 (bit_count_of_bytes n) r)))
 
--- The register over the four bytes of a number and `n` bytes 0 is the number, shifted by their bits.
+-- The register over the four bytes of a number and `n` zero bytes is the number, shifted by the bits of all.
 four_bytes_and_zeros_shift : (n m r : ℕ) (xs : List ℕ) → IsFourByteNumber r xs → n ≤ m →
-    register_from_zero (take (4 + n) (xs ++ replicate m 0)) ≡ shifts (32 + bits_of_bytes_count n) r
+    register_from_zero (take (4 + n) (xs ++ replicate m 0)) ≡ shifts (32 + bit_count_of_bytes n) r
 four_bytes_and_zeros_shift n m r xs q h =
     let front : take (4 + n) (xs ++ replicate m 0) ≡ xs ++ replicate n 0 =
     take_in_two_parts 4 n (xs ++ replicate m 0)
@@ -65,8 +66,8 @@ four_bytes_and_zeros_shift n m r xs q h =
     ∙ (after-append 0 xs (replicate n 0)
     ∙ (ap (λ (z : ℕ). after_bits z (bits_of (replicate n 0))) (four_bytes_shift_register 0 r xs q.long q.bytes q.number q.small)
     ∙ (zero_bytes_shift_register n (shifts 32 (bit_xor 0 r))
-    ∙ (ap (λ (z : ℕ). shifts (bits_of_bytes_count n) (shifts 32 z)) (xor_zero_l r)
-    ∙ sym (shifts_in_two_parts 32 (bits_of_bytes_count n) r)))))
+    ∙ (ap (λ (z : ℕ). shifts (bit_count_of_bytes n) (shifts 32 z)) (xor_zero_l r)
+    ∙ sym (shifts_in_two_parts 32 (bit_count_of_bytes n) r)))))
 
 four_bytes_are_bytes : (a b c d : ℕ) → a < 256 → b < 256 → c < 256 → d < 256 → AreBytes (a ∷ b ∷ c ∷ d ∷ [])
 four_bytes_are_bytes a b c d h i j k zero = h
@@ -75,9 +76,9 @@ four_bytes_are_bytes a b c d h i j k (suc (suc zero)) = j
 four_bytes_are_bytes a b c d h i j k (suc (suc (suc zero))) = k
 four_bytes_are_bytes a b c d h i j k (suc (suc (suc (suc n)))) = omega arith
 
--- A register is the number of its four bytes, the low one first.
-pub register_spelled_in_four_bytes : (r : ℕ) (xs : List ℕ) → r < 2 ^ 32 → xs ≡ to_le_bytes w32 r → IsFourByteNumber r xs
-register_spelled_in_four_bytes r xs h e =
+-- A register of 32 bits is the number of its four bytes, the low one first.
+pub register_is_four_byte_number : (r : ℕ) (xs : List ℕ) → r < 2 ^ 32 → xs ≡ to_le_bytes w32 r → IsFourByteNumber r xs
+register_is_four_byte_number r xs h e =
     subst (IsFourByteNumber r) (sym e) (record {
       long = refl;
       bytes = four_bytes_are_bytes _ _ _ _ (omega arith) (omega arith) (omega arith) (omega arith);
@@ -85,11 +86,11 @@ register_spelled_in_four_bytes r xs h e =
       small = h;
     })
 
--- A register in four bytes, followed by bytes 0, represents the register.
-pub register_begins_residue : (m r : ℕ) (xs room : List ℕ) → IsFourByteNumber r xs → 1964 ≤ m → room ≡ xs ++ replicate m 0 →
+-- The four bytes of a register, followed by at least 1,964 zero bytes, have at their front a residue that represents the register.
+pub register_bytes_are_residue : (m r : ℕ) (xs room : List ℕ) → IsFourByteNumber r xs → 1964 ≤ m → room ≡ xs ++ replicate m 0 →
     register_of_residue (take 1968 room) ≡ r
 unfolding register_of_residue combined_numbers
-register_begins_residue m r xs room q h is =
+register_bytes_are_residue m r xs room q h is =
     let at = λ (n : ℕ) (l : n ≤ 1964). ap (λ (ys : List ℕ). register_from_zero (take (4 + n) ys)) is
     ∙ four_bytes_and_zeros_shift n m r xs q (omega arith) in
     let w1 = ap register_from_zero (take-take 720 1968 room (omega arith)) ∙ at 716 (omega arith) in
@@ -100,4 +101,4 @@ register_begins_residue m r xs room q h is =
     let w6 = at 1964 (omega arith) in
     let all : register_of_residue (take 1968 room) ≡ spread_over_taps r =
     λ i. bit_xor (bit_xor (bit_xor (bit_xor (bit_xor (w6 i) (w1 i)) (w2 i)) (w3 i)) (w4 i)) (w5 i) in
-    all ∙ spread_is_same_number 32 r (omega arith) q.small
+    all ∙ number_spreads_to_itself 32 r (omega arith) q.small

@@ -1,10 +1,10 @@
 -- Shifts of the register that are undone.
 use Rattle.std.proofs.Common.{◌≡◌, ℕ, ◌+◌, ◌*◌, ◌/◌, ◌%◌, ◌^◌, ◌<◌, ◌≤◌, cond, eqb, bit_xor, suc, sym, ap, ◌∙◌, arith}
 use Rattle.std.proofs.lemmas.Nat.{xor_shr}
-use Rattle.dfu_suffix.proofs.Combined.{xor_twice_is_nothing}
+use Rattle.dfu_suffix.proofs.Combined.{xor_twice_cancels}
 use Rattle.dfu_suffix.specs.Register.{shift, shifts}
 
--- A number of 32 bits whose highest bit is 1 has 31 bits once it is combined with EDB88320h.
+-- The highest bit of a number of 32 bits, if it is 1, is 0 after the xor with EDB88320h.
 pub xor_polynomial_clears_high_bit : (r : ℕ) → 0x8000_0000 ≤ r → r < 2 ^ 32 → bit_xor r 0xEDB8_8320 < 0x8000_0000
 xor_polynomial_clears_high_bit r h l =
     let one : r / 2 ^ 31 ≡ 1 = omega arith in
@@ -18,15 +18,15 @@ shift_undoes_odd_step r =
     let low : (t * 2 + 1) % 2 ≡ 1 = omega arith in
     let half : (t * 2 + 1) / 2 ≡ t = omega arith in
     ap (λ (z : ℕ). cond (eqb z 0) ((t * 2 + 1) / 2) (bit_xor ((t * 2 + 1) / 2) 0xEDB8_8320)) low
-    ∙ (ap (λ (z : ℕ). bit_xor z 0xEDB8_8320) half ∙ xor_twice_is_nothing r 0xEDB8_8320)
+    ∙ (ap (λ (z : ℕ). bit_xor z 0xEDB8_8320) half ∙ xor_twice_cancels r 0xEDB8_8320)
 
--- If `t` is shifted once to `s`, and `s` by `n` shifts to the register, `t` is shifted to the register by `n + 1`.
+-- If one shift takes `t` to `s`, and `n` shifts take `s` to the register, `n + 1` shifts take `t` to the register.
 pub one_more_shift_undone : (n r s t : ℕ) → shift t ≡ s → shifts n s ≡ r → shifts (n + 1) t ≡ r
 unfolding shifts
 one_more_shift_undone n r s t e h =
     let more : n + 1 ≡ suc n = omega arith in
     ap (λ (k : ℕ). shifts k t) more ∙ (ap (shifts n) e ∙ h)
 
--- A number that 32 shifts take to the register stays such a number when it is combined with the same number twice.
+-- If 32 shifts take a number to the register, they still do once the number was combined with `last` twice by xor.
 pub all_shifts_undone : (n r s last : ℕ) → n ≡ 32 → shifts n s ≡ r → shifts 32 (bit_xor (bit_xor s last) last) ≡ r
-all_shifts_undone n r s last e h = ap (shifts 32) (xor_twice_is_nothing s last) ∙ (ap (λ (k : ℕ). shifts k s) (sym e) ∙ h)
+all_shifts_undone n r s last e h = ap (shifts 32) (xor_twice_cancels s last) ∙ (ap (λ (k : ℕ). shifts k s) (sym e) ∙ h)

@@ -7,7 +7,7 @@ use Rattle.dfu_suffix.specs.Grammar.{tail_of}
 abbrev pub window_of : List ℕ → List ℕ
 window_of seen = drop (length seen) (replicate 16 0 ++ seen)
 
--- The window slides over a further piece.
+-- The window of the bytes with a further piece is the window of the bytes, followed by the piece, without as many bytes at its front.
 pub window_slides_over_piece : (seen more : List ℕ) → drop (length more) (window_of seen ++ more) ≡ window_of (seen ++ more)
 window_slides_over_piece seen more =
     let room : length seen ≤ length (replicate 16 0 ++ seen) = omega (arith, length-append (replicate 16 0) seen) in

@@ -1,9 +1,9 @@
--- Answer of adding a suffix, and the text that is written.
+-- Result of adding a suffix, and the text that is written.
 use Rattle.std.specs.Prelude.{◌≡◌, ◌⊎◌, ℕ, ◌<◌, ◌≤◌, List, [], length, Option, Result, Ok, Err, ⊤}
 use Rattle.std.specs.Io.KnownBytes.{Appends, Keeps}
 use Rattle.dfu_suffix.specs.Grammar.{IsFile, First}
 use Rattle.dfu_suffix.specs.Laws.{HasReading}
-use Rattle.dfu_suffix.specs.Writing.{IsOutInPart}
+use Rattle.dfu_suffix.specs.Writing.{IsPartlyWritten}
 use Rattle.dfu_wire.specs.declared.ids.Ids.{Ids}
 use Rattle.dfu_suffix.specs.declared.fault.SuffixFault.{SuffixFault}
 use Rattle.dfu_suffix.specs.declared.fault.SuffixFault.TheVariants.{AlreadySuffixed, DfuSe, TooLarge, NoMemory, Read, Write}
@@ -12,27 +12,28 @@ use Rattle.dfu_suffix.specs.declared.fault.SuffixFault.TheVariants.{AlreadySuffi
 abbrev pub HasSuffix : List ℕ → Type 0
 HasSuffix bytes = HasReading bytes ⊎ First DfuSe bytes
 
--- The bytes lack a suffix: with one they are within the limit of a file, and they have none yet.
-abbrev pub NeedsSuffix : List ℕ → Type 0
-NeedsSuffix bytes = (length bytes ≤ 16777200) × (HasSuffix bytes → ⊥)
+-- The bytes can get a suffix: they have none, and with one they are within the limit of a file.
+abbrev pub CanGetSuffix : List ℕ → Type 0
+CanGetSuffix bytes = (length bytes ≤ 16777200) × (HasSuffix bytes → ⊥)
 
 -- The text is the file of the payload and the identifiers, with bcdDFU 0100h and no extra bytes.
 abbrev pub IsFileWithSuffix : List ℕ → Ids → List ℕ → Type 0
 IsFileWithSuffix payload ids text = IsFile payload ids 0x0100 [] text
 
--- At `Ok` the whole file is written, and its length is the answer; at `Write` a part from its start; `TooLarge` and `AlreadySuffixed` say
--- what is wrong with the bytes; `Read` and `NoMemory` say nothing of them.
+-- After `Ok` and `Write` the bytes can get a suffix: at `Ok` the whole file is written, and its length is returned; at `Write` a part from
+-- its start is written, but not all. `TooLarge` and `AlreadySuffixed` are faults of the bytes; `Read` and `NoMemory` say nothing about
+-- them. No other fault is returned.
 abbrev pub AddResult : List ℕ → Ids → Option (List ℕ) → Option (List ℕ) → Result ℕ SuffixFault → Type 0
-AddResult all ids old new (Ok n) = NeedsSuffix all × (text : List ℕ) × IsFileWithSuffix all ids text × Appends old new text × (n
+AddResult all ids old new (Ok n) = CanGetSuffix all × (text : List ℕ) × IsFileWithSuffix all ids text × Appends old new text × (n
     ≡ length text)
 AddResult all ids old new (Err TooLarge) = 16777200 < length all
 AddResult all ids old new (Err AlreadySuffixed) = (length all ≤ 16777200) × HasSuffix all
-AddResult all ids old new (Err Write) = NeedsSuffix all × (text : List ℕ) × IsFileWithSuffix all ids text × IsOutInPart old new text
+AddResult all ids old new (Err Write) = CanGetSuffix all × (text : List ℕ) × IsFileWithSuffix all ids text × IsPartlyWritten old new text
 AddResult all ids old new (Err Read) = ⊤
 AddResult all ids old new (Err NoMemory) = ⊤
 AddResult all ids old new (Err fault) = ⊥
 
--- A fault other than Write leaves what the writer holds as it was.
+-- A fault other than Write leaves the contents of the writer unchanged.
 abbrev pub UnchangedAtFault : {T : Type 0} → Option (List ℕ) → Option (List ℕ) → Result T SuffixFault → Type 0
 UnchangedAtFault old new (Ok n) = ⊤
 UnchangedAtFault old new (Err Write) = ⊤

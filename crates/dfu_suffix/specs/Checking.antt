@@ -1,4 +1,4 @@
--- Answer of checking a file.
+-- Result of checking a file.
 use Rattle.std.specs.Prelude.{◌≡◌, ◌↔◌, ℕ, ◌+◌, ◌-◌, ◌≤◌, List, length, take, drop, slice_index, IfOk, Result, Ok, Err, ⊤}
 use Rattle.byteorder.specs.Endian.{little_number}
 use Rattle.dfu_suffix.specs.Register.{register}
@@ -19,8 +19,8 @@ summary_of payload ids dfu extra = record {
   crc = register (before_crc payload ids dfu extra);
 }
 
--- An accepted file is one of the grammar, with its summary; each file of the grammar is accepted; any other file has a first fault, which
--- is the answer.
+-- An accepted file is one of the grammar, with its summary; each file of the grammar is accepted; any other file is refused with its first
+-- fault.
 pub record CheckResult (bytes : List ℕ) (answer : Result Summary SuffixFault) : Type 0 where
   pub found : IfOk answer (λ s. (payload : List ℕ) × (extra : List ℕ) × IsFile payload s.ids s.dfu extra bytes
       × (s ≡ summary_of payload s.ids s.dfu extra))
@@ -28,18 +28,18 @@ pub record CheckResult (bytes : List ℕ) (answer : Result Summary SuffixFault) 
       answer ≡ Ok (summary_of payload ids dfu extra)
   pub fault : (fault : SuffixFault) → (answer ≡ Err fault) ↔ First fault bytes
 
--- The fact holds, unless the answer is Read.
-abbrev pub UnlessRead : {T : Type 0} → Result T SuffixFault → Type 0 → Type 0
-UnlessRead (Err Read) P = ⊤
-UnlessRead r P = P
+-- `P` holds, unless the result is Read.
+abbrev pub UnlessReadFault : {T : Type 0} → Result T SuffixFault → Type 0 → Type 0
+UnlessReadFault (Err Read) P = ⊤
+UnlessReadFault r P = P
 
--- The findings are those of the bytes: their count, bLength, dwCRC, and the register that dwCRC has to be.
+-- The findings are those of the bytes: their count, bLength, dwCRC, and the register that dwCRC must equal.
 pub record FindingsOf (bytes : List ℕ) (findings : Findings) : Type 0 where
   pub count : findings.count ≡ length bytes
   pub suffix : findings.suffix ≡ slice_index (tail_of bytes) 11
   pub crc : findings.crc ≡ little_number 4 (drop (length bytes - 4) bytes)
   pub register : findings.register ≡ register (take (length bytes - 4) bytes)
 
--- The findings are those of the bytes, if they are enough for a suffix and not too many for a file.
+-- The findings are those of the bytes, if there are 16 to 16,777,216 bytes.
 abbrev pub FindingsOfFile : List ℕ → Findings → Type 0
 FindingsOfFile bytes findings = 16 ≤ length bytes → length bytes ≤ 16777216 → FindingsOf bytes findings

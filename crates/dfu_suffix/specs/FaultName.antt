@@ -1,9 +1,9 @@
--- The names of the faults of files.
+-- Names of the faults of a file.
 use Rattle.std.specs.Prelude.{ℕ, List, codes}
 use Rattle.dfu_suffix.specs.declared.fault.SuffixFault.{SuffixFault}
 use Rattle.dfu_suffix.specs.declared.fault.SuffixFault.TheVariants as fault
 
--- The name of a fault of a file is that of its variant.
+-- The name of a fault is the name of its variant.
 abbrev pub suffix_fault_name : SuffixFault → List ℕ
 suffix_fault_name fault.TooShort = codes "TooShort"
 suffix_fault_name fault.NoSignature = codes "NoSignature"

@@ -1,11 +1,11 @@
--- Answer of gathering the bytes of a reader.
+-- Result of gathering the bytes of a reader.
 use Rattle.std.specs.Prelude.{◌≡◌, ℕ, ◌<◌, ◌≤◌, List, length, Result, Ok, Err, ⊤, Vec}
 use Rattle.std.specs.declared.alloc.Global.{Global}
 use Rattle.dfu_suffix.specs.declared.gathering.GatherFault.{GatherFault}
 use Rattle.dfu_suffix.specs.declared.gathering.GatherFault.TheVariants.{TooLarge, NoMemory, Read}
 
--- At `Ok` all bytes of the reader were gathered, and are within the limit; at `TooLarge` they are over the limit; `Read` and `NoMemory` say
--- nothing of them.
+-- After `Ok` all bytes of the reader are gathered, and within the limit; after `TooLarge` they are over the limit; `Read` and `NoMemory`
+-- say nothing about them.
 abbrev pub GatherResult : ℕ → List ℕ → Result (Vec ℕ Global) GatherFault → Type 0
 GatherResult limit all (Ok v) = (v.items ≡ all) × (length all ≤ limit)
 GatherResult limit all (Err TooLarge) = limit < length all

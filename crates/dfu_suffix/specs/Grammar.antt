@@ -8,7 +8,7 @@ use Rattle.dfu_wire.specs.declared.ids.Ids.{Ids}
 use Rattle.dfu_suffix.specs.declared.fault.SuffixFault.{SuffixFault}
 use Rattle.dfu_suffix.specs.declared.fault.SuffixFault.TheVariants.{TooShort, NoSignature, BadLength, DfuSe, BadCrc, AlreadySuffixed, TooLarge, NoMemory, Read, Write}
 
--- A file says its payload, its identifiers, bcdDFU and bLength.
+-- Content of a file: its payload, its identifiers, bcdDFU and bLength.
 pub record Content : Type 0 where
   pub payload : List ℕ
   pub ids : Ids
@@ -26,7 +26,8 @@ fields_before_crc ids dfu extra =
 abbrev pub before_crc : List ℕ → Ids → ℕ → List ℕ → List ℕ
 before_crc payload ids dfu extra = payload ++ (extra ++ fields_before_crc ids dfu extra)
 
--- The bytes are a file with this payload, these fields and these extra bytes, and then the register over all bytes before it.
+-- The bytes are the payload, at most 239 extra bytes, the fields of a suffix, and dwCRC, the register over all bytes before it. Each field
+-- fits its bytes, bcdDFU isn't 011Ah, and there are at most 16,777,216 bytes.
 pub record IsFile (payload : List ℕ) (ids : Ids) (dfu : ℕ) (extra : List ℕ) (bytes : List ℕ) : Type 0 where
   pub spelled : bytes ≡ before_crc payload ids dfu extra ++ to_le_bytes w32 (register (before_crc payload ids dfu extra))
   pub extra_fits : length extra ≤ 239
@@ -37,15 +38,15 @@ pub record IsFile (payload : List ℕ) (ids : Ids) (dfu : ℕ) (extra : List ℕ
   pub not_dfuse : dfu ≢ 0x011A
   pub small : length bytes ≤ 16777216
 
--- The tail of bytes is the last 16 of them.
+-- Tail of bytes: the last 16, or all if there are fewer.
 abbrev pub tail_of : List ℕ → List ℕ
 tail_of bytes = drop (length bytes - 16) bytes
 
--- A tail is signed if it has the letters UFD in their place.
+-- A tail is signed if its bytes 8 to 10 are the letters UFD.
 abbrev pub is_signed : List ℕ → Bool
 is_signed tail = (slice_index tail 8 == 0x55) && ((slice_index tail 9 == 0x46) && (slice_index tail 10 == 0x44))
 
--- Each fault of a file has its condition on the bytes, and the other faults have no condition.
+-- The bytes meet the condition of a fault, which is never met for AlreadySuffixed, NoMemory, Read and Write.
 abbrev pub has_fault : List ℕ → SuffixFault → Bool
 has_fault bytes TooLarge = nat_lt 16777216 (length bytes)
 has_fault bytes TooShort = nat_lt (length bytes) 16
@@ -58,10 +59,10 @@ has_fault bytes NoMemory = false
 has_fault bytes Read = false
 has_fault bytes Write = false
 
--- The faults of a file are looked for in this order.
+-- Order in which the faults of a file are checked.
 abbrev pub fault_order : List SuffixFault
 fault_order = TooLarge ∷ TooShort ∷ NoSignature ∷ BadLength ∷ DfuSe ∷ BadCrc ∷ []
 
--- First fault of the bytes.
+-- `fault` is the first fault of the bytes, in the order of `fault_order`.
 abbrev pub First : SuffixFault → List ℕ → Type 0
 First fault bytes = find (has_fault bytes) fault_order ≡ Some fault

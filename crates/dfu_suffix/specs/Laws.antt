@@ -1,4 +1,4 @@
--- Facts that the definitions of the file format say together.
+-- Facts that follow from the definitions of the file format.
 use Rattle.std.specs.Prelude.{◌≡◌, ◌↔◌, ◌⊎◌, ℕ, ◌-◌, ◌<◌, ◌≤◌, List, length, take, drop, slice_index}
 use Rattle.byteorder.specs.Endian.{little_number}
 use Rattle.dfu_suffix.specs.Register.{register}
@@ -15,18 +15,18 @@ abbrev pub HasReading : List ℕ → Type 0
 HasReading bytes = (payload : List ℕ) × (ids : Ids) × (dfu : ℕ) × (extra : List ℕ) × IsFile payload ids dfu extra bytes
 
 -- Bytes have a reading or a first fault, and never both.
-abbrev pub EachFileOrFault : Type 0
-EachFileOrFault = (bytes : List ℕ) → AreBytes bytes → (HasReading bytes ⊎ ((fault : SuffixFault) × First fault bytes))
+abbrev pub EitherFileOrFault : Type 0
+EitherFileOrFault = (bytes : List ℕ) → AreBytes bytes → (HasReading bytes ⊎ ((fault : SuffixFault) × First fault bytes))
     × ((fault : SuffixFault) → HasReading bytes → First fault bytes → ⊥)
 
 -- The register over four bytes or more is 0 exactly if the number in the last four is the register over the bytes before them.
-abbrev pub LastFour : Type 0
-LastFour = (bytes : List ℕ) → AreBytes bytes → 4 ≤ length bytes → (register bytes ≡ 0)
+abbrev pub ZeroRegisterByLastFour : Type 0
+ZeroRegisterByLastFour = (bytes : List ℕ) → AreBytes bytes → 4 ≤ length bytes → (register bytes ≡ 0)
     ↔ (little_number 4 (drop (length bytes - 4) bytes) ≡ register (take (length bytes - 4) bytes))
 
 -- Bytes that are a file of the grammar have no fault.
-abbrev pub NoFileFault : Type 0
-NoFileFault = (bytes : List ℕ) (fault : SuffixFault) → HasReading bytes → First fault bytes → ⊥
+abbrev pub FilesHaveNoFault : Type 0
+FilesHaveNoFault = (bytes : List ℕ) (fault : SuffixFault) → HasReading bytes → First fault bytes → ⊥
 
 -- Two readings of the same bytes are equal.
 abbrev pub OneReading : Type 0

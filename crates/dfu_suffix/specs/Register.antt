@@ -7,7 +7,7 @@ use Rattle.std.specs.List.{flat_map}
 abbrev pub after_bit : ℕ → ℕ → ℕ
 after_bit r bit = if r % 2 == bit then r / 2 else bit_xor (r / 2) 0xEDB8_8320
 
--- More bits go into the register one by one, in their order.
+-- The register after further bits, one by one, in their order.
 unfoldable pub after_bits : ℕ → List ℕ → ℕ
 after_bits r bits = fold after_bit r bits
 
@@ -16,7 +16,7 @@ unfoldable pub low_bits : ℕ → ℕ → List ℕ
 low_bits zero x = []
 low_bits (suc n) x = x % 2 ∷ low_bits n (x / 2)
 
--- The bits of bytes come byte by byte, the low bit of each byte first.
+-- Bits of bytes, byte by byte, the low bit of each byte first.
 unfoldable pub bits_of : List ℕ → List ℕ
 bits_of bytes = flat_map (low_bits 8) bytes
 
@@ -24,11 +24,11 @@ bits_of bytes = flat_map (low_bits 8) bytes
 unfoldable pub register : List ℕ → ℕ
 register bytes = fold after_bit 0xFFFF_FFFF (flat_map (low_bits 8) bytes)
 
--- A number is shifted by one bit 0, as if it were the register.
+-- Shifts a number by one bit 0, as if it were the register.
 abbrev pub shift : ℕ → ℕ
 shift s = after_bit s 0
 
--- A number is shifted by n bits 0, one after the other.
+-- Shifts a number by `n` bits 0, one after the other.
 unfoldable pub shifts : ℕ → ℕ → ℕ
 shifts zero s = s
 shifts (suc n) s = shifts n (shift s)

@@ -1,7 +1,7 @@
 //! Checks of a file whose bytes a reader gives.
 
 ghost use Rattle.std.specs.Prelude.{◌≡◌, ◌≢◌, ◌<◌, ◌++◌, ℕ, length, drop, slice_index, Err, IfSome};
-ghost use Rattle.dfu_suffix.specs.Checking.{CheckResult, FindingsOfFile, UnlessRead};
+ghost use Rattle.dfu_suffix.specs.Checking.{CheckResult, FindingsOfFile, UnlessReadFault};
 ghost use Rattle.dfu_suffix.specs.declared.fault.SuffixFault.TheVariants.{NoMemory};
 
 use crate::crc::Crc;
@@ -11,17 +11,17 @@ use crate::findings::{Findings, findings_of};
 use crate::summary::{Summary, check_register};
 use std::io::Read;
 
-/// Checks all bytes that a reader gives, as `read` of the bytes. Only the register over them, their count and the last 16 are kept, and no
-/// memory is taken, for any number of bytes. Up to 65,536 bytes are read at a time, into a buffer on the stack.
+/// Checks all bytes that a reader gives, as `read` checks a slice. Only the register over them, their count and the last 16 are kept, and
+/// no memory is allocated, for any number of bytes. Up to 16,384 bytes are read at a time, into a buffer on the stack.
 ///
 /// # Errors
 ///
-/// TooLarge once byte 16,777,217 was read, and no read is made after that; Read at the first error
-/// of the reader, with no second try; else the fault that `read` answers for the bytes.
+/// TooLarge once byte 16,777,217 was read, and no read is made after that; Read at the first error of the reader, with no second try; else
+/// the fault that `read` returns for the bytes.
 pub fn check<R: Read + Drop>(reader: R) -> Result<Summary, SuffixFault>
-    // An answer other than Read is Ok exactly for a file of the grammar, with its summary, and
-    // else the first fault of the bytes, in whatever pieces they come.
-    ensures answer { IfSome (R.remaining reader) (λ all. UnlessRead result (CheckResult all result)) }
+    // A result other than Read is Ok exactly for a file of the grammar, with its summary, and otherwise the first fault of the bytes, in
+    // whatever pieces they come.
+    ensures answer { IfSome (R.remaining reader) (λ all. UnlessReadFault result (CheckResult all result)) }
     // The fault is never NoMemory, for any reader.
     ensures memory { result ≢ Err NoMemory }
 {
@@ -29,8 +29,8 @@ pub fn check<R: Read + Drop>(reader: R) -> Result<Summary, SuffixFault>
     check_with(reader, &mut findings)
 }
 
-/// Checks as `check` does, and writes into `findings` the numbers of which the reason of BadLength or BadCrc is made. After TooShort,
-/// TooLarge and Read they say nothing of the file.
+/// Checks as `check` does, and writes to `findings` the numbers that explain BadLength or BadCrc. After TooShort, TooLarge and Read they
+/// say nothing about the file.
 ///
 /// # Errors
 ///
@@ -39,10 +39,10 @@ pub fn check_with<R: Read + Drop>(
     mut reader: R,
     findings: &mut Findings,
 ) -> Result<Summary, SuffixFault>
-    // The answer is that of `check`.
-    ensures answer { IfSome (R.remaining reader) (λ all. UnlessRead result (CheckResult all result)) }
-    // Unless the answer is Read, the findings are those of all bytes, if there are 16 to 16,777,216 of them.
-    ensures findings { IfSome (R.remaining reader) (λ all. UnlessRead result (FindingsOfFile all findings.new)) }
+    // The result is that of `check`.
+    ensures answer { IfSome (R.remaining reader) (λ all. UnlessReadFault result (CheckResult all result)) }
+    // Unless the result is Read, the findings are those of all bytes, if there are 16 to 16,777,216 of them.
+    ensures findings { IfSome (R.remaining reader) (λ all. UnlessReadFault result (FindingsOfFile all findings.new)) }
     // The fault is never NoMemory, for any reader.
     ensures memory { result ≢ Err NoMemory }
 {
@@ -72,7 +72,7 @@ pub fn check_with<R: Read + Drop>(
     unreachable!()
 }
 
-// Slides a window of 16 bytes over more: it becomes the last 16 of both.
+// Slides a window of 16 bytes over `more`: the window becomes the last 16 bytes of itself and `more`.
 fn slide(window: &mut [u8; 16], more: &[u8])
     ensures last { window.new ≡ drop (length more.now) (window.old ++ more.now) }
     ensures bytes { (k : ℕ) → slice_index more.now k < 256 }

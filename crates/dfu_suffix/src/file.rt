@@ -1,4 +1,4 @@
-//! The numbers of a file (USB DFU 1.1, appendix B) and its limits, and a file that was read.
+//! Sizes and limits of a file (USB DFU 1.1, appendix B), and a file that was read.
 
 ghost use Rattle.std.specs.Prelude.{◌≡◌, ◌≢◌, ◌≤◌};
 
@@ -8,13 +8,13 @@ use std::marker::Model;
 /// Largest number of bytes of a file.
 pub(crate) const MAX_FILE: usize = 16_777_216;
 
-/// Limit of the reads of a file: each but the last gives at least a byte.
+/// Largest number of reads of a file: each but the last returns at least one byte.
 pub(crate) const MAX_READS: usize = MAX_FILE + 1;
 
-/// Bytes for which a reader is asked at a time.
+/// Number of bytes that a reader is asked for at a time.
 pub const READ_BYTES: usize = 16_384;
 
-/// The fewest bytes that a suffix has.
+/// Smallest number of bytes of a suffix.
 pub(crate) const MIN_SUFFIX: u32 = 16;
 
 /// Largest number of bytes of a payload: with the shortest suffix they make the largest file.
@@ -45,7 +45,7 @@ impl<'f> Model for File<'f> {
 }
 
 impl<'f> File<'f> {
-    /// Returns the bytes before the suffix, which are what a device gets.
+    /// Returns the bytes before the suffix, which are sent to a device.
     pub fn payload(&self) -> &'f [u8]
         ensures { result.now ≡ self.now.payload }
     {

@@ -1,4 +1,4 @@
-//! Findings of a check in a file, accepted or not.
+//! Findings of a check of a file, accepted or not.
 
 ghost use Rattle.std.specs.Prelude.{◌≡◌, length, drop, slice_index, bit_xor};
 ghost use Rattle.byteorder.specs.Endian.{little_number};
@@ -6,8 +6,8 @@ ghost use Rattle.dfu_suffix.specs.Register.{shift, shifts};
 
 use crate::summary::u32_at;
 
-/// Findings of `check_with` in a file of 16 to 16,777,216 bytes: its length, two fields of its suffix (USB DFU 1.1, appendix B) as they
-/// stand there, and the register that dwCRC has to be.
+/// Findings of `check_with` in a file of 16 to 16,777,216 bytes: its length, two fields of its suffix (USB DFU 1.1, appendix B), right or
+/// wrong, and the register that dwCRC must equal.
 #[derive(Clone, Copy)]
 pub struct Findings {
     /// Length of the file in bytes.
@@ -54,7 +54,7 @@ pub(crate) fn findings_of(tail: &[u8], count: u32, register: u32) -> Findings
     }
 }
 
-// The number that one bit 0 shifts to `register`. Its highest bit says whether the bit that was shifted out was 1.
+// Returns the number that one bit 0 shifts to `register`, whose highest bit equals the bit that was shifted out.
 fn unshifted(register: u32) -> u32
     ensures { shift result ≡ register }
 {
@@ -65,7 +65,7 @@ fn unshifted(register: u32) -> u32
     }
 }
 
-// The register before the last four bytes, from the register after them and the number that they make, the low byte first.
+// Returns the register before the last four bytes, from the register after them and the number that they make, the low byte first.
 fn before_four(register: u32, last: u32) -> u32
     ensures { shifts 32 (bit_xor result last) ≡ register }
 {

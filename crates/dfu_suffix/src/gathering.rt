@@ -18,7 +18,7 @@ pub enum GatherFault {
     Read,
 }
 
-/// Gathers all bytes that the reader gives, at most `limit`. Up to 65,536 bytes are read at a time.
+/// Gathers all bytes that the reader gives, at most `limit`. Up to 16,384 bytes are read at a time.
 ///
 /// # Errors
 ///
@@ -30,7 +30,7 @@ pub fn gather<R: Read + Drop>(
     limit: usize,
 ) -> Result<Vec<u8>, GatherFault>
     requires { limit ≤ 16777216 }
-    // At Ok the bytes are all that the reader gives, and at TooLarge those are over the limit.
+    // At Ok the result is all bytes that the reader gives, and at TooLarge they are over the limit.
     ensures all { IfSome (R.remaining reader) (λ all. GatherResult limit all result) }
     // The bytes are within the limit, for any reader.
     ensures len { IfOk result (λ v. length v.items ≤ limit) }

@@ -1,8 +1,8 @@
 //! The DFU file: a payload and its suffix (USB DFU 1.1, appendix B).
 //!
-//! `read` and `read_small` take a whole file apart, `check` does so for all bytes that a reader gives, `add` writes a file of a payload,
-//! and `Crc` is the register of which the suffix's dwCRC is made. `gather` and `write_whole` are the loops over streams that the crates
-//! above share. The crate opens no file and prints nothing.
+//! `read` and `read_small` parse a whole file, `check` checks all bytes that a reader gives, `add` writes a file of a payload, and `Crc` is
+//! the register that becomes the dwCRC of a suffix. `gather` and `write_whole` are loops over streams, shared with other crates. The crate
+//! opens no file and prints nothing.
 #![tactic(auto)]
 
 mod adding;

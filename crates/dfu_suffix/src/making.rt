@@ -37,7 +37,7 @@ fn fields_of(ids: Ids) -> [u8; 12]
     ]
 }
 
-/// Returns dwCRC over `payload` and the `fields` after it.
+/// Returns dwCRC: the register over `payload` and the `fields` after it.
 fn crc_over(payload: &[u8], fields: &[u8]) -> u32
     ensures { result ≡ register (payload.now ++ fields.now) }
 {
@@ -47,7 +47,7 @@ fn crc_over(payload: &[u8], fields: &[u8]) -> u32
     crc.value()
 }
 
-/// Makes a file of its payload. If an allocation is refused, the text has no meaning any more.
+/// Appends the suffix to the payload `text`. If an allocation is refused, `text` must not be used.
 pub(crate) fn append_suffix(text: &mut Vec<u8>, ids: Ids) -> Result<(), AllocError>
     ensures { OnOk result (text.new.items ≡ text.old.items ++ added_suffix text.old.items ids) }
 {
@@ -59,7 +59,7 @@ pub(crate) fn append_suffix(text: &mut Vec<u8>, ids: Ids) -> Result<(), AllocErr
     }
 }
 
-/// Returns true if `fault` is that of a DfuSe file.
+/// Returns true if `fault` is `DfuSe`.
 fn is_dfuse(fault: SuffixFault) -> bool
     ensures { (result ≡ true) ↔ (fault ≡ DfuSe) }
 {
@@ -69,7 +69,7 @@ fn is_dfuse(fault: SuffixFault) -> bool
     }
 }
 
-/// Returns true if `bytes` have a suffix, also that of a DfuSe file.
+/// Returns true if `bytes` have a suffix, which may be that of a DfuSe file.
 pub(crate) fn has_suffix(bytes: &[u8]) -> bool
     ensures { (result ≡ true) ↔ HasSuffix bytes.now }
 {

@@ -11,7 +11,7 @@ use crate::fault::SuffixFault;
 use crate::file::{File, MAX_FILE, MIN_SUFFIX};
 use crate::summary::parse_tail;
 
-// The last 16 bytes, or all bytes if there are fewer.
+// Returns the last 16 bytes, or all bytes if there are fewer.
 fn tail(bytes: &[u8]) -> &[u8]
     ensures value { result.now ≡ tail_of bytes.now }
     ensures len { 16 ≤ length bytes.now → length result.now ≡ 16 }
@@ -20,7 +20,7 @@ fn tail(bytes: &[u8]) -> &[u8]
     tail
 }
 
-// The register over all bytes, which is the same by the large tables and the small one.
+// Returns the register over all bytes, which is the same by the large tables and by the small one.
 #[inline(always)]
 fn register_over(bytes: &[u8], by_small_table: bool) -> u32
     ensures { result ≡ register bytes.now }
@@ -34,7 +34,7 @@ fn register_over(bytes: &[u8], by_small_table: bool) -> u32
     crc.value()
 }
 
-// The bytes before the suffix.
+// Returns the bytes before the last `suffix` bytes.
 fn payload_of(bytes: &[u8], suffix: usize) -> &[u8]
     requires { suffix ≤ length bytes.now }
     ensures { result.now ≡ take (length bytes.now - suffix) bytes.now }
@@ -43,8 +43,8 @@ fn payload_of(bytes: &[u8], suffix: usize) -> &[u8]
     payload
 }
 
-/// Reads the fields of the bytes from their end, or returns their first fault. Each reader has a body of its own, so that the small reader
-/// is linked without the large tables.
+/// Reads the fields of the bytes from their end, or returns their first fault. The body is inlined into each reader, so that the small
+/// reader is linked without the large tables.
 #[inline(always)]
 #[tactic(auto, using(std::proofs::lemmas::Bool::Decides::nat_tests), unfolding(crate::specs::inside::Reading::read_content))]
 fn parse(bytes: &[u8], by_small_table: bool) -> Result<File<'_>, SuffixFault>
@@ -65,7 +65,7 @@ fn parse(bytes: &[u8], by_small_table: bool) -> Result<File<'_>, SuffixFault>
     }
 }
 
-// Reads a whole file, as `read` and `read_small` say.
+// Reads a whole file, with the contract of `read` and `read_small`.
 #[inline(always)]
 fn read_by(bytes: &[u8], by_small_table: bool) -> Result<File<'_>, SuffixFault>
     ensures found { IfOk result (λ f. (extra : List ℕ) × IsFile f.payload f.ids f.dfu extra bytes.now × (f.suffix ≡ 16 + length extra)) }
@@ -76,7 +76,7 @@ fn read_by(bytes: &[u8], by_small_table: bool) -> Result<File<'_>, SuffixFault>
     parse(bytes, by_small_table)
 }
 
-/// Reads a whole file (USB DFU 1.1, appendix B). No memory is taken, because the payload is a slice of `bytes`.
+/// Reads a whole file (USB DFU 1.1, appendix B). No memory is allocated, because the payload is a slice of `bytes`.
 ///
 /// # Errors
 ///
@@ -89,7 +89,7 @@ pub fn read(bytes: &[u8]) -> Result<File<'_>, SuffixFault>
     // Each file of the grammar is read.
     ensures only { (payload : List ℕ) (ids : Ids) (dfu : ℕ) (extra : List ℕ) → IsFile payload ids dfu extra bytes.now
         → result ≡ Ok (record { payload = payload; ids = ids; dfu = dfu; suffix = 16 + length extra }) }
-    // Any other bytes have a first fault, which is the answer.
+    // Any other bytes have a first fault, which is returned.
     ensures fault { (fault : SuffixFault) → (result ≡ Err fault) ↔ First fault bytes.now }
 {
     read_by(bytes, false)

@@ -1,10 +1,9 @@
-//! The register of USB DFU 1.1, appendix B, four bits at a time: for a program that has no room for the tables.
+//! The register of USB DFU 1.1, appendix B, four bits at a time: for a program that has no room for the large tables.
 
 ghost use Rattle.std.specs.Prelude.{◌≡◌};
 ghost use Rattle.dfu_suffix.specs.Register.{after_bits, bits_of, low_bits, shifts};
 
-/// Register after 4 further bits 0, for each number below 16. The check computes it by the definition over single bits
-/// (proofs/SmallTable.antt).
+/// Each number below 16, shifted by 4 bits 0. The proof computes all entries by the definition over single bits (proofs/SmallTable.antt).
 static AFTER_4: [u32; 16] = [
     0x0000_0000,
     0x1db7_1064,
@@ -24,7 +23,7 @@ static AFTER_4: [u32; 16] = [
     0xbdbd_f21c,
 ];
 
-// Returns the register after 4 bits 0, from a number.
+// Returns a number, shifted by 4 bits 0.
 #[inline(always)]
 fn after_4_zeros(number: u32) -> u32
     ensures { result ≡ shifts 4 number }
@@ -32,7 +31,7 @@ fn after_4_zeros(number: u32) -> u32
     (number >> 4) ^ AFTER_4[(number & 0xf) as usize]
 }
 
-// The register after a further byte.
+// Returns the register after a further byte.
 #[inline(always)]
 fn after_byte(register: u32, byte: u8) -> u32
     ensures { result ≡ after_bits register (low_bits 8 byte) }
@@ -40,7 +39,7 @@ fn after_byte(register: u32, byte: u8) -> u32
     after_4_zeros(after_4_zeros(register ^ u32::from(byte)))
 }
 
-/// Returns the register after `start` and `bytes`, one byte at a time.
+/// Returns the register `start` after `bytes`, one byte at a time.
 pub(crate) fn after_bytes(start: u32, bytes: &[u8]) -> u32
     ensures { result ≡ after_bits start (bits_of bytes.now) }
 {

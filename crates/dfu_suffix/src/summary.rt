@@ -1,10 +1,10 @@
-//! Summary of a file that `check` gives, by its end (USB DFU 1.1, appendix B).
+//! Summary of a file, which `check` returns, by the last bytes of the file (USB DFU 1.1, appendix B).
 
 ghost use Rattle.std.specs.Prelude.{◌≡◌, ◌≢◌, ◌+◌, ◌≤◌, length, drop, Err, IfOk};
 ghost use Rattle.byteorder.specs.Endian.{little_number};
 ghost use Rattle.dfu_suffix.specs.Grammar.{is_signed};
 ghost use Rattle.dfu_suffix.specs.inside.Reading.{tail_ids};
-ghost use Rattle.dfu_suffix.specs.inside.TailChecks.{register_checked, tail_summary};
+ghost use Rattle.dfu_suffix.specs.inside.TailChecks.{checked_by_register, tail_summary};
 ghost use Rattle.dfu_suffix.specs.declared.fault.SuffixFault.TheVariants.{NoMemory};
 
 use crate::fault::SuffixFault;
@@ -12,7 +12,7 @@ use crate::file::{DFUSE, MIN_SUFFIX};
 use byteorder::{ByteOrder, LittleEndian};
 use dfu_wire::Ids;
 
-/// Fields of a file and the length of its payload, as `check` answers them.
+/// Fields of a file and the length of its payload, as `check` returns them.
 #[derive(Clone, Copy)]
 pub struct Summary {
     /// Length of the payload in bytes, at most 16,777,200.
@@ -27,7 +27,7 @@ pub struct Summary {
     pub crc: u32,
 }
 
-// Returns whether the last 16 bytes have the signature.
+// Returns true if the last 16 bytes have the signature.
 fn is_signed(tail: &[u8]) -> bool
     requires { length tail.now ≡ 16 }
     ensures { result ≡ is_signed tail.now }
@@ -35,7 +35,7 @@ fn is_signed(tail: &[u8]) -> bool
     tail[8] == b'U' && tail[9] == b'F' && tail[10] == b'D'
 }
 
-// The number in the two bytes from `at`, the low one first.
+// Returns the number in the two bytes of `bytes` from index `at` on, the low byte first.
 fn u16_at(bytes: &[u8], at: usize) -> u16
     requires { at + 2 ≤ length bytes.now }
     ensures { result ≡ little_number 2 (drop at bytes.now) }
@@ -53,7 +53,7 @@ pub(crate) fn u32_at(bytes: &[u8], at: usize) -> u32
     LittleEndian::read_u32(field)
 }
 
-// The identifiers in the last 16 bytes.
+// Returns the identifiers in the last 16 bytes.
 fn ids_of(tail: &[u8]) -> Ids
     requires { length tail.now ≡ 16 }
     ensures { result ≡ tail_ids tail.now }
@@ -96,15 +96,15 @@ pub(crate) fn parse_tail(tail: &[u8], count: u32) -> Result<Summary, SuffixFault
     })
 }
 
-/// Returns the summary of a file of `count` bytes, by `tail`, its last 16 bytes, and by `register`, that over all of the file, which is 0
-/// exactly if dwCRC is right.
+/// Returns the summary of a file of `count` bytes, by `tail`, its last 16 bytes, and by `register`, the register over the whole file, which
+/// is 0 exactly if dwCRC is right.
 ///
 /// # Errors
 ///
 /// The first fault of the file other than TooLarge.
 pub(crate) fn check_register(tail: &[u8], count: u32, register: u32) -> Result<Summary, SuffixFault>
     requires { length tail.now ≡ 16 }
-    ensures answer { result ≡ register_checked tail.now count register }
+    ensures answer { result ≡ checked_by_register tail.now count register }
     ensures memory { result ≢ Err NoMemory }
 {
     match parse_tail(tail, count) {

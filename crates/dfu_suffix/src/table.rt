@@ -1,7 +1,7 @@
-//! Tables of the register: what 64, 56, .. 8 further bits 0 make of each number below 256.
+//! Tables of the register: each number below 256, shifted by 64, 56, .. 8 bits 0.
 
-// Makes a table from 32 entries, in four rows: those for 0, 1, .. 15 and those for 0, 16, .. 240. Bits 0 make of the XOR of two numbers the
-// XOR of what they make of each, so that the 32 entries make all 256.
+// Makes a table from 32 entries, in four rows: those for 0, 1, .. 15 and those for 0, 16, .. 240. The shift of the XOR of two numbers is
+// the XOR of their shifts, so that the 32 entries give all 256.
 macro_rules! tables {
     ($([$($a:literal)+] [$($b:literal)+] [$($c:literal)+] [$($d:literal)+])+) => {
         [$(tables!(@ [] [$($a)+ $($b)+] $($c)+ $($d)+)),+]
@@ -12,9 +12,9 @@ macro_rules! tables {
     };
 }
 
-/// The table for each place of eight bytes: from the start of the first byte 64 bits are to come, from the start of the last one 8. The
-/// tables follow one another in memory, so that one address serves for all. The check computes all entries of the last table by the
-/// definition over single bits, and those of each other table from the table after it (proofs/Tables.antt).
+/// The table for each of eight bytes: the first byte is shifted by 64 bits, the last by 8. The tables follow one another in memory, so that
+/// one address serves for all. The proof computes all entries of the last table by the definition over single bits, and those of each other
+/// table from the table after it (proofs/Tables.antt).
 #[rattlefmt::skip]
 pub(crate) static TABLES: [[u32; 256]; 8] = tables!(
     [0x0000_0000 0xccaa_009e 0x4225_077d 0x8e8f_07e3 0x844a_0efa 0x48e0_0e64 0xc66f_0987 0x0ac5_0919]

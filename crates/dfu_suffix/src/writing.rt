@@ -1,10 +1,10 @@
 //! Writing of a whole text, by a call that isn't inlined because the crates above make it often.
 
-ghost use Rattle.dfu_suffix.specs.Writing.{WritesWhole};
+ghost use Rattle.dfu_suffix.specs.Writing.{WholeWriteResult};
 
 use std::io::Write;
 
-/// Fault of a writer that failed, or took nothing of what was left.
+/// Fault of a writer that failed, or took none of the remaining bytes.
 #[derive(Clone, Copy)]
 pub struct OutputError;
 
@@ -12,11 +12,11 @@ pub struct OutputError;
 ///
 /// # Errors
 ///
-/// OutputError at the first error of the writer, with no second try, and if the writer takes nothing of what is left.
+/// OutputError at the first error of the writer, with no second try, and if the writer takes none of the remaining bytes.
 #[inline(never)]
 pub fn write_whole<W: Write>(writer: &mut W, text: &[u8]) -> Result<(), OutputError>
-    // At Ok the whole text is written, and at a fault only a prefix of it.
-    ensures { WritesWhole (W.contents writer.old) (W.contents writer.new) text.now result }
+    // At Ok the whole text is written, and at a fault a prefix of it, but not all.
+    ensures { WholeWriteResult (W.contents writer.old) (W.contents writer.new) text.now result }
 {
     let mut rest = text;
     while !rest.is_empty() {

@@ -3,7 +3,7 @@ use Rattle.std.specs.Prelude.{ℕ, List, codes}
 use Rattle.dfu_wire.specs.declared.codes.Code.{Code}
 use Rattle.dfu_wire.specs.declared.codes.Code.TheVariants as code
 
--- bStatus holds this number for a code.
+-- Number of a code in bStatus.
 abbrev pub code_byte : Code → ℕ
 code_byte code.Ok = 0
 code_byte code.Target = 1
@@ -22,7 +22,7 @@ code_byte code.Por = 13
 code_byte code.Unknown = 14
 code_byte code.StalledPkt = 15
 
--- The standard has this name for a code.
+-- Name of a code in the standard.
 abbrev pub code_name : Code → List ℕ
 code_name code.Ok = codes "OK"
 code_name code.Target = codes "errTARGET"

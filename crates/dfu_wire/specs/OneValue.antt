@@ -1,4 +1,4 @@
--- Bytes are at most one value of a format, or have one first fault.
+-- Bytes encode at most one value of a format.
 use Rattle.std.proofs.Common.{◌≡◌, ℕ, List, [], ◌∷◌, slice_index_or, refl, sym, ap, ◌∙◌, arith}
 use Rattle.dfu_wire.specs.declared.fault.WireFault.{WireFault}
 use Rattle.dfu_wire.specs.declared.setups.Setup.{Setup}
@@ -8,17 +8,17 @@ use Rattle.dfu_wire.specs.Setup.{IsSetup}
 use Rattle.dfu_wire.specs.State.{state_byte}
 use Rattle.dfu_wire.specs.Status.{StatusFields, IsStatus}
 
--- Two values of the same bytes are equal.
+-- Bytes encode at most one value of the format: any two that they encode are equal.
 abbrev pub OneValue : (A : Type 0) → (A → List ℕ → Type 0) → Type 0
 OneValue A Is = (x y : A) (b : List ℕ) → Is x b → Is y b → x ≡ y
 
--- Bytes that are a value have no fault.
+-- Bytes that encode a value of the format have no fault.
 abbrev pub NoFault : (A : Type 0) → (A → List ℕ → Type 0) → (WireFault → List ℕ → Type 0) → Type 0
 NoFault A Is Fails = (x : A) (e : WireFault) (b : List ℕ) → Is x b → Fails e b → ⊥
 
--- No bytes are two setups.
-pub setup_bytes_one_value : OneValue Setup IsSetup
-setup_bytes_one_value s t b x y = λ k. record {
+-- Bytes encode at most one setup.
+pub bytes_encode_one_setup : OneValue Setup IsSetup
+bytes_encode_one_setup s t b x y = λ k. record {
   kind = (x.kind ∙ sym y.kind) k;
   request = (x.request ∙ sym y.request) k;
   value = (x.value ∙ sym y.value) k;
@@ -26,9 +26,9 @@ setup_bytes_one_value s t b x y = λ k. record {
   length = (x.size ∙ sym y.size) k;
 }
 
--- No bytes are two statuses.
-pub status_bytes_one_value : OneValue StatusFields IsStatus
-status_bytes_one_value s t b x y = grind arith
+-- Bytes encode at most one status.
+pub bytes_encode_one_status : OneValue StatusFields IsStatus
+bytes_encode_one_status s t b x y = grind arith
 
 -- The states in the order of their numbers.
 abbrev states : List State
@@ -36,23 +36,24 @@ states =
     state.AppIdle ∷ state.AppDetach ∷ state.DfuIdle ∷ state.DownloadSync ∷ state.DownloadBusy ∷ state.DownloadIdle
     ∷ state.ManifestSync ∷ state.Manifest ∷ state.ManifestWaitReset ∷ state.UploadIdle ∷ state.Error ∷ []
 
--- The state of a number.
-abbrev state_numbered : ℕ → State
-state_numbered n = slice_index_or states n state.Error
+-- State with this number, or dfuERROR if the number is over 10.
+abbrev state_of_number : ℕ → State
+state_of_number n = slice_index_or states n state.Error
 
-state_of_state_byte : (s : State) → state_numbered (state_byte s) ≡ s
-state_of_state_byte state.AppIdle = refl
-state_of_state_byte state.AppDetach = refl
-state_of_state_byte state.DfuIdle = refl
-state_of_state_byte state.DownloadSync = refl
-state_of_state_byte state.DownloadBusy = refl
-state_of_state_byte state.DownloadIdle = refl
-state_of_state_byte state.ManifestSync = refl
-state_of_state_byte state.Manifest = refl
-state_of_state_byte state.ManifestWaitReset = refl
-state_of_state_byte state.UploadIdle = refl
-state_of_state_byte state.Error = refl
+-- The state with the number of a state is that state.
+state_has_its_number : (s : State) → state_of_number (state_byte s) ≡ s
+state_has_its_number state.AppIdle = refl
+state_has_its_number state.AppDetach = refl
+state_has_its_number state.DfuIdle = refl
+state_has_its_number state.DownloadSync = refl
+state_has_its_number state.DownloadBusy = refl
+state_has_its_number state.DownloadIdle = refl
+state_has_its_number state.ManifestSync = refl
+state_has_its_number state.Manifest = refl
+state_has_its_number state.ManifestWaitReset = refl
+state_has_its_number state.UploadIdle = refl
+state_has_its_number state.Error = refl
 
--- Two states of the same number are equal.
-pub equal_state_bytes_equal_states : (s t : State) → state_byte s ≡ state_byte t → s ≡ t
-equal_state_bytes_equal_states s t e = sym (state_of_state_byte s) ∙ ap state_numbered e ∙ state_of_state_byte t
+-- States with equal numbers are equal.
+pub state_byte_is_injective : (s t : State) → state_byte s ≡ state_byte t → s ≡ t
+state_byte_is_injective s t e = sym (state_has_its_number s) ∙ ap state_of_number e ∙ state_has_its_number t

@@ -3,7 +3,7 @@ use Rattle.std.specs.Prelude.{ℕ, List, codes}
 use Rattle.dfu_wire.specs.declared.states.State.{State}
 use Rattle.dfu_wire.specs.declared.states.State.TheVariants as state
 
--- bState holds this number for a state.
+-- Number of a state in bState.
 abbrev pub state_byte : State → ℕ
 state_byte state.AppIdle = 0
 state_byte state.AppDetach = 1
@@ -17,7 +17,7 @@ state_byte state.ManifestWaitReset = 8
 state_byte state.UploadIdle = 9
 state_byte state.Error = 10
 
--- The standard has this name for a state.
+-- Name of a state in the standard.
 abbrev pub state_name : State → List ℕ
 state_name state.AppIdle = codes "appIDLE"
 state_name state.AppDetach = codes "appDETACH"

@@ -1,4 +1,4 @@
-//! Bits and bytes of the fields.
+//! Little-endian numbers and single bits in the fields of the wire formats.
 
 ghost use Rattle.std.specs.Prelude.{◌≡◌, ◌<◌, ◌≤◌, ◌+◌, ◌*◌, length, slice_index};
 ghost use Rattle.dfu_wire.specs.Functional.{has_bit};
@@ -15,7 +15,7 @@ pub(crate) fn two_bytes(number: u16) -> [u8; 2]
     bytes
 }
 
-/// Returns the number in the two bytes of `bytes` from index `at` on, the low byte first.
+/// Returns the two-byte number at index `at` of `bytes`, the low byte first.
 pub(crate) fn number_at(bytes: &[u8], at: usize) -> u16
     requires { at + 2 ≤ length bytes.now }
     ensures { result ≡ slice_index bytes.now at + 256 * slice_index bytes.now (at + 1) }

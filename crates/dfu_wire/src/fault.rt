@@ -1,4 +1,4 @@
-//! Faults of bytes or numbers that are not a value of the wire.
+//! Reasons why bytes or numbers are not a valid value of a wire format.
 
 ghost use Rattle.std.specs.Prelude.{◌≡◌};
 ghost use Rattle.dfu_wire.specs.FaultName.{wire_fault_name};
@@ -6,24 +6,22 @@ ghost use Rattle.dfu_wire.specs.FaultName.{wire_fault_name};
 use std::fmt;
 use thiserror::Error;
 
-/// A fault of bytes or numbers that are not a value of the wire. Each reader says in which order it looks.
+/// Reason why bytes or numbers are not a valid value of a wire format. Each decoder documents the order of its checks.
 #[derive(Clone, Copy, Error)]
 pub enum WireFault {
-    /// There are fewer bytes than the value has: no bytes of a functional descriptor, or fewer than its
-    /// first byte says (if that is 7 or 9), and under 6 of a status.
+    /// Too few bytes: a functional descriptor has none, or fewer than its first byte says (if that is 7 or 9); a status has under 6.
     Short,
-    /// There are more bytes than the value has: more than the first byte of a functional descriptor
-    /// says (if that is 7 or 9), and over 6 of a status.
+    /// Too many bytes: a functional descriptor has more than its first byte says (if that is 7 or 9); a status has over 6.
     Long,
     /// The first byte of a functional descriptor, bLength, is neither 7 nor 9.
     WrongLength,
     /// The second byte of a functional descriptor, bDescriptorType, is not 21h.
     WrongType,
-    /// A byte is over 10, so no state has it as its number.
+    /// A state byte is over 10, the highest number of a state.
     UnknownState,
-    /// A byte is over 15, so no status code has it as its number.
+    /// A code byte is over 15, the highest number of a status code.
     UnknownCode,
-    /// A poll time is over 16,777,215 milliseconds, so three bytes do not hold it.
+    /// A poll time is over 16,777,215 milliseconds, the most that three bytes hold.
     PollTooLong,
 }
 
@@ -33,7 +31,7 @@ impl fmt::Debug for WireFault {
     }
 }
 
-/// The texts, in the order of the enum.
+/// Messages of the faults, in the order of `WireFault`.
 static TEXTS: [&str; 7] = [
     "too few bytes",
     "too many bytes",
@@ -50,14 +48,14 @@ impl fmt::Display for WireFault {
     }
 }
 
-/// The names, in the order of the enum.
+/// Names of the variants, in the order of `WireFault`.
 #[rattlefmt::skip]
 static NAMES: [&str; 7] = [
     "Short", "Long", "WrongLength", "WrongType", "UnknownState", "UnknownCode", "PollTooLong",
 ];
 
 impl WireFault {
-    /// Returns the name of the fault, that of its variant, as `Short`.
+    /// Returns the name of the fault's variant, such as `Short`.
     pub fn name(self) -> &'static str
         ensures { result.now ≡ wire_fault_name self }
     {

@@ -5,16 +5,16 @@ ghost use Rattle.std.specs.Prelude.{◌≡◌, ◌<◌, ◌≤◌, ◌^◌, ◌+
 use crate::WireFault;
 use crate::bytes::{is_set, number_at, two_bytes};
 
-/// bLength of a descriptor of DFU 1.1.
+/// bLength of a functional descriptor of DFU 1.1.
 const LENGTH: u8 = 9;
 
-/// bLength of a descriptor of DFU 1.0, which ends before bcdDFUVersion.
+/// bLength of a functional descriptor of DFU 1.0, which ends before bcdDFUVersion.
 const LENGTH_1_0: u8 = 7;
 
 /// bcdDFUVersion of DFU 1.0.
 const VERSION_1_0: u16 = 0x0100;
 
-/// bDescriptorType of every descriptor.
+/// bDescriptorType of every functional descriptor.
 const TYPE: u8 = 0x21;
 
 /// Functional descriptor, in which a device describes its upgrades: 9 bytes on the wire, or 7 in DFU 1.0, which has no bcdDFUVersion.
@@ -28,15 +28,15 @@ const TYPE: u8 = 0x21;
 /// | 5, 6 | wTransferSize, bytes | `transfer` |
 /// | 7, 8 | bcdDFUVersion, as 0110h; 0100h if there are 7 bytes | `version` |
 ///
-/// Bits 4 to 7 of bmAttributes are reserved: ignored on reading, and written as 0. Bit 3 is read the
-/// same of either version, though DFU 1.0 reserved it.
+/// Bits 4 to 7 of bmAttributes are reserved: ignored on reading, and written as 0. Bit 3 is read in both versions, though DFU 1.0 reserved
+/// it.
 #[derive(Clone, Copy)]
 pub struct Functional {
     /// bitCanDnload: a host may send an image.
     pub can_download: bool,
     /// bitCanUpload: a host may read the image.
     pub can_upload: bool,
-    /// bitManifestationTolerant: the device still answers after it took a new image.
+    /// bitManifestationTolerant: the device still answers requests once a new image is in place.
     pub tolerant: bool,
     /// bitWillDetach: the device detaches by itself after DETACH.
     pub will_detach: bool,
@@ -68,7 +68,7 @@ impl Functional {
         }
     }
 
-    /// Reads a descriptor. The faults, in the order in which they are looked for:
+    /// Reads `bytes` as a functional descriptor. The faults, in the order of the checks:
     ///
     /// 1. `Short`: there are no bytes.
     /// 2. `WrongLength`: the first byte is neither 7 nor 9.
@@ -104,8 +104,8 @@ impl Functional {
         Ok(Functional::of_attributes(bytes[2], number_at(bytes, 3), number_at(bytes, 5), version))
     }
 
-    /// Writes the descriptor as DFU 1.1 has it, in 9 bytes for every version, with the
-    /// reserved bits 0. `decode` of the result is the descriptor again.
+    /// Writes the descriptor in the form of DFU 1.1, in 9 bytes for every version, with the reserved bits 0. `decode` of the result returns
+    /// an equal descriptor.
     pub fn encode(&self) -> [u8; 9]
         ensures length { length result ≡ 9 }
         ensures fields { IsFunctional self.now result }
@@ -138,7 +138,7 @@ impl Functional {
     }
 }
 
-/// Returns bmAttributes of the four flags, with the reserved bits 0.
+/// Returns bmAttributes with these four flags, and with the reserved bits 0.
 fn attributes_of(can_download: bool, can_upload: bool, tolerant: bool, will_detach: bool) -> u8
     ensures download { IsTrue can_download ↔ IsBitSet result 0 }
     ensures upload { IsTrue can_upload ↔ IsBitSet result 1 }

@@ -1,10 +1,10 @@
-//! Identifiers as text.
+//! Identifiers written as four hexadecimal digits.
 
 ghost use Rattle.std.specs.Prelude.{◌≡◌};
 ghost use Rattle.dfu_wire.specs.Identifier.{identifier_in};
 
-/// Returns the number that `digits`, four hexadecimal digits of either case, write, the highest first; None for any other text. So scripts
-/// and options write idVendor, idProduct and bcdDevice.
+/// Returns the number written in `digits`, four hexadecimal digits of either case, the highest first; None for any other text. Scripts and
+/// options write idVendor, idProduct and bcdDevice in this form.
 pub fn identifier(digits: &[u8]) -> Option<u16>
     ensures { result ≡ identifier_in digits.now }
 {

@@ -1,13 +1,13 @@
-//! The three numbers by which a device is known.
+//! The three numbers that identify a device.
 
-/// The identifiers of a device, as its device descriptor and the suffix of a file have them (USB
-/// DFU 1.1, appendix B). In a file FFFFh in a field means that the file doesn't say.
+/// The identifiers of a device, in its device descriptor and in the suffix of a file (USB DFU 1.1, appendix B). In a suffix, FFFFh in a
+/// field means that the file doesn't specify it.
 #[derive(Clone, Copy)]
 pub struct Ids {
     /// bcdDevice: the release of the device.
     pub device: u16,
-    /// idProduct.
+    /// idProduct: the number of the product.
     pub product: u16,
-    /// idVendor.
+    /// idVendor: the number of the vendor.
     pub vendor: u16,
 }

@@ -1,5 +1,4 @@
-//! Laws of the formats. Each is the contract of a function with an empty body, which is proved and not
-//! to be called.
+//! Laws of the wire formats. Each law is the contract of a function with an empty body, which is proved and is not meant to be called.
 
 ghost use Rattle.dfu_wire.specs.Functional.{IsFunctional, FirstFunctionalFault};
 ghost use Rattle.dfu_wire.specs.OneRequest.{OneRequest};
@@ -10,21 +9,20 @@ ghost use Rattle.dfu_wire.specs.declared.fault.WireFault.{WireFault};
 ghost use Rattle.dfu_wire.specs.declared.functionals.Functional.{Functional};
 ghost use Rattle.dfu_wire.specs.declared.setups.Setup.{Setup};
 
-/// No bytes are two functional descriptors, or a descriptor with a fault, and none have
-/// two first faults.
+/// Bytes encode at most one functional descriptor. Bytes that encode one have no fault, and all other bytes have at most one first fault.
 pub fn one_functional()
     ensures one { OneValue Functional IsFunctional }
     ensures no_fault { NoFault Functional IsFunctional FirstFunctionalFault }
     ensures one_fault { OneValue WireFault FirstFunctionalFault }
 {}
 
-/// No bytes are two setups, and no setup asks for two things.
+/// Bytes encode at most one setup, and a setup asks for at most one request.
 pub fn one_setup()
     ensures one { OneValue Setup IsSetup }
     ensures request { OneRequest }
 {}
 
-/// No bytes are two statuses, or a status with a fault, and none have two first faults.
+/// Bytes encode at most one status. Bytes that encode one have no fault, and all other bytes have at most one first fault.
 pub fn one_status()
     ensures one { OneValue StatusFields IsStatus }
     ensures no_fault { NoFault StatusFields IsStatus FirstStatusFault }

@@ -2,11 +2,12 @@
 //! in the form of DFU 1.0), the setups of the seven requests, the answer to GETSTATUS, the states and
 //! the status codes, and the identifiers of a device.
 //!
-//! No call takes memory, and only the readers and `Status::new` can refuse.
+//! No call allocates memory. Only `decode` of `Functional` and `Status`, `from_byte` of `State` and
+//! `Code`, and `Status::new` return a fault.
 #![tactic(auto)]
 
-/// The body of a `name`: `variant_name!(self, Type: Variant, ..)` is the text of the variant that `self` is, as it is
-/// written, and `variant_name!(self, Type: Variant "text", ..)` the text beside it.
+/// The body of a `name` function. `variant_name!(self, Type: Variant, ..)` returns the name of the variant of `self` as text, and
+/// `variant_name!(self, Type: Variant "text", ..)` returns the text beside the variant.
 #[macro_export]
 macro_rules! variant_name {
     ($value:expr, $type:ident: $($variant:ident $(($field:tt))?),+) => {
@@ -21,7 +22,7 @@ macro_rules! variant_name {
     };
 }
 
-// The body of a `from_byte`: the variant beside the number that the byte is, or else the fault.
+// The body of a `from_byte` function: returns the variant whose number equals the byte, or else the fault.
 macro_rules! variant_numbered {
     ($byte:expr, $fault:expr, $type:ident: $($number:literal $variant:ident),+) => {
         match $byte {

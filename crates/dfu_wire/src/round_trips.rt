@@ -1,35 +1,36 @@
-//! Round trips: each function writes its argument, reads the bytes again, and gets what was written.
+//! Round trips: each function encodes its argument, or converts it to a setup, decodes the result, and returns a value that equals the
+//! argument. Only a request without a setup has no such value.
 
 ghost use Rattle.std.specs.Prelude.{◌≡◌, ◌↔◌, ◌⊎◌, Ok, IfSome, IsNone};
-ghost use Rattle.dfu_wire.specs.Request.{IsUnnamed};
+ghost use Rattle.dfu_wire.specs.Request.{IsUnnamedRequest};
 
 use crate::{Functional, Request, Setup, Status, WireFault};
 
-/// Returns what `Functional::decode` reads from the bytes of `Functional::encode`: `functional` again.
+/// Encodes `functional`, and returns the descriptor decoded from the bytes: it equals `functional`.
 pub fn reread_functional(functional: &Functional) -> Result<Functional, WireFault>
     ensures { result ≡ Ok functional.now }
 {
     Functional::decode(&functional.encode())
 }
 
-/// Returns what `Setup::decode` reads from the bytes of `Setup::encode`: `setup` again.
+/// Encodes `setup`, and returns the setup decoded from the bytes: it equals `setup`.
 pub fn reread_setup(setup: &Setup) -> Setup
     ensures { result ≡ setup.now }
 {
     Setup::decode(&setup.encode())
 }
 
-/// Returns what `Status::decode` reads from the bytes of `Status::encode`: `status` again.
+/// Encodes `status`, and returns the status decoded from the bytes: it equals `status`.
 pub fn reread_status(status: &Status) -> Result<Status, WireFault>
     ensures { result ≡ Ok status.now }
 {
     Status::decode(&status.encode())
 }
 
-/// Returns the `Setup::request` of the setup that `Request::setup` gives: `request` again; None if it gives no setup.
+/// Converts `request` to a setup, and returns the request of that setup: it equals `request`. None if `request` has no setup.
 pub fn asked_again(request: &Request) -> Option<Request>
     ensures again { IfSome result (λ again. again ≡ request.now) }
-    ensures none { IsNone result ↔ IsUnnamed request.now }
+    ensures none { IsNone result ↔ IsUnnamedRequest request.now }
 {
     match request.setup() {
         Some(setup) => Some(setup.request()),

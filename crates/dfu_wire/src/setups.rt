@@ -1,32 +1,31 @@
-//! The eight bytes that begin a request (USB DFU 1.1, section 3).
+//! Setup packets, the eight bytes that begin a request (USB DFU 1.1, section 3).
 
 ghost use Rattle.std.specs.Prelude.{◌≡◌, ◌≢◌};
 ghost use Rattle.dfu_wire.specs.Setup.{IsSetup};
-ghost use Rattle.dfu_wire.specs.Request.{SetupRequest, IsForUs};
+ghost use Rattle.dfu_wire.specs.Request.{SetupAsksFor, IsInterface0ClassRequest};
 
 use crate::Request;
 use crate::bytes::two_bytes;
 use byteorder::{ByteOrder, LittleEndian};
 
-/// bmRequestType of a request of the class that sends to the device.
+/// bmRequestType of a class request to an interface that sends to the device.
 pub(crate) const OUT: u8 = 0x21;
 
-/// bmRequestType of a request of the class that reads from the device.
+/// bmRequestType of a class request to an interface that reads from the device.
 pub(crate) const IN: u8 = 0xa1;
 
-/// The eight bytes that begin a request. Any eight bytes are a setup; numbers of two bytes have
-/// their low byte first.
+/// Setup packet, the eight bytes that begin a request. Any eight bytes are a setup; two-byte numbers have their low byte first.
 #[derive(Clone, Copy)]
 pub struct Setup {
     /// bmRequestType, byte 0: 21h sends to the device, A1h reads from it, others are not DFU.
     pub kind: u8,
     /// bRequest, byte 1: the number of the request.
     pub request: u8,
-    /// wValue, bytes 2 and 3: a timeout or a block's number.
+    /// wValue, bytes 2 and 3: the timeout of DETACH, or the block's number of DNLOAD and UPLOAD.
     pub value: u16,
-    /// wIndex, bytes 4 and 5: the interface, here 0.
+    /// wIndex, bytes 4 and 5: the interface, which is 0 in a setup of a DFU request.
     pub index: u16,
-    /// wLength, bytes 6 and 7: how many bytes follow, or may be answered.
+    /// wLength, bytes 6 and 7: the number of bytes that follow, or the most that the device may send.
     pub length: u16,
 }
 
@@ -34,7 +33,7 @@ impl Setup {
     ghost use Rattle.dfu_wire.specs.declared.setups.Setup.{Setup};
     ghost use Rattle.dfu_wire.specs.declared.requests.Request.{Request};
 
-    /// Reads `bytes` as a setup. The call never fails: any eight bytes are one.
+    /// Reads `bytes` as a setup. The call never fails, because any eight bytes are a setup.
     pub fn decode(bytes: &[u8; 8]) -> Setup
         ensures fields { IsSetup result bytes.now }
         ensures only { (s : Setup) → IsSetup s bytes.now → result ≡ s }
@@ -48,7 +47,7 @@ impl Setup {
         }
     }
 
-    /// Writes the setup. `decode` of the result is the setup again.
+    /// Writes the setup. `decode` of the result returns an equal setup.
     pub fn encode(&self) -> [u8; 8]
         ensures { IsSetup self.now result }
     {
@@ -75,9 +74,9 @@ impl Setup {
     /// - else the request of the table. The value of a GETSTATUS, CLRSTATUS, GETSTATE or ABORT is
     ///   ignored.
     pub fn request(&self) -> Request
-        ensures asks { SetupRequest self.now result }
-        ensures only { (q : Request) → SetupRequest self.now q → result ≡ q }
-        ensures class { result ≢ Request.NotDfu → IsForUs self.now }
+        ensures asks { SetupAsksFor self.now result }
+        ensures only { (q : Request) → SetupAsksFor self.now q → result ≡ q }
+        ensures class { result ≢ Request.NotDfu → IsInterface0ClassRequest self.now }
     {
         if self.kind != OUT && self.kind != IN || self.index != 0 {
             return Request::NotDfu;

@@ -5,7 +5,7 @@ ghost use Rattle.dfu_wire.specs.State.{state_byte, state_name};
 
 use crate::WireFault;
 
-/// A state of a device, as bState says it.
+/// A state of a device, the value of bState.
 #[derive(Clone, Copy)]
 pub enum State {
     /// 0: the application runs.
@@ -14,13 +14,13 @@ pub enum State {
     AppDetach,
     /// 2: ready for a request of upgrade mode.
     DfuIdle,
-    /// 3: a block came, and the device waits to be asked for its status.
+    /// 3: a block was received, and the device waits for GETSTATUS.
     DownloadSync,
     /// 4: a block is being written.
     DownloadBusy,
     /// 5: ready for the next block.
     DownloadIdle,
-    /// 6: the whole image came, or is in place; the device waits to be asked for its status.
+    /// 6: the whole image was received, or is in place; the device waits for GETSTATUS.
     ManifestSync,
     /// 7: the new image is being put in place.
     Manifest,
@@ -28,11 +28,11 @@ pub enum State {
     ManifestWaitReset,
     /// 9: ready to send the next block of its image.
     UploadIdle,
-    /// 10: something went wrong, and the device waits for CLRSTATUS.
+    /// 10: an error occurred, and the device waits for CLRSTATUS.
     Error,
 }
 
-/// The names, in the order of the enum.
+/// Names of the states in the standard, in the order of `State`.
 #[rattlefmt::skip]
 static NAMES: [&str; 11] = [
     "appIDLE", "appDETACH", "dfuIDLE", "dfuDNLOAD-SYNC", "dfuDNBUSY", "dfuDNLOAD-IDLE", "dfuMANIFEST-SYNC",
@@ -59,7 +59,7 @@ impl State {
         self as u8
     }
 
-    /// Returns the name of the state in the standard, as `dfuIDLE`.
+    /// Returns the name of the state in the standard, such as `dfuIDLE`.
     pub fn name(self) -> &'static str
         ensures { result.now ≡ state_name self }
     {

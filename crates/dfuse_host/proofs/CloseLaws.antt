@@ -1,4 +1,4 @@
--- A device is asked to leave once all was compared, and not before.
+-- A device is asked to leave only after the whole image was compared.
 use Rattle.std.proofs.Common.{◌≡◌, ℕ, pred, true, false, cond, eqb, Option, Some, None, refl, sym, subst}
 use Rattle.dfuse_host.specs.declared.plan.Plan.{Plan}
 use Rattle.dfuse_host.specs.declared.phase.Phase.{Phase}
@@ -21,11 +21,11 @@ use Rattle.dfuse_host.specs.Commands.{command_of, phase_after_command, phase_aft
 use Rattle.dfuse_host.specs.Table.{read_on, row}
 use Rattle.dfuse_host.specs.Sessions.{phase_resumed, session_after_step_heard, session_after_phase_heard}
 use Rattle.dfuse_host.proofs.RowForms.{RowForm, stays, settles, reads, does, doubts, fails, leaves, each_row_has_form}
-use Rattle.dfuse_host.proofs.Restarts.{fact_of_budgeted_phase, fact_of_session_restart}
+use Rattle.dfuse_host.proofs.Restarts.{budget_keeps_fact, restart_keeps_fact}
 use Rattle.dfuse_host.specs.ReadBack.{ClosesAfterCompare, PhaseClosesAfterCompare, AlwaysClosesAfterCompare}
 
 module _ (plan : Plan) where
-  -- ---- the order of work
+  -- ---- order of works
 
   sending_step_closes_late : (w : Work) (p : Place) → ClosesAfterCompare w (sending_step p)
   sending_step_closes_late w place.Lost = tt
@@ -60,45 +60,45 @@ module _ (plan : Plan) where
       elim plan.leaves as (λ t. PhaseClosesAfterCompare (cond t (phase_to_set_start plan p) (phase_when_compared p)))
       [ true ↦ leaving_closes_late p | false ↦ staying_closes_late p ]
 
-  compare_front_closes_by_byte : (p : Place) (o : Option ℕ) → PhaseClosesAfterCompare (compare_front_phase_for plan p o)
-  compare_front_closes_by_byte p None = to_leave_closes_late p
-  compare_front_closes_by_byte p (Some at) = comparing_step_closes_late (work.CompareFront at) at p
+  compare_front_phase_closes_late : (p : Place) (o : Option ℕ) → PhaseClosesAfterCompare (compare_front_phase_for plan p o)
+  compare_front_phase_closes_late p None = to_leave_closes_late p
+  compare_front_phase_closes_late p (Some at) = comparing_step_closes_late (work.CompareFront at) at p
 
   to_compare_front_closes_late : (p : Place) (at : ℕ) → PhaseClosesAfterCompare (to_compare_front plan p at)
   unfolding to_compare_front
-  to_compare_front_closes_late p at = compare_front_closes_by_byte p (byte_in plan at (front_end plan))
+  to_compare_front_closes_late p at = compare_front_phase_closes_late p (byte_in plan at (front_end plan))
 
-  write_front_closes_by_byte : (p : Place) (o : Option ℕ) → PhaseClosesAfterCompare (write_front_phase_for plan p o)
-  write_front_closes_by_byte p None = to_compare_front_closes_late p (image_start plan.image.now)
-  write_front_closes_by_byte p (Some at) = sending_step_closes_late (work.WriteFront at) p
+  write_front_phase_closes_late : (p : Place) (o : Option ℕ) → PhaseClosesAfterCompare (write_front_phase_for plan p o)
+  write_front_phase_closes_late p None = to_compare_front_closes_late p (image_start plan.image.now)
+  write_front_phase_closes_late p (Some at) = sending_step_closes_late (work.WriteFront at) p
 
   to_write_front_closes_late : (p : Place) (at : ℕ) → PhaseClosesAfterCompare (to_write_front plan p at)
   unfolding to_write_front
-  to_write_front_closes_late p at = write_front_closes_by_byte p (byte_in plan at (front_end plan))
+  to_write_front_closes_late p at = write_front_phase_closes_late p (byte_in plan at (front_end plan))
 
-  compare_closes_by_byte : (p : Place) (o : Option ℕ) → PhaseClosesAfterCompare (compare_phase_for plan p o)
-  compare_closes_by_byte p None = to_write_front_closes_late p (image_start plan.image.now)
-  compare_closes_by_byte p (Some at) = comparing_step_closes_late (work.Compare at) at p
+  compare_phase_closes_late : (p : Place) (o : Option ℕ) → PhaseClosesAfterCompare (compare_phase_for plan p o)
+  compare_phase_closes_late p None = to_write_front_closes_late p (image_start plan.image.now)
+  compare_phase_closes_late p (Some at) = comparing_step_closes_late (work.Compare at) at p
 
   to_compare_closes_late : (p : Place) (at : ℕ) → PhaseClosesAfterCompare (to_compare plan p at)
   unfolding to_compare
-  to_compare_closes_late p at = compare_closes_by_byte p (byte_in plan at (image_end plan.image.now))
+  to_compare_closes_late p at = compare_phase_closes_late p (byte_in plan at (image_end plan.image.now))
 
-  write_closes_by_byte : (p : Place) (end : ℕ) (o : Option ℕ) → PhaseClosesAfterCompare (write_phase_for plan p end o)
-  write_closes_by_byte p end None = to_compare_closes_late p (front_end plan)
-  write_closes_by_byte p end (Some at) = sending_step_closes_late (work.Write at end) p
+  write_phase_closes_late : (p : Place) (end : ℕ) (o : Option ℕ) → PhaseClosesAfterCompare (write_phase_for plan p end o)
+  write_phase_closes_late p end None = to_compare_closes_late p (front_end plan)
+  write_phase_closes_late p end (Some at) = sending_step_closes_late (work.Write at end) p
 
   to_write_closes_late : (p : Place) (at end : ℕ) → PhaseClosesAfterCompare (to_write plan p at end)
   unfolding to_write
-  to_write_closes_late p at end = write_closes_by_byte p end (byte_in plan at end)
+  to_write_closes_late p at end = write_phase_closes_late p end (byte_in plan at end)
 
-  erase_closes_by_byte : (p : Place) (o : Option ℕ) → PhaseClosesAfterCompare (erase_phase_for plan p o)
-  erase_closes_by_byte p None = to_write_closes_late p (front_end plan) (image_end plan.image.now)
-  erase_closes_by_byte p (Some at) = sending_step_closes_late (work.Erase at) p
+  erase_phase_closes_late : (p : Place) (o : Option ℕ) → PhaseClosesAfterCompare (erase_phase_for plan p o)
+  erase_phase_closes_late p None = to_write_closes_late p (front_end plan) (image_end plan.image.now)
+  erase_phase_closes_late p (Some at) = sending_step_closes_late (work.Erase at) p
 
   to_erase_closes_late : (p : Place) (at : ℕ) → PhaseClosesAfterCompare (to_erase plan p at)
   unfolding to_erase
-  to_erase_closes_late p at = erase_closes_by_byte p (byte_in plan at (image_end plan.image.now))
+  to_erase_closes_late p at = erase_phase_closes_late p (byte_in plan at (image_end plan.image.now))
 
   settled_phase_closes_late : (w : Work) (p : Place) → PhaseClosesAfterCompare (settled_phase plan w p)
   unfolding settled_phase
@@ -110,7 +110,7 @@ module _ (plan : Plan) where
   settled_phase_closes_late (work.CompareFront at) p = to_compare_front_closes_late p at
   settled_phase_closes_late work.Leave p = to_leave_closes_late p
 
-  -- ---- commands
+  -- ---- phases after commands
 
   unsure_phase_closes_late : (w : Work) (c : Command) → PhaseClosesAfterCompare (phase_if_unsure plan w c)
   unsure_phase_closes_late w (command.SetAddress at) = tt
@@ -130,7 +130,7 @@ module _ (plan : Plan) where
   after_command_closes_late w (command.ErasePage at) = after_erase_closes_late w at
   after_command_closes_late w (command.Write at) = after_write_closes_late w at
 
-  -- ---- rows
+  -- ---- rows of the table
 
   row_form_closes_late : (w : Work) (p : Place) (s : Step) (x : Heard) (next : Phase) → RowForm plan w p s x next →
       PhaseClosesAfterCompare next
@@ -150,13 +150,13 @@ module _ (plan : Plan) where
   resumed_phase_closes_late w p (step.PollWait ms) = unsure_phase_closes_late w (command_of plan w p)
   resumed_phase_closes_late w p s = tt
 
--- ---- sessions
+-- ---- phases of a session
 
 heard_step_closes_late : (s : Session) (w : Work) (p : Place) (at : Step) (x : Heard) → ClosesAfterCompare w at
     → PhaseClosesAfterCompare (session_after_step_heard s w p at x).phase
-heard_step_closes_late s w p at heard.Restarted c = fact_of_session_restart PhaseClosesAfterCompare (λ r. tt) resumed_phase_closes_late s w
+heard_step_closes_late s w p at heard.Restarted c = restart_keeps_fact PhaseClosesAfterCompare (λ r. tt) resumed_phase_closes_late s w
     p at
-heard_step_closes_late s w p at x c = fact_of_budgeted_phase PhaseClosesAfterCompare (λ r. tt) (pred s.actions) (row s.plan w p at x)
+heard_step_closes_late s w p at x c = budget_keeps_fact PhaseClosesAfterCompare (λ r. tt) (pred s.actions) (row s.plan w p at x)
     (row_closes_late s.plan w p at x c)
 
 next_phase_closes_late : (s : Session) (p : Phase) (x : Heard) → s.phase ≡ p → PhaseClosesAfterCompare p →
@@ -164,5 +164,5 @@ next_phase_closes_late : (s : Session) (p : Phase) (x : Heard) → s.phase ≡ p
 next_phase_closes_late s (Over r) x e c = subst PhaseClosesAfterCompare (sym e) tt
 next_phase_closes_late s (On at) x e c = heard_step_closes_late s at.work at.place at.step x c
 
-pub closes_always : AlwaysClosesAfterCompare
-closes_always s x c = next_phase_closes_late s s.phase x refl c
+pub session_closes_after_compare : AlwaysClosesAfterCompare
+session_closes_after_compare s x c = next_phase_closes_late s s.phase x refl c

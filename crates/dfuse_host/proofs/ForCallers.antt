@@ -1,4 +1,4 @@
--- Commands and what is heard, by their cases, for proofs of other crates, which cannot name these cases.
+-- Cases of commands and of results, for proofs of other crates, which cannot name these cases.
 use Rattle.std.proofs.Common.{ℕ, Bool}
 use Rattle.dfu_wire.specs.declared.statuses.Status.{Status}
 use Rattle.dfu_wire.specs.declared.states.State.{State}
@@ -7,46 +7,51 @@ use Rattle.dfuse_host.specs.declared.command.Command.TheVariants as command
 use Rattle.dfuse_host.specs.declared.heard.Heard.{Heard}
 use Rattle.dfuse_host.specs.declared.heard.Heard.TheVariants as heard
 
--- Types that the definitions of other crates name.
+-- Type of commands, under a name that other crates may use.
 abbrev pub AnyCommand : Type 0
 AnyCommand = Command
 
+-- Type of the meanings of results, under a name that other crates may use.
 abbrev pub AnyHeard : Type 0
 AnyHeard = Heard
 
--- Cases that the definitions of other crates name.
+-- Command that sets the pointer, under a name that other crates may use.
 abbrev pub set_address : (at : ℕ) → Command
 set_address at = command.SetAddress at
 
+-- Command that erases a page, under a name that other crates may use.
 abbrev pub erase_page : (at : ℕ) → Command
 erase_page at = command.ErasePage at
 
+-- Command that writes bytes, under a name that other crates may use.
 abbrev pub write_bytes_at : (at : ℕ) → Command
 write_bytes_at at = command.Write at
 
+-- Result of a comparison of bytes, under a name that other crates may use.
 abbrev pub heard_comparison : Bool → Heard
 heard_comparison same = heard.Compared same
 
+-- Result without a meaning, under a name that other crates may use.
 abbrev pub heard_nothing : Heard
 heard_nothing = heard.Nothing
 
--- A fact of each kind of command holds of a command.
-abbrev pub fact_of_each_command {ℓ} : (P : Command → Type ℓ) → ((at : ℕ) → P (command.SetAddress at)) → ((at : ℕ) →
+-- A fact that holds for each kind of command holds for every command.
+abbrev pub commands_have_fact {ℓ} : (P : Command → Type ℓ) → ((at : ℕ) → P (command.SetAddress at)) → ((at : ℕ) →
     P (command.ErasePage at)) →
     ((at : ℕ) → P (command.Write at)) → (c : Command) → P c
-fact_of_each_command P set erase write (command.SetAddress at) = set at
-fact_of_each_command P set erase write (command.ErasePage at) = erase at
-fact_of_each_command P set erase write (command.Write at) = write at
+commands_have_fact P set erase write (command.SetAddress at) = set at
+commands_have_fact P set erase write (command.ErasePage at) = erase at
+commands_have_fact P set erase write (command.Write at) = write at
 
--- A fact of each thing that may be heard holds of what is heard.
-abbrev pub fact_of_each_heard {ℓ} : (P : Heard → Type ℓ) → P heard.Acked → ((s : Status) → P (heard.Told s)) → ((s : State) →
+-- A fact that holds for each kind of result holds for every result.
+abbrev pub heards_have_fact {ℓ} : (P : Heard → Type ℓ) → P heard.Acked → ((s : Status) → P (heard.Told s)) → ((s : State) →
     P (heard.StateIs s)) →
     ((same : Bool) → P (heard.Compared same)) → P heard.Stalled → P heard.Nothing → P heard.Waited → P heard.Restarted → (h : Heard) → P h
-fact_of_each_heard P acked told state_is compared stalled nothing waited restarted heard.Acked = acked
-fact_of_each_heard P acked told state_is compared stalled nothing waited restarted (heard.Told s) = told s
-fact_of_each_heard P acked told state_is compared stalled nothing waited restarted (heard.StateIs s) = state_is s
-fact_of_each_heard P acked told state_is compared stalled nothing waited restarted (heard.Compared same) = compared same
-fact_of_each_heard P acked told state_is compared stalled nothing waited restarted heard.Stalled = stalled
-fact_of_each_heard P acked told state_is compared stalled nothing waited restarted heard.Nothing = nothing
-fact_of_each_heard P acked told state_is compared stalled nothing waited restarted heard.Waited = waited
-fact_of_each_heard P acked told state_is compared stalled nothing waited restarted heard.Restarted = restarted
+heards_have_fact P acked told state_is compared stalled nothing waited restarted heard.Acked = acked
+heards_have_fact P acked told state_is compared stalled nothing waited restarted (heard.Told s) = told s
+heards_have_fact P acked told state_is compared stalled nothing waited restarted (heard.StateIs s) = state_is s
+heards_have_fact P acked told state_is compared stalled nothing waited restarted (heard.Compared same) = compared same
+heards_have_fact P acked told state_is compared stalled nothing waited restarted heard.Stalled = stalled
+heards_have_fact P acked told state_is compared stalled nothing waited restarted heard.Nothing = nothing
+heards_have_fact P acked told state_is compared stalled nothing waited restarted heard.Waited = waited
+heards_have_fact P acked told state_is compared stalled nothing waited restarted heard.Restarted = restarted

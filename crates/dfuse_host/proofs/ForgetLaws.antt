@@ -1,4 +1,4 @@
--- After a restart nothing is known of the pointer.
+-- After a restart a session knows nothing about the address pointer, or is over.
 use Rattle.std.proofs.Common.{◌≡◌, refl, sym, subst}
 use Rattle.dfuse_host.specs.declared.plan.Plan.{Plan}
 use Rattle.dfuse_host.specs.declared.phase.Phase.{Phase}
@@ -14,7 +14,7 @@ use Rattle.dfuse_host.specs.declared.session.Session.{Session}
 use Rattle.dfuse_host.specs.Commands.{command_of, phase_if_unsure}
 use Rattle.dfuse_host.specs.Sessions.{phase_resumed, session_after_phase_heard}
 use Rattle.dfuse_host.specs.Forgetting.{IsPointerLost, RestartForgetsPointer}
-use Rattle.dfuse_host.proofs.Restarts.{fact_of_session_restart}
+use Rattle.dfuse_host.proofs.Restarts.{restart_keeps_fact}
 
 unsure_phase_loses_pointer : (plan : Plan) (w : Work) (c : Command) → IsPointerLost (phase_if_unsure plan w c)
 unsure_phase_loses_pointer plan w (command.SetAddress at) = refl
@@ -29,7 +29,7 @@ resumed_phase_loses_pointer plan w p s = refl
 restarted_phase_loses_pointer : (s : Session) (p : Phase) → s.phase ≡ p →
     IsPointerLost (session_after_phase_heard s p heard.Restarted).phase
 restarted_phase_loses_pointer s (Over r) e = subst IsPointerLost (sym e) tt
-restarted_phase_loses_pointer s (On at) e = fact_of_session_restart IsPointerLost (λ r. tt) resumed_phase_loses_pointer s at.work at.place
+restarted_phase_loses_pointer s (On at) e = restart_keeps_fact IsPointerLost (λ r. tt) resumed_phase_loses_pointer s at.work at.place
     at.step
 
 pub restart_loses_pointer : RestartForgetsPointer

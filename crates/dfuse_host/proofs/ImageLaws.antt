@@ -1,4 +1,4 @@
--- Bytes that come next in an image whose elements are apart.
+-- Next bytes of an image whose elements don't overlap.
 use Rattle.std.proofs.Common.{◌≡◌, ℕ, ◌<◌, ◌≤◌, ◌&&◌, inl, inr, max, Bool, true, false, cond, ltb, leb, List, [], ◌∷◌, Option, Some, None, refl, sym, ap, ◌∙◌, arith}
 use Rattle.std.proofs.lemmas.Bool.{ltb-false, leb-true}
 use Rattle.dfu_formats.specs.declared.dfuse.element.Element.{Element}
@@ -12,7 +12,7 @@ both_true_of_and : (a b : Bool) → (a && b) ≡ true → (a ≡ true) × (b ≡
 both_true_of_and true b h = (refl, h)
 both_true_of_and false b h = (h, cc)
 
--- No byte of the image lies before the address from which its elements are apart.
+-- No byte of the image lies before `from`, where its elements may begin.
 image_byte_not_before_from : (from a : ℕ) (es : List Element) → apart_from from es ≡ true → HasByte a es → from ≤ a
 image_byte_not_before_from from a [] h b = absurd b
 image_byte_not_before_from from a (e ∷ es) h b =
@@ -20,19 +20,22 @@ image_byte_not_before_from from a (e ∷ es) h b =
     let first = leb-true from e.address both.0 in
     elim b [ inl w ↦ omega (arith, first, w.0) | inr w ↦ omega (arith, first, image_byte_not_before_from (end_of e) a es both.1 w) ]
 
--- The next byte from `at` on is no later than `a`, which has a byte.
-record NextByteUpTo (at a : ℕ) (o : Option ℕ) : Type 0 where
+-- The next byte of the image from `at` on exists, and is at `a` or before it.
+record HasNextByteUpTo (at a : ℕ) (o : Option ℕ) : Type 0 where
+  -- Next byte.
   byte : ℕ
+  -- The byte is found.
   is : o ≡ Some byte
+  -- The byte is at `a` or before it.
   early : byte ≤ a
 
 next_byte_up_to_by_test : (at a : ℕ) (e : Element) (es : List Element) (t : Bool) → ltb at (end_of e) ≡ t → at ≤ a → e.address ≤ a →
-    (end_of e ≤ at → NextByteUpTo at a (next_byte at es)) → NextByteUpTo at a (cond t (Some (max at e.address)) (next_byte at es))
+    (end_of e ≤ at → HasNextByteUpTo at a (next_byte at es)) → HasNextByteUpTo at a (cond t (Some (max at e.address)) (next_byte at es))
 next_byte_up_to_by_test at a e es true h from low rest = record { byte = max at e.address; is = refl; early = omega (arith, from, low) }
 next_byte_up_to_by_test at a e es false h from low rest = rest (ltb-false at (end_of e) h)
 
 next_byte_up_to_byte : (from at a : ℕ) (es : List Element) → apart_from from es ≡ true → HasByte a es → at ≤ a →
-    NextByteUpTo at a (next_byte at es)
+    HasNextByteUpTo at a (next_byte at es)
 unfolding next_byte
 next_byte_up_to_byte from at a [] h b l = absurd b
 next_byte_up_to_byte from at a (e ∷ es) h b l =
@@ -46,7 +49,7 @@ next_byte_up_to_byte from at a (e ∷ es) h b l =
       )) (λ k. next_byte_up_to_byte (end_of e) at a es both.1 w l)
     ]
 
--- Each byte of the image lies at the first one or after it.
+-- Every byte of an image whose elements ascend and don't overlap lies at the address of its first byte or after it.
 pub image_byte_after_image_start : (a : ℕ) (es : List Element) → apart_from 0 es ≡ true → HasByte a es → image_start es ≤ a
 unfolding image_start
 image_byte_after_image_start a [] h b = absurd b
@@ -55,33 +58,33 @@ image_byte_after_image_start a (e ∷ es) h b =
     elim b [ inl w ↦ w.0 | inr w ↦ omega (arith, image_byte_not_before_from (end_of e) a es both.1 w) ]
 
 -- Each byte of the image lies before its end.
-pub bytes_lie_before_end : (a : ℕ) (es : List Element) → HasByte a es → a < image_end es
+pub image_byte_before_image_end : (a : ℕ) (es : List Element) → HasByte a es → a < image_end es
 unfolding image_end
-bytes_lie_before_end a [] b = absurd b
-bytes_lie_before_end a (e ∷ es) b = elim b [ inl w ↦ omega (arith, w.1) | inr w ↦ omega (arith, bytes_lie_before_end a es w) ]
+image_byte_before_image_end a [] b = absurd b
+image_byte_before_image_end a (e ∷ es) b = elim b [ inl w ↦ omega (arith, w.1) | inr w ↦ omega (arith, image_byte_before_image_end a es w) ]
 
 address_before_end_by_test : (end b : ℕ) (t : Bool) → ltb b end ≡ t → cond t (Some b) None ≡ None → end ≤ b
 address_before_end_by_test end b true e h = cc
 address_before_end_by_test end b false e h = ltb-false b end e
 
-some_before_is_byte : (b c : ℕ) (t : Bool) → cond t (Some b) None ≡ Some c → b ≡ c
-some_before_is_byte b c true h = cc
-some_before_is_byte b c false h = cc
+kept_address_is_same : (b c : ℕ) (t : Bool) → cond t (Some b) None ≡ Some c → b ≡ c
+kept_address_is_same b c true h = cc
+kept_address_is_same b c false h = cc
 
--- If a part of the image has no next byte, it has no byte at any address.
-pub no_byte_in_part : (plan : Plan) (at end a : ℕ) → apart_from 0 plan.image.now ≡ true → HasByte a plan.image.now
+-- If a range has no first byte of the image, whose elements ascend and don't overlap, the image has no byte in that range.
+pub no_image_byte_in_range : (plan : Plan) (at end a : ℕ) → apart_from 0 plan.image.now ≡ true → HasByte a plan.image.now
     → byte_in plan at end ≡ None → at ≤ a → end ≤ a
 unfolding byte_in
-no_byte_in_part plan at end a apart b h l =
+no_image_byte_in_range plan at end a apart b h l =
     let n = next_byte_up_to_byte 0 at a plan.image.now apart b l in
     let gone : address_if_before end (Some n.byte) ≡ None = ap (address_if_before end) (sym n.is) ∙ h in
     omega (arith, n.early, address_before_end_by_test end n.byte (ltb n.byte end) refl gone)
 
--- The first byte of a part is no later than any byte from the start of the part on.
-pub first_byte_of_part : (plan : Plan) (at end c a : ℕ) → apart_from 0 plan.image.now ≡ true → HasByte a plan.image.now
+-- The first byte of a range is at or before every byte of the image from the start of the range on.
+pub first_image_byte_of_range : (plan : Plan) (at end c a : ℕ) → apart_from 0 plan.image.now ≡ true → HasByte a plan.image.now
     → byte_in plan at end ≡ Some c → at ≤ a → c ≤ a
 unfolding byte_in
-first_byte_of_part plan at end c a apart b h l =
+first_image_byte_of_range plan at end c a apart b h l =
     let n = next_byte_up_to_byte 0 at a plan.image.now apart b l in
     let same : address_if_before end (Some n.byte) ≡ Some c = ap (address_if_before end) (sym n.is) ∙ h in
-    omega (arith, n.early, some_before_is_byte n.byte c (ltb n.byte end) same)
+    omega (arith, n.early, kept_address_is_same n.byte c (ltb n.byte end) same)

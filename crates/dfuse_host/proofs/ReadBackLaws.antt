@@ -1,4 +1,4 @@
--- Bytes that count as read back after whatever a session hears.
+-- Bytes that count as read back after any result of a session.
 use Rattle.std.proofs.Common.{◌≡◌, ℕ, zero, suc, pred, ◌⊎◌, inl, true, refl, subst}
 use Rattle.dfuse_host.specs.declared.phase.Phase.{Phase}
 use Rattle.dfuse_host.specs.declared.phase.Phase.TheVariants.{On, Over}
@@ -14,38 +14,38 @@ use Rattle.dfuse_host.specs.Refusing.{apart_from}
 use Rattle.dfuse_host.specs.Table.{row}
 use Rattle.dfuse_host.specs.Sessions.{session_after_action, phase_resumed, session_with_restart_taken, session_after_restart, session_after_step_heard, session_after_phase_heard}
 use Rattle.dfuse_host.specs.ReadBack.{HasByte, WasReadInWork, WasReadInPhase, ReadsBack, PhaseReadsBack, ClosesAfterCompare, PhaseClosesAfterCompare, OnlyReadBack}
-use Rattle.dfuse_host.proofs.RowLaws.{read_byte_before_row, read_byte_before_budgeted, read_byte_before_resumed}
+use Rattle.dfuse_host.proofs.RowLaws.{row_adds_only_read_byte, budget_reads_no_byte, resuming_reads_no_byte}
 
 module _ (s : Session) (a : ℕ) (apart : apart_from 0 s.plan.image.now ≡ true) (b : HasByte a s.plan.image.now) where
-  read_byte_before_budget : (phase : Phase) (n : ℕ) → WasReadInPhase s.plan (session_after_action s phase n).phase a →
+  action_reads_no_byte : (phase : Phase) (n : ℕ) → WasReadInPhase s.plan (session_after_action s phase n).phase a →
       WasReadInPhase s.plan phase a
-  read_byte_before_budget phase n h = read_byte_before_budgeted s.plan a apart b (pred s.actions) phase h
+  action_reads_no_byte phase n h = budget_reads_no_byte s.plan a apart b (pred s.actions) phase h
 
-  read_byte_before_restarted : (w : Work) (p : Place) (at : Step) (n : ℕ) →
+  taken_restart_reads_no_byte : (w : Work) (p : Place) (at : Step) (n : ℕ) →
       WasReadInPhase s.plan (session_with_restart_taken s (phase_resumed s.plan w p at) n).phase a →
       WasReadInWork s.plan w a
-  read_byte_before_restarted w p at zero h = absurd (read_byte_before_budget (Over report.RestartsSpent) zero h)
-  read_byte_before_restarted w p at (suc n) h = read_byte_before_resumed s.plan a apart b w p at (read_byte_before_budget (phase_resumed
+  taken_restart_reads_no_byte w p at zero h = absurd (action_reads_no_byte (Over report.RestartsSpent) zero h)
+  taken_restart_reads_no_byte w p at (suc n) h = resuming_reads_no_byte s.plan a apart b w p at (action_reads_no_byte (phase_resumed
       s.plan w p at) n h)
 
-  read_byte_before_restart : (w : Work) (p : Place) (at : Step) → WasReadInPhase s.plan (session_after_restart s w p at).phase a →
+  restart_reads_no_byte : (w : Work) (p : Place) (at : Step) → WasReadInPhase s.plan (session_after_restart s w p at).phase a →
       WasReadInWork s.plan w a
-  read_byte_before_restart work.Leave p at h = tt
-  read_byte_before_restart w p at h = read_byte_before_restarted w p at s.restarts h
+  restart_reads_no_byte work.Leave p at h = tt
+  restart_reads_no_byte w p at h = taken_restart_reads_no_byte w p at s.restarts h
 
-  read_byte_before_heard_step : (w : Work) (p : Place) (at : Step) (x : Heard) → ClosesAfterCompare w at
+  step_adds_only_read_byte : (w : Work) (p : Place) (at : Step) (x : Heard) → ClosesAfterCompare w at
       → WasReadInPhase s.plan (session_after_step_heard s w p at x).phase a →
       WasReadInWork s.plan w a ⊎ ReadsBack s.plan w at x a
-  read_byte_before_heard_step w p at heard.Restarted c h = inl (read_byte_before_restart w p at h)
-  read_byte_before_heard_step w p at x c h = read_byte_before_row s.plan a apart b w p at x c (read_byte_before_budget (row s.plan w p at
+  step_adds_only_read_byte w p at heard.Restarted c h = inl (restart_reads_no_byte w p at h)
+  step_adds_only_read_byte w p at x c h = row_adds_only_read_byte s.plan a apart b w p at x c (action_reads_no_byte (row s.plan w p at
       x) s.restarts h)
 
-  read_byte_before_phase : (p : Phase) (x : Heard) → s.phase ≡ p → PhaseClosesAfterCompare p →
+  phase_adds_only_read_byte : (p : Phase) (x : Heard) → s.phase ≡ p → PhaseClosesAfterCompare p →
       WasReadInPhase s.plan (session_after_phase_heard s p x).phase a →
       WasReadInPhase s.plan p a ⊎ PhaseReadsBack s.plan p x a
-  read_byte_before_phase (Over r) x e c h = inl (subst (λ (q : Phase). WasReadInPhase s.plan q a) e h)
-  read_byte_before_phase (On at) x e c h = read_byte_before_heard_step at.work at.place at.step x c h
+  phase_adds_only_read_byte (Over r) x e c h = inl (subst (λ (q : Phase). WasReadInPhase s.plan q a) e h)
+  phase_adds_only_read_byte (On at) x e c h = step_adds_only_read_byte at.work at.place at.step x c h
 
--- A byte counts as read back only because it did before, or was read back just now.
+-- A byte counts as read back only if it did before, or if this result read it back.
 pub only_read_back : OnlyReadBack
-only_read_back s x a apart b c h = read_byte_before_phase s a apart b s.phase x refl c h
+only_read_back s x a apart b c h = phase_adds_only_read_byte s a apart b s.phase x refl c h

@@ -1,4 +1,4 @@
--- A session that ends as Verified has read back each byte of its image.
+-- A session that ends as Verified has read back every byte of its image.
 use Rattle.std.proofs.Common.{◌≡◌, ℕ, zero, suc, ◌⊎◌, inl, inr, true, List, [], ◌∷◌, refl, sym, ap, ◌∙◌, subst}
 use Rattle.dfuse_host.specs.declared.plan.Plan.{Plan}
 use Rattle.dfuse_host.specs.declared.phase.Phase.{Phase}
@@ -16,7 +16,7 @@ use Rattle.dfuse_host.specs.Refusing.{apart_from}
 use Rattle.dfuse_host.specs.Sessions.{initial_dfuse_session, phase_resumed, session_with_restart_taken, restarted_leaving, session_after_restart, session_after_step_heard, session_after_phase_heard, SessionRow, SessionRows, seen_all, sees}
 use Rattle.dfuse_host.specs.ReadBack.{HasByte, WasReadInPhase, PhaseReadsBack, PhaseClosesAfterCompare}
 use Rattle.dfuse_host.specs.ReadInRun.{IsReadInRun, VerifiedReadEachByte}
-use Rattle.dfuse_host.proofs.CloseLaws.{closes_always}
+use Rattle.dfuse_host.proofs.CloseLaws.{session_closes_after_compare}
 use Rattle.dfuse_host.proofs.ReadBackLaws.{only_read_back}
 
 -- ---- a session keeps its plan
@@ -35,45 +35,50 @@ restart_keeps_plan : (s : Session) (w : Work) (p : Place) (at : Step) → (sessi
 restart_keeps_plan s work.Leave p at = restart_leaving_keeps_plan s p at
 restart_keeps_plan s w p at = restarted_session_keeps_plan s (phase_resumed s.plan w p at) s.restarts
 
--- A session that goes on keeps its plan, whatever is heard.
-pub step_after_keeps_plan : (s : Session) (w : Work) (p : Place) (at : Step) (h : Heard) → (session_after_step_heard s w p at h).plan
+-- No result changes the plan of a session that is not over.
+pub heard_step_keeps_plan : (s : Session) (w : Work) (p : Place) (at : Step) (h : Heard) → (session_after_step_heard s w p at h).plan
     ≡ s.plan
-step_after_keeps_plan s w p at heard.Restarted = restart_keeps_plan s w p at
-step_after_keeps_plan s w p at h = refl
+heard_step_keeps_plan s w p at heard.Restarted = restart_keeps_plan s w p at
+heard_step_keeps_plan s w p at h = refl
 
--- The session after its next step has the same plan, whatever is heard.
-pub phase_after_keeps_plan : (s : Session) (p : Phase) (h : Heard) → (session_after_phase_heard s p h).plan ≡ s.plan
-phase_after_keeps_plan s (Over r) h = refl
-phase_after_keeps_plan s (On at) h = step_after_keeps_plan s at.work at.place at.step h
+-- No result changes the plan of a session.
+pub heard_phase_keeps_plan : (s : Session) (p : Phase) (h : Heard) → (session_after_phase_heard s p h).plan ≡ s.plan
+heard_phase_keeps_plan s (Over r) h = refl
+heard_phase_keeps_plan s (On at) h = heard_step_keeps_plan s at.work at.place at.step h
 
--- ---- a run
+-- ---- a run of several results
 
--- Facts of a session that counts the byte at `a` as read back or not.
-record CountsReadByte (s : Session) (a : ℕ) : Type 0 where
+-- The byte at `a` is in the image, whose elements ascend and don't overlap, and the device is asked to leave only after the comparison.
+record ReadByteFacts (s : Session) (a : ℕ) : Type 0 where
+  -- The elements ascend and don't overlap.
   apart : apart_from 0 s.plan.image.now ≡ true
+  -- The byte is in the image.
   has : HasByte a s.plan.image.now
+  -- The device is asked to leave only after the comparison.
   closes : PhaseClosesAfterCompare s.phase
 
-read_facts_after_row : (s mid : Session) (seen : Seen) (a : ℕ) → SessionRow s seen mid → CountsReadByte s a → CountsReadByte mid a
+read_facts_after_row : (s mid : Session) (seen : Seen) (a : ℕ) → SessionRow s seen mid → ReadByteFacts s a → ReadByteFacts mid a
 read_facts_after_row s mid seen a step c =
-    let plan : mid.plan ≡ s.plan = ap (λ (t : Session). t.plan) step.same ∙ phase_after_keeps_plan s s.phase step.heard in record {
+    let plan : mid.plan ≡ s.plan = ap (λ (t : Session). t.plan) step.same ∙ heard_phase_keeps_plan s s.phase step.heard in record {
       apart = subst (λ (q : Plan). apart_from 0 q.image.now ≡ true) (sym plan) c.apart;
       has = subst (λ (q : Plan). HasByte a q.image.now) (sym plan) c.has;
-      closes = subst (λ (t : Session). PhaseClosesAfterCompare t.phase) (sym step.same) (closes_always s step.heard c.closes);
+      closes = subst (λ (t : Session). PhaseClosesAfterCompare t.phase) (sym step.same)
+          (session_closes_after_compare s step.heard c.closes);
     }
 
--- After one result, a byte counts as read back because it did before, or was read back just now.
-read_byte_after_result : (s mid : Session) (seen : Seen) (a : ℕ) (step : SessionRow s seen mid) → CountsReadByte s a →
+-- After a result a byte counts as read back only if it did before, or if this result read it back.
+result_adds_only_read_byte : (s mid : Session) (seen : Seen) (a : ℕ) (step : SessionRow s seen mid) → ReadByteFacts s a →
     WasReadInPhase mid.plan mid.phase a →
     WasReadInPhase s.plan s.phase a ⊎ PhaseReadsBack s.plan s.phase step.heard a
-read_byte_after_result s mid seen a step c h =
-    let plan : mid.plan ≡ s.plan = ap (λ (t : Session). t.plan) step.same ∙ phase_after_keeps_plan s s.phase step.heard in
+result_adds_only_read_byte s mid seen a step c h =
+    let plan : mid.plan ≡ s.plan = ap (λ (t : Session). t.plan) step.same ∙ heard_phase_keeps_plan s s.phase step.heard in
     let here : WasReadInPhase s.plan mid.phase a = subst (λ (q : Plan). WasReadInPhase q mid.phase a) plan h in
     only_read_back s step.heard a c.apart c.has c.closes (subst (λ (t : Session). WasReadInPhase s.plan t.phase a) step.same here)
 
-read_in_longer_run : (s mid s' : Session) (seen : Seen) (more : List Seen) (a : ℕ) → SessionRow s seen mid → IsReadInRun mid more s' a →
+longer_run_reads_byte_too : (s mid s' : Session) (seen : Seen) (more : List Seen) (a : ℕ) → SessionRow s seen mid
+    → IsReadInRun mid more s' a →
     IsReadInRun s (seen ∷ more) s' a
-read_in_longer_run s mid s' seen more a step r = record {
+longer_run_reads_byte_too s mid s' seen more a step r = record {
   before = seen ∷ r.before;
   answer = r.answer;
   behind = r.behind;
@@ -86,13 +91,13 @@ read_in_longer_run s mid s' seen more a step r = record {
   rest = r.rest;
 }
 
-counted_byte_is_read_in_run : (s s' : Session) (seens : List Seen) (a : ℕ) → SessionRows s seens s' → CountsReadByte s a →
+counted_byte_is_read_in_run : (s s' : Session) (seens : List Seen) (a : ℕ) → SessionRows s seens s' → ReadByteFacts s a →
     WasReadInPhase s'.plan s'.phase a →
     WasReadInPhase s.plan s.phase a ⊎ IsReadInRun s seens s' a
 counted_byte_is_read_in_run s s' [] a seen_all c h = inl h
 counted_byte_is_read_in_run s s' (seen ∷ more) a (sees {mid = mid} step rows) c h =
     elim (counted_byte_is_read_in_run mid s' more a rows (read_facts_after_row s mid seen a step c) h) [
-      | inl w ↦ elim (read_byte_after_result s mid seen a step c w) [
+      | inl w ↦ elim (result_adds_only_read_byte s mid seen a step c w) [
         | inl k ↦ inl k
         | inr k ↦ inr (record {
           before = [];
@@ -107,11 +112,12 @@ counted_byte_is_read_in_run s s' (seen ∷ more) a (sees {mid = mid} step rows) 
           rest = rows;
         })
       ]
-      | inr w ↦ inr (read_in_longer_run s mid s' seen more a step w)
+      | inr w ↦ inr (longer_run_reads_byte_too s mid s' seen more a step w)
     ]
 
+-- A session that ends as Verified has read back every byte of its image, whose elements ascend and don't overlap.
 pub verified_session_read_each_byte : VerifiedReadEachByte
 verified_session_read_each_byte plan limits seens s' leaving a apart rows over b =
-    let counts : CountsReadByte (initial_dfuse_session plan limits) a = record { apart = apart; has = b; closes = tt } in
+    let counts : ReadByteFacts (initial_dfuse_session plan limits) a = record { apart = apart; has = b; closes = tt } in
     let end : WasReadInPhase s'.plan s'.phase a = subst (λ (p : Phase). WasReadInPhase s'.plan p a) (sym over) tt in
     elim (counted_byte_is_read_in_run (initial_dfuse_session plan limits) s' seens a rows counts end) [ inl w ↦ absurd w | inr w ↦ w ]

@@ -1,4 +1,4 @@
--- Bytes that count as read back once the device is ready for a command.
+-- Bytes that count as read back when the device is ready for a command.
 use Rattle.std.proofs.Common.{◌≡◌, ℕ, ◌<◌, ◌≤◌, ◌⊎◌, inl, inr, true, Option, Some, None, refl, arith}
 use Rattle.std.proofs.lemmas.Bool.{cases_lt}
 use Rattle.dfuse_host.specs.declared.plan.Plan.{Plan}
@@ -10,24 +10,25 @@ use Rattle.dfuse_host.specs.Plans.{front_end}
 use Rattle.dfuse_host.specs.Refusing.{apart_from}
 use Rattle.dfuse_host.specs.ReadBack.{HasByte, WasReadInWork, WasReadInPhase}
 use Rattle.dfuse_host.specs.Settling.{byte_in, compare_front_phase_for, write_front_phase_for, compare_phase_for, write_phase_for, erase_phase_for, to_compare_front, to_write_front, to_compare, to_write, to_erase, settled_phase}
-use Rattle.dfuse_host.proofs.ImageLaws.{image_byte_after_image_start, bytes_lie_before_end, no_byte_in_part, first_byte_of_part}
+use Rattle.dfuse_host.proofs.ImageLaws.{image_byte_after_image_start, image_byte_before_image_end, no_image_byte_in_range, first_image_byte_of_range}
 
 module _ (plan : Plan) (a : ℕ) (apart : apart_from 0 plan.image.now ≡ true) (b : HasByte a plan.image.now) where
-  -- A byte that counts as read back while the front is compared lies after the front, or before the address that is compared.
+  -- A byte that counts as read back in the comparison of the front lies after the front, or before the address to compare next.
   read_byte_by_compare_front : (p : Place) (at : ℕ) (o : Option ℕ) → byte_in plan at (front_end plan) ≡ o →
       WasReadInPhase plan (compare_front_phase_for plan p o) a →
       (front_end plan ≤ a) ⊎ (a < at)
   read_byte_by_compare_front p at None e h =
-      elim (cases_lt a at) [ inl w ↦ inr w | inr w ↦ inl (no_byte_in_part plan at (front_end plan) a apart b e w) ]
+      elim (cases_lt a at) [ inl w ↦ inr w | inr w ↦ inl (no_image_byte_in_range plan at (front_end plan) a apart b e w) ]
   read_byte_by_compare_front p at (Some c) e h = elim h [
     | inl w ↦ inl w
     | inr w ↦ elim (cases_lt a at) [
       | inl k ↦ inr k
       | inr k ↦ absurd
-          (omega (arith, w, first_byte_of_part plan at (front_end plan) c a apart b e k))
+          (omega (arith, w, first_image_byte_of_range plan at (front_end plan) c a apart b e k))
     ]
   ]
 
+  -- A byte that counts as read back when the front is compared from `at` on lies after the front, or before `at`.
   pub read_byte_at_compare_front : (p : Place) (at : ℕ) → WasReadInPhase plan (to_compare_front plan p at) a → (front_end plan
       ≤ a) ⊎ (a < at)
   unfolding to_compare_front
@@ -40,6 +41,7 @@ module _ (plan : Plan) (a : ℕ) (apart : apart_from 0 plan.image.now ≡ true) 
   ]
   read_byte_by_write_front p (Some c) h = h
 
+  -- A byte that counts as read back when the front is written lies after the front.
   pub read_byte_at_write_front : (p : Place) (at : ℕ) → WasReadInPhase plan (to_write_front plan p at) a → front_end plan ≤ a
   unfolding to_write_front
   read_byte_at_write_front p at h = read_byte_by_write_front p (byte_in plan at (front_end plan)) h
@@ -53,8 +55,8 @@ module _ (plan : Plan) (a : ℕ) (apart : apart_from 0 plan.image.now ≡ true) 
       | inl w ↦ w
       | inr w ↦ absurd (omega (
         arith,
-        bytes_lie_before_end a plan.image.now b,
-        no_byte_in_part plan at
+        image_byte_before_image_end a plan.image.now b,
+        no_image_byte_in_range plan at
             (image_end plan.image.now) a apart b e w,
       ))
     ],
@@ -63,10 +65,11 @@ module _ (plan : Plan) (a : ℕ) (apart : apart_from 0 plan.image.now ≡ true) 
     h.0,
     elim (cases_lt a at) [
       | inl w ↦ w
-      | inr w ↦ absurd (omega (arith, h.1, first_byte_of_part plan at (image_end plan.image.now) c a apart b e w))
+      | inr w ↦ absurd (omega (arith, h.1, first_image_byte_of_range plan at (image_end plan.image.now) c a apart b e w))
     ],
   )
 
+  -- A byte that counts as read back when the image after the front is compared from `at` on lies after the front, and before `at`.
   pub read_byte_at_compare : (p : Place) (at : ℕ) → WasReadInPhase plan (to_compare plan p at) a → (front_end plan ≤ a) × (a < at)
   unfolding to_compare
   read_byte_at_compare p at h = read_byte_by_compare p at (byte_in plan at (image_end plan.image.now)) refl h
@@ -75,6 +78,7 @@ module _ (plan : Plan) (a : ℕ) (apart : apart_from 0 plan.image.now ≡ true) 
   no_read_byte_by_write p end None h = let w = read_byte_at_compare p (front_end plan) h in omega (arith, w.0, w.1)
   no_read_byte_by_write p end (Some c) h = h
 
+  -- No byte counts as read back when the image is written.
   pub no_read_byte_at_write : (p : Place) (at end : ℕ) → WasReadInPhase plan (to_write plan p at end) a → ⊥
   unfolding to_write
   no_read_byte_at_write p at end h = no_read_byte_by_write p end (byte_in plan at end) h
@@ -83,17 +87,18 @@ module _ (plan : Plan) (a : ℕ) (apart : apart_from 0 plan.image.now ≡ true) 
   no_read_byte_by_erase p None h = no_read_byte_at_write p (front_end plan) (image_end plan.image.now) h
   no_read_byte_by_erase p (Some c) h = h
 
+  -- No byte counts as read back when pages are erased.
   pub no_read_byte_at_erase : (p : Place) (at : ℕ) → WasReadInPhase plan (to_erase plan p at) a → ⊥
   unfolding to_erase
   no_read_byte_at_erase p at h = no_read_byte_by_erase p (byte_in plan at (image_end plan.image.now)) h
 
-  -- A byte that counts as read back in the phase that settles counted so in its work.
-  pub read_byte_at_settling : (w : Work) (p : Place) → WasReadInPhase plan (settled_phase plan w p) a → WasReadInWork plan w a
+  -- A byte that counts as read back in the settled phase of a work counts as read back in that work.
+  pub settling_reads_no_byte : (w : Work) (p : Place) → WasReadInPhase plan (settled_phase plan w p) a → WasReadInWork plan w a
   unfolding settled_phase
-  read_byte_at_settling (work.Erase at) p h = no_read_byte_at_erase p at h
-  read_byte_at_settling (work.EraseAgain page end) p h = h
-  read_byte_at_settling (work.Write at end) p h = no_read_byte_at_write p at end h
-  read_byte_at_settling (work.Compare at) p h = read_byte_at_compare p at h
-  read_byte_at_settling (work.WriteFront at) p h = read_byte_at_write_front p at h
-  read_byte_at_settling (work.CompareFront at) p h = read_byte_at_compare_front p at h
-  read_byte_at_settling work.Leave p h = tt
+  settling_reads_no_byte (work.Erase at) p h = no_read_byte_at_erase p at h
+  settling_reads_no_byte (work.EraseAgain page end) p h = h
+  settling_reads_no_byte (work.Write at end) p h = no_read_byte_at_write p at end h
+  settling_reads_no_byte (work.Compare at) p h = read_byte_at_compare p at h
+  settling_reads_no_byte (work.WriteFront at) p h = read_byte_at_write_front p at h
+  settling_reads_no_byte (work.CompareFront at) p h = read_byte_at_compare_front p at h
+  settling_reads_no_byte work.Leave p h = tt

@@ -1,4 +1,4 @@
--- A session spends one action at each `take`, is over in time, and stays over.
+-- A session spends an action at each `take`, is over in time, and then stays over.
 use Rattle.std.proofs.Common.{◌≡◌, ℕ, zero, suc, pred, ◌-◌, ◌≤◌, max, List, [], ◌∷◌, length, refl, sym, ap, ◌∙◌, subst, arith}
 use Rattle.dfuse_host.specs.declared.phase.Phase.{Phase}
 use Rattle.dfuse_host.specs.declared.phase.Phase.TheVariants.{On, Over}
@@ -15,99 +15,102 @@ use Rattle.dfuse_host.specs.declared.report.Report.TheVariants as report
 use Rattle.dfuse_host.specs.declared.report.Leaving.TheVariants as leaving
 use Rattle.dfuse_host.specs.declared.session.Session.{Session}
 use Rattle.dfuse_host.specs.Table.{row}
-use Rattle.dfuse_host.specs.Sessions.{phase_within_budget, session_after_action, spent_at, phase_resumed, session_with_restart_taken, restarted_leaving, session_after_restart, session_after_step_heard, session_after_phase_heard, DfuseSeenMeaningIn, SessionRow, SessionRows, seen_all, sees, DfuseIsOver, most_dfuse_inputs_in, remaining_dfuse_inputs}
-use Rattle.dfuse_host.specs.Budget.{OverInTime, StaysOver}
+use Rattle.dfuse_host.specs.Sessions.{phase_within_budget, session_after_action, phase_without_actions, phase_resumed, session_with_restart_taken, restarted_leaving, session_after_restart, session_after_step_heard, session_after_phase_heard, DfuseSeenMeaningIn, SessionRow, SessionRows, seen_all, sees, DfuseIsOver, most_dfuse_inputs_in, remaining_dfuse_inputs}
+use Rattle.dfuse_host.specs.Budget.{OverInTime, OverSessionIsStable}
 
--- ---- what one `take` costs
+-- ---- inputs that one `take` uses up
 
-spent_phase_takes_nothing : (w : Work) (s : Step) (n : ℕ) → most_dfuse_inputs_in (spent_at w s) n ≡ 0
+spent_phase_takes_nothing : (w : Work) (s : Step) (n : ℕ) → most_dfuse_inputs_in (phase_without_actions w s) n ≡ 0
 spent_phase_takes_nothing work.Leave s n = refl
 spent_phase_takes_nothing w s n = refl
 
-budgeted_phase_takes_at_most : (left : ℕ) (phase : Phase) → most_dfuse_inputs_in (phase_within_budget left phase) left ≤ left
-budgeted_phase_takes_at_most left (Over r) = omega arith
-budgeted_phase_takes_at_most zero (On s) = omega (arith, spent_phase_takes_nothing s.work s.step 0)
-budgeted_phase_takes_at_most (suc left) (On s) = omega arith
+budgeted_inputs_at_most_left : (left : ℕ) (phase : Phase) → most_dfuse_inputs_in (phase_within_budget left phase) left ≤ left
+budgeted_inputs_at_most_left left (Over r) = omega arith
+budgeted_inputs_at_most_left zero (On s) = omega (arith, spent_phase_takes_nothing s.work s.step 0)
+budgeted_inputs_at_most_left (suc left) (On s) = omega arith
 
-spent_session_takes_fewer : (s : Session) (phase : Phase) (restarts : ℕ) →
+action_uses_up_one_input : (s : Session) (phase : Phase) (restarts : ℕ) →
     remaining_dfuse_inputs (session_after_action s phase restarts) ≤ pred s.actions
-spent_session_takes_fewer s phase restarts = budgeted_phase_takes_at_most (pred s.actions) phase
+action_uses_up_one_input s phase restarts = budgeted_inputs_at_most_left (pred s.actions) phase
 
-restarted_session_takes_fewer : (s : Session) (phase : Phase) (restarts : ℕ) →
+taken_restart_uses_up_one_input : (s : Session) (phase : Phase) (restarts : ℕ) →
     remaining_dfuse_inputs (session_with_restart_taken s phase restarts) ≤ pred s.actions
-restarted_session_takes_fewer s phase zero = spent_session_takes_fewer s (Over report.RestartsSpent) zero
-restarted_session_takes_fewer s phase (suc restarts) = spent_session_takes_fewer s phase restarts
+taken_restart_uses_up_one_input s phase zero = action_uses_up_one_input s (Over report.RestartsSpent) zero
+taken_restart_uses_up_one_input s phase (suc restarts) = action_uses_up_one_input s phase restarts
 
-restart_leaving_takes_one : (s : Session) (p : Place) (at : Step) → remaining_dfuse_inputs (restarted_leaving s p at) ≤ pred s.actions
-restart_leaving_takes_one s p step.Close = spent_session_takes_fewer s (Over (report.Verified leaving.Unknown)) s.restarts
-restart_leaving_takes_one s p step.CloseProbe = spent_session_takes_fewer s (Over (report.Verified leaving.Unknown)) s.restarts
-restart_leaving_takes_one s p step.ClosePoll = spent_session_takes_fewer s (Over (report.Verified leaving.Unknown)) s.restarts
-restart_leaving_takes_one s p at = restarted_session_takes_fewer s (phase_resumed s.plan work.Leave p at) s.restarts
+leaving_restart_uses_one_input : (s : Session) (p : Place) (at : Step) → remaining_dfuse_inputs (restarted_leaving s p at) ≤ pred s.actions
+leaving_restart_uses_one_input s p step.Close = action_uses_up_one_input s (Over (report.Verified leaving.Unknown)) s.restarts
+leaving_restart_uses_one_input s p step.CloseProbe = action_uses_up_one_input s (Over (report.Verified leaving.Unknown)) s.restarts
+leaving_restart_uses_one_input s p step.ClosePoll = action_uses_up_one_input s (Over (report.Verified leaving.Unknown)) s.restarts
+leaving_restart_uses_one_input s p at = taken_restart_uses_up_one_input s (phase_resumed s.plan work.Leave p at) s.restarts
 
-restart_takes_one : (s : Session) (w : Work) (p : Place) (at : Step) → remaining_dfuse_inputs (session_after_restart s w p at)
+restart_uses_up_one_input : (s : Session) (w : Work) (p : Place) (at : Step) → remaining_dfuse_inputs (session_after_restart s w p at)
     ≤ pred s.actions
-restart_takes_one s work.Leave p at = restart_leaving_takes_one s p at
-restart_takes_one s w p at = restarted_session_takes_fewer s (phase_resumed s.plan w p at) s.restarts
+restart_uses_up_one_input s work.Leave p at = leaving_restart_uses_one_input s p at
+restart_uses_up_one_input s w p at = taken_restart_uses_up_one_input s (phase_resumed s.plan w p at) s.restarts
 
-heard_step_takes_fewer : (s : Session) (w : Work) (p : Place) (at : Step) (h : Heard)
+heard_step_uses_up_one_input : (s : Session) (w : Work) (p : Place) (at : Step) (h : Heard)
     → remaining_dfuse_inputs (session_after_step_heard s w p at h) ≤ pred s.actions
-heard_step_takes_fewer s w p at heard.Restarted = restart_takes_one s w p at
-heard_step_takes_fewer s w p at h = spent_session_takes_fewer s (row s.plan w p at h) s.restarts
+heard_step_uses_up_one_input s w p at heard.Restarted = restart_uses_up_one_input s w p at
+heard_step_uses_up_one_input s w p at h = action_uses_up_one_input s (row s.plan w p at h) s.restarts
 
--- One `take` of a session that goes on leaves at least one input fewer, up to 0.
-pub going_session_takes_one : (s : Session) (at : Standing) (h : Heard) → s.phase ≡ On at →
+-- Each `take` of a session that is not over uses up at least one of its remaining inputs.
+pub live_session_uses_up_one_input : (s : Session) (at : Standing) (h : Heard) → s.phase ≡ On at →
     remaining_dfuse_inputs (session_after_step_heard s at.work at.place at.step h) ≤ remaining_dfuse_inputs s - 1
-going_session_takes_one s at h e =
+live_session_uses_up_one_input s at h e =
     let now : remaining_dfuse_inputs s ≡ max 1 s.actions = ap (λ (p : Phase). most_dfuse_inputs_in p s.actions) e in
-    omega (arith, now, heard_step_takes_fewer s at.work at.place at.step h)
+    omega (arith, now, heard_step_uses_up_one_input s at.work at.place at.step h)
 
 -- ---- a session that is over
 
-over_row_by_phase : (s : Session) (seen : Seen) (p : Phase) → s.phase ≡ p → ((at : Standing) → p ≡ On at → ⊥) → SessionRow s seen s
-over_row_by_phase s seen (On at) e h = absurd (h at refl)
-over_row_by_phase s seen (Over r) e h = record {
+over_phase_takes_any_result : (s : Session) (seen : Seen) (p : Phase) → s.phase ≡ p → ((at : Standing) → p ≡ On at → ⊥)
+    → SessionRow s seen s
+over_phase_takes_any_result s seen (On at) e h = absurd (h at refl)
+over_phase_takes_any_result s seen (Over r) e h = record {
   heard = heard.Nothing;
   hears = subst (λ (p : Phase). DfuseSeenMeaningIn s.plan p seen heard.Nothing) (sym e) tt;
   same = sym (ap (λ (p : Phase). session_after_phase_heard s p heard.Nothing) e);
 }
 
--- A session that doesn't go on is over, and doesn't change.
-pub session_not_going_on_has_row : (s : Session) (seen : Seen) → ((at : Standing) → s.phase ≡ On at → ⊥) → SessionRow s seen s
-session_not_going_on_has_row s seen h = over_row_by_phase s seen s.phase refl h
+-- A session whose phase isn't On takes any result, and stays as it is.
+pub over_session_takes_any_result : (s : Session) (seen : Seen) → ((at : Standing) → s.phase ≡ On at → ⊥) → SessionRow s seen s
+over_session_takes_any_result s seen h = over_phase_takes_any_result s seen s.phase refl h
 
 over_phase_stays : (s : Session) (phase : Phase) (h : Heard) → DfuseIsOver phase → session_after_phase_heard s phase h ≡ s
 over_phase_stays s (Over r) h over = refl
 over_phase_stays s (On at) h over = absurd over
 
-row_of_over_session : (s s' : Session) (seen : Seen) → SessionRow s seen s' → DfuseIsOver s.phase → s' ≡ s
-row_of_over_session s s' seen step over = step.same ∙ over_phase_stays s s.phase step.heard over
+row_keeps_over_session : (s s' : Session) (seen : Seen) → SessionRow s seen s' → DfuseIsOver s.phase → s' ≡ s
+row_keeps_over_session s s' seen step over = step.same ∙ over_phase_stays s s.phase step.heard over
 
 -- A session that is over stays over.
-pub over_session_never_changes : StaysOver
+pub over_session_never_changes : OverSessionIsStable
 over_session_never_changes s s' [] seen_all over = refl
 over_session_never_changes s s' (seen ∷ more) (sees {mid = mid} step rows) over =
-    let e : mid ≡ s = row_of_over_session s mid seen step over in
+    let e : mid ≡ s = row_keeps_over_session s mid seen step over in
     over_session_never_changes mid s' more rows (subst (λ (z : Session). DfuseIsOver z.phase) (sym e) over) ∙ e
 
--- ---- a session ends
+-- ---- every session ends
 
-next_phase_takes_fewer : (s : Session) (p : Phase) (h : Heard) → s.phase ≡ p
+heard_phase_uses_up_one_input : (s : Session) (p : Phase) (h : Heard) → s.phase ≡ p
     → remaining_dfuse_inputs (session_after_phase_heard s p h) ≤ remaining_dfuse_inputs s - 1
-next_phase_takes_fewer s (Over r) h e = omega (arith, ap (λ (p : Phase). most_dfuse_inputs_in p s.actions) e)
-next_phase_takes_fewer s (On at) h e = going_session_takes_one s at h e
+heard_phase_uses_up_one_input s (Over r) h e = omega (arith, ap (λ (p : Phase). most_dfuse_inputs_in p s.actions) e)
+heard_phase_uses_up_one_input s (On at) h e = live_session_uses_up_one_input s at h e
 
-row_takes_one_input : (s s' : Session) (seen : Seen) → SessionRow s seen s' → remaining_dfuse_inputs s' ≤ remaining_dfuse_inputs s - 1
-row_takes_one_input s s' seen step =
-    subst (λ (z : Session). remaining_dfuse_inputs z ≤ remaining_dfuse_inputs s - 1) (sym step.same) (next_phase_takes_fewer s s.phase
+row_uses_up_one_dfuse_input : (s s' : Session) (seen : Seen) → SessionRow s seen s'
+    → remaining_dfuse_inputs s' ≤ remaining_dfuse_inputs s - 1
+row_uses_up_one_dfuse_input s s' seen step =
+    subst (λ (z : Session). remaining_dfuse_inputs z ≤ remaining_dfuse_inputs s - 1) (sym step.same)
+    (heard_phase_uses_up_one_input s s.phase
     step.heard refl)
 
-rows_take_all_inputs : (s s' : Session) (seens : List Seen) → SessionRows s seens s' → remaining_dfuse_inputs s ≤ length seens
+rows_use_up_dfuse_inputs : (s s' : Session) (seens : List Seen) → SessionRows s seens s' → remaining_dfuse_inputs s ≤ length seens
     → remaining_dfuse_inputs s' ≡ 0
-rows_take_all_inputs s s' [] seen_all l = omega (arith, l)
-rows_take_all_inputs s s' (seen ∷ more) (sees {mid = mid} step rows) l = rows_take_all_inputs mid s' more rows (omega (
+rows_use_up_dfuse_inputs s s' [] seen_all l = omega (arith, l)
+rows_use_up_dfuse_inputs s s' (seen ∷ more) (sees {mid = mid} step rows) l = rows_use_up_dfuse_inputs mid s' more rows (omega (
   arith,
   l,
-  row_takes_one_input s mid seen step,
+  row_uses_up_one_dfuse_input s mid seen step,
 ))
 
 no_inputs_left_means_over : (p : Phase) (n : ℕ) → most_dfuse_inputs_in p n ≡ 0 → DfuseIsOver p
@@ -118,10 +121,10 @@ most_inputs_at_most_actions : (p : Phase) (n : ℕ) → most_dfuse_inputs_in p n
 most_inputs_at_most_actions (Over r) n = omega arith
 most_inputs_at_most_actions (On at) n = omega arith
 
--- A session is over in time.
+-- A session is over after as many `take`s as it has actions, but at least one.
 pub session_over_within_actions : OverInTime
 session_over_within_actions s s' seens rows l =
-    no_inputs_left_means_over s'.phase s'.actions (rows_take_all_inputs s s' seens rows (omega (
+    no_inputs_left_means_over s'.phase s'.actions (rows_use_up_dfuse_inputs s s' seens rows (omega (
       arith,
       l,
       most_inputs_at_most_actions

@@ -1,4 +1,4 @@
--- Works of each next phase are at bytes of the image.
+-- After each row the work of the phase is at bytes of the image.
 use Rattle.std.proofs.Common.{◌≡◌, ℕ, ◌≤◌, max, true, false, cond, eqb, Option, Some, None, refl, arith}
 use Rattle.dfuse_host.specs.declared.plan.Plan.{Plan}
 use Rattle.dfuse_host.specs.declared.phase.Phase.{Phase}
@@ -21,13 +21,13 @@ use Rattle.dfuse_host.specs.Table.{read_on}
 use Rattle.dfuse_host.specs.ReadBack.{HasByte}
 use Rattle.dfuse_host.specs.Touching.{WorkTouchesImage, PhaseTouchesImage}
 use Rattle.dfuse_host.proofs.RowForms.{RowForm, stays, settles, reads, does, doubts, fails, leaves}
-use Rattle.dfuse_host.proofs.TouchedBytes.{next_byte_of_image, if_before_keeps_byte, nonempty_image_is_filled, byte_in_not_before}
+use Rattle.dfuse_host.proofs.TouchedBytes.{next_byte_of_image, address_if_before_is_same, nonempty_image_is_filled, byte_in_not_before}
 
 module _ (plan : Plan) (some : is_empty plan.image.now ≡ false) where
   byte_in_is_of_image : (at end c : ℕ) → byte_in plan at end ≡ Some c → HasByte c plan.image.now
   unfolding byte_in
   byte_in_is_of_image at end c h =
-      next_byte_of_image at c plan.image.now (nonempty_image_is_filled plan.image.now some) (if_before_keeps_byte end c (next_byte at
+      next_byte_of_image at c plan.image.now (nonempty_image_is_filled plan.image.now some) (address_if_before_is_same end c (next_byte at
       plan.image.now) h)
 
   leaving_touches_image : (p : Place) → PhaseTouchesImage plan (phase_to_set_start plan p)
@@ -49,53 +49,53 @@ module _ (plan : Plan) (some : is_empty plan.image.now ≡ false) where
       elim plan.leaves as (λ t. PhaseTouchesImage plan (cond t (phase_to_set_start plan p) (phase_when_compared p)))
       [ true ↦ leaving_touches_image p | false ↦ staying_touches_image p ]
 
-  compare_front_touches_by_byte : (p : Place) (o : Option ℕ) → PhaseTouchesImage plan (compare_front_phase_for plan p o)
-  compare_front_touches_by_byte p None = to_leave_touches_image p
-  compare_front_touches_by_byte p (Some at) = tt
+  compare_front_touches_image : (p : Place) (o : Option ℕ) → PhaseTouchesImage plan (compare_front_phase_for plan p o)
+  compare_front_touches_image p None = to_leave_touches_image p
+  compare_front_touches_image p (Some at) = tt
 
   to_compare_front_touches_image : (p : Place) (at : ℕ) → PhaseTouchesImage plan (to_compare_front plan p at)
   unfolding to_compare_front
-  to_compare_front_touches_image p at = compare_front_touches_by_byte p (byte_in plan at (front_end plan))
+  to_compare_front_touches_image p at = compare_front_touches_image p (byte_in plan at (front_end plan))
 
-  write_front_touches_by_byte : (p : Place) (o : Option ℕ) → ((c : ℕ) → o ≡ Some c → HasByte c plan.image.now)
+  write_front_touches_image : (p : Place) (o : Option ℕ) → ((c : ℕ) → o ≡ Some c → HasByte c plan.image.now)
       → PhaseTouchesImage plan (write_front_phase_for plan p o)
-  write_front_touches_by_byte p None f = to_compare_front_touches_image p (image_start plan.image.now)
-  write_front_touches_by_byte p (Some at) f = f at refl
+  write_front_touches_image p None f = to_compare_front_touches_image p (image_start plan.image.now)
+  write_front_touches_image p (Some at) f = f at refl
 
   to_write_front_touches_image : (p : Place) (at : ℕ) → PhaseTouchesImage plan (to_write_front plan p at)
   unfolding to_write_front
-  to_write_front_touches_image p at = write_front_touches_by_byte p (byte_in plan at (front_end plan)) (byte_in_is_of_image at (front_end
+  to_write_front_touches_image p at = write_front_touches_image p (byte_in plan at (front_end plan)) (byte_in_is_of_image at (front_end
       plan))
 
-  compare_touches_by_byte : (p : Place) (o : Option ℕ) → PhaseTouchesImage plan (compare_phase_for plan p o)
-  compare_touches_by_byte p None = to_write_front_touches_image p (image_start plan.image.now)
-  compare_touches_by_byte p (Some at) = tt
+  compare_touches_image : (p : Place) (o : Option ℕ) → PhaseTouchesImage plan (compare_phase_for plan p o)
+  compare_touches_image p None = to_write_front_touches_image p (image_start plan.image.now)
+  compare_touches_image p (Some at) = tt
 
   to_compare_touches_image : (p : Place) (at : ℕ) → PhaseTouchesImage plan (to_compare plan p at)
   unfolding to_compare
-  to_compare_touches_image p at = compare_touches_by_byte p (byte_in plan at (image_end plan.image.now))
+  to_compare_touches_image p at = compare_touches_image p (byte_in plan at (image_end plan.image.now))
 
-  write_touches_by_byte : (p : Place) (end : ℕ) (o : Option ℕ) → ((c : ℕ) → o ≡ Some c → HasByte c plan.image.now × (front_end plan ≤ c)) →
+  write_touches_image : (p : Place) (end : ℕ) (o : Option ℕ) → ((c : ℕ) → o ≡ Some c → HasByte c plan.image.now × (front_end plan ≤ c)) →
       PhaseTouchesImage plan (write_phase_for plan p end o)
-  write_touches_by_byte p end None f = to_compare_touches_image p (front_end plan)
-  write_touches_by_byte p end (Some at) f = f at refl
+  write_touches_image p end None f = to_compare_touches_image p (front_end plan)
+  write_touches_image p end (Some at) f = f at refl
 
   to_write_touches_image : (p : Place) (at end : ℕ) → front_end plan ≤ at → PhaseTouchesImage plan (to_write plan p at end)
   unfolding to_write
-  to_write_touches_image p at end f = write_touches_by_byte p end (byte_in plan at end) (λ c e. (
+  to_write_touches_image p at end f = write_touches_image p end (byte_in plan at end) (λ c e. (
     byte_in_is_of_image at end c e,
     omega
         (arith, f, byte_in_not_before plan at end c e),
   ))
 
-  erase_touches_by_byte : (p : Place) (o : Option ℕ) → ((c : ℕ) → o ≡ Some c → HasByte c plan.image.now) →
+  erase_touches_image : (p : Place) (o : Option ℕ) → ((c : ℕ) → o ≡ Some c → HasByte c plan.image.now) →
       PhaseTouchesImage plan (erase_phase_for plan p o)
-  erase_touches_by_byte p None f = to_write_touches_image p (front_end plan) (image_end plan.image.now) (omega arith)
-  erase_touches_by_byte p (Some at) f = f at refl
+  erase_touches_image p None f = to_write_touches_image p (front_end plan) (image_end plan.image.now) (omega arith)
+  erase_touches_image p (Some at) f = f at refl
 
   to_erase_touches_image : (p : Place) (at : ℕ) → PhaseTouchesImage plan (to_erase plan p at)
   unfolding to_erase
-  to_erase_touches_image p at = erase_touches_by_byte p (byte_in plan at (image_end plan.image.now)) (byte_in_is_of_image at (image_end
+  to_erase_touches_image p at = erase_touches_image p (byte_in plan at (image_end plan.image.now)) (byte_in_is_of_image at (image_end
       plan.image.now))
 
   settled_phase_touches_image : (w : Work) (p : Place) → WorkTouchesImage plan w → PhaseTouchesImage plan (settled_phase plan w p)
@@ -108,21 +108,21 @@ module _ (plan : Plan) (some : is_empty plan.image.now ≡ false) where
   settled_phase_touches_image (work.CompareFront at) p h = to_compare_front_touches_image p at
   settled_phase_touches_image work.Leave p h = to_leave_touches_image p
 
-  -- ---- commands
+  -- ---- phases after commands
 
-  work_again_touches : (w : Work) → WorkTouchesImage plan w → WorkTouchesImage plan (work_after_unsure_write plan w)
-  work_again_touches (work.Erase at) h = h
-  work_again_touches (work.EraseAgain page end) h = h
-  work_again_touches (work.Write at end) h = record { byte = at; has = h.0; is = refl }
-  work_again_touches (work.Compare at) h = h
-  work_again_touches (work.WriteFront at) h = record { byte = at; has = h; is = refl }
-  work_again_touches (work.CompareFront at) h = h
-  work_again_touches work.Leave h = h
+  repeated_work_touches_image : (w : Work) → WorkTouchesImage plan w → WorkTouchesImage plan (work_after_unsure_write plan w)
+  repeated_work_touches_image (work.Erase at) h = h
+  repeated_work_touches_image (work.EraseAgain page end) h = h
+  repeated_work_touches_image (work.Write at end) h = record { byte = at; has = h.0; is = refl }
+  repeated_work_touches_image (work.Compare at) h = h
+  repeated_work_touches_image (work.WriteFront at) h = record { byte = at; has = h; is = refl }
+  repeated_work_touches_image (work.CompareFront at) h = h
+  repeated_work_touches_image work.Leave h = h
 
   pub unsure_phase_touches_image : (w : Work) (c : Command) → WorkTouchesImage plan w → PhaseTouchesImage plan (phase_if_unsure plan w c)
   unsure_phase_touches_image w (command.SetAddress at) h = h
   unsure_phase_touches_image w (command.ErasePage at) h = h
-  unsure_phase_touches_image w (command.Write at) h = work_again_touches w h
+  unsure_phase_touches_image w (command.Write at) h = repeated_work_touches_image w h
 
   after_erase_touches_image : (w : Work) (at : ℕ) → PhaseTouchesImage plan (phase_after_erase plan w at)
   after_erase_touches_image (work.EraseAgain page end) at = to_write_touches_image place.Lost (max page (front_end plan)) end (omega arith)
@@ -138,23 +138,23 @@ module _ (plan : Plan) (some : is_empty plan.image.now ≡ false) where
   after_command_touches_image w (command.ErasePage at) h = after_erase_touches_image w at
   after_command_touches_image w (command.Write at) h = after_write_touches_image w at h
 
-  read_on_touches : (w : Work) → WorkTouchesImage plan w → WorkTouchesImage plan (read_on plan w)
-  read_on_touches (work.Erase at) h = h
-  read_on_touches (work.EraseAgain page end) h = h
-  read_on_touches (work.Write at end) h = h
-  read_on_touches (work.Compare at) h = tt
-  read_on_touches (work.WriteFront at) h = h
-  read_on_touches (work.CompareFront at) h = tt
-  read_on_touches work.Leave h = tt
+  work_after_read_touches_image : (w : Work) → WorkTouchesImage plan w → WorkTouchesImage plan (read_on plan w)
+  work_after_read_touches_image (work.Erase at) h = h
+  work_after_read_touches_image (work.EraseAgain page end) h = h
+  work_after_read_touches_image (work.Write at end) h = h
+  work_after_read_touches_image (work.Compare at) h = tt
+  work_after_read_touches_image (work.WriteFront at) h = h
+  work_after_read_touches_image (work.CompareFront at) h = tt
+  work_after_read_touches_image work.Leave h = tt
 
-  -- ---- rows
+  -- ---- rows of the table
 
   pub row_form_touches_image : (w : Work) (p : Place) (s : Step) (x : Heard) (next : Phase) → RowForm plan w p s x next →
       WorkTouchesImage plan w
       → PhaseTouchesImage plan next
   row_form_touches_image w p s x next (stays p' s' c) h = h
   row_form_touches_image w p s x next (settles p') h = settled_phase_touches_image w p' h
-  row_form_touches_image w p s x next reads h = settled_phase_touches_image (read_on plan w) p (read_on_touches w h)
+  row_form_touches_image w p s x next reads h = settled_phase_touches_image (read_on plan w) p (work_after_read_touches_image w h)
   row_form_touches_image w p s x next does h = after_command_touches_image w (command_of plan w p) h
   row_form_touches_image w p s x next doubts h = unsure_phase_touches_image w (command_of plan w p) h
   row_form_touches_image w p s x next (fails r no_success) h = tt

@@ -1,4 +1,4 @@
--- Bytes that a session changes are bytes of the image.
+-- A session changes only bytes of the image.
 use Rattle.std.proofs.Common.{◌≡◌, ℕ, ◌<◌, ◌≤◌, ◌||◌, inl, inr, max, Bool, true, false, cond, eqb, ltb, List, [], ◌∷◌, length, Option, Some, None, refl, ap, ◌∙◌, arith}
 use Rattle.std.proofs.lemmas.Bool.{ltb-true}
 use Rattle.std.proofs.lemmas.Bool.Decides.{nat_tests}
@@ -27,7 +27,7 @@ next_byte_of_image_by_test at b e es true h some rest f =
     inl (omega (arith, same), omega (arith, same, low, some))
 next_byte_of_image_by_test at b e es false h some rest f = inr (rest f)
 
--- The next byte from an address on is a byte of the image.
+-- The next byte from an address on is a byte of the image, if no element is empty.
 pub next_byte_of_image : (at b : ℕ) (es : List Element) → has_empty es ≡ false → next_byte at es ≡ Some b → HasByte b es
 unfolding next_byte
 next_byte_of_image at b [] h f = cc
@@ -36,7 +36,7 @@ next_byte_of_image at b (e ∷ es) h f =
     next_byte_of_image_by_test at b e es (ltb at (end_of e)) refl (nonempty_element_ends_later e both.0) (next_byte_of_image at b es
     both.1) f
 
--- The first byte is a byte of the image.
+-- An image that isn't empty has a byte at its start address.
 pub image_start_is_image_byte : (es : List Element) → is_empty es ≡ false → HasByte (image_start es) es
 unfolding image_start
 image_start_is_image_byte [] h = cc
@@ -45,16 +45,20 @@ image_start_is_image_byte (e ∷ es) h =
     let both = both_false_of_or (eqb (length e.bytes.now) 0) (has_empty es) all.1 in
     inl (omega arith, nonempty_element_ends_later e both.0)
 
--- The element that has the byte at `at`: each of its bytes is of the image.
-record HoldingElement (at : ℕ) (es : List Element) : Type 0 where
+-- An element of the image has the byte at `at`, and each of its bytes is a byte of the image.
+record ElementHoldingByte (at : ℕ) (es : List Element) : Type 0 where
+  -- Element that has the byte.
   element : Element
+  -- The element is found at the address.
   is : element_at at es ≡ Some element
+  -- The element begins at the address or before it.
   low : element.address ≤ at
+  -- Each byte of the element is a byte of the image.
   bytes : (a : ℕ) → element.address ≤ a → a < end_of element → HasByte a es
 
 holding_element_by_test : (at : ℕ) (e : Element) (es : List Element) (t : Bool) → element_holds at e ≡ t
     → (element_at at (e ∷ es) ≡ cond t (Some e) (element_at at es)) →
-    ((element_holds at e ≡ false) → HoldingElement at es) → HoldingElement at (e ∷ es)
+    ((element_holds at e ≡ false) → ElementHoldingByte at es) → ElementHoldingByte at (e ∷ es)
 holding_element_by_test at e es true h step rest = record {
   element = e;
   is = step;
@@ -65,20 +69,20 @@ holding_element_by_test at e es false h step rest =
     let r = rest h in
     record { element = r.element; is = step ∙ r.is; low = r.low; bytes = λ a low high. inr (r.bytes a low high) }
 
-unheld_address_contradicts : (at : ℕ) (e : Element) → element_holds at e ≡ false → e.address ≤ at → at < end_of e → ⊥
-unheld_address_contradicts at e h low high = grind (arith, nat_tests)
+address_in_element_is_held : (at : ℕ) (e : Element) → element_holds at e ≡ false → e.address ≤ at → at < end_of e → ⊥
+address_in_element_is_held at e h low high = grind (arith, nat_tests)
 
 element_at_of_first : (at : ℕ) (e : Element) (es : List Element) → element_at at (e ∷ es)
     ≡ cond (element_holds at e) (Some e) (element_at at es)
 unfolding element_at
 element_at_of_first at e es = refl
 
-byte_has_holding_element : (at : ℕ) (es : List Element) → HasByte at es → HoldingElement at es
+byte_has_holding_element : (at : ℕ) (es : List Element) → HasByte at es → ElementHoldingByte at es
 byte_has_holding_element at [] b = absurd b
 byte_has_holding_element at (e ∷ es) b = holding_element_by_test at e es (element_holds at e) refl (element_at_of_first at e es)
-    (λ none. elim b [ inl w ↦ absurd (unheld_address_contradicts at e none w.0 w.1) | inr w ↦ byte_has_holding_element at es w ])
+    (λ none. elim b [ inl w ↦ absurd (address_in_element_is_held at e none w.0 w.1) | inr w ↦ byte_has_holding_element at es w ])
 
--- The bytes that are written at once are bytes of the image, on one page.
+-- One write that begins at a byte of the image covers only bytes of the image, on one page.
 pub write_changes_only_one_page : (plan : Plan) (at end : ℕ) → HasByte at plan.image.now → ChangesOnlyImagePages plan end (command.Write at)
 unfolding write_end
 write_changes_only_one_page plan at end b = λ a low high.
@@ -87,13 +91,13 @@ write_changes_only_one_page plan at end b = λ a low high.
     ap (λ (o : Option Element). elim o as (λ _. ℕ) [ None ↦ at | Some e ↦ end_of e ]) h.is in
     (h.bytes a (omega (arith, low, h.low)) (omega (arith, high, stop)), omega (arith, high))
 
-if_before_by_test : (end b c : ℕ) (t : Bool) → cond t (Some b) None ≡ Some c → b ≡ c
-if_before_by_test end b c true h = cc
-if_before_by_test end b c false h = cc
+address_before_end_is_itself : (end b c : ℕ) (t : Bool) → cond t (Some b) None ≡ Some c → b ≡ c
+address_before_end_is_itself end b c true h = cc
+address_before_end_is_itself end b c false h = cc
 
-pub if_before_keeps_byte : (end c : ℕ) (o : Option ℕ) → address_if_before end o ≡ Some c → o ≡ Some c
-if_before_keeps_byte end c None h = cc
-if_before_keeps_byte end c (Some b) h = ap Some (if_before_by_test end b c (ltb b end) h)
+pub address_if_before_is_same : (end c : ℕ) (o : Option ℕ) → address_if_before end o ≡ Some c → o ≡ Some c
+address_if_before_is_same end c None h = cc
+address_if_before_is_same end c (Some b) h = ap Some (address_before_end_is_itself end b c (ltb b end) h)
 
 pub nonempty_image_is_filled : (es : List Element) → is_empty es ≡ false → has_empty es ≡ false
 nonempty_image_is_filled es h = (both_false_of_or (eqb (length es) 0) (has_empty es) h).1
@@ -105,7 +109,7 @@ next_byte_not_before_by_test at c e es true rest f =
     omega (arith, same)
 next_byte_not_before_by_test at c e es false rest f = rest f
 
--- The next byte from `at` on is not before `at`.
+-- The next byte of the image from `at` on is not before `at`.
 next_byte_not_before : (at c : ℕ) (es : List Element) → next_byte at es ≡ Some c → at ≤ c
 unfolding next_byte
 next_byte_not_before at c [] f = cc
@@ -113,4 +117,5 @@ next_byte_not_before at c (e ∷ es) f = next_byte_not_before_by_test at c e es 
 
 pub byte_in_not_before : (plan : Plan) (at end c : ℕ) → byte_in plan at end ≡ Some c → at ≤ c
 unfolding byte_in
-byte_in_not_before plan at end c h = next_byte_not_before at c plan.image.now (if_before_keeps_byte end c (next_byte at plan.image.now) h)
+byte_in_not_before plan at end c h =
+    next_byte_not_before at c plan.image.now (address_if_before_is_same end c (next_byte at plan.image.now) h)

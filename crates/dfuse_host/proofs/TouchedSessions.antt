@@ -1,4 +1,4 @@
--- A session begins at bytes of the image, and stays at them.
+-- The work of a session is always at bytes of the image.
 use Rattle.std.proofs.Common.{◌≡◌, ℕ, zero, suc, pred, Bool, true, false, cond, eqb, refl, sym, subst, arith}
 use Rattle.dfuse_host.specs.declared.plan.Plan.{Plan}
 use Rattle.dfuse_host.specs.declared.phase.Phase.{Phase}
@@ -19,21 +19,21 @@ use Rattle.dfuse_host.specs.Plans.{front_end}
 use Rattle.dfuse_host.specs.Refusing.{is_empty}
 use Rattle.dfuse_host.specs.Commands.{write_command, command_of}
 use Rattle.dfuse_host.specs.Table.{row}
-use Rattle.dfuse_host.specs.Sessions.{phase_within_budget, spent_at, phase_resumed, session_with_restart_taken, restarted_leaving, session_after_restart, session_after_step_heard, session_after_phase_heard}
+use Rattle.dfuse_host.specs.Sessions.{phase_within_budget, phase_without_actions, phase_resumed, session_with_restart_taken, restarted_leaving, session_after_restart, session_after_step_heard, session_after_phase_heard}
 use Rattle.dfuse_host.specs.ReadBack.{HasByte, ClosesAfterCompare, PhaseClosesAfterCompare}
 use Rattle.dfuse_host.specs.Touching.{WorkTouchesImage, PhaseTouchesImage, ChangesOnlyImagePages, WorkAlwaysTouchesImage, OnlyTouchedPagesChange, FrontIsWrittenLast}
 use Rattle.dfuse_host.proofs.RowForms.{each_row_has_form}
 use Rattle.dfuse_host.proofs.TouchedBytes.{image_start_is_image_byte, write_changes_only_one_page}
 use Rattle.dfuse_host.proofs.TouchLaws.{row_form_touches_image, unsure_phase_touches_image}
 
-spent_phase_touches : (plan : Plan) (w : Work) (s : Step) → PhaseTouchesImage plan (spent_at w s)
-spent_phase_touches plan work.Leave s = tt
-spent_phase_touches plan w s = tt
+spent_phase_touches_image : (plan : Plan) (w : Work) (s : Step) → PhaseTouchesImage plan (phase_without_actions w s)
+spent_phase_touches_image plan work.Leave s = tt
+spent_phase_touches_image plan w s = tt
 
 budgeted_phase_touches_image : (plan : Plan) (n : ℕ) (p : Phase) → PhaseTouchesImage plan p →
     PhaseTouchesImage plan (phase_within_budget n p)
 budgeted_phase_touches_image plan n (Over r) h = tt
-budgeted_phase_touches_image plan zero (On s) h = spent_phase_touches plan s.work s.step
+budgeted_phase_touches_image plan zero (On s) h = spent_phase_touches_image plan s.work s.step
 budgeted_phase_touches_image plan (suc n) (On s) h = h
 
 module _ (s : Session) (some : is_empty s.plan.image.now ≡ false) where
@@ -76,7 +76,8 @@ module _ (s : Session) (some : is_empty s.plan.image.now ≡ false) where
   next_phase_touches_image (Over r) x e c h = subst (PhaseTouchesImage s.plan) (sym e) tt
   next_phase_touches_image (On at) x e c h = heard_step_touches_image at.work at.place at.step x c h
 
--- A session begins at a byte of the image, and goes on from byte to byte of it.
+-- If the image is not empty, the work of a session touches it at first and, as long as the device is asked to leave only after the
+-- comparison, after any result.
 pub session_touches_image_always : WorkAlwaysTouchesImage
 session_touches_image_always = (
   λ plan limits some. image_start_is_image_byte plan.image.now some,
@@ -95,7 +96,8 @@ write_command_changes_one_page plan at end (place.At p) h =
     ]
 write_command_changes_one_page plan at end (place.Reading p) h = tt
 
--- Each command changes only pages that have a byte of the image.
+-- The command of a work that touches the image erases only a page that has a byte of the image, writes only bytes of the image, or sets the
+-- pointer.
 pub only_touched : OnlyTouchedPagesChange
 only_touched plan (work.Erase at) p h = record { byte = at; has = h; is = refl }
 only_touched plan (work.EraseAgain page end) p h = h
@@ -105,16 +107,16 @@ only_touched plan (work.WriteFront at) p h = write_command_changes_one_page plan
 only_touched plan (work.CompareFront at) p h = tt
 only_touched plan work.Leave p h = tt
 
-written_address_by_test : (from at : ℕ) (t : Bool) → cond t (command.Write from) (command.SetAddress from) ≡ command.Write at → from ≡ at
-written_address_by_test from at true e = cc
-written_address_by_test from at false e = cc
+tested_write_has_address : (from at : ℕ) (t : Bool) → cond t (command.Write from) (command.SetAddress from) ≡ command.Write at → from ≡ at
+tested_write_has_address from at true e = cc
+tested_write_has_address from at false e = cc
 
 written_address_is_of_command : (p : Place) (from at : ℕ) → write_command p from ≡ command.Write at → from ≡ at
 written_address_is_of_command place.Lost from at e = cc
-written_address_is_of_command (place.At p) from at e = written_address_by_test from at (eqb p from) e
+written_address_is_of_command (place.At p) from at e = tested_write_has_address from at (eqb p from) e
 written_address_is_of_command (place.Reading p) from at e = cc
 
--- When a byte of the front is written, each byte after the front was read back.
+-- When a work that touches the image writes a byte of the front, every byte after the front was read back.
 pub front_written_after_rest_read : FrontIsWrittenLast
 front_written_after_rest_read plan (work.Erase from) p at a b h e low front behind = cc
 front_written_after_rest_read plan (work.EraseAgain page end) p at a b h e low front behind = cc

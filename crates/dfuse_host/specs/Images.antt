@@ -2,7 +2,7 @@
 use Rattle.std.specs.Prelude.{ℕ, ◌+◌, ◌&&◌, nat_lt, nat_le, max, Bool, List, [], ◌∷◌, length, Option, Some, None, if◌then◌else◌}
 use Rattle.dfu_formats.specs.declared.dfuse.element.Element.{Element}
 
--- The address after the last byte of an element.
+-- Address after the last byte of an element.
 abbrev pub end_of : Element → ℕ
 end_of e = e.address + length e.bytes.now
 
@@ -10,22 +10,22 @@ end_of e = e.address + length e.bytes.now
 abbrev pub element_holds : ℕ → Element → Bool
 element_holds at e = nat_le e.address at && nat_lt at (end_of e)
 
--- The element that has a byte at the address.
+-- The first element that has a byte at the address.
 unfoldable pub element_at : ℕ → List Element → Option Element
 element_at at [] = None
 element_at at (e ∷ es) = if element_holds at e then Some e else element_at at es
 
--- The first address from `at` on for which the image, whose elements ascend, has a byte.
+-- The first address from `at` on at which the image has a byte, if its elements ascend and have bytes.
 unfoldable pub next_byte : ℕ → List Element → Option ℕ
 next_byte at [] = None
 next_byte at (e ∷ es) = if nat_lt at (end_of e) then Some (max at e.address) else next_byte at es
 
--- The address of the first byte.
+-- Address at which the first element of an image begins; 0 without elements.
 unfoldable pub image_start : List Element → ℕ
 image_start [] = 0
 image_start (e ∷ es) = e.address
 
--- The address after the last byte.
+-- Highest address at which an element of an image ends; 0 without elements.
 unfoldable pub image_end : List Element → ℕ
 image_end [] = 0
 image_end (e ∷ es) = max (end_of e) (image_end es)

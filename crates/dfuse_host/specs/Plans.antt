@@ -5,35 +5,36 @@ use Rattle.dfu_formats.specs.memory.Lookups.{page_at}
 use Rattle.dfuse_host.specs.declared.plan.Plan.{Plan}
 use Rattle.dfuse_host.specs.Images.{end_of, element_at, image_start}
 
--- The page that has an address.
+-- The page of the map that has an address.
 unfoldable pub page_of : Plan → ℕ → Option Page
 page_of plan at = if nat_lt at (2 ^ 32) then page_at at plan.map.now.ranges else None
 
--- The addresses at which the page of an address begins and ends.
+-- Address at which the page of an address begins; the address itself if no page has it.
 abbrev pub page_start : Plan → ℕ → ℕ
 page_start plan at = elim (page_of plan at) [ None ↦ at | Some page ↦ page.start ]
 
+-- Address at which the page of an address ends; the address itself if no page has it.
 abbrev pub page_end : Plan → ℕ → ℕ
 page_end plan at = elim (page_of plan at) [ None ↦ at | Some page ↦ page.start + page.size ]
 
--- The address at which the element of an address ends.
+-- Address at which the element of an address ends; the address itself if no element has it.
 abbrev pub element_end : Plan → ℕ → ℕ
 element_end plan at = elim (element_at at plan.image.now) [ None ↦ at | Some e ↦ end_of e ]
 
--- The address after the front, which is in one element and in one page.
+-- Address after the front of a plan, which is within one element and one page.
 unfoldable pub front_end : Plan → ℕ
 front_end plan =
     let at = image_start plan.image.now in
     min (at + plan.front) (min (element_end plan at) (page_end plan at))
 
--- The most bytes of a block, at least one.
+-- Largest number of bytes of a block, at least one.
 abbrev pub block_size : Plan → ℕ
 block_size plan = max 1 plan.transfer
 
--- The address after the bytes from `at` on that are written at once: they are in one block, one element and one page.
+-- Address after the bytes from `at` on that one DNLOAD writes: they are in one block, one element and one page, before `end`.
 unfoldable pub write_end : Plan → (at end : ℕ) → ℕ
 write_end plan at end = min (at + block_size plan) (min (min (element_end plan at) (page_end plan at)) end)
 
--- The address after the bytes that are read at once: they are in one block and one element.
+-- Address after the bytes from `at` on that one UPLOAD reads: they are in one block and one element, before `end`.
 unfoldable pub read_end : Plan → (at end : ℕ) → ℕ
 read_end plan at end = min (at + block_size plan) (min (element_end plan at) end)

@@ -25,7 +25,7 @@ abbrev pub HasByte : ℕ → List Element → Type 0
 HasByte a [] = ⊥
 HasByte a (e ∷ es) = ((e.address ≤ a) × (a < end_of e)) ⊎ HasByte a es
 
--- The byte at the address was read back in this work, and nothing that may change it was sent since.
+-- The byte at the address counts as read back in this work: it was compared, and nothing that may change it was sent since.
 abbrev pub WasReadInWork : Plan → Work → ℕ → Type 0
 WasReadInWork plan (work.Erase at) a = ⊥
 WasReadInWork plan (work.EraseAgain page end) a = ⊥
@@ -35,47 +35,48 @@ WasReadInWork plan (work.WriteFront at) a = front_end plan ≤ a
 WasReadInWork plan (work.CompareFront at) a = (front_end plan ≤ a) ⊎ (a < at)
 WasReadInWork plan work.Leave a = Unit {0}
 
--- The report says that all bytes were read back, or that none was.
-abbrev pub ReadBackReport : Report → Type 0
-ReadBackReport (report.Verified leaving) = Unit {0}
-ReadBackReport r = ⊥
+-- The report is Verified: in its session every byte of the image was read back.
+abbrev pub IsReadBackReport : Report → Type 0
+IsReadBackReport (report.Verified leaving) = Unit {0}
+IsReadBackReport r = ⊥
 
--- The session in this phase has read the byte back.
+-- The byte at the address counts as read back in this phase.
 abbrev pub WasReadInPhase : Plan → Phase → ℕ → Type 0
 WasReadInPhase plan (On s) a = WasReadInWork plan s.work a
-WasReadInPhase plan (Over r) a = ReadBackReport r
+WasReadInPhase plan (Over r) a = IsReadBackReport r
 
--- The step reads the byte back, and finds it to be the byte of the image.
+-- The step reads the byte back with this result, and the byte equals the image's.
 abbrev pub ReadsBack : Plan → Work → Step → Heard → ℕ → Type 0
 ReadsBack plan w step.Read (heard.Compared true) a = (stands_at w ≤ a) × (a < read_end plan (stands_at w) (end_of_work plan w))
 ReadsBack plan w s h a = ⊥
 
--- The session in this phase reads the byte back.
+-- The phase reads the byte back with this result, and the byte equals the image's.
 abbrev pub PhaseReadsBack : Plan → Phase → Heard → ℕ → Type 0
 PhaseReadsBack plan (On s) h a = ReadsBack plan s.work s.step h a
 PhaseReadsBack plan (Over r) h a = ⊥
 
--- A device is asked to leave once all was compared.
+-- If the step asks the device to leave, the work is Leave, which follows the comparison.
 abbrev pub ClosesAfterCompare : Work → Step → Type 0
 ClosesAfterCompare w step.Close = w ≡ work.Leave
 ClosesAfterCompare w step.CloseProbe = w ≡ work.Leave
 ClosesAfterCompare w step.ClosePoll = w ≡ work.Leave
 ClosesAfterCompare w s = Unit {0}
 
--- The session in this phase asks the device to leave only once all was compared.
+-- If the phase asks the device to leave, its work is Leave, which follows the comparison.
 abbrev pub PhaseClosesAfterCompare : Phase → Type 0
 PhaseClosesAfterCompare (On s) = ClosesAfterCompare s.work s.step
 PhaseClosesAfterCompare (Over r) = Unit {0}
 
--- Whatever is heard, a byte that counts as read back did so before, or was read back just now. For example, the report Verified says that
--- each byte of the image was read back since it was last written.
+-- If the image's elements ascend and don't overlap, and the device is asked to leave only after the comparison, a byte of the image counts
+-- as read back after any result only if it did before, or if this result read it back. For example, the report Verified says that each byte
+-- of the image was read back since it was last written.
 abbrev pub OnlyReadBack : Type 0
 OnlyReadBack =
     (s : Session) (h : Heard) (a : ℕ) → apart_from 0 s.plan.image.now ≡ true → HasByte a s.plan.image.now →
     PhaseClosesAfterCompare s.phase →
     WasReadInPhase s.plan (session_after_heard s h).phase a → WasReadInPhase s.plan s.phase a ⊎ PhaseReadsBack s.plan s.phase h a
 
--- A session that asks a device to leave only once all was compared goes on to do so.
+-- A session that asks its device to leave only after the comparison does so after any result too.
 abbrev pub AlwaysClosesAfterCompare : Type 0
 AlwaysClosesAfterCompare = (s : Session) (h : Heard) → PhaseClosesAfterCompare s.phase →
     PhaseClosesAfterCompare (session_after_heard s h).phase

@@ -1,4 +1,4 @@
--- A byte that was read back in the course of a session.
+-- Reading a byte back in the course of a session.
 use Rattle.std.specs.Prelude.{◌≡◌, ℕ, List, ◌∷◌, ◌++◌, true}
 use Rattle.dfuse_host.specs.declared.plan.Plan.{Plan}
 use Rattle.dfuse_host.specs.declared.phase.Phase.TheVariants.{Over}
@@ -11,20 +11,30 @@ use Rattle.dfuse_host.specs.Refusing.{apart_from}
 use Rattle.dfuse_host.specs.ReadBack.{HasByte, PhaseReadsBack}
 use Rattle.dfuse_host.specs.Sessions.{SessionRow, SessionRows, initial_dfuse_session}
 
--- Among the results is an answer that reads the byte back, and finds it to be the byte of the image.
+-- One of the results is an answer that reads the byte back, equal to the image's byte.
 pub record IsReadInRun (s : Session) (seens : List Seen) (s' : Session) (a : ℕ) : Type 0 where
+  -- Results before the answer.
   pub before : List Seen
+  -- Answer that reads the byte back.
   pub answer : Seen
+  -- Results behind the answer.
   pub behind : List Seen
+  -- Session to which the answer comes.
   pub at : Session
+  -- Session after the answer.
   pub next : Session
+  -- The results are these three parts.
   pub cut : seens ≡ before ++ answer ∷ behind
+  -- The results before the answer lead to the session to which it comes.
   pub reached : SessionRows s before at
+  -- The session takes the answer.
   pub row : SessionRow at answer next
+  -- The answer reads the byte back.
   pub reads : PhaseReadsBack at.plan at.phase row.heard a
+  -- The results behind the answer lead to the last session.
   pub rest : SessionRows next behind s'
 
--- A session that ends as Verified has read back each byte of its image.
+-- A session that ends as Verified has read back every byte of its image, whose elements ascend and don't overlap.
 abbrev pub VerifiedReadEachByte : Type 0
 VerifiedReadEachByte =
     (plan : Plan) (limits : Limits) (seens : List Seen) (s' : Session) (leaving : Leaving) (a : ℕ) → apart_from 0 plan.image.now ≡ true →

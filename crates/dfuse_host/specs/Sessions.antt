@@ -23,7 +23,7 @@ use Rattle.dfuse_host.specs.Deeds.{dfuse_deed}
 use Rattle.dfuse_host.specs.Table.{row}
 use Rattle.dfuse_host.specs.Wire.{DfuseSeenMeaning, DfuseSpells}
 
--- A session that begins: all pages of the image are to be erased, and the device is cleared first.
+-- A new session: it clears the device first, and then erases all pages of the image.
 abbrev pub initial_dfuse_session : Plan → Limits → Session
 initial_dfuse_session plan limits = record {
   plan = plan;
@@ -32,25 +32,25 @@ initial_dfuse_session plan limits = record {
   restarts = limits.restarts;
 }
 
--- Leaving of a session that ends at a step: open, if the device was asked to leave by now.
+-- Leaving of a session that ends at a step: Unknown once the device was asked to leave, else Stayed.
 abbrev pub left_at : Step → Leaving
 left_at step.Close = leaving.Unknown
 left_at step.CloseProbe = leaving.Unknown
 left_at step.ClosePoll = leaving.Unknown
 left_at s = leaving.Stayed
 
--- Phase once no action is left: the report that all was compared, if it was, and else that the budget is spent.
-abbrev pub spent_at : Work → Step → Phase
-spent_at work.Leave s = Over (report.Verified (left_at s))
-spent_at w s = Over report.GaveUp
+-- Phase once no action is left: the end as Verified if the whole image was compared, else as GaveUp.
+abbrev pub phase_without_actions : Work → Step → Phase
+phase_without_actions work.Leave s = Over (report.Verified (left_at s))
+phase_without_actions w s = Over report.GaveUp
 
--- The budget: a session that is not over, and has no action left, is over.
+-- The phase after the budget check: a session without actions left is over.
 abbrev pub phase_within_budget : (left : ℕ) → Phase → Phase
 phase_within_budget left (Over r) = Over r
-phase_within_budget zero (On s) = spent_at s.work s.step
+phase_within_budget zero (On s) = phase_without_actions s.work s.step
 phase_within_budget (suc left) (On s) = On s
 
--- A session after one action that leads to this phase.
+-- The session after one action that leads to this phase, with this number of restarts left.
 abbrev pub session_after_action : Session → Phase → (restarts : ℕ) → Session
 session_after_action s phase restarts = record {
   plan = s.plan;
@@ -65,66 +65,73 @@ phase_resumed plan w p (step.Poll last) = phase_if_unsure plan w (command_of pla
 phase_resumed plan w p (step.PollWait ms) = phase_if_unsure plan w (command_of plan w p)
 phase_resumed plan w p s = phase_to_clear w
 
--- A restart of the device that isn't one too many.
+-- The session that goes on with this phase after a restart; over as RestartsSpent if no restarts are left.
 abbrev pub session_with_restart_taken : Session → Phase → (restarts : ℕ) → Session
 session_with_restart_taken s phase zero = session_after_action s (Over report.RestartsSpent) zero
 session_with_restart_taken s phase (suc restarts) = session_after_action s phase restarts
 
--- A restart of a device that was asked to leave ends the session: all was compared.
+-- The session after a restart, once the whole image was compared: over as Verified if the device was asked to leave.
 abbrev pub restarted_leaving : Session → Place → Step → Session
 restarted_leaving s p step.Close = session_after_action s (Over (report.Verified leaving.Unknown)) s.restarts
 restarted_leaving s p step.CloseProbe = session_after_action s (Over (report.Verified leaving.Unknown)) s.restarts
 restarted_leaving s p step.ClosePoll = session_after_action s (Over (report.Verified leaving.Unknown)) s.restarts
 restarted_leaving s p at = session_with_restart_taken s (phase_resumed s.plan work.Leave p at) s.restarts
 
+-- The session after a restart of the device in a work.
 abbrev pub session_after_restart : Session → Work → Place → Step → Session
 session_after_restart s work.Leave p at = restarted_leaving s p at
 session_after_restart s w p at = session_with_restart_taken s (phase_resumed s.plan w p at) s.restarts
 
--- Session after something is heard: a restart, or else what the table's row takes.
+-- The session after a result at a step: a restart, or a result for the table's row.
 abbrev pub session_after_step_heard : Session → Work → Place → Step → Heard → Session
 session_after_step_heard s w p at heard.Restarted = session_after_restart s w p at
 session_after_step_heard s w p at h = session_after_action s (row s.plan w p at h) s.restarts
 
--- A session that is over doesn't change, and every other takes what it hears.
+-- The session after a result in a phase; a session that is over doesn't change.
 abbrev pub session_after_phase_heard : Session → Phase → Heard → Session
 session_after_phase_heard s (Over r) h = s
 session_after_phase_heard s (On at) h = session_after_step_heard s at.work at.place at.step h
 
--- The session after something is heard.
+-- The session after a result.
 abbrev pub session_after_heard : Session → Heard → Session
 session_after_heard s h = session_after_phase_heard s s.phase h
 
--- A session that is asked for its next action answers with the action of its phase, as setup and body.
+-- The action of a session spells the deed of its phase, as setup and body.
 abbrev pub DfuseAct : Session → Action → Type 0
 DfuseAct s action = DfuseSpells (dfuse_deed s.plan s.phase) action
 
--- Meaning of a result in a phase; of a session that is over nothing is asked.
+-- Meaning of a result in a phase; any, if the session is over.
 abbrev pub DfuseSeenMeaningIn : Plan → Phase → Seen → Heard → Type 0
 DfuseSeenMeaningIn plan (On s) seen h = DfuseSeenMeaning plan s.work s.step seen h
 DfuseSeenMeaningIn plan (Over r) seen h = Unit {0}
 
--- A session becomes, by a result, the session of its row: the bytes are understood as its step says, and the table gives the phase.
+-- A session takes a result by its row: the step says what the bytes mean, and the table gives the next phase.
 pub record SessionRow (s : Session) (seen : Seen) (s' : Session) : Type 0 where
+  -- Meaning of the result.
   pub heard : Heard
+  -- The result has this meaning in the phase.
   pub hears : DfuseSeenMeaningIn s.plan s.phase seen heard
+  -- The new session is the one after the meaning.
   pub same : s' ≡ session_after_heard s heard
 
--- A session sees results, one after the other, and becomes what each makes of it.
+-- A session takes the results of a list in their order.
 pub data SessionRows : Session → List Seen → Session → Type 0 where
+  -- Without results a session stays.
   seen_all : {s : Session} → SessionRows s [] s
+  -- The first result is taken, and then the others.
   sees : {s mid s' : Session} {seen : Seen} {more : List Seen}
       → SessionRow s seen mid → SessionRows mid more s' → SessionRows s (seen ∷ more) s'
 
--- The session is over.
+-- The session in this phase is over.
 abbrev pub DfuseIsOver : Phase → Type 0
 DfuseIsOver (Over r) = Unit {0}
 DfuseIsOver (On s) = ⊥
 
--- Number of inputs that a session in this phase takes, at most, until it is over.
+-- Largest number of inputs that a session in this phase takes before it is over: its actions, but at least one.
 abbrev pub most_dfuse_inputs_in : Phase → (actions : ℕ) → ℕ
 most_dfuse_inputs_in (Over r) actions = 0
 most_dfuse_inputs_in (On s) actions = max 1 actions
 
+-- Number of inputs that a session may still take before it is over.
 abbrev pub remaining_dfuse_inputs : Session → ℕ
 remaining_dfuse_inputs s = most_dfuse_inputs_in s.phase s.actions

@@ -14,26 +14,26 @@ use Rattle.dfuse_host.specs.declared.report.Leaving.TheVariants as leaving
 use Rattle.dfuse_host.specs.Images.{next_byte, image_start, image_end, element_at}
 use Rattle.dfuse_host.specs.Plans.{front_end, block_size}
 
--- A phase that goes on with a work, a place and a step.
+-- The phase with a work, a place and a step.
 abbrev pub phase_with_step : Work → Place → Step → Phase
 phase_with_step w p s = On (record { work = w; place = p; step = s })
 
--- The address, if it lies before `end`.
+-- The address, if it is before `end`.
 abbrev pub address_if_before : (end : ℕ) → Option ℕ → Option ℕ
 address_if_before end None = None
 address_if_before end (Some at) = if nat_lt at end then Some at else None
 
--- The first byte of the image from an address to before another.
+-- Address of the image's next byte from `at` on, if it is before `end`.
 unfoldable pub byte_in : Plan → (at end : ℕ) → Option ℕ
 byte_in plan at end = address_if_before end (next_byte at plan.image.now)
 
--- The step that leads to a command: first the device leaves dfuUPLOAD-IDLE.
+-- The next step towards a command: a device that is ready to read must leave dfuUPLOAD-IDLE first.
 abbrev pub sending_step : Place → Step
 sending_step place.Lost = step.Send
 sending_step (place.At p) = step.Send
 sending_step (place.Reading p) = step.EndReading
 
--- From the address `base` of the pointer, a block that begins at `at` can be asked for, in the same element.
+-- With the pointer at `base`, an UPLOAD block with a number of at most 65,535 begins at `at`, in the same element.
 unfoldable pub can_read : Plan → (base at : ℕ) → Bool
 can_read plan base at =
     nat_le base at
@@ -41,70 +41,76 @@ can_read plan base at =
     && (nat_le ((at - base) / block_size plan) 65533
     && elim (element_at at plan.image.now) [ None ↦ false | Some e ↦ nat_le e.address base ]))
 
--- The step that leads to bytes that are read back: the pointer is set, the device goes to dfuIDLE, and then the bytes are asked for.
+-- The next step towards reading back: the pointer is set, the device goes to dfuIDLE, and then the bytes are asked for. A device that
+-- reads, but has no block that begins there, ends reading first.
 abbrev pub comparing_step : Plan → (at : ℕ) → Place → Step
 comparing_step plan at place.Lost = step.Send
 comparing_step plan at (place.At p) = if p == at then step.BeginReading else step.Send
 comparing_step plan at (place.Reading base) = if can_read plan base at then step.Read else step.EndReading
 
--- To leave, the pointer is set to the address at which the application starts, unless it is there.
+-- Phase that leaves: reading ends, then the pointer is set to the application's start address, and then the device is asked to leave.
 abbrev pub phase_to_set_start : Plan → Place → Phase
 phase_to_set_start plan place.Lost = phase_with_step work.Leave place.Lost step.Send
 phase_to_set_start plan (place.At p) =
     if p == plan.start then phase_with_step work.Leave (place.At p) step.Close else phase_with_step work.Leave (place.At p) step.Send
 phase_to_set_start plan (place.Reading p) = phase_with_step work.Leave (place.Reading p) step.EndReading
 
--- Once all was compared, the device stays in dfuIDLE, or leaves.
+-- Phase after the comparison if the device isn't asked to leave: over as Verified, but a device that reads must leave dfuUPLOAD-IDLE first.
 abbrev pub phase_when_compared : Place → Phase
 phase_when_compared place.Lost = Over (report.Verified leaving.Stayed)
 phase_when_compared (place.At p) = Over (report.Verified leaving.Stayed)
 phase_when_compared (place.Reading p) = phase_with_step work.Leave (place.Reading p) step.EndReading
 
--- The end: the device leaves, or stays.
+-- Phase after the comparison: the device is asked to leave if the plan says so, and else stays.
 unfoldable pub to_leave : Plan → Place → Phase
 to_leave plan p = if plan.leaves then phase_to_set_start plan p else phase_when_compared p
 
--- The front is compared from the next byte on; without one comes the end.
+-- The front is compared from the next byte on; if there is none, the session comes to its end.
 abbrev pub compare_front_phase_for : Plan → Place → Option ℕ → Phase
 compare_front_phase_for plan p None = to_leave plan p
 compare_front_phase_for plan p (Some at) = phase_with_step (work.CompareFront at) p (comparing_step plan at p)
 
+-- Phase that compares the front from `at` on.
 unfoldable pub to_compare_front : Plan → Place → (at : ℕ) → Phase
 to_compare_front plan p at = compare_front_phase_for plan p (byte_in plan at (front_end plan))
 
--- The front is written from the next byte on; without one it is compared.
+-- The front is written from the next byte on; if there is none, it is compared.
 abbrev pub write_front_phase_for : Plan → Place → Option ℕ → Phase
 write_front_phase_for plan p None = to_compare_front plan p (image_start plan.image.now)
 write_front_phase_for plan p (Some at) = phase_with_step (work.WriteFront at) p (sending_step p)
 
+-- Phase that writes the front from `at` on.
 unfoldable pub to_write_front : Plan → Place → (at : ℕ) → Phase
 to_write_front plan p at = write_front_phase_for plan p (byte_in plan at (front_end plan))
 
--- All but the front is compared from the next byte on; without one the front is written.
+-- The image after the front is compared from the next byte on; if there is none, the front is written.
 abbrev pub compare_phase_for : Plan → Place → Option ℕ → Phase
 compare_phase_for plan p None = to_write_front plan p (image_start plan.image.now)
 compare_phase_for plan p (Some at) = phase_with_step (work.Compare at) p (comparing_step plan at p)
 
+-- Phase that compares the image after the front, from `at` on.
 unfoldable pub to_compare : Plan → Place → (at : ℕ) → Phase
 to_compare plan p at = compare_phase_for plan p (byte_in plan at (image_end plan.image.now))
 
--- The image is written from the next byte on, up to `end`; without one all but the front is compared.
+-- The image is written from the next byte on, up to `end`; if there is none, the image after the front is compared.
 abbrev pub write_phase_for : Plan → Place → (end : ℕ) → Option ℕ → Phase
 write_phase_for plan p end None = to_compare plan p (front_end plan)
 write_phase_for plan p end (Some at) = phase_with_step (work.Write at end) p (sending_step p)
 
+-- Phase that writes the image from `at` to before `end`.
 unfoldable pub to_write : Plan → Place → (at end : ℕ) → Phase
 to_write plan p at end = write_phase_for plan p end (byte_in plan at end)
 
--- Pages are erased from the next byte on; without one all but the front is written.
+-- Pages are erased from the next byte on; if there is none, the image after the front is written.
 abbrev pub erase_phase_for : Plan → Place → Option ℕ → Phase
 erase_phase_for plan p None = to_write plan p (front_end plan) (image_end plan.image.now)
 erase_phase_for plan p (Some at) = phase_with_step (work.Erase at) p (sending_step p)
 
+-- Phase that erases pages from `at` on.
 unfoldable pub to_erase : Plan → Place → (at : ℕ) → Phase
 to_erase plan p at = erase_phase_for plan p (byte_in plan at (image_end plan.image.now))
 
--- The device is ready for a command, and the work goes on.
+-- The next phase of a work once the device is ready for a command.
 unfoldable pub settled_phase : Plan → Work → Place → Phase
 settled_phase plan (work.Erase at) p = to_erase plan p at
 settled_phase plan (work.EraseAgain page end) p = phase_with_step (work.EraseAgain page end) p (sending_step p)

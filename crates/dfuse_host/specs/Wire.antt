@@ -1,4 +1,4 @@
--- Parts of the table that go over the wire: actions as setups, and results as what is heard.
+-- The table over the wire: setups of the actions, and meanings of the results.
 use Rattle.std.specs.Prelude.{◌≡◌, ◌≢◌, ℕ, ◌==◌, List, [], ◌∷◌, length, if◌then◌else◌}
 use Rattle.std.specs.Str.{bytes_eq}
 use Rattle.dfu_wire.specs.declared.setups.Setup.{Setup}
@@ -6,7 +6,7 @@ use Rattle.dfu_wire.specs.declared.states.State.{State}
 use Rattle.dfu_wire.specs.declared.requests.Request.{Request}
 use Rattle.dfu_wire.specs.Status.{StatusFields, IsStatus}
 use Rattle.dfu_wire.specs.Setup.{IsSetup}
-use Rattle.dfu_wire.specs.Request.{SetupRequest, IsPlain}
+use Rattle.dfu_wire.specs.Request.{SetupAsksFor, UnusedValueIsZero}
 use Rattle.dfu_wire.specs.State.{state_byte}
 use Rattle.dfuse_host.specs.declared.action.Action.{Action}
 use Rattle.dfuse_host.specs.declared.action.Action.TheVariants as action
@@ -20,14 +20,18 @@ use Rattle.dfuse_host.specs.declared.step.Step.{Step}
 use Rattle.dfuse_host.specs.declared.step.Step.TheVariants as step
 use Rattle.dfuse_host.specs.Deeds.{DfuseDeed, Send, Wait, Done, read_bytes}
 
--- The eight bytes are a setup that asks for the request, with 0 if its value has no meaning.
+-- The eight bytes are the setup of this request. Fields without a meaning are 0.
 pub record IsDfuseSetupOf (q : Request) (bytes : List ℕ) : Type 0 where
+  -- Setup that the bytes spell.
   pub setup : Setup
+  -- The bytes spell the fields of the setup.
   pub fields : IsSetup setup bytes
-  pub asks : SetupRequest setup q
-  pub plain : IsPlain setup q
+  -- The setup asks for the request.
+  pub asks : SetupAsksFor setup q
+  -- The value is 0 if the request has no use for it.
+  pub plain : UnusedValueIsZero setup q
 
--- An action as the caller gets it: a request is the bytes of its setup, with its body. No other bytes spell it.
+-- The action spells the deed: a request is sent as the bytes of its setup, with its body.
 abbrev pub DfuseSpells : DfuseDeed → Action → Type 0
 DfuseSpells (Send q body) (action.Send setup given) = IsDfuseSetupOf q setup × (given.now ≡ body)
 DfuseSpells (Send q body) (action.Command setup given) = IsDfuseSetupOf q setup × (given ≡ body)
@@ -35,23 +39,23 @@ DfuseSpells (Wait ms) (action.Wait given) = given ≡ ms
 DfuseSpells (Done report) (action.Done given) = given ≡ report
 DfuseSpells deed given = ⊥
 
--- Bytes that answer GETSTATUS are the status that they spell; if they spell none, nothing is heard.
+-- Bytes that answer GETSTATUS mean the status that they spell, or Nothing if they spell none.
 abbrev pub DfuseReadsStatus : List ℕ → Heard → Type 0
 DfuseReadsStatus bytes (heard.Told status) = IsStatus status bytes
 DfuseReadsStatus bytes heard.Nothing = (s : StatusFields) → IsStatus s bytes → ⊥
 DfuseReadsStatus bytes h = ⊥
 
--- Bytes that answer GETSTATE are the state whose number is their one byte; other bytes are heard as nothing.
+-- Bytes that answer GETSTATE mean the state whose number is their one byte, or Nothing if they are no such byte.
 abbrev pub DfuseReadsState : List ℕ → Heard → Type 0
 DfuseReadsState bytes (heard.StateIs state) = bytes ≡ state_byte state ∷ []
 DfuseReadsState bytes heard.Nothing = (state : State) → bytes ≢ state_byte state ∷ []
 DfuseReadsState bytes h = ⊥
 
--- Bytes that answer UPLOAD are compared with the wanted bytes, if they are as many; other bytes are heard as nothing.
+-- Bytes that answer UPLOAD are compared with the wanted bytes if they have the same length, else they mean Nothing.
 abbrev pub heard_of_compare : (wanted bytes : List ℕ) → Heard
 heard_of_compare wanted bytes = if length bytes == length wanted then heard.Compared (bytes_eq bytes wanted) else heard.Nothing
 
--- Meaning of bytes at a step: if the step asks for no bytes, nothing is heard.
+-- Meaning of bytes at a step: Nothing, if the step asks for no bytes.
 abbrev pub DfuseBytesMeaning : Plan → Work → Step → List ℕ → Heard → Type 0
 DfuseBytesMeaning plan w step.AskState bytes h = DfuseReadsState bytes h
 DfuseBytesMeaning plan w step.Probe bytes h = DfuseReadsState bytes h

@@ -1,7 +1,7 @@
-//! The action of each step, as the caller gets it.
+//! The action of each step, in the form that the caller gets.
 
 ghost use Rattle.std.specs.Prelude.{◌≡◌, ◌≤◌, ◌<◌, ◌-◌, ◌^◌, [], ◌∷◌, length};
-ghost use Rattle.dfu_wire.specs.Request.{IsUnnamed};
+ghost use Rattle.dfu_wire.specs.Request.{IsUnnamedRequest};
 ghost use Rattle.dfuse_host.specs.Commands.{bytes_in, command_of};
 ghost use Rattle.dfuse_host.specs.Deeds as deeds;
 ghost use Rattle.dfuse_host.specs.Wire.{DfuseSpells, IsDfuseSetupOf};
@@ -16,9 +16,9 @@ use crate::step::Step;
 use crate::work::Work;
 use dfu_wire::Request;
 
-/// Returns the bytes of the setup of `request`, which must be one of the seven.
+/// Returns the bytes of the setup of `request`, which must be one of the seven requests of DFU.
 fn setup_of(request: Request) -> [u8; 8]
-    requires { IsUnnamed request → ⊥ }
+    requires { IsUnnamedRequest request → ⊥ }
     ensures { IsDfuseSetupOf request result }
 {
     match request.setup() {
@@ -27,9 +27,9 @@ fn setup_of(request: Request) -> [u8; 8]
     }
 }
 
-/// Returns the action that sends `request`, which must be one of the seven, without a body.
+/// Returns the action that sends `request`, which must be one of the seven requests of DFU, without a body.
 fn ask<'f>(request: Request) -> Action<'f>
-    requires { IsUnnamed request → ⊥ }
+    requires { IsUnnamedRequest request → ⊥ }
     ensures { DfuseSpells (deeds.Send request []) result }
 {
     Action::Send {
@@ -64,7 +64,7 @@ fn download(body: &[u8]) -> Action<'_>
     }
 }
 
-/// Returns the address that `work` has reached.
+/// Returns the address that `work` has reached; 0 for Leave.
 pub(crate) fn stands_at(work: Work) -> u64
     ensures { result ≡ deeds.stands_at work }
 {
@@ -79,9 +79,9 @@ pub(crate) fn stands_at(work: Work) -> u64
     }
 }
 
-/// Returns the address to which the pointer was set for the bytes that are read at `place`; `at` if none are read there.
-fn base_of(place: Place, at: u64) -> u64
-    ensures { result ≡ deeds.base_of place at }
+/// Returns the address to which the pointer was set for reading at `place`; `at` if `place` isn't reading.
+fn reading_base_of(place: Place, at: u64) -> u64
+    ensures { result ≡ deeds.reading_base_of place at }
 {
     match place {
         Place::Reading(pointer) => pointer,
@@ -92,7 +92,8 @@ fn base_of(place: Place, at: u64) -> u64
 impl<'f> Plan<'f> {
     ghost use Rattle.dfuse_host.specs.declared.work.Work.{Work};
 
-    /// Returns the bytes of the image from address `at` to before `end`, up to the end of the element that has `at`.
+    /// Returns the bytes of the image from address `at` to before `end`, up to the end of the element that has `at`; none if no element has
+    /// it.
     fn bytes_in(&self, at: u64, end: u64) -> &'f [u8]
         ensures value { result.now ≡ bytes_in self.now at end }
         ensures fits { length result.now ≤ end - at }
@@ -107,7 +108,7 @@ impl<'f> Plan<'f> {
         bytes
     }
 
-    /// Returns the bytes of the image that `work` reads back next.
+    /// Returns the bytes of the image that one UPLOAD for `work` reads, from the address that the work has reached.
     #[tactic(auto, unfolding(crate::specs::Deeds::read_bytes))]
     pub(crate) fn read_bytes(&self, work: Work) -> &'f [u8]
         ensures value { result.now ≡ deeds.read_bytes self.now work }
@@ -117,16 +118,16 @@ impl<'f> Plan<'f> {
         self.bytes_in(at, self.read_end(at, self.end_of_work(work)))
     }
 
-    /// Returns the number of the block that has address `at`, if the device reads at `place`.
+    /// Returns the number of the UPLOAD block that has address `at`, if the device reads at `place`.
     #[tactic(auto, unfolding(crate::specs::Deeds::upload_block))]
     fn upload_block(&self, place: Place, at: u64) -> u16
         ensures { result ≡ deeds.upload_block self.now place at }
     {
-        (at.saturating_sub(base_of(place, at)) / self.block_size() % 65534 + 2) as u16
+        (at.saturating_sub(reading_base_of(place, at)) / self.block_size() % 65534 + 2) as u16
     }
 
     /// Returns the action that sends `command` of `work`.
-    fn sends(&self, work: Work, command: Command) -> Action<'f>
+    fn send_command(&self, work: Work, command: Command) -> Action<'f>
         ensures { DfuseSpells (deeds.command_deed self.now work command) result }
     {
         match command {
@@ -139,7 +140,7 @@ impl<'f> Plan<'f> {
         }
     }
 
-    /// Returns the UPLOAD of the bytes that `work` reads back next, at `place`.
+    /// Returns the UPLOAD at `place` of the bytes that `work` reads back next.
     fn upload(&self, work: Work, place: Place) -> Action<'f>
         ensures { DfuseSpells (deeds.upload_deed self.now work place) result }
     {
@@ -160,7 +161,7 @@ impl<'f> Plan<'f> {
             }
             Step::ClearWait(ms) | Step::PollWait(ms) => Action::Wait(ms),
             Step::ClearStatus => ask(Request::ClrStatus),
-            Step::Send => self.sends(work, self.command_of(work, place)),
+            Step::Send => self.send_command(work, self.command_of(work, place)),
             Step::Read => self.upload(work, place),
             Step::Close => download(&[]),
         }

@@ -1,7 +1,7 @@
-//! Clearing: orders of an earlier session are dropped, and waited for, but never started.
+//! Clearing: commands of an earlier session are dropped, or waited for, but never started.
 
 ghost use Rattle.std.specs.Prelude.{◌≡◌};
-ghost use Rattle.dfuse_host.specs.Table.{state_found, ends_comparing, fault_found, status_found, on_abort, on_ask_state, on_ask_status, on_clear_wait};
+ghost use Rattle.dfuse_host.specs.Table.{state_found, phase_after_comparing_fault, phase_after_fault, status_found, on_abort, on_ask_state, on_ask_status, on_clear_wait};
 
 use crate::command::cleared;
 use crate::heard::Heard;
@@ -17,9 +17,9 @@ use dfu_wire::{Code, State, Status};
 /// Milliseconds to wait for a status that was asked for too early.
 pub(crate) const TOO_EARLY_MS: u32 = 100;
 
-/// Returns the phase if the device is in dfuERROR with `code` while `work` reads bytes back.
-fn ends_comparing(work: Work, code: Code) -> Phase
-    ensures { result ≡ ends_comparing work code }
+/// Returns the phase after dfuERROR with `code` while `work` reads bytes back.
+fn phase_after_comparing_fault(work: Work, code: Code) -> Phase
+    ensures { result ≡ phase_after_comparing_fault work code }
 {
     match code {
         Code::StalledPkt => stand(work, Place::Lost, Step::ClearStatus),
@@ -27,14 +27,16 @@ fn ends_comparing(work: Work, code: Code) -> Phase
     }
 }
 
-/// Returns the phase if the device is in dfuERROR with `code`.
-fn fault_found(work: Work, code: Code) -> Phase
-    ensures { result ≡ fault_found work code }
+/// Returns the phase after dfuERROR with `code` while the device is cleared.
+fn phase_after_fault(work: Work, code: Code) -> Phase
+    ensures { result ≡ phase_after_fault work code }
 {
     match (work, code) {
         (Work::Erase { .. }, _) => stand(work, Place::Lost, Step::ClearStatus),
         (_, Code::Vendor) => Phase::Over(Report::ReadProtected),
-        (Work::Compare { .. } | Work::CompareFront { .. }, _) => ends_comparing(work, code),
+        (Work::Compare { .. } | Work::CompareFront { .. }, _) => phase_after_comparing_fault(
+            work, code,
+        ),
         _ => stand(work, Place::Lost, Step::ClearStatus),
     }
 }
@@ -47,12 +49,12 @@ fn status_found(work: Work, status: &Status) -> Phase
         State::AppIdle | State::AppDetach => Phase::Over(Report::NotDfu),
         State::DfuIdle => stand(work, Place::Lost, Step::AskState),
         State::DownloadIdle | State::UploadIdle => cleared(work),
-        State::Error => fault_found(work, status.code()),
+        State::Error => phase_after_fault(work, status.code()),
         _ => stand(work, Place::Lost, Step::ClearWait(status.poll_ms())),
     }
 }
 
-/// Returns the phase after ABORT, to which `heard` is the result.
+/// Returns the phase after ABORT with the result `heard`, while the device is cleared.
 pub(crate) fn on_abort(work: Work, heard: &Heard) -> Phase
     ensures { result ≡ on_abort work heard.now }
 {
@@ -62,7 +64,7 @@ pub(crate) fn on_abort(work: Work, heard: &Heard) -> Phase
     }
 }
 
-/// Returns the phase after GETSTATUS, to which `heard` is the result, while the device is cleared.
+/// Returns the phase after GETSTATUS with the result `heard`, while the device is cleared.
 pub(crate) fn on_ask_status(work: Work, heard: &Heard) -> Phase
     ensures { result ≡ on_ask_status work heard.now }
 {
@@ -73,7 +75,7 @@ pub(crate) fn on_ask_status(work: Work, heard: &Heard) -> Phase
     }
 }
 
-/// Returns the phase after a wait of `ms` milliseconds, while the device is cleared.
+/// Returns the phase after a wait of `ms` milliseconds with the result `heard`, while the device is cleared.
 pub(crate) fn on_clear_wait(work: Work, ms: u32, heard: &Heard) -> Phase
     ensures { result ≡ on_clear_wait work ms heard.now }
 {
@@ -99,7 +101,7 @@ impl Plan<'_> {
         }
     }
 
-    /// Returns the phase after GETSTATE, to which `heard` is the result, while the device is cleared.
+    /// Returns the phase after GETSTATE with the result `heard`, while the device is cleared.
     pub(crate) fn on_ask_state(&self, work: Work, heard: &Heard) -> Phase
         ensures { result ≡ on_ask_state self.now work heard.now }
     {

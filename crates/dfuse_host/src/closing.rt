@@ -13,7 +13,7 @@ use crate::step::Step;
 use crate::work::Work;
 use dfu_wire::{Code, State};
 
-/// Returns the phase after a DNLOAD of no bytes, by which the device is asked to leave.
+/// Returns the phase after the DNLOAD of no bytes, which asks the device to leave.
 pub(crate) fn on_close(work: Work, place: Place, heard: &Heard) -> Phase
     ensures { result ≡ on_close work place heard.now }
 {
@@ -23,7 +23,7 @@ pub(crate) fn on_close(work: Work, place: Place, heard: &Heard) -> Phase
     }
 }
 
-/// Returns the phase after `state`, that of a device whose answer to the DNLOAD of no bytes was lost.
+/// Returns the phase after `state` of a device that didn't acknowledge the DNLOAD of no bytes.
 fn close_probed(work: Work, place: Place, state: State) -> Phase
     ensures { result ≡ close_probed work place state }
 {
@@ -34,7 +34,7 @@ fn close_probed(work: Work, place: Place, state: State) -> Phase
     }
 }
 
-/// Returns the phase after GETSTATE, which asks if the DNLOAD of no bytes came.
+/// Returns the phase after GETSTATE, which asks if the DNLOAD of no bytes arrived.
 pub(crate) fn on_close_probe(work: Work, place: Place, heard: &Heard) -> Phase
     ensures { result ≡ on_close_probe work place heard.now }
 {
@@ -45,7 +45,7 @@ pub(crate) fn on_close_probe(work: Work, place: Place, heard: &Heard) -> Phase
     }
 }
 
-/// Returns the phase after the status, `code` and `state`, of a device that was asked to leave.
+/// Returns the phase after a status with `code` and `state` of a device that was asked to leave.
 fn close_polled(work: Work, place: Place, code: Code, state: State) -> Phase
     ensures { result ≡ close_polled work place code state }
 {

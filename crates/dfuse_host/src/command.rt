@@ -10,7 +10,7 @@ use crate::plan::Plan;
 use crate::step::Step;
 use crate::work::Work;
 
-/// Command that a DNLOAD brings.
+/// Command that a DNLOAD carries.
 #[derive(Clone, Copy)]
 pub(crate) enum Command {
     /// Set the address pointer.
@@ -21,10 +21,9 @@ pub(crate) enum Command {
     Write(u64),
 }
 
-/// Returns the command that comes next for the bytes at `at`: their write, if the pointer is at `at`, and else the setting of the pointer
-/// to `at`.
+/// Returns the next command to write the bytes at `at`: their write if `place` is At this address, else the setting of the pointer.
 #[tactic(auto, using(std::proofs::lemmas::Bool::Decides::nat_tests))]
-fn writing(place: Place, at: u64) -> Command
+fn command_to_write(place: Place, at: u64) -> Command
     ensures { result ≡ write_command place at }
 {
     match place {
@@ -54,13 +53,13 @@ impl Plan<'_> {
         match work {
             Work::Erase { at } => Command::ErasePage(self.page_start(at)),
             Work::EraseAgain { page, .. } => Command::ErasePage(page),
-            Work::Write { at, .. } | Work::WriteFront { at } => writing(place, at),
+            Work::Write { at, .. } | Work::WriteFront { at } => command_to_write(place, at),
             Work::Compare { at } | Work::CompareFront { at } => Command::SetAddress(at),
             Work::Leave => Command::SetAddress(self.start as u64),
         }
     }
 
-    /// Returns the address up to which `work` goes.
+    /// Returns the address at which `work` ends; 0 for Leave.
     pub(crate) fn end_of_work(&self, work: Work) -> u64
         ensures { result ≡ end_of_work self.now work }
     {
@@ -107,7 +106,7 @@ impl Plan<'_> {
         }
     }
 
-    /// Returns the work that follows `work` if a write of it may have stopped halfway.
+    /// Returns the work that repeats a write of `work` that may have stopped halfway; other works stay.
     fn again(&self, work: Work) -> Work
         ensures { result ≡ work_after_unsure_write self.now work }
     {
@@ -124,8 +123,8 @@ impl Plan<'_> {
         }
     }
 
-    /// Returns the phase if `command` may have been started, and its end isn't known.
-    pub(crate) fn unsure(&self, work: Work, command: Command) -> Phase
+    /// Returns the phase after `command`, if it may have been started and its end isn't known.
+    pub(crate) fn phase_when_unsure(&self, work: Work, command: Command) -> Phase
         ensures { result ≡ phase_if_unsure self.now work command }
     {
         match command {

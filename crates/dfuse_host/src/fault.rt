@@ -3,22 +3,22 @@
 use std::fmt;
 use thiserror::Error;
 
-/// A fault for which a plan is refused before anything is sent: the first of these that holds.
+/// A fault for which a plan is refused before anything is sent. A call returns the first one that holds, in this order.
 #[derive(Clone, Copy, Debug, Error)]
 pub enum PlanFault {
     /// The transfer size is 0.
     NoTransferSize,
     /// There is no element, or one without bytes.
     EmptyImage,
-    /// An element begins before the one before it does.
+    /// An element begins before the one in front of it begins.
     NotInOrder,
-    /// An element begins before the one before it ends.
+    /// An element begins before the one in front of it ends.
     Overlapping,
     /// An address of the image is not on the map.
     OutsideTheMap,
     /// A page of the image can't be written.
     NotWritable,
-    /// A page of the image can't be erased, as those of option bytes.
+    /// A page of the image can't be erased, as with option bytes.
     NotErasable,
     /// A page of the image can't be read back.
     NotReadable,

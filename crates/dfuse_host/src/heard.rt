@@ -1,4 +1,4 @@
-//! Meaning of results.
+//! Meanings of results for a session.
 
 ghost use Rattle.std.specs.Prelude.{◌≡◌};
 ghost use Rattle.dfuse_host.specs.Wire.{DfuseSeenMeaning, DfuseBytesMeaning, DfuseReadsState, DfuseReadsStatus, heard_of_compare};
@@ -12,18 +12,25 @@ use dfu_wire::{State, Status};
 /// Meaning of the result of an action.
 #[derive(Clone, Copy)]
 pub(crate) enum Heard {
+    /// The request was acknowledged.
     Acked,
+    /// GETSTATUS was answered with this status.
     Told(Status),
+    /// GETSTATE was answered with this state.
     StateIs(State),
-    /// Bytes were read back, as many as were asked for; true if they are those of the image.
+    /// The bytes asked for were read back; true if they equal the image's.
     Compared(bool),
+    /// The request was stalled.
     Stalled,
+    /// The request or its answer was lost, or the answer has no meaning.
     Nothing,
+    /// The wait is over.
     Waited,
+    /// The device was restarted.
     Restarted,
 }
 
-/// Reads `bytes` as the answer to GETSTATUS; Nothing if they are none.
+/// Reads `bytes` as the answer to GETSTATUS; Nothing if they are no status.
 fn status_in(bytes: &[u8]) -> Heard
     ensures { DfuseReadsStatus bytes.now result }
 {
@@ -33,7 +40,7 @@ fn status_in(bytes: &[u8]) -> Heard
     }
 }
 
-/// Reads `bytes` as the answer to GETSTATE, of one byte; Nothing if they are none.
+/// Reads `bytes` as the answer to GETSTATE, of one byte; Nothing if they are no state.
 fn state_in(bytes: &[u8]) -> Heard
     ensures { DfuseReadsState bytes.now result }
 {
@@ -46,7 +53,7 @@ fn state_in(bytes: &[u8]) -> Heard
     }
 }
 
-/// Compares `bytes`, which UPLOAD answered, with `wanted`; Nothing if their number differs.
+/// Compares `bytes`, the answer to UPLOAD, with `wanted`; Nothing if the lengths differ.
 #[tactic(auto, using(std::proofs::lemmas::Bool::Decides::nat_tests))]
 fn compared(wanted: &[u8], bytes: &[u8]) -> Heard
     ensures { result ≡ heard_of_compare wanted.now bytes.now }
@@ -59,8 +66,8 @@ fn compared(wanted: &[u8], bytes: &[u8]) -> Heard
 }
 
 impl Plan<'_> {
-    /// Returns the meaning of `bytes` that come at `step` of `work`.
-    fn answered(&self, work: Work, step: Step, bytes: &[u8]) -> Heard
+    /// Returns the meaning of `bytes` as an answer at `step` of `work`; Nothing if the step asks for no bytes.
+    fn answer_meaning(&self, work: Work, step: Step, bytes: &[u8]) -> Heard
         ensures { DfuseBytesMeaning self.now work step bytes.now result }
     {
         match step {
@@ -77,7 +84,7 @@ impl Plan<'_> {
     {
         match seen {
             Seen::Ack => Heard::Acked,
-            Seen::Bytes(bytes) => self.answered(work, step, bytes),
+            Seen::Bytes(bytes) => self.answer_meaning(work, step, bytes),
             Seen::Stall => Heard::Stalled,
             Seen::Nothing => Heard::Nothing,
             Seen::Waited => Heard::Waited,

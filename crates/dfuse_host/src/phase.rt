@@ -5,11 +5,14 @@ use crate::report::Report;
 use crate::step::Step;
 use crate::work::Work;
 
-/// Work of a session, with its knowledge of the device and its next step.
+/// A work of a session, its knowledge of the address pointer, and its next step.
 #[derive(Clone, Copy)]
 pub struct Standing {
+    /// Work under way.
     pub work: Work,
+    /// Knowledge of the device's address pointer.
     pub place: Place,
+    /// Next step of the work.
     pub step: Step,
 }
 

@@ -1,4 +1,4 @@
-//! Plan of a session.
+//! Plan of a session: an image, and the memory for it.
 
 ghost use Rattle.std.specs.Prelude.{◌≡◌, ◌+◌, ◌≤◌, ◌<◌, ◌^◌, IfSome};
 ghost use Rattle.dfuse_host.specs.Plans.{page_of, page_start, page_end, element_end, front_end, block_size, write_end, read_end};
@@ -12,20 +12,20 @@ use dfu_formats::memory::{Map, Page};
 pub struct Plan<'f> {
     /// Map of the memory.
     pub map: &'f Map<'f>,
-    /// Image that is to be written.
+    /// Image to write.
     pub image: &'f [Element<'f>],
     /// Largest number of bytes of a block.
     pub transfer: u16,
-    /// Number of bytes of the image that are written last of all, as far as its first element and its first page have them.
+    /// Number of bytes at the beginning of the image that are written last. Only bytes in the first element and its first page count.
     pub front: u16,
-    /// True if the device is to leave once all was compared.
+    /// True if the device must leave once the whole image was compared.
     pub leaves: bool,
-    /// The address at which the device is to start its application.
+    /// Address at which the device must start its application.
     pub start: u32,
 }
 
 impl Plan<'_> {
-    /// Returns the page of the map that has address `at`; None if none has.
+    /// Returns the page of the map that has address `at`; None if no page has it.
     #[tactic(auto, using(std::proofs::lemmas::Bool::Decides::nat_tests), unfolding(crate::specs::Plans::page_of))]
     fn page_of(&self, at: u64) -> Option<Page>
         ensures value { result ≡ page_of self.now at }
@@ -85,7 +85,7 @@ impl Plan<'_> {
         (self.transfer as u64).max(1)
     }
 
-    /// Returns the address, at most `end`, after the bytes from `at` on that are written at once.
+    /// Returns the address after the bytes from `at` on that one DNLOAD writes, at most `end`.
     #[tactic(auto, unfolding(crate::specs::Plans::write_end))]
     pub(crate) fn write_end(&self, at: u64, end: u64) -> u64
         ensures value { result ≡ write_end self.now at end }
@@ -95,7 +95,7 @@ impl Plan<'_> {
             .min(self.element_end(at).min(self.page_end(at)).min(end))
     }
 
-    /// Returns the address, at most `end`, after the bytes from `at` on that are read at once.
+    /// Returns the address after the bytes from `at` on that one UPLOAD reads, at most `end`.
     #[tactic(auto, unfolding(crate::specs::Plans::read_end))]
     pub(crate) fn read_end(&self, at: u64, end: u64) -> u64
         ensures value { result ≡ read_end self.now at end }

@@ -1,7 +1,7 @@
-//! Reading back.
+//! Reading the image back.
 
 ghost use Rattle.std.specs.Prelude.{◌≡◌};
-ghost use Rattle.dfuse_host.specs.Table.{place_with_reading_begun, place_with_reading_ended, place_after_turn, on_turn, read_on, on_read};
+ghost use Rattle.dfuse_host.specs.Table.{place_with_reading_begun, place_with_reading_ended, place_after_reading_abort, on_reading_abort, read_on, on_read};
 
 use crate::command::cleared;
 use crate::heard::Heard;
@@ -13,7 +13,7 @@ use crate::settling::stand;
 use crate::step::Step;
 use crate::work::Work;
 
-/// Returns the place that follows `place` once the device went to dfuIDLE, from which bytes can be read.
+/// Returns the place after `place` once the device went to dfuIDLE, from which bytes can be read.
 fn begun(place: Place) -> Place
     ensures { result ≡ place_with_reading_begun place }
 {
@@ -23,8 +23,8 @@ fn begun(place: Place) -> Place
     }
 }
 
-/// Returns the place that follows `place` once the device left dfuUPLOAD-IDLE.
-fn ended(place: Place) -> Place
+/// Returns the place after `place` once the device left dfuUPLOAD-IDLE.
+fn place_after_reading(place: Place) -> Place
     ensures { result ≡ place_with_reading_ended place }
 {
     match place {
@@ -33,13 +33,13 @@ fn ended(place: Place) -> Place
     }
 }
 
-/// Returns the place of the pointer after a step, if the step is an ABORT that begins or ends reading.
-fn turned(step: Step, place: Place) -> Place
-    ensures { result ≡ place_after_turn step place }
+/// Returns the place after `step`: an ABORT that begins or ends reading keeps the pointer's address, and other steps change nothing.
+fn place_after_step(step: Step, place: Place) -> Place
+    ensures { result ≡ place_after_reading_abort step place }
 {
     match step {
         Step::BeginReading => begun(place),
-        Step::EndReading => ended(place),
+        Step::EndReading => place_after_reading(place),
         _ => place,
     }
 }
@@ -47,18 +47,24 @@ fn turned(step: Step, place: Place) -> Place
 impl Plan<'_> {
     ghost use Rattle.dfuse_host.specs.declared.work.Work.{Work};
 
-    /// Returns the phase after an ABORT that begins reading, or ends it, as `step` says.
-    pub(crate) fn on_turn(&self, work: Work, place: Place, step: Step, heard: &Heard) -> Phase
-        ensures { result ≡ on_turn self.now work place (place_after_turn step place) step heard.now }
+    /// Returns the phase after an ABORT that begins reading or ends it, according to `step`.
+    pub(crate) fn on_reading_abort(
+        &self,
+        work: Work,
+        place: Place,
+        step: Step,
+        heard: &Heard,
+    ) -> Phase
+        ensures { result ≡ on_reading_abort self.now work place (place_after_reading_abort step place) step heard.now }
     {
         match heard {
-            Heard::Acked => self.settle(work, turned(step, place)),
+            Heard::Acked => self.settle(work, place_after_step(step, place)),
             Heard::Stalled => cleared(work),
             _ => stand(work, place, step),
         }
     }
 
-    /// Returns the work that follows `work` after its bytes were read back.
+    /// Returns `work` once its next bytes were read back: a comparison goes on behind them, and other works stay.
     fn read_on(&self, work: Work) -> Work
         ensures { result ≡ read_on self.now work }
     {
@@ -74,7 +80,7 @@ impl Plan<'_> {
         }
     }
 
-    /// Returns the phase after UPLOAD, to which `heard` is the result.
+    /// Returns the phase after UPLOAD with the result `heard`.
     pub(crate) fn on_read(&self, work: Work, place: Place, heard: &Heard) -> Phase
         ensures { result ≡ on_read self.now work place heard.now }
     {

@@ -10,7 +10,7 @@ use crate::plan::Plan;
 use dfu_formats::dfuse::Element;
 use dfu_formats::memory::Access;
 
-/// Returns true if `image` has no element, or one without bytes.
+/// Returns true if `image` has no element, or an element without bytes.
 #[tactic(auto, using(std::proofs::lemmas::Bool::Decides::nat_tests))]
 fn is_empty(image: &[Element<'_>]) -> bool
     ensures { result ≡ is_empty image.now }
@@ -62,7 +62,7 @@ fn are_apart(image: &[Element<'_>]) -> bool
 }
 
 impl Plan<'_> {
-    /// Returns true if the pages of the image grant `wanted`.
+    /// Returns true if the pages of the image grant the access `wanted`.
     fn grants(&self, wanted: Access) -> bool
         ensures { IsTrue result ↔ PlanGrants self.now wanted }
     {
@@ -77,7 +77,7 @@ impl Plan<'_> {
         true
     }
 
-    /// Checks the plan, and returns its first fault.
+    /// Checks the plan, and returns its first fault, if it has one.
     pub(crate) fn check(&self) -> Result<(), PlanFault>
         ensures sound { OnOk result (IsSoundPlan self.now) }
         ensures fault { IfErr result (FirstPlanFault self.now) }

@@ -2,7 +2,7 @@
 
 use dfu_wire::Code;
 
-/// Ways in which a session left the device for its application, or in upgrade mode.
+/// State in which a session left the device: in its application, in upgrade mode, or unknown.
 #[derive(Clone, Copy)]
 pub enum Leaving {
     /// The device wasn't asked to leave.
@@ -16,17 +16,17 @@ pub enum Leaving {
 /// Report with which a session ended.
 #[derive(Clone, Copy)]
 pub enum Report {
-    /// Each byte of the image was read back, and is the image's.
+    /// Each byte of the image was read back, and equals the image's.
     Verified(Leaving),
-    /// A byte that was read back isn't the image's.
+    /// A byte that was read back differs from the image's.
     Different,
-    /// The device refused a command, with this code.
+    /// The device refused a command, or failed while bytes were read back, with this code.
     Refused(Code),
-    /// The device's memory is protected from being read.
+    /// The device's memory is protected against reading.
     ReadProtected,
-    /// No action was left.
+    /// No action was left, and not all of the image was compared.
     GaveUp,
-    /// The device restarted once more than the limit allows.
+    /// The device restarted more often than the limits allow.
     RestartsSpent,
     /// The device is in its application.
     NotDfu,

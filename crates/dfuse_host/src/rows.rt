@@ -15,7 +15,7 @@ use crate::step::Step;
 use crate::work::Work;
 
 impl Plan<'_> {
-    /// Returns the phase that follows, by `work`, `place` and `step` of a session, and by `heard`.
+    /// Returns the phase after the result `heard` in `work`, `place` and `step`.
     pub(crate) fn row(&self, work: Work, place: Place, step: Step, heard: &Heard) -> Phase
         ensures { result ≡ row self.now work place step heard.now }
     {
@@ -29,7 +29,9 @@ impl Plan<'_> {
             Step::Probe => self.on_probe(work, place, heard),
             Step::Poll(last) => self.on_poll(work, place, last, heard),
             Step::PollWait(ms) => on_poll_wait(work, place, ms, heard),
-            Step::BeginReading | Step::EndReading => self.on_turn(work, place, step, heard),
+            Step::BeginReading | Step::EndReading => self.on_reading_abort(
+                work, place, step, heard,
+            ),
             Step::Read => self.on_read(work, place, heard),
             Step::Close => on_close(work, place, heard),
             Step::CloseProbe => on_close_probe(work, place, heard),

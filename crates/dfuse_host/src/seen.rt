@@ -1,9 +1,9 @@
-//! Results that a session is given.
+//! Results that the caller gives a session.
 
 /// Result of an action. A result that doesn't fit the action is taken as [`Seen::Nothing`].
 #[derive(Clone, Copy)]
 pub enum Seen<'s> {
-    /// A request that has no answer of bytes was acknowledged.
+    /// A request whose answer has no bytes was acknowledged.
     Ack,
     /// A request was answered with these bytes, of any length.
     Bytes(&'s [u8]),

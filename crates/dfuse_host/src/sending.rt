@@ -1,4 +1,4 @@
-//! A command: DNLOAD brings it, and the GETSTATUS after it starts it.
+//! Commands: a DNLOAD brings the command, and the GETSTATUS after it starts the command.
 
 ghost use Rattle.std.specs.Prelude.{◌≡◌};
 ghost use Rattle.dfuse_host.specs.Commands.{command_of, phase_if_unsure};
@@ -16,7 +16,7 @@ use crate::step::Step;
 use crate::work::Work;
 use dfu_wire::{Code, State, Status};
 
-/// Returns the phase after the DNLOAD of a command, to which `heard` is the result.
+/// Returns the phase after the DNLOAD of a command, with the result `heard`.
 pub(crate) fn on_send(work: Work, place: Place, heard: &Heard) -> Phase
     ensures { result ≡ on_send work place heard.now }
 {
@@ -26,7 +26,7 @@ pub(crate) fn on_send(work: Work, place: Place, heard: &Heard) -> Phase
     }
 }
 
-/// Returns the phase after a wait of `ms` milliseconds, until a command should be done.
+/// Returns the phase after a wait of `ms` milliseconds for a command, with the result `heard`.
 pub(crate) fn on_poll_wait(work: Work, place: Place, ms: u32, heard: &Heard) -> Phase
     ensures { result ≡ on_poll_wait work place ms heard.now }
 {
@@ -36,7 +36,7 @@ pub(crate) fn on_poll_wait(work: Work, place: Place, ms: u32, heard: &Heard) -> 
     }
 }
 
-/// Returns the milliseconds to wait for a status that is stalled.
+/// Returns the milliseconds to wait after a stalled GETSTATUS: as many as at the last wait for the command, or 100 if these are 0.
 #[tactic(auto, using(std::proofs::lemmas::Bool::Decides::nat_tests))]
 fn stalled_ms(last: u32) -> u32
     ensures { result ≡ stalled_ms last }
@@ -45,14 +45,14 @@ fn stalled_ms(last: u32) -> u32
 }
 
 impl Plan<'_> {
-    /// Returns the phase if the command of `work` at `place` may have been started, and its end isn't known.
-    fn unsure_of(&self, work: Work, place: Place) -> Phase
+    /// Returns the phase after the command of `work` at `place`, if it may have been started and its end isn't known.
+    fn on_unsure_command(&self, work: Work, place: Place) -> Phase
         ensures { result ≡ phase_if_unsure self.now work (command_of self.now work place) }
     {
-        self.unsure(work, self.command_of(work, place))
+        self.phase_when_unsure(work, self.command_of(work, place))
     }
 
-    /// Returns the phase after `state`, that of a device whose answer to a command was lost.
+    /// Returns the phase after `state` of a device that didn't acknowledge a command.
     fn probed(&self, work: Work, place: Place, state: State) -> Phase
         ensures { result ≡ probed self.now work place state }
     {
@@ -60,17 +60,17 @@ impl Plan<'_> {
             State::DownloadSync => stand(work, place, Step::Poll(0)),
             State::DfuIdle | State::DownloadIdle => stand(work, place, Step::Send),
             State::Error => cleared(work),
-            _ => self.unsure_of(work, place),
+            _ => self.on_unsure_command(work, place),
         }
     }
 
-    /// Returns the phase after GETSTATE, which asks if a command came.
+    /// Returns the phase after GETSTATE, which asks if a command arrived.
     pub(crate) fn on_probe(&self, work: Work, place: Place, heard: &Heard) -> Phase
         ensures { result ≡ on_probe self.now work place heard.now }
     {
         match heard {
             Heard::StateIs(state) => self.probed(work, place, *state),
-            Heard::Stalled => self.unsure_of(work, place),
+            Heard::Stalled => self.on_unsure_command(work, place),
             _ => stand(work, place, Step::Probe),
         }
     }
@@ -80,14 +80,14 @@ impl Plan<'_> {
         ensures { result ≡ phase_if_refused self.now work place code }
     {
         match code {
-            Code::StalledPkt => self.unsure_of(work, place),
+            Code::StalledPkt => self.on_unsure_command(work, place),
             Code::Vendor => Phase::Over(Report::ReadProtected),
             _ => Phase::Over(Report::Refused(code)),
         }
     }
 
-    /// Returns the phase after `status`, which follows a command.
-    fn polled(&self, work: Work, place: Place, status: &Status) -> Phase
+    /// Returns the phase after `status`, asked for after a command.
+    fn on_polled_status(&self, work: Work, place: Place, status: &Status) -> Phase
         ensures { result ≡ phase_after_poll self.now work place status.now.code status.now.poll_ms status.now.state }
     {
         match status.state() {
@@ -96,7 +96,7 @@ impl Plan<'_> {
             }
             State::DownloadIdle => self.done(work, self.command_of(work, place)),
             State::Error => self.refused(work, place, status.code()),
-            _ => self.unsure_of(work, place),
+            _ => self.on_unsure_command(work, place),
         }
     }
 
@@ -105,7 +105,7 @@ impl Plan<'_> {
         ensures { result ≡ on_poll self.now work place last heard.now }
     {
         match heard {
-            Heard::Told(status) => self.polled(work, place, status),
+            Heard::Told(status) => self.on_polled_status(work, place, status),
             Heard::Stalled => stand(work, place, Step::PollWait(stalled_ms(last))),
             _ => stand(work, place, Step::Poll(last)),
         }

@@ -1,4 +1,4 @@
-//! Order of works: the next one once the device is ready for a command.
+//! Order of works: the next work once the device is ready for a command.
 
 ghost use Rattle.std.specs.Prelude.{◌≡◌};
 ghost use Rattle.dfuse_host.specs.Settling.{address_if_before, byte_in, can_read, comparing_step, sending_step, settled_phase, phase_when_compared, phase_to_set_start, to_leave, to_compare_front, to_write_front, to_compare, to_write, to_erase};
@@ -11,14 +11,14 @@ use crate::report::{Leaving, Report};
 use crate::step::Step;
 use crate::work::Work;
 
-/// Returns the phase that goes on with `work`, `place` and `step`.
+/// Returns the phase with `work`, `place` and `step`.
 pub(crate) fn stand(work: Work, place: Place, step: Step) -> Phase
     ensures { result ≡ Phase.On (record { work = work; place = place; step = step }) }
 {
     Phase::On(Standing { work, place, step })
 }
 
-/// Returns the step that leads to a command from `place`.
+/// Returns the next step from `place` towards a command.
 fn sending(place: Place) -> Step
     ensures { result ≡ sending_step place }
 {
@@ -29,7 +29,7 @@ fn sending(place: Place) -> Step
 }
 
 impl Plan<'_> {
-    /// Returns the address of the first byte of the image from `at` to before `end`; None if there is none.
+    /// Returns the address of the image's next byte from `at` on, if it is before `end`; else None.
     #[tactic(auto, using(std::proofs::lemmas::Bool::Decides::nat_tests), unfolding(crate::specs::Settling::byte_in))]
     fn byte_in(&self, at: u64, end: u64) -> Option<u64>
         ensures { result ≡ byte_in self.now at end }
@@ -40,7 +40,7 @@ impl Plan<'_> {
         }
     }
 
-    /// Returns true if the bytes from `at` on can be asked for, from `base`, the address to which the pointer was set.
+    /// Returns true if an UPLOAD block begins at `at`, in the same element, with the pointer set to `base`.
     #[tactic(auto, using(std::proofs::lemmas::Bool::Decides::nat_tests), unfolding(crate::specs::Settling::can_read))]
     fn can_read(&self, base: u64, at: u64) -> bool
         ensures { result ≡ can_read self.now base at }
@@ -59,9 +59,9 @@ impl Plan<'_> {
         }
     }
 
-    /// Returns the step from `place` that leads to reading back the bytes at `at`.
+    /// Returns the next step from `place` towards reading back the bytes at `at`.
     #[tactic(auto, using(std::proofs::lemmas::Bool::Decides::nat_tests))]
-    fn comparing(&self, at: u64, place: Place) -> Step
+    fn read_step(&self, at: u64, place: Place) -> Step
         ensures { result ≡ comparing_step self.now at place }
     {
         match place {
@@ -73,7 +73,7 @@ impl Plan<'_> {
         }
     }
 
-    /// Returns the phase at the end, when all was compared.
+    /// Returns the phase after the whole image was compared.
     #[tactic(auto, using(std::proofs::lemmas::Bool::Decides::nat_tests), unfolding(crate::specs::Settling::to_leave))]
     fn to_leave(&self, place: Place) -> Phase
         ensures { result ≡ to_leave self.now place }
@@ -97,7 +97,7 @@ impl Plan<'_> {
     {
         match self.byte_in(at, self.front_end()) {
             None => self.to_leave(place),
-            Some(at) => stand(Work::CompareFront { at }, place, self.comparing(at, place)),
+            Some(at) => stand(Work::CompareFront { at }, place, self.read_step(at, place)),
         }
     }
 
@@ -112,14 +112,14 @@ impl Plan<'_> {
         }
     }
 
-    /// Returns the phase that compares all but the front from `at` on.
+    /// Returns the phase that compares the image after the front, from `at` on.
     #[tactic(auto, unfolding(crate::specs::Settling::to_compare))]
     fn to_compare(&self, place: Place, at: u64) -> Phase
         ensures { result ≡ to_compare self.now place at }
     {
         match self.byte_in(at, image_end(self.image)) {
             None => self.to_write_front(place, image_start(self.image)),
-            Some(at) => stand(Work::Compare { at }, place, self.comparing(at, place)),
+            Some(at) => stand(Work::Compare { at }, place, self.read_step(at, place)),
         }
     }
 
@@ -145,7 +145,7 @@ impl Plan<'_> {
         }
     }
 
-    /// Returns the phase of `work` once the device is ready for a command.
+    /// Returns the next phase of `work` once the device is ready for a command.
     #[tactic(auto, unfolding(crate::specs::Settling::settled_phase))]
     pub(crate) fn settle(&self, work: Work, place: Place) -> Phase
         ensures { result ≡ settled_phase self.now work place }

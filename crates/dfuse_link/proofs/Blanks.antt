@@ -15,7 +15,7 @@ use Rattle.dfuse_host.specs.Deeds.{DfuseDeed, Send, Wait, Done, dfuse_deed, deed
 use Rattle.dfuse_link.specs.Chips.{Chip, Order, ErasesPage, DeviceWork, RestsInState, Pending, CarriesOut, Device, ChangedBy, DeviceAdvances, goes_on, ends, fails}
 use Rattle.dfuse_link.specs.Reactions.{Reaction, order_of, work_with_order_started, work_after_status, Reacts, stalls, takes, closes, gives, gives_other_bytes, tells, shows, aborts, clears_error}
 use Rattle.dfuse_link.specs.Histories.{RequestArrives, never, again, RequestUnderWay, none, request, sent, waited, restarted}
-use Rattle.dfuse_link.proofs.Changes.{OrderMayChange, byte_stays_if_safe, fact_after_stall, started_order_keeps_fact, told_status_keeps_fact}
+use Rattle.dfuse_link.proofs.Changes.{OrderMayChange, byte_stays_if_safe, stall_keeps_fact, started_order_keeps_fact, told_status_keeps_fact}
 use Rattle.dfuse_link.proofs.Claims.{IsQuiet, DeviceFitsStep, DeviceFitsPhase}
 use Rattle.dfuse_link.proofs.SentClaims.{DeedArrives}
 use Rattle.dfuse_link.proofs.Staying.{HoldsInPhase}
@@ -39,7 +39,9 @@ RequestWritesNothingAt chip a q body pointer = Unit {0}
 
 -- The byte at `a` is blank, and the work of the device writes nothing there.
 pub record StaysBlankAt (chip : Chip) (a : ℕ) (d : Device) : Type 0 where
+  -- The byte is blank.
   pub blank : chip.blank (d.memory a) ≡ true
+  -- The work writes nothing there.
   pub work_writes_nothing : WorkWritesNothingAt chip a d.device_work
 
 pub quiet_work_writes_nothing : (chip : Chip) (a : ℕ) (device_work : DeviceWork) → IsQuiet device_work →
@@ -66,34 +68,34 @@ module _ (chip : Chip) (a : ℕ) where
       WorkWritesNothingAt chip a device_work → OrderWritesNothingAt chip a order
   busy_order_writes_nothing device_work order e s = subst (WorkWritesNothingAt chip a) e s
 
-  pub blank_as_device_advances : (d d' : Device) → DeviceAdvances chip d d' → StaysBlankAt chip a d → StaysBlankAt chip a d'
-  blank_as_device_advances d d' (goes_on order e e' changed) k = record {
+  pub advance_keeps_blank : (d d' : Device) → DeviceAdvances chip d d' → StaysBlankAt chip a d → StaysBlankAt chip a d'
+  advance_keeps_blank d d' (goes_on order e e' changed) k = record {
     blank = changed_byte_stays_blank (CarriesOut order) d.memory d'.memory (busy_order_writes_nothing d.device_work order e
         k.work_writes_nothing) changed k.blank;
     work_writes_nothing = subst (WorkWritesNothingAt chip a) (sym e') (busy_order_writes_nothing d.device_work order e
         k.work_writes_nothing);
   }
-  blank_as_device_advances d d' (ends order s e e' end changed out) k = record {
+  advance_keeps_blank d d' (ends order s e e' end changed out) k = record {
     blank = changed_byte_stays_blank (CarriesOut order) d.memory d'.memory (busy_order_writes_nothing d.device_work order e
         k.work_writes_nothing) changed k.blank;
     work_writes_nothing = subst (WorkWritesNothingAt chip a) (sym e') tt;
   }
-  blank_as_device_advances d d' (fails order e e' changed) k = record {
+  advance_keeps_blank d d' (fails order e e' changed) k = record {
     blank = changed_byte_stays_blank (CarriesOut order) d.memory d'.memory (busy_order_writes_nothing d.device_work order e
         k.work_writes_nothing) changed k.blank;
     work_writes_nothing = subst (WorkWritesNothingAt chip a) (sym e') tt;
   }
 
   -- A restart of the device leaves a blank byte blank.
-  pub blank_after_restart : (d d' : Device) (s : State) → d'.device_work ≡ RestsInState s →
+  pub restart_keeps_blank : (d d' : Device) (s : State) → d'.device_work ≡ RestsInState s →
       ChangedBy chip d.device_work d.memory d'.memory →
       StaysBlankAt chip a d → StaysBlankAt chip a d'
-  blank_after_restart d d' s rests changed k = record {
+  restart_keeps_blank d d' s rests changed k = record {
     blank = changed_byte_stays_blank d.device_work d.memory d'.memory k.work_writes_nothing changed k.blank;
     work_writes_nothing = subst (WorkWritesNothingAt chip a) (sym rests) tt;
   }
 
-  -- ---- requests
+  -- Requests that reach a device.
 
   started_order_writes_nothing : (device_work : DeviceWork) → WorkWritesNothingAt chip a device_work →
       WorkWritesNothingAt chip a (work_with_order_started device_work)
@@ -103,51 +105,51 @@ module _ (chip : Chip) (a : ℕ) where
       WorkWritesNothingAt chip a (work_after_status device_work)
   work_after_status_writes_nothing device_work k = told_status_keeps_fact (WorkWritesNothingAt chip a) (λ s t h. h) device_work k
 
-  blank_at_status : (d mid : Device) → (mid ≡ record d { device_work = work_with_order_started d.device_work })
+  status_keeps_blank : (d mid : Device) → (mid ≡ record d { device_work = work_with_order_started d.device_work })
       ⊎ DeviceAdvances chip (record d { device_work = work_with_order_started d.device_work }) mid →
       StaysBlankAt chip a d → StaysBlankAt chip a mid
-  blank_at_status d mid (inl e) k =
+  status_keeps_blank d mid (inl e) k =
       subst (λ (x : Device). StaysBlankAt chip a x) (sym e) (record {
         blank = k.blank;
         work_writes_nothing = started_order_writes_nothing
             d.device_work k.work_writes_nothing;
       })
-  blank_at_status d mid (inr w) k =
-      blank_as_device_advances (record d { device_work = work_with_order_started d.device_work }) mid w (record {
+  status_keeps_blank d mid (inr w) k =
+      advance_keeps_blank (record d { device_work = work_with_order_started d.device_work }) mid w (record {
         blank = k.blank;
         work_writes_nothing = started_order_writes_nothing d.device_work k.work_writes_nothing;
       })
 
-  blank_after_reaction : (d : Device) (q : Request) (body : List ℕ) (r : Reaction) (d' : Device) → Reacts chip d q body r d' →
+  reaction_keeps_blank : (d : Device) (q : Request) (body : List ℕ) (r : Reaction) (d' : Device) → Reacts chip d q body r d' →
       RequestWritesNothingAt chip a q body d.pointer → StaysBlankAt chip a d → StaysBlankAt chip a d'
       × RequestWritesNothingAt chip a q body d'.pointer
-  blank_after_reaction d _ _ _ _ (stalls q body device_work may is) new k = (
-    fact_after_stall (λ (t : DeviceWork). StaysBlankAt chip a (record d { device_work = t })) d.device_work device_work is k
+  reaction_keeps_blank d _ _ _ _ (stalls q body device_work may is) new k = (
+    stall_keeps_fact (λ (t : DeviceWork). StaysBlankAt chip a (record d { device_work = t })) d.device_work device_work is k
         (record { blank = k.blank; work_writes_nothing = tt }),
     new,
   )
-  blank_after_reaction d _ _ _ _ (takes block n body may some) new k = (record { blank = k.blank; work_writes_nothing = new }, new)
-  blank_after_reaction d _ _ _ _ (closes block n may) new k = (record { blank = k.blank; work_writes_nothing = tt }, new)
-  blank_after_reaction d _ _ _ _ (gives block n body bytes s may from most stands is) new k = (
+  reaction_keeps_blank d _ _ _ _ (takes block n body may some) new k = (record { blank = k.blank; work_writes_nothing = new }, new)
+  reaction_keeps_blank d _ _ _ _ (closes block n may) new k = (record { blank = k.blank; work_writes_nothing = tt }, new)
+  reaction_keeps_blank d _ _ _ _ (gives block n body bytes s may from most stands is) new k = (
     record {
       blank = k.blank;
       work_writes_nothing = tt;
     },
     tt,
   )
-  blank_after_reaction d _ _ _ _ (gives_other_bytes block n body bytes may low) new k = (
+  reaction_keeps_blank d _ _ _ _ (gives_other_bytes block n body bytes may low) new k = (
     record {
       blank = k.blank;
       work_writes_nothing = tt;
     },
     tt,
   )
-  blank_after_reaction d _ _ _ _ (tells n body bytes status mid way is same) new k =
-      let m = blank_at_status d mid way k in
+  reaction_keeps_blank d _ _ _ _ (tells n body bytes status mid way is same) new k =
+      let m = status_keeps_blank d mid way k in
       (record { blank = m.blank; work_writes_nothing = work_after_status_writes_nothing mid.device_work m.work_writes_nothing }, tt)
-  blank_after_reaction d _ _ _ _ (shows n body) new k = (k, new)
-  blank_after_reaction d _ _ _ _ (aborts body may) new k = (record { blank = k.blank; work_writes_nothing = tt }, new)
-  blank_after_reaction d _ _ _ _ (clears_error body e) new k = (record { blank = k.blank; work_writes_nothing = tt }, new)
+  reaction_keeps_blank d _ _ _ _ (shows n body) new k = (k, new)
+  reaction_keeps_blank d _ _ _ _ (aborts body may) new k = (record { blank = k.blank; work_writes_nothing = tt }, new)
+  reaction_keeps_blank d _ _ _ _ (clears_error body e) new k = (record { blank = k.blank; work_writes_nothing = tt }, new)
 
   arriving_request_keeps_blank : (q : Request) (body : List ℕ) (d : Device) (r : Option Reaction) (d' : Device) →
       RequestArrives chip q body d r d' →
@@ -156,10 +158,11 @@ module _ (chip : Chip) (a : ℕ) where
   arriving_request_keeps_blank q body d _ _ never new k = (k, new)
   arriving_request_keeps_blank q body d _ d' (again {before = before} {mid = mid} {reaction = reaction} first last) new k =
       let m = arriving_request_keeps_blank q body d before mid first new k in
-      blank_after_reaction mid q body reaction d' last m.1 m.0
+      reaction_keeps_blank mid q body reaction d' last m.1 m.0
 
-  -- ---- turns
+  -- Turns of a device and its session.
 
+  -- The request of an action brings no order that writes at the address `a`.
   abbrev pub DeedWritesNothingAt : DfuseDeed → (pointer : ℕ) → Type 0
   DeedWritesNothingAt (Send q body) pointer = RequestWritesNothingAt chip a q body pointer
   DeedWritesNothingAt (Wait ms) pointer = Unit {0}
@@ -174,31 +177,31 @@ module _ (chip : Chip) (a : ℕ) where
 
   module _ (s : Session) (Q : Work → Type 0) (work_writes_nothing : (w : Work) (p : Place) (at : Step) (d : Device) → Q w →
       DeviceFitsStep chip s.plan w p at d → DeedWritesNothingAt (deed_of_step s.plan w p at) d.pointer) where
-    blank_after_phase_request : (p : Phase) (d : Device) (r : Option Reaction) (d' : Device) → HoldsInPhase Q p →
+    phase_request_keeps_blank : (p : Phase) (d : Device) (r : Option Reaction) (d' : Device) → HoldsInPhase Q p →
         DeviceFitsPhase chip s.plan p d →
         DeedArrives chip (dfuse_deed s.plan p) d r d' → StaysBlankAt chip a d → StaysBlankAt chip a d'
-    blank_after_phase_request (On at) d r d' q k comes h =
+    phase_request_keeps_blank (On at) d r d' q k comes h =
         deed_keeps_blank (deed_of_step s.plan at.work at.place at.step) d r d' comes (work_writes_nothing at.work at.place at.step d q k) h
-    blank_after_phase_request (Over rep) d r d' q k comes h = absurd comes
+    phase_request_keeps_blank (Over rep) d r d' q k comes h = absurd comes
 
-    blank_while_request_under_way : (d mid : Device) → RequestUnderWay chip s d mid → HoldsInPhase Q s.phase →
+    request_under_way_keeps_blank : (d mid : Device) → RequestUnderWay chip s d mid → HoldsInPhase Q s.phase →
         DeviceFitsPhase chip s.plan s.phase d → StaysBlankAt chip a d →
         StaysBlankAt chip a mid
-    blank_while_request_under_way d _ none q k h = h
-    blank_while_request_under_way d mid (request {reaction = reaction} asked body is comes) q k h =
-        blank_after_phase_request s.phase d reaction mid q k (subst (λ (x : DfuseDeed). DeedArrives chip x d reaction mid) (sym is) comes) h
+    request_under_way_keeps_blank d _ none q k h = h
+    request_under_way_keeps_blank d mid (request {reaction = reaction} asked body is comes) q k h =
+        phase_request_keeps_blank s.phase d reaction mid q k (subst (λ (x : DfuseDeed). DeedArrives chip x d reaction mid) (sym is) comes) h
 
-  -- A blank byte stays blank in a turn.
-  pub blank_after_turn : (Q : Work → Type 0) (l l' : DeviceAndSession) → ((w : Work) (p : Place) (at : Step) (d : Device) → Q w →
+  -- A blank byte stays blank in a turn, if no action of the session, at a work of which `Q` holds, writes there.
+  pub turn_keeps_blank : (Q : Work → Type 0) (l l' : DeviceAndSession) → ((w : Work) (p : Place) (at : Step) (d : Device) → Q w →
       DeviceFitsStep chip l.session.plan w p at d → DeedWritesNothingAt (deed_of_step l.session.plan w p at) d.pointer) → (x : Seen) →
       IsTurnOfBoth chip l x l' →
       HoldsInPhase Q l.session.phase → DeviceFitsPhase chip l.session.plan l.session.phase l.device → StaysBlankAt chip a l.device →
       StaysBlankAt chip a l'.device
-  blank_after_turn Q l l' work_writes_nothing x (sent asked body reaction is comes seen row) q k h =
-      blank_after_phase_request l.session Q work_writes_nothing l.session.phase l.device reaction l'.device q k
+  turn_keeps_blank Q l l' work_writes_nothing x (sent asked body reaction is comes seen row) q k h =
+      phase_request_keeps_blank l.session Q work_writes_nothing l.session.phase l.device reaction l'.device q k
       (subst (λ (y : DfuseDeed). DeedArrives chip y l.device reaction l'.device) (sym is) comes) h
-  blank_after_turn Q l l' work_writes_nothing x (waited ms is same seen row) q k h = subst (λ (d : Device). StaysBlankAt chip a d) (sym
+  turn_keeps_blank Q l l' work_writes_nothing x (waited ms is same seen row) q k h = subst (λ (d : Device). StaysBlankAt chip a d) (sym
       same) h
-  blank_after_turn Q l l' work_writes_nothing x (restarted mid any way rests changed seen row) q k h =
-      blank_after_restart mid l'.device any rests changed (blank_while_request_under_way l.session Q work_writes_nothing l.device mid way q
+  turn_keeps_blank Q l l' work_writes_nothing x (restarted mid any way rests changed seen row) q k h =
+      restart_keeps_blank mid l'.device any rests changed (request_under_way_keeps_blank l.session Q work_writes_nothing l.device mid way q
       k h)

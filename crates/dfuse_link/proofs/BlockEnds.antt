@@ -44,12 +44,12 @@ pointer_address_can_be_read plan a b =
     and_from _ _ (le-leb a a (omega arith)) (and_from _ _ whole (and_from _ _ first (element_begins_by_address plan a h.element h.is
     h.low)))
 
--- A block that is read ends after its first byte.
+-- A block that is read from a byte of the image before `end` ends after this byte.
 pub read_ends_after_byte : (plan : Plan) (a end : ℕ) → HasByte a plan.image.now → a < end → a < read_end plan a end
 unfolding read_end
 read_ends_after_byte plan a end b less = omega (arith, element_ends_after_byte plan a b, less)
 
--- A block that is written ends after its first byte, if the byte lies before the end of its page.
+-- A block that is written from a byte of the image before `end` ends after this byte, if the byte lies before the end of its page.
 pub write_ends_after_byte : (plan : Plan) (a end : ℕ) → HasByte a plan.image.now → a < end → a < page_end plan a → a < write_end plan a end
 unfolding write_end
 write_ends_after_byte plan a end b less page = omega (arith, element_ends_after_byte plan a b, less, page)

@@ -77,7 +77,7 @@ element_at_passes_first : (at : ℕ) (x : Element) (xs : List Element) → eleme
     ≡ element_at at xs
 element_at_passes_first at x xs h = element_at_cons at x xs ∙ ap (λ (t : Bool). cond t (Some x) (element_at at xs)) h
 
--- A later address of the element that is found has the same element.
+-- A later address of the element that is found has the same element, if the elements ascend and don't overlap.
 pub later_address_same_element : (at a from : ℕ) (e : Element) (es : List Element) → apart_from from es ≡ true → element_at at es
     ≡ Some e → at ≤ a →
     a < end_of e → element_at a es ≡ Some e
@@ -105,39 +105,39 @@ image_byte_not_before_start from a (e ∷ es) h b =
     elim b [ inl w ↦ omega (arith, first, w.0) | inr w ↦ omega (arith, first, image_byte_not_before_start (end_of e) a es both.1 w) ]
 
 -- The byte at `a` is the same in a part of the element from `at` on and in the whole element.
-pub byte_in_part : (e : Element) (at a end : ℕ) → e.address ≤ at → at ≤ a → a < end →
+pub part_has_same_byte : (e : Element) (at a end : ℕ) → e.address ≤ at → at ≤ a → a < end →
     get_or (take (end - at) (drop (at - e.address) e.bytes.now)) (a - at) 0 ≡ get_or e.bytes.now (a - e.address) 0
-byte_in_part e at a end low from to =
+part_has_same_byte e at a end low from to =
     let within : a - at < end - at = omega (arith, from, to) in
     let sum : (at - e.address) + (a - at) ≡ a - e.address = omega (arith, low, from) in
     get_or-take (end - at) (drop (at - e.address) e.bytes.now) (a - at) 0 within
     ∙ get_or-drop (at - e.address) e.bytes.now (a - at) 0
     ∙ ap (λ (n : ℕ). get_or e.bytes.now n 0) sum
 
--- ---- an image is in the memory if each of its bytes is
+-- An image is in the memory if each of its bytes is.
 
-first_element_in_memory : (memory : ℕ → ℕ) (e : Element) (es : List Element) →
+first_element_is_in_memory : (memory : ℕ → ℕ) (e : Element) (es : List Element) →
     ((a : ℕ) → HasByte a (e ∷ es) → memory a ≡ byte_at a (e ∷ es)) → BytesInMemoryAt memory e.address e.bytes.now
-first_element_in_memory memory e es h = λ i within.
+first_element_is_in_memory memory e es h = λ i within.
     let here : element_holds (e.address + i) e ≡ true = element_holds_address (e.address + i) e (omega arith) (omega (arith, within)) in
     let is : memory (e.address + i) ≡ byte_at (e.address + i) (e ∷ es) = h (e.address + i) (inl (omega arith, omega (arith, within))) in
     let back : (e.address + i) - e.address ≡ i = omega arith in
     is ∙ ap (byte_of_element_at (e.address + i)) (element_at_takes_first (e.address + i) e es here)
     ∙ ap (λ (n : ℕ). get_or e.bytes.now n 0) back
 
-pub all_elements_in_memory : (memory : ℕ → ℕ) (from : ℕ) (es : List Element) → apart_from from es ≡ true →
+pub all_elements_are_in_memory : (memory : ℕ → ℕ) (from : ℕ) (es : List Element) → apart_from from es ≡ true →
     ((a : ℕ) → HasByte a es → memory a ≡ byte_at a es) →
     AllByRecursion (λ (e : Element). BytesInMemoryAt memory e.address e.bytes.now) es
-all_elements_in_memory memory from [] apart h = tt
-all_elements_in_memory memory from (e ∷ es) apart h =
+all_elements_are_in_memory memory from [] apart h = tt
+all_elements_are_in_memory memory from (e ∷ es) apart h =
     let both = and_parts (leb from e.address) (apart_from (end_of e) es) apart in (
-      first_element_in_memory memory e es h,
-      all_elements_in_memory memory (end_of e) es both.1
+      first_element_is_in_memory memory e es h,
+      all_elements_are_in_memory memory (end_of e) es both.1
           (λ a b. h a (inr b) ∙ ap (byte_of_element_at a) (element_at_passes_first a e es (element_ends_before_address a e
           (image_byte_not_before_start (end_of e) a es both.1 b)))),
     )
 
--- ---- a byte of the image has an address
+-- Each byte of an image has an address below 2^32.
 
 no_range_grants_nothing : (wanted : Access) (a : ℕ) → IsGranted wanted (range_at a []) → ⊥
 unfolding range_at
@@ -158,13 +158,13 @@ granted_address_on_map wanted a (p ∷ ps) all granted =
     k) d (omega (arith, h))))
     (subst (IsGranted wanted) (range_at_cons a p ps) granted)
 
-pub image_byte_has_address : (wanted : Access) (a : ℕ) (ps : List Pages) (es : List Element) → All IsRange ps →
+pub image_byte_fits_32_bits : (wanted : Access) (a : ℕ) (ps : List Pages) (es : List Element) → All IsRange ps →
     EachAddressGranted wanted ps es →
     HasByte a es → a < 2 ^ 32
-image_byte_has_address wanted a ps [] all granted b = absurd b
-image_byte_has_address wanted a ps (e ∷ es) all granted b =
+image_byte_fits_32_bits wanted a ps [] all granted b = absurd b
+image_byte_fits_32_bits wanted a ps (e ∷ es) all granted b =
     elim b [
       | inl w ↦ granted_address_on_map wanted a ps all (granted.0 a w.0 w.1)
-      | inr w ↦ image_byte_has_address wanted a ps es all
+      | inr w ↦ image_byte_fits_32_bits wanted a ps es all
           granted.1 w
     ]

@@ -30,13 +30,13 @@ byte_stays_if_safe chip a (CarriesOut (WritesByteRange at count)) memory memory'
 byte_stays_if_safe chip a (CarriesOut Other) memory memory' changed now = absurd (now tt)
 
 -- A fact of the work before a stall, and of dfuERROR, is one of the work after the stall.
-pub fact_after_stall : (P : DeviceWork → Type 0) (before device_work : DeviceWork) → (device_work ≡ before) ⊎ (device_work
+pub stall_keeps_fact : (P : DeviceWork → Type 0) (before device_work : DeviceWork) → (device_work ≡ before) ⊎ (device_work
     ≡ RestsInState state.Error) → P before →
     P (RestsInState state.Error) → P device_work
-fact_after_stall P before device_work (inl e) same error = subst P (sym e) same
-fact_after_stall P before device_work (inr e) same error = subst P (sym e) error
+stall_keeps_fact P before device_work (inl e) same error = subst P (sym e) same
+stall_keeps_fact P before device_work (inr e) same error = subst P (sym e) error
 
--- A fact of an order that waits is kept when the order is started, if it holds of both.
+-- A fact of an order that isn't started is kept when the order is started, if it passes to the order that is carried out.
 pub started_order_keeps_fact : (P : DeviceWork → Type 0) → ((order : Order) → P (Pending order) → P (CarriesOut order)) →
     (device_work : DeviceWork)
     → P device_work →

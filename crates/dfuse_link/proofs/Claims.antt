@@ -10,7 +10,7 @@ use Rattle.dfuse_host.specs.declared.place.Place.{Place}
 use Rattle.dfuse_host.specs.declared.place.Place.TheVariants as place
 use Rattle.dfuse_host.specs.declared.step.Step.{Step}
 use Rattle.dfuse_host.specs.declared.step.Step.TheVariants as step
-use Rattle.dfuse_host.proofs.ForCallers.{AnyCommand, fact_of_each_command, AnyHeard, fact_of_each_heard}
+use Rattle.dfuse_host.proofs.ForCallers.{AnyCommand, commands_have_fact, AnyHeard, heards_have_fact}
 use Rattle.dfuse_host.specs.Settling.{can_read}
 use Rattle.dfuse_host.specs.Commands.{command_of}
 use Rattle.dfuse_host.specs.Deeds.{stands_at}
@@ -23,27 +23,27 @@ IsQuiet (RestsInState s) = Unit {0}
 IsQuiet (Pending order) = ⊥
 IsQuiet (CarriesOut order) = ⊥
 
--- The pointer is where the session knows it to be.
+-- The pointer is at the place that the session knows; of Lost nothing is claimed.
 abbrev pub KnowsPointer : Place → (pointer : ℕ) → Type 0
 KnowsPointer place.Lost pointer = Unit {0}
 KnowsPointer (place.At p) pointer = pointer ≡ p % 2 ^ 32
 KnowsPointer (place.Reading p) pointer = pointer ≡ p % 2 ^ 32
 
--- An order to set the pointer, or to erase, is the order of the command.
+-- The order is that of the command, if the command sets the pointer or erases; of a write nothing is claimed.
 abbrev pub IsOrderOfCommand : AnyCommand → Order → Type 0
 IsOrderOfCommand c order =
-    fact_of_each_command (λ _. Type 0) (λ at. order ≡ SetsPointer (at % 2 ^ 32)) (λ at. order ≡ ErasesPage (at % 2 ^ 32)) (λ at. Unit {0}) c
+    commands_have_fact (λ _. Type 0) (λ at. order ≡ SetsPointer (at % 2 ^ 32)) (λ at. order ≡ ErasesPage (at % 2 ^ 32)) (λ at. Unit {0}) c
 
 -- Each byte that an erase at `at` reaches is blank.
 abbrev pub ErasedBytesBlank : Chip → (at : ℕ) → (memory : ℕ → ℕ) → Type 0
 ErasedBytesBlank chip at memory = (a : ℕ) → chip.erases at a ≡ true → chip.blank (memory a) ≡ true
 
--- A command to set the pointer, or to erase, is done.
+-- A command to set the pointer, or to erase, is done; of a write nothing is claimed.
 abbrev pub IsCommandDone : Chip → AnyCommand → (pointer : ℕ) → (memory : ℕ → ℕ) → Type 0
 IsCommandDone chip c pointer memory =
-    fact_of_each_command (λ _. Type 0) (λ at. pointer ≡ at % 2 ^ 32) (λ at. ErasedBytesBlank chip (at % 2 ^ 32) memory) (λ at. Unit {0}) c
+    commands_have_fact (λ _. Type 0) (λ at. pointer ≡ at % 2 ^ 32) (λ at. ErasedBytesBlank chip (at % 2 ^ 32) memory) (λ at. Unit {0}) c
 
--- The device may have the command or not: it is quiet, or the order isn't started.
+-- The device may have the command or not: it is quiet, or the command's order isn't started.
 abbrev pub MayHaveCommand : AnyCommand → DeviceWork → Type 0
 MayHaveCommand c (RestsInState s) = IsQuiet (RestsInState s)
 MayHaveCommand c (Pending order) = IsOrderOfCommand c order
@@ -56,13 +56,14 @@ HasCommand chip c (RestsInState s) pointer memory = IsCommandDone chip c pointer
 HasCommand chip c (Pending order) pointer memory = IsOrderOfCommand c order
 HasCommand chip c (CarriesOut order) pointer memory = IsOrderOfCommand c order
 
--- From where the pointer was set, the bytes of the work can be read.
+-- The session reads, and the bytes of the work can be read from the place where the pointer was set.
 abbrev pub CanReadWork : Plan → Work → Place → Type 0
 CanReadWork plan w place.Lost = ⊥
 CanReadWork plan w (place.At p) = ⊥
 CanReadWork plan w (place.Reading base) = can_read plan base (stands_at w) ≡ true
 
--- At the step, the device has the order of the session's command, and its pointer is where the session knows it to be.
+-- The device fits a step. At Send and Probe it may have the command, and its pointer is at the place that the session knows. At Poll and
+-- PollWait it has the command. At the steps of reading it is quiet, with its pointer at that place. Of other steps nothing is claimed.
 abbrev pub DeviceFitsStep : Chip → Plan → Work → Place → Step → Device → Type 0
 DeviceFitsStep chip plan w p step.Send d = MayHaveCommand (command_of plan w p) d.device_work × KnowsPointer p d.pointer
 DeviceFitsStep chip plan w p step.Probe d = MayHaveCommand (command_of plan w p) d.device_work × KnowsPointer p d.pointer
@@ -78,8 +79,8 @@ abbrev pub DeviceFitsPhase : Chip → Plan → Phase → Device → Type 0
 DeviceFitsPhase chip plan (On s) d = DeviceFitsStep chip plan s.work s.place s.step d
 DeviceFitsPhase chip plan (Over r) d = Unit {0}
 
--- A state or a status that is heard says the state `t`.
+-- A state or a status that is heard names the state `t`.
 abbrev pub HeardSaysState : AnyHeard → State → Type 0
 HeardSaysState h t =
-    fact_of_each_heard (λ _. Type 0) (Unit {0}) (λ s. t ≡ s.state) (λ s. t
+    heards_have_fact (λ _. Type 0) (Unit {0}) (λ s. t ≡ s.state) (λ s. t
     ≡ s) (λ same. Unit {0}) (Unit {0}) (Unit {0}) (Unit {0}) (Unit {0}) h

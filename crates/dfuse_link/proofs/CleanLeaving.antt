@@ -32,6 +32,7 @@ settled_leave_work plan p = refl
 abbrev pub leave_request_count : Plan → Option ℕ → Bool → ℕ
 leave_request_count plan last t = cond t (4 * start_pointer_sets plan last + 2) 0
 
+-- Number of waits to leave.
 abbrev pub leave_wait_count : Plan → Option ℕ → Bool → ℕ
 leave_wait_count plan last t = cond t (start_pointer_sets plan last) 0
 
@@ -41,15 +42,15 @@ module _ (plan : Plan) (leaves : plan.leaves ≡ true) where
       leaving.Stayed) leaves)
       (over_phase_lasts_none plan)
 
-  leaving_by_start_test : (p : ℕ) (t : Bool) → eqb p plan.start ≡ t →
+  leaving_phase_by_start_test : (p : ℕ) (t : Bool) → eqb p plan.start ≡ t →
       phase_to_set_start plan (place.At p) ≡ cond t (phase_with_step work.Leave (place.At p) step.Close)
       (phase_with_step work.Leave (place.At p) step.Send)
-  leaving_by_start_test p t e =
+  leaving_phase_by_start_test p t e =
       ap (λ (u : Bool). cond u (phase_with_step work.Leave (place.At p) step.Close) (phase_with_step work.Leave (place.At p) step.Send)) e
 
   leave_at_start_lasts : (p : ℕ) → eqb p plan.start ≡ true → CleanRunLasts plan (to_leave plan (place.At p)) 2 0
   leave_at_start_lasts p e =
-      lasts_from_equal_phase plan _ _ 2 0 (to_leave_is_leaving plan (place.At p) leaves ∙ leaving_by_start_test p true e)
+      lasts_from_equal_phase plan _ _ 2 0 (to_leave_is_leaving plan (place.At p) leaves ∙ leaving_phase_by_start_test p true e)
       (lasts_by_equal_counts plan _ (suc (suc 0)) 2 0 0 (omega arith) refl (close_lasts_two_more plan work.Leave (place.At p) 0 0
       left_session_is_over))
 
@@ -64,7 +65,7 @@ module _ (plan : Plan) (leaves : plan.leaves ≡ true) where
       CleanRunLasts plan (to_leave plan (place.At x)) (4 * cond t 0 1 + 2) (cond t 0 1)
   leave_from_place_lasts x true e = lasts_by_equal_counts plan _ 2 _ 0 _ (omega arith) (omega arith) (leave_at_start_lasts x e)
   leave_from_place_lasts x false e =
-      lasts_from_equal_phase plan _ _ _ _ (to_leave_is_leaving plan (place.At x) leaves ∙ leaving_by_start_test x false e)
+      lasts_from_equal_phase plan _ _ _ _ (to_leave_is_leaving plan (place.At x) leaves ∙ leaving_phase_by_start_test x false e)
       (lasts_by_equal_counts plan _ (4 + 2) _ (1 + 0) _ (omega arith) (omega arith) (pointer_to_start_lasts (place.At x)))
 
   leaving_to_start_lasts : (last : Option ℕ) →

@@ -23,16 +23,21 @@ use Rattle.dfuse_link.proofs.NextBytes.{IsByteIn, byte_in_is_byte_of_part}
 use Rattle.dfuse_link.proofs.BlockEnds.{pointer_address_can_be_read, read_ends_after_byte}
 use Rattle.dfuse_link.proofs.CleanWriting.{place_of_pointer, owed_abort_count}
 
--- `works` reads the image from `here` up to `end`, and then the phase is `next`.
+-- `works` reads the image from `here` up to `end`, and then the phase is `next`. Its commands set the pointer to the byte that is read.
 pub record IsReadingWork (plan : Plan) (works : ℕ → Work) (here : Place → ℕ → Phase) (end : ℕ) (next : Place → Phase) : Type 0 where
+  -- Without a next byte the phase is `next`.
   pub none : (p : Place) (at : ℕ) → byte_in plan at end ≡ None → here p at ≡ next p
+  -- With a next byte the work compares it.
   pub some : (p : Place) (at b : ℕ) → byte_in plan at end ≡ Some b → here p at ≡ phase_with_step (works b) p (comparing_step plan b p)
+  -- The command sets the pointer to the byte.
   pub sends : (p : Place) (b : ℕ) → command_of plan (works b) p ≡ set_address b
+  -- A work that settles is in the phase of its byte.
   pub settles : (p : Place) (b : ℕ) → settled_phase plan (works b) p ≡ here p b
+  -- After a block the work is at the end of the block.
   pub reads : (b : ℕ) → read_on plan (works b) ≡ works (read_end plan b end)
 
 module _ (plan : Plan) where
-  -- If a byte can't be read from the address `x`, it is not at that address.
+  -- If a byte can't be read from the address `x`, it is not the byte at `x`.
   other_address_by_test : (x b : ℕ) (t : Bool) → eqb x b ≡ t → HasByte b plan.image.now → can_read plan x b ≡ false → t ≡ false
   other_address_by_test x b true e has not_so =
       let same : x ≡ b = eqb-true x b e in
@@ -55,7 +60,7 @@ module _ (plan : Plan) where
 
 module _ (plan : Plan) (filled : has_empty plan.image.now ≡ false) (works : ℕ → Work) (here : Place → ℕ → Phase) (end : ℕ)
     (next : Place → Phase) (r : IsReadingWork plan works here end next) where
-  -- If the step that compares a byte is `s`, the work comes to `s`.
+  -- If the step that compares a byte is `s`, the work goes on with the step `s`.
   work_comes_to_step : (p : Place) (at b : ℕ) (s : Step) → byte_in plan at end ≡ Some b → comparing_step plan b p ≡ s
       → here p at ≡ phase_with_step (works b) p s
   work_comes_to_step p at b s is e = r.some p at b is ∙ ap (phase_with_step (works b) p) e
@@ -87,7 +92,7 @@ module _ (plan : Plan) (filled : has_empty plan.image.now ≡ false) (works : �
       ∙ work_comes_to_step (place.At b) b b step.BeginReading is.is_its_own_next (comparing_begins_at_pointer plan b) in
       command_lasts_four_more plan (works b) p (suc (suc m)) v (lasts_from_equal_phase plan _ _ (suc (suc m)) v set begins)
 
-  -- The first block from where the pointer is set anew takes six requests and a wait, and ABORT before them if it is owed.
+  -- The first block after the pointer is set anew takes six requests and a wait, and an ABORT before them if one is owed.
   first_block_read_lasts : (pointer : Option ℕ) (at b m v : ℕ) → byte_in plan at end ≡ Some b → reaches plan pointer b ≡ false →
       CleanRunLasts plan (here (place.Reading b) (read_end plan b end)) m v →
       CleanRunLasts plan (here (place_of_pointer pointer) at) (owed_abort_count pointer + (6 + m)) (1 + v)

@@ -16,7 +16,7 @@ use Rattle.dfuse_link.proofs.CleanSteps.{abort_lasts_one_more, ask_state_lasts_o
 use Rattle.dfuse_link.proofs.CleanWriting.{place_of_pointer, owed_abort_count, erasing_pages_lasts, blocks_written_last, blocks_written_last_from_pointer}
 use Rattle.dfuse_link.proofs.CleanReading.{blocks_read_last, reading_pointer_not_before}
 use Rattle.dfuse_link.proofs.CleanLeaving.{leave_request_count, leave_wait_count, leave_or_stay_lasts}
-use Rattle.dfuse_link.proofs.CleanWorks.{front_written_to_end, front_compared_to_end, settled_erase_work, rest_is_writing_work, front_is_writing_work, rest_is_reading_work, front_is_reading_work}
+use Rattle.dfuse_link.proofs.CleanWorks.{front_written_to_end, front_compared_to_end, settled_erase_is_to_erase, rest_is_writing_work, front_is_writing_work, rest_is_reading_work, front_is_reading_work}
 
 pub planned_image_is_filled : (plan : Plan) → IsPlanned plan → has_empty plan.image.now ≡ false
 planned_image_is_filled plan ready = nonempty_image_is_filled plan.image.now (false_from_ne_true (is_empty plan.image.now)
@@ -44,6 +44,7 @@ module _ (plan : Plan) (ready : IsPlanned plan) (c : PlanCounts plan) where
   front_request_count front = 8 * front + (6 * c.front_pointer_sets + (c.front_block_reads
       + leave_request_count plan (pointer_after_reading front c.pointer_after_rest c.pointer_after_front) plan.leaves))
 
+  -- Number of waits for the front, by the number of its blocks.
   abbrev front_wait_count : (front : ℕ) → ℕ
   front_wait_count front =
       2 * front + (c.front_pointer_sets + leave_wait_count plan (pointer_after_reading front c.pointer_after_rest c.pointer_after_front)
@@ -85,9 +86,11 @@ module _ (plan : Plan) (ready : IsPlanned plan) (c : PlanCounts plan) where
       plan.leaves))) _
       (c.front_pointer_sets + leave_wait_count plan c.pointer_after_front plan.leaves) _ (omega arith) refl compared)
 
+  -- Number of requests once the image after the front is written.
   abbrev rest_request_count : ℕ
   rest_request_count = 6 * c.rest_pointer_sets + (c.rest_block_reads + front_request_count c.front)
 
+  -- Number of waits once the image after the front is written.
   abbrev rest_wait_count : ℕ
   rest_wait_count = c.rest_pointer_sets + front_wait_count c.front
 
@@ -114,7 +117,7 @@ module _ (plan : Plan) (ready : IsPlanned plan) (c : PlanCounts plan) where
       rest_writing_lasts in
       abort_lasts_one_more plan (work.Erase (image_start plan.image.now)) place.Lost _ _
       (ask_state_lasts_one_more plan (work.Erase (image_start plan.image.now)) place.Lost _ _
-      (lasts_from_equal_phase plan _ _ _ _ (settled_erase_work plan place.Lost (image_start plan.image.now)) erased))
+      (lasts_from_equal_phase plan _ _ _ _ (settled_erase_is_to_erase plan place.Lost (image_start plan.image.now)) erased))
 
   requests_add_up : suc (suc (4 * c.pages + (8 * c.rest + rest_request_count))) ≡ request_count plan c + command_count plan c
   requests_add_up = omega (

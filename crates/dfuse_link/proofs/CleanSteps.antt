@@ -9,7 +9,7 @@ use Rattle.dfu_wire.specs.declared.states.State.{State}
 use Rattle.dfu_wire.specs.declared.states.State.TheVariants as state
 use Rattle.dfu_wire.specs.State.{state_byte}
 use Rattle.dfu_wire.specs.Status.{StatusFields}
-use Rattle.dfu_wire.specs.OneValue.{status_bytes_one_value}
+use Rattle.dfu_wire.specs.OneValue.{bytes_encode_one_status}
 use Rattle.dfuse_host.specs.declared.plan.Plan.{Plan}
 use Rattle.dfuse_host.specs.declared.phase.Phase.{Phase}
 use Rattle.dfuse_host.specs.declared.phase.Phase.TheVariants.{Over}
@@ -27,19 +27,19 @@ use Rattle.dfuse_host.specs.Settling.{phase_with_step, settled_phase}
 use Rattle.dfuse_host.specs.Sessions.{session_after_action, session_after_step_heard}
 use Rattle.dfuse_host.specs.Table.{state_found, phase_after_poll, place_with_reading_begun, place_with_reading_ended, read_on, close_polled}
 use Rattle.dfuse_host.specs.Wire.{DfuseReadsStatus, DfuseReadsState, DfuseSeenMeaning, heard_of_compare}
-use Rattle.dfuse_host.proofs.ForCallers.{AnyHeard, fact_of_each_heard, heard_comparison, heard_nothing}
+use Rattle.dfuse_host.proofs.ForCallers.{AnyHeard, heards_have_fact, heard_comparison, heard_nothing}
 use Rattle.dfuse_link.specs.CleanRuns.{BytesAnswered, StatusAnswered, BusyReported, StateAnswered}
-use Rattle.dfu_wire.specs.OneValue.{equal_state_bytes_equal_states}
+use Rattle.dfu_wire.specs.OneValue.{state_byte_is_injective}
 use Rattle.dfuse_link.proofs.Lasting.{wait_count_of, session_in_phase, CleanRunLasts, lasts_by_equal_counts, LeadsToLastingPhase, step_lasts_one_more, request_lasts_one_more, acked_request_lasts_one_more}
 
--- Bytes that are compared with themselves are found to be the same.
+-- Equal bytes are found equal when they are compared.
 equal_bytes_compare_equal : (xs : List ℕ) → heard_of_compare xs xs ≡ heard_comparison true
 equal_bytes_compare_equal xs =
     ap (λ (t : Bool). cond t (heard_comparison (bytes_eq xs xs)) heard_nothing) (eq-eqb (length xs) (length xs) refl)
     ∙ ap heard_comparison ((bytes_eq-Decides xs xs).1 refl)
 
 module _ (plan : Plan) (w : Work) (p : Place) where
-  -- ---- bytes that are answered
+  -- Answers with bytes.
 
   bytes_answered_are_no_wait : (bytes : List ℕ) (x : Seen) → BytesAnswered bytes x → wait_count_of x ≡ 0
   bytes_answered_are_no_wait bytes (seen.Bytes b) is = refl
@@ -53,10 +53,10 @@ module _ (plan : Plan) (w : Work) (p : Place) where
       BytesAnswered (state_byte state.DfuIdle ∷ []) x → DfuseSeenMeaning plan w step.AskState x h →
       LeadsToLastingPhase plan w p step.AskState h n u
   idle_state_goes_on n u l (seen.Bytes bytes) h is hears =
-      fact_of_each_heard (λ y. DfuseReadsState bytes.now y → LeadsToLastingPhase plan w p step.AskState y n u) (λ r. absurd r) (λ t r.
+      heards_have_fact (λ y. DfuseReadsState bytes.now y → LeadsToLastingPhase plan w p step.AskState y n u) (λ r. absurd r) (λ t r.
       absurd r)
       (λ t r.
-      let idle : t ≡ state.DfuIdle = equal_state_bytes_equal_states t state.DfuIdle (ap (λ (xs : List ℕ). slice_index_or xs 0 0) (sym r
+      let idle : t ≡ state.DfuIdle = state_byte_is_injective t state.DfuIdle (ap (λ (xs : List ℕ). slice_index_or xs 0 0) (sym r
       ∙ is)) in
       record {
         next = settled_phase plan w place.Lost;
@@ -74,9 +74,9 @@ module _ (plan : Plan) (w : Work) (p : Place) where
       → BusyReported x →
       DfuseSeenMeaning plan w (step.Poll zero) x h → LeadsToLastingPhase plan w p (step.Poll zero) h n u
   busy_status_goes_to_wait n u l (seen.Bytes bytes) h is hears =
-      fact_of_each_heard (λ y. DfuseReadsStatus bytes.now y → LeadsToLastingPhase plan w p (step.Poll zero) y n u) (λ r. absurd r)
+      heards_have_fact (λ y. DfuseReadsStatus bytes.now y → LeadsToLastingPhase plan w p (step.Poll zero) y n u) (λ r. absurd r)
       (λ t r.
-      let same : is.status ≡ t = status_bytes_one_value is.status t bytes.now is.told r in
+      let same : is.status ≡ t = bytes_encode_one_status is.status t bytes.now is.told r in
       let busy : t.state ≡ state.DownloadBusy = ap (λ (z : StatusFields). z.state) (sym same) ∙ is.is_busy in
       record {
         next = phase_with_step w p (step.PollWait t.poll_ms);
@@ -93,9 +93,9 @@ module _ (plan : Plan) (w : Work) (p : Place) where
       StateAnswered state.DownloadIdle x → DfuseSeenMeaning plan w (step.Poll (suc last)) x h →
       LeadsToLastingPhase plan w p (step.Poll (suc last)) h n u
   idle_status_ends_command last n u l (seen.Bytes bytes) h is hears =
-      fact_of_each_heard (λ y. DfuseReadsStatus bytes.now y → LeadsToLastingPhase plan w p (step.Poll (suc last)) y n u) (λ r. absurd r)
+      heards_have_fact (λ y. DfuseReadsStatus bytes.now y → LeadsToLastingPhase plan w p (step.Poll (suc last)) y n u) (λ r. absurd r)
       (λ t r.
-      let same : is.status ≡ t = status_bytes_one_value is.status t bytes.now is.told r in
+      let same : is.status ≡ t = bytes_encode_one_status is.status t bytes.now is.told r in
       let idle : t.state ≡ state.DownloadIdle = ap (λ (z : StatusFields). z.state) (sym same) ∙ is.is_there in
       record {
         next = phase_after_command plan w (command_of plan w p);
@@ -111,9 +111,9 @@ module _ (plan : Plan) (w : Work) (p : Place) where
       StateAnswered state.Manifest x →
       DfuseSeenMeaning plan w step.ClosePoll x h → LeadsToLastingPhase plan w p step.ClosePoll h n u
   manifest_status_ends_session n u l (seen.Bytes bytes) h is hears =
-      fact_of_each_heard (λ y. DfuseReadsStatus bytes.now y → LeadsToLastingPhase plan w p step.ClosePoll y n u) (λ r. absurd r)
+      heards_have_fact (λ y. DfuseReadsStatus bytes.now y → LeadsToLastingPhase plan w p step.ClosePoll y n u) (λ r. absurd r)
       (λ t r.
-      let same : is.status ≡ t = status_bytes_one_value is.status t bytes.now is.told r in
+      let same : is.status ≡ t = bytes_encode_one_status is.status t bytes.now is.told r in
       let there : t.state ≡ state.Manifest = ap (λ (z : StatusFields). z.state) (sym same) ∙ is.is_there in
       let ok : t.code ≡ code.Ok = ap (λ (z : StatusFields). z.code) (sym same) ∙ is.no_fault in
       let left : close_polled w p t.code t.state ≡ Over (Verified leaving.Left) =
@@ -143,7 +143,7 @@ module _ (plan : Plan) (w : Work) (p : Place) where
       }
   block_read_goes_on n u l x h is hears = absurd is
 
-  -- ---- requests
+  -- Requests that are acknowledged or answered.
 
   pub abort_lasts_one_more : (n u : ℕ) → CleanRunLasts plan (phase_with_step w place.Lost step.AskState) n u
       → CleanRunLasts plan (phase_with_step w p step.Abort) (suc n) u
@@ -178,7 +178,7 @@ module _ (plan : Plan) (w : Work) (p : Place) where
   read_lasts_one_more n u l = request_lasts_one_more plan w p step.Read n u (λ x c. bytes_answered_are_no_wait (read_bytes plan w) x c) (λ
       x h c e. block_read_goes_on n u l x h c e)
 
-  -- To leave.
+  -- Leaving takes two requests.
   pub close_lasts_two_more : (n u : ℕ) → CleanRunLasts plan (Over (Verified leaving.Left)) n u →
       CleanRunLasts plan (phase_with_step w p step.Close) (suc (suc n)) u
   close_lasts_two_more n u l = acked_request_lasts_one_more plan w p step.Close (phase_with_step w p step.ClosePoll) (suc n) u (λ x c. c)
@@ -187,9 +187,9 @@ module _ (plan : Plan) (w : Work) (p : Place) where
       (request_lasts_one_more plan w p step.ClosePoll n u (λ x c. status_answered_is_no_wait c.status x c.told) (λ x h c e.
       manifest_status_ends_session n u l x h c e))
 
-  -- ---- a command
+  -- Parts of a command.
 
-  -- A command is sent, started, waited for, and done.
+  -- A poll after a wait finds the command done, by one more result.
   poll_lasts_one_more : (ms n u : ℕ) → 0 < ms → CleanRunLasts plan (phase_after_command plan w (command_of plan w p)) n u
       → CleanRunLasts plan (phase_with_step w p (step.Poll ms)) (suc n) u
   poll_lasts_one_more zero n u some l = absurd (omega (arith, some))
@@ -209,6 +209,7 @@ module _ (plan : Plan) (w : Work) (p : Place) where
             (subst (λ (y : Seen). DfuseSeenMeaning plan w (step.PollWait ms) y h) c hears);
       })
 
+  -- A command is sent, started, waited for, and done: four more results, one of them the end of a wait.
   pub command_lasts_four_more : (n u : ℕ) → CleanRunLasts plan (phase_after_command plan w (command_of plan w p)) n u
       → CleanRunLasts plan (phase_with_step w p step.Send) (4 + n) (1 + u)
   command_lasts_four_more n u l =

@@ -24,9 +24,9 @@ pub front_compared_to_end : (plan : Plan) (p : Place) (at : ℕ) → byte_in pla
 unfolding to_compare_front
 front_compared_to_end plan p at e = ap (compare_front_phase_for plan p) e
 
-pub settled_erase_work : (plan : Plan) (p : Place) (b : ℕ) → settled_phase plan (work.Erase b) p ≡ to_erase plan p b
+pub settled_erase_is_to_erase : (plan : Plan) (p : Place) (b : ℕ) → settled_phase plan (work.Erase b) p ≡ to_erase plan p b
 unfolding settled_phase
-settled_erase_work plan p b = refl
+settled_erase_is_to_erase plan p b = refl
 
 module _ (plan : Plan) (ready : IsPlanned plan) where
   page_end_not_before_byte : (b : ℕ) (at end : ℕ) → IsByteIn plan at end b → b ≤ page_end plan b

@@ -30,17 +30,17 @@ abbrev pub owed_abort_count : Option ℕ → ℕ
 owed_abort_count None = 0
 owed_abort_count (Some pointer) = 1
 
--- ---- pages
+-- Pages that are erased.
 
 no_page_left_to_erase : (plan : Plan) (p : Place) (at : ℕ) → byte_in plan at (image_end plan.image.now) ≡ None →
     to_erase plan p at ≡ to_write plan p (front_end plan) (image_end plan.image.now)
 unfolding to_erase
 no_page_left_to_erase plan p at e = ap (erase_phase_for plan p) e
 
-next_page_to_erase : (plan : Plan) (p : Place) (at b : ℕ) → byte_in plan at (image_end plan.image.now) ≡ Some b →
+next_page_is_erased : (plan : Plan) (p : Place) (at b : ℕ) → byte_in plan at (image_end plan.image.now) ≡ Some b →
     to_erase plan p at ≡ phase_with_step (work.Erase b) p (sending_step p)
 unfolding to_erase
-next_page_to_erase plan p at b e = ap (erase_phase_for plan p) e
+next_page_is_erased plan p at b e = ap (erase_phase_for plan p) e
 
 pub erasing_pages_lasts : (plan : Plan) (n u at k : ℕ) → Pages plan at k →
     CleanRunLasts plan (to_write plan place.Lost (front_end plan) (image_end plan.image.now)) n u →
@@ -50,19 +50,24 @@ erasing_pages_lasts plan n u at _ (no_page_left is) l =
     (lasts_by_equal_counts plan _ n _ u _ (omega arith) (omega arith) l)
 erasing_pages_lasts plan n u at (suc k) (page byte is rest) l =
     let more = erasing_pages_lasts plan n u (page_end plan (page_start plan byte)) k rest l in
-    lasts_from_equal_phase plan (to_erase plan place.Lost at) _ _ _ (next_page_to_erase plan place.Lost at byte is)
+    lasts_from_equal_phase plan (to_erase plan place.Lost at) _ _ _ (next_page_is_erased plan place.Lost at byte is)
     (lasts_by_equal_counts plan (phase_with_step (work.Erase byte) place.Lost step.Send) (4 + (4 * k + n)) _ (1 + (k + u)) _ (omega arith)
     (omega arith)
     (command_lasts_four_more plan (work.Erase byte) place.Lost (4 * k + n) (k + u) more))
 
--- ---- blocks that are written
+-- Blocks that are written.
 
 -- `works` writes the image from `here` up to `end`, and then the phase is `next`.
 pub record IsWritingWork (plan : Plan) (works : ℕ → Work) (here : Place → ℕ → Phase) (end : ℕ) (next : Place → Phase) : Type 0 where
+  -- Without a next byte the phase is `next`.
   pub none : (p : Place) (at : ℕ) → byte_in plan at end ≡ None → here p at ≡ next p
+  -- With a next byte the work writes it.
   pub some : (p : Place) (at b : ℕ) → byte_in plan at end ≡ Some b → here p at ≡ phase_with_step (works b) p (sending_step p)
+  -- The command writes the byte, or sets the pointer to it.
   pub sends : (p : Place) (b : ℕ) → command_of plan (works b) p ≡ write_command p b
+  -- A work that settles is in the phase of its byte.
   pub settles : (p : Place) (b : ℕ) → settled_phase plan (works b) p ≡ here p b
+  -- After a block the phase is that of the end of the block.
   pub writes : (at b : ℕ) → IsByteIn plan at end b → phase_after_command plan (works b) (write_bytes_at b) ≡ here place.Lost
       (write_end plan b end)
 
@@ -104,7 +109,7 @@ module _ (plan : Plan) (filled : has_empty plan.image.now ≡ false) (works : �
       (omega arith)
       (block_write_lasts place.Lost at byte (8 * k + n) (2 * k + u) (byte_in_is_byte_of_part plan at end byte filled is) refl more))
 
-  -- Writing from a place that reads takes the owed ABORT too, if the pointer is not before the end of what is written.
+  -- Writing from a place that reads takes the owed ABORT too, if the pointer is not before the end of the bytes that are written.
   pub blocks_written_last_from_pointer : (pointer : Option ℕ) (n u at k : ℕ) → ((x : ℕ) → pointer ≡ Some x → end ≤ x) →
       BlocksWritten plan end at (suc k) →
       CleanRunLasts plan (next place.Lost) n u → CleanRunLasts plan (here (place_of_pointer pointer) at) (owed_abort_count pointer + (8 *

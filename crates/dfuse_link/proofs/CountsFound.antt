@@ -12,18 +12,29 @@ use Rattle.dfuse_link.proofs.BlockEnds.{read_ends_after_byte, write_ends_after_b
 use Rattle.dfuse_link.proofs.OnPages.{page_start_of_page, page_end_of_page, page_addresses_share_page, image_byte_has_page}
 use Rattle.dfuse_link.proofs.CleanSessions.{planned_image_is_filled}
 
+-- From `at` on, some number of pages have a byte of the image.
 record HasPageCount (plan : Plan) (at : ℕ) : Type 0 where
+  -- Number of pages.
   n : ℕ
+  -- So many pages have a byte of the image.
   are : Pages plan at n
 
+-- From `at` to before `end`, the image is written in some number of blocks.
 record HasBlockCount (plan : Plan) (end at : ℕ) : Type 0 where
+  -- Number of blocks.
   n : ℕ
+  -- The image is written in so many blocks.
   are : BlocksWritten plan end at n
 
+-- From `at` to before `end`, the image is read in some number of blocks, with the pointer set some number of times.
 record HasReadCount (plan : Plan) (end : ℕ) (pointer : Option ℕ) (at : ℕ) : Type 0 where
+  -- Number of times that the pointer is set.
   sets : ℕ
+  -- Number of blocks.
   n : ℕ
+  -- Address to which the pointer is set last.
   last : Option ℕ
+  -- The image is read in so many blocks.
   are : BlocksRead plan end pointer at sets n last
 
 module _ (one : AddressOnOnePage) (plan : Plan) (ready : IsPlanned plan) where
@@ -45,50 +56,50 @@ module _ (one : AddressOnOnePage) (plan : Plan) (ready : IsPlanned plan) where
       let h = image_byte_has_page plan b ready.sound ready.ranges has in
       write_ends_after_byte plan b end has less (omega (arith, page_end_of_page plan b h.page h.on, h.on.high))
 
-  pages_counted_from : (fuel at : ℕ) (o : Option ℕ) → byte_in plan at (image_end plan.image.now) ≡ o → image_end plan.image.now
+  pages_have_count : (fuel at : ℕ) (o : Option ℕ) → byte_in plan at (image_end plan.image.now) ≡ o → image_end plan.image.now
       ≤ at + fuel →
       HasPageCount plan at
-  pages_counted_from fuel at None e far = record { n = 0; are = no_page_left e }
-  pages_counted_from zero at (Some b) e far =
+  pages_have_count fuel at None e far = record { n = 0; are = no_page_left e }
+  pages_have_count zero at (Some b) e far =
       let is = byte_in_is_byte_of_part plan at (image_end plan.image.now) b (planned_image_is_filled plan ready) e in absurd (omega (
         arith,
         far,
         is.from,
         is.to,
       ))
-  pages_counted_from (suc fuel) at (Some b) e far =
+  pages_have_count (suc fuel) at (Some b) e far =
       let is = byte_in_is_byte_of_part plan at (image_end plan.image.now) b (planned_image_is_filled plan ready) e in
       let next : ℕ = page_end plan (page_start plan b) in
-      let more = pages_counted_from fuel next (byte_in plan next (image_end plan.image.now)) refl
+      let more = pages_have_count fuel next (byte_in plan next (image_end plan.image.now)) refl
       (omega (arith, far, is.from, page_ends_after_byte b is.has)) in
       record { n = suc more.n; are = page b e more.are }
 
-  blocks_counted_from : (end fuel at : ℕ) (o : Option ℕ) → byte_in plan at end ≡ o → end ≤ at + fuel → HasBlockCount plan end at
-  blocks_counted_from end fuel at None e far = record { n = 0; are = no_block e }
-  blocks_counted_from end zero at (Some b) e far =
+  blocks_have_count : (end fuel at : ℕ) (o : Option ℕ) → byte_in plan at end ≡ o → end ≤ at + fuel → HasBlockCount plan end at
+  blocks_have_count end fuel at None e far = record { n = 0; are = no_block e }
+  blocks_have_count end zero at (Some b) e far =
       let is = byte_in_is_byte_of_part plan at end b (planned_image_is_filled plan ready) e in absurd (omega (arith, far, is.from, is.to))
-  blocks_counted_from end (suc fuel) at (Some b) e far =
+  blocks_have_count end (suc fuel) at (Some b) e far =
       let is = byte_in_is_byte_of_part plan at end b (planned_image_is_filled plan ready) e in
-      let more = blocks_counted_from end fuel (write_end plan b end) (byte_in plan (write_end plan b end) end) refl
+      let more = blocks_have_count end fuel (write_end plan b end) (byte_in plan (write_end plan b end) end) refl
       (omega (arith, far, is.from, block_ends_after_byte b end is.has is.to)) in
       record { n = suc more.n; are = block b e more.are }
 
-  read_counted_by_reach : (end : ℕ) (pointer : Option ℕ) (at b : ℕ) (t : Bool) → byte_in plan at end ≡ Some b → reaches plan pointer b ≡ t →
+  next_read_has_count : (end : ℕ) (pointer : Option ℕ) (at b : ℕ) (t : Bool) → byte_in plan at end ≡ Some b → reaches plan pointer b ≡ t →
       ((p : Option ℕ) → HasReadCount plan end p (read_end plan b end)) → HasReadCount plan end pointer at
-  read_counted_by_reach end pointer at b true is e more =
+  next_read_has_count end pointer at b true is e more =
       let m = more pointer in record { sets = m.sets; n = suc m.n; last = m.last; are = read_on b is e m.are }
-  read_counted_by_reach end pointer at b false is e more =
+  next_read_has_count end pointer at b false is e more =
       let m = more (Some b) in record { sets = suc m.sets; n = suc m.n; last = m.last; are = pointer_set_anew b is e m.are }
 
-  reads_counted_from : (end fuel at : ℕ) (pointer o : Option ℕ) → byte_in plan at end ≡ o → end ≤ at + fuel →
+  reads_have_count : (end fuel at : ℕ) (pointer o : Option ℕ) → byte_in plan at end ≡ o → end ≤ at + fuel →
       HasReadCount plan end pointer at
-  reads_counted_from end fuel at pointer None e far = record { sets = 0; n = 0; last = pointer; are = no_read e }
-  reads_counted_from end zero at pointer (Some b) e far =
+  reads_have_count end fuel at pointer None e far = record { sets = 0; n = 0; last = pointer; are = no_read e }
+  reads_have_count end zero at pointer (Some b) e far =
       let is = byte_in_is_byte_of_part plan at end b (planned_image_is_filled plan ready) e in absurd (omega (arith, far, is.from, is.to))
-  reads_counted_from end (suc fuel) at pointer (Some b) e far =
+  reads_have_count end (suc fuel) at pointer (Some b) e far =
       let is = byte_in_is_byte_of_part plan at end b (planned_image_is_filled plan ready) e in
-      read_counted_by_reach end pointer at b (reaches plan pointer b) e refl
-      (λ p. reads_counted_from end fuel (read_end plan b end) p (byte_in plan (read_end plan b end) end) refl
+      next_read_has_count end pointer at b (reaches plan pointer b) e refl
+      (λ p. reads_have_count end fuel (read_end plan b end) p (byte_in plan (read_end plan b end) end) refl
       (omega (arith, far, is.from, read_ends_after_byte plan b end is.has is.to)))
 
 pub plans_have_counts : AddressOnOnePage → PlansHaveCounts
@@ -96,11 +107,11 @@ plans_have_counts one plan ready =
     let start : ℕ = image_start plan.image.now in
     let end : ℕ = image_end plan.image.now in
     let front : ℕ = front_end plan in
-    let pages = pages_counted_from one plan ready end start (byte_in plan start end) refl (omega arith) in
-    let rest = blocks_counted_from one plan ready end end front (byte_in plan front end) refl (omega arith) in
-    let first = blocks_counted_from one plan ready front front start (byte_in plan start front) refl (omega arith) in
-    let rest_read = reads_counted_from one plan ready end end front None (byte_in plan front end) refl (omega arith) in
-    let first_read = reads_counted_from one plan ready front front start None (byte_in plan start front) refl (omega arith) in
+    let pages = pages_have_count one plan ready end start (byte_in plan start end) refl (omega arith) in
+    let rest = blocks_have_count one plan ready end end front (byte_in plan front end) refl (omega arith) in
+    let first = blocks_have_count one plan ready front front start (byte_in plan start front) refl (omega arith) in
+    let rest_read = reads_have_count one plan ready end end front None (byte_in plan front end) refl (omega arith) in
+    let first_read = reads_have_count one plan ready front front start None (byte_in plan start front) refl (omega arith) in
     record {
       pages = pages.n;
       pages_are_counted = pages.are;

@@ -5,14 +5,14 @@ use Rattle.dfu_wire.specs.declared.states.State.TheVariants as state
 use Rattle.dfu_wire.specs.declared.requests.Request.{Request}
 use Rattle.dfu_wire.specs.declared.requests.Request.TheVariants as request
 use Rattle.dfuse_host.specs.declared.place.Place.{Place}
-use Rattle.dfuse_host.proofs.ForCallers.{AnyCommand, fact_of_each_command}
+use Rattle.dfuse_host.proofs.ForCallers.{AnyCommand, commands_have_fact}
 use Rattle.dfuse_link.specs.Chips.{Chip, Order, DeviceWork, RestsInState, Pending, CarriesOut, state_in, Device, OrderCarriedOut, DeviceAdvances, goes_on, ends, fails}
 use Rattle.dfuse_link.specs.Reactions.{Reaction, Acks, order_of, work_with_order_started, work_after_status, Reacts, stalls, takes, closes, gives, gives_other_bytes, tells, shows, aborts}
 use Rattle.dfuse_link.specs.Histories.{RequestArrives, never, again}
-use Rattle.dfuse_link.proofs.Changes.{fact_after_stall}
+use Rattle.dfuse_link.proofs.Changes.{stall_keeps_fact}
 use Rattle.dfuse_link.proofs.Claims.{IsQuiet, KnowsPointer, IsOrderOfCommand, IsCommandDone, MayHaveCommand, HasCommand}
 
--- ---- what a device does
+-- Work of a device.
 
 pub quiet_work_is_not_busy : (device_work : DeviceWork) (order : Order) → device_work ≡ CarriesOut order → IsQuiet device_work → ⊥
 quiet_work_is_not_busy device_work order e h = subst IsQuiet e h
@@ -27,17 +27,19 @@ quiet_work_may_have_command c (RestsInState s) h = h
 quiet_work_may_have_command c (Pending order) h = absurd h
 quiet_work_may_have_command c (CarriesOut order) h = h
 
--- ---- requests that start nothing
+-- Requests that start no order.
 
 -- The device stays quiet if it was, and its pointer stays.
 pub record KeepsQuiet (d d' : Device) : Type 0 where
+  -- A quiet device stays quiet.
   pub quiet : IsQuiet d.device_work → IsQuiet d'.device_work
+  -- The pointer stays.
   pub pointer : d'.pointer ≡ d.pointer
 
 module _ (chip : Chip) where
   abort_keeps_quiet : (d d' : Device) (body : List ℕ) (r : Reaction) → Reacts chip d request.Abort body r d' → KeepsQuiet d d'
   abort_keeps_quiet d _ body _ (stalls _ _ device_work may is) =
-      fact_after_stall (λ (t : DeviceWork). KeepsQuiet d (record d { device_work = t })) d.device_work device_work is (record {
+      stall_keeps_fact (λ (t : DeviceWork). KeepsQuiet d (record d { device_work = t })) d.device_work device_work is (record {
         quiet = λ
             h. h;
         pointer = refl;
@@ -52,7 +54,7 @@ module _ (chip : Chip) where
   upload_keeps_quiet : (d d' : Device) (block n : ℕ) (body : List ℕ) (r : Reaction) → Reacts chip d (request.Upload block n) body r d' →
       KeepsQuiet d d'
   upload_keeps_quiet d _ block n body _ (stalls _ _ device_work may is) =
-      fact_after_stall (λ (t : DeviceWork). KeepsQuiet d (record d { device_work = t })) d.device_work device_work is (record {
+      stall_keeps_fact (λ (t : DeviceWork). KeepsQuiet d (record d { device_work = t })) d.device_work device_work is (record {
         quiet = λ
             h. h;
         pointer = refl;
@@ -63,13 +65,13 @@ module _ (chip : Chip) where
   upload_keeps_quiet d _ block n body _ (gives_other_bytes _ _ _ bytes may low) = record { quiet = λ h. tt; pointer = refl }
 
   -- A fact that each reaction keeps is kept by all reactions to a request together.
-  pub reaction_fact_kept_by_arrivals : (P : Device → Type 0) (q : Request) (body : List ℕ) → ((d d' : Device) (r : Reaction) →
+  pub arrivals_keep_reaction_fact : (P : Device → Type 0) (q : Request) (body : List ℕ) → ((d d' : Device) (r : Reaction) →
       Reacts chip d q body r d' → P d →
       P d') →
       (d d' : Device) (r : Option Reaction) → RequestArrives chip q body d r d' → P d → P d'
-  reaction_fact_kept_by_arrivals P q body keeps d _ _ never h = h
-  reaction_fact_kept_by_arrivals P q body keeps d d' _ (again {before = before} {mid = mid} {reaction = reaction} first last) h =
-      keeps mid d' reaction last (reaction_fact_kept_by_arrivals P q body keeps d mid before first h)
+  arrivals_keep_reaction_fact P q body keeps d _ _ never h = h
+  arrivals_keep_reaction_fact P q body keeps d d' _ (again {before = before} {mid = mid} {reaction = reaction} first last) h =
+      keeps mid d' reaction last (arrivals_keep_reaction_fact P q body keeps d mid before first h)
 
   kept_quiet_keeps_pointer : (p : Place) (d d' : Device) → KeepsQuiet d d' → IsQuiet d.device_work × KnowsPointer p d.pointer →
       IsQuiet d'.device_work × KnowsPointer p d'.pointer
@@ -79,33 +81,33 @@ module _ (chip : Chip) where
       RequestArrives chip request.Abort body d r d' →
       IsQuiet d.device_work × KnowsPointer p d.pointer → IsQuiet d'.device_work × KnowsPointer p d'.pointer
   arriving_aborts_keep_quiet p d d' body r comes h =
-      reaction_fact_kept_by_arrivals (λ x. IsQuiet x.device_work × KnowsPointer p x.pointer) request.Abort body
+      arrivals_keep_reaction_fact (λ x. IsQuiet x.device_work × KnowsPointer p x.pointer) request.Abort body
       (λ x y reaction step k. kept_quiet_keeps_pointer p x y (abort_keeps_quiet x y body reaction step) k) d d' r comes h
 
   pub arriving_uploads_keep_quiet : (p : Place) (d d' : Device) (block n : ℕ) (body : List ℕ) (r : Option Reaction) →
       RequestArrives chip (request.Upload block n) body d r d' →
       IsQuiet d.device_work × KnowsPointer p d.pointer → IsQuiet d'.device_work × KnowsPointer p d'.pointer
   arriving_uploads_keep_quiet p d d' block n body r comes h =
-      reaction_fact_kept_by_arrivals (λ x. IsQuiet x.device_work × KnowsPointer p x.pointer) (request.Upload block n) body
+      arrivals_keep_reaction_fact (λ x. IsQuiet x.device_work × KnowsPointer p x.pointer) (request.Upload block n) body
       (λ x y reaction step k. kept_quiet_keeps_pointer p x y (upload_keeps_quiet x y block n body reaction step) k) d d' r comes h
 
-  -- ---- a command comes
+  -- Requests while a command may have reached the device.
 
   module _ (c : AnyCommand) (p : Place) where
     get_state_keeps_command : (d d' : Device) (n : ℕ) (body : List ℕ) (r : Reaction) → Reacts chip d (request.GetState n) body r d' →
         MayHaveCommand c d.device_work × KnowsPointer p d.pointer → MayHaveCommand c d'.device_work × KnowsPointer p d'.pointer
     get_state_keeps_command d _ n body _ (stalls _ _ device_work may is) h =
-        fact_after_stall (λ (t : DeviceWork). MayHaveCommand c t × KnowsPointer p d.pointer) d.device_work device_work is h (tt, h.1)
+        stall_keeps_fact (λ (t : DeviceWork). MayHaveCommand c t × KnowsPointer p d.pointer) d.device_work device_work is h (tt, h.1)
     get_state_keeps_command d _ n body _ (shows _ _) h = h
 
     pub arriving_get_states_keep_command : (d d' : Device) (n : ℕ) (body : List ℕ) (r : Option Reaction) →
         RequestArrives chip (request.GetState n) body d r d' →
         MayHaveCommand c d.device_work × KnowsPointer p d.pointer → MayHaveCommand c d'.device_work × KnowsPointer p d'.pointer
     arriving_get_states_keep_command d d' n body r comes h =
-        reaction_fact_kept_by_arrivals (λ x. MayHaveCommand c x.device_work × KnowsPointer p x.pointer) (request.GetState n) body
+        arrivals_keep_reaction_fact (λ x. MayHaveCommand c x.device_work × KnowsPointer p x.pointer) (request.GetState n) body
         (λ x y reaction step k. get_state_keeps_command x y n body reaction step k) d d' r comes h
 
-    -- The order of a DNLOAD is that of the command, if the pointer is where it is known to be.
+    -- The order of a DNLOAD is that of the command, if the pointer is at its known place.
     abbrev pub IsDnloadOfCommand : (block : ℕ) → (body : List ℕ) → Type 0
     IsDnloadOfCommand block body = (pointer : ℕ) → KnowsPointer p pointer → IsOrderOfCommand c (order_of chip pointer block body)
 
@@ -113,7 +115,7 @@ module _ (chip : Chip) where
         Reacts chip d (request.Dnload block n) body r d' →
         MayHaveCommand c d.device_work × KnowsPointer p d.pointer → MayHaveCommand c d'.device_work × KnowsPointer p d'.pointer
     dnload_may_bring_command d block n body _ _ is (stalls _ _ device_work may so) h =
-        fact_after_stall (λ (t : DeviceWork). MayHaveCommand c t × KnowsPointer p d.pointer) d.device_work device_work so h (tt, h.1)
+        stall_keeps_fact (λ (t : DeviceWork). MayHaveCommand c t × KnowsPointer p d.pointer) d.device_work device_work so h (tt, h.1)
     dnload_may_bring_command d block n body _ _ is (takes _ _ _ may some) h = (is d.pointer h.1, h.1)
     dnload_may_bring_command d block n _ _ _ is (closes _ _ may) h = (tt, h.1)
 
@@ -122,7 +124,7 @@ module _ (chip : Chip) where
         MayHaveCommand c d'.device_work
         × KnowsPointer p d'.pointer
     dnloads_arriving_keep_command d d' block n body r is comes h =
-        reaction_fact_kept_by_arrivals (λ x. MayHaveCommand c x.device_work × KnowsPointer p x.pointer) (request.Dnload block n) body
+        arrivals_keep_reaction_fact (λ x. MayHaveCommand c x.device_work × KnowsPointer p x.pointer) (request.Dnload block n) body
         (λ x y reaction step k. dnload_may_bring_command x block n body reaction y is step k) d d' r comes h
 
     -- After a DNLOAD of the command that is acknowledged, the device has the command.
@@ -143,12 +145,12 @@ module _ (chip : Chip) where
         acked_dnload_brings_command mid block n body Acks d' refl is some last (dnloads_arriving_keep_command d mid block n body before is
         first h).1
 
-    -- ---- a command is started
+    -- Commands that are started.
 
-    done_command_at_rest : (s : State) (pointer : ℕ) (memory : ℕ → ℕ) → IsCommandDone chip c pointer memory →
+    device_at_rest_has_done_command : (s : State) (pointer : ℕ) (memory : ℕ → ℕ) → IsCommandDone chip c pointer memory →
         HasCommand chip c (RestsInState s) pointer memory
-    done_command_at_rest state.Error pointer memory h = tt
-    done_command_at_rest s pointer memory h = h
+    device_at_rest_has_done_command state.Error pointer memory h = tt
+    device_at_rest_has_done_command s pointer memory h = h
 
     started_order_keeps_command : (device_work : DeviceWork) (pointer : ℕ) (memory : ℕ → ℕ) → HasCommand chip c device_work pointer memory →
         HasCommand chip c (work_with_order_started device_work) pointer memory
@@ -167,7 +169,7 @@ module _ (chip : Chip) where
         OrderCarriedOut chip order pointer memory →
         IsCommandDone chip c pointer memory
     carried_order_is_done order pointer memory =
-        fact_of_each_command (λ v. IsOrderOfCommand v order → OrderCarriedOut chip order pointer memory →
+        commands_have_fact (λ v. IsOrderOfCommand v order → OrderCarriedOut chip order pointer memory →
         IsCommandDone chip v pointer memory)
         (λ at e h. subst (λ (x : Order). OrderCarriedOut chip x pointer memory) e h)
         (λ at e h. subst (λ (x : Order). OrderCarriedOut chip x pointer memory) e h) (λ at e h. tt) c
@@ -177,40 +179,40 @@ module _ (chip : Chip) where
         IsOrderOfCommand c order
     busy_order_is_of_command device_work order pointer memory e h = subst (λ (x : DeviceWork). HasCommand chip c x pointer memory) e h
 
-    pub command_as_device_advances : (d d' : Device) → DeviceAdvances chip d d' → HasCommand chip c d.device_work d.pointer d.memory →
+    pub advance_keeps_command : (d d' : Device) → DeviceAdvances chip d d' → HasCommand chip c d.device_work d.pointer d.memory →
         HasCommand chip c d'.device_work d'.pointer d'.memory
-    command_as_device_advances d d' (goes_on order e e' changed) h =
+    advance_keeps_command d d' (goes_on order e e' changed) h =
         subst (λ (x : DeviceWork). HasCommand chip c x d'.pointer d'.memory) (sym e') (busy_order_is_of_command d.device_work order
         d.pointer d.memory e h)
-    command_as_device_advances d d' (ends order s e e' end changed set_address_order) h =
+    advance_keeps_command d d' (ends order s e e' end changed set_address_order) h =
         subst (λ (x : DeviceWork). HasCommand chip c x d'.pointer d'.memory) (sym e')
-        (done_command_at_rest s d'.pointer d'.memory (carried_order_is_done order d'.pointer d'.memory (busy_order_is_of_command
+        (device_at_rest_has_done_command s d'.pointer d'.memory (carried_order_is_done order d'.pointer d'.memory (busy_order_is_of_command
         d.device_work order d.pointer d.memory e h) set_address_order))
-    command_as_device_advances d d' (fails order e e' changed) h = subst (λ (x : DeviceWork). HasCommand chip c x d'.pointer d'.memory)
+    advance_keeps_command d d' (fails order e e' changed) h = subst (λ (x : DeviceWork). HasCommand chip c x d'.pointer d'.memory)
         (sym e') tt
 
-    command_at_status : (d mid : Device) → (mid ≡ record d { device_work = work_with_order_started d.device_work })
+    status_keeps_command : (d mid : Device) → (mid ≡ record d { device_work = work_with_order_started d.device_work })
         ⊎ DeviceAdvances chip (record d { device_work = work_with_order_started d.device_work }) mid →
         HasCommand chip c d.device_work d.pointer d.memory →
         HasCommand chip c mid.device_work mid.pointer mid.memory
-    command_at_status d mid (inl e) h =
+    status_keeps_command d mid (inl e) h =
         subst (λ (x : Device). HasCommand chip c x.device_work x.pointer x.memory) (sym e) (started_order_keeps_command d.device_work
         d.pointer d.memory h)
-    command_at_status d mid (inr a) h = command_as_device_advances (record d { device_work = work_with_order_started d.device_work }) mid a
+    status_keeps_command d mid (inr a) h = advance_keeps_command (record d { device_work = work_with_order_started d.device_work }) mid a
         (started_order_keeps_command d.device_work d.pointer d.memory h)
 
     get_status_keeps_command : (d d' : Device) (n : ℕ) (body : List ℕ) (r : Reaction) → Reacts chip d (request.GetStatus n) body r d' →
         HasCommand chip c d.device_work d.pointer d.memory → HasCommand chip c d'.device_work d'.pointer d'.memory
     get_status_keeps_command d _ n body _ (stalls _ _ device_work may is) h =
-        fact_after_stall (λ (t : DeviceWork). HasCommand chip c t d.pointer d.memory) d.device_work device_work is h tt
+        stall_keeps_fact (λ (t : DeviceWork). HasCommand chip c t d.pointer d.memory) d.device_work device_work is h tt
     get_status_keeps_command d _ n body _ (tells _ _ bytes status mid way is same) h = told_status_keeps_command mid.device_work
-        mid.pointer mid.memory (command_at_status d mid way h)
+        mid.pointer mid.memory (status_keeps_command d mid way h)
 
     pub arriving_statuses_keep_command : (d d' : Device) (n : ℕ) (body : List ℕ) (r : Option Reaction)
         → RequestArrives chip (request.GetStatus n) body d r d' →
         HasCommand chip c d.device_work d.pointer d.memory → HasCommand chip c d'.device_work d'.pointer d'.memory
     arriving_statuses_keep_command d d' n body r comes h =
-        reaction_fact_kept_by_arrivals (λ x. HasCommand chip c x.device_work x.pointer x.memory) (request.GetStatus n) body
+        arrivals_keep_reaction_fact (λ x. HasCommand chip c x.device_work x.pointer x.memory) (request.GetStatus n) body
         (λ x y reaction step k. get_status_keeps_command x y n body reaction step k) d d'
         r comes h
 

@@ -10,7 +10,7 @@ use Rattle.dfuse_host.specs.Sessions.{initial_dfuse_session}
 use Rattle.dfuse_host.specs.ReadBack.{HasByte, WasReadInWork, WasReadInPhase, OnlyReadBack, AlwaysClosesAfterCompare}
 use Rattle.dfuse_link.specs.Fronts.{RestInMemory}
 use Rattle.dfuse_link.proofs.Bytes.{byte_of_element_at, byte_at, element_first_or_among_rest, held_address_is_within, no_element_in_empty_image}
-use Rattle.dfuse_link.proofs.Verified.{session_facts_at_begin, session_facts_in_history, history_keeps_plan}
+use Rattle.dfuse_link.proofs.Verified.{begun_session_has_facts, history_has_session_facts, history_keeps_plan}
 
 -- An element that is found at an address has a byte there.
 pub found_element_has_byte : (a : ℕ) (e : Element) (es : List Element) → element_at a es ≡ Some e → HasByte a es
@@ -24,7 +24,7 @@ found_element_has_byte a e (x ∷ xs) h =
 
 pub rest_stands : OnlyReadBack → AlwaysClosesAfterCompare → RestInMemory
 rest_stands only always chip plan limits d d' s seens here at for history phase work a e behind is =
-    let so = session_facts_in_history chip only always d d' (initial_dfuse_session plan limits) s seens history (session_facts_at_begin
+    let so = history_has_session_facts chip only always d d' (initial_dfuse_session plan limits) s seens history (begun_session_has_facts
     chip plan limits d for) in
     let same : plan ≡ s.plan = sym (history_keeps_plan chip d d' (initial_dfuse_session plan limits) s seens history) in
     let has : HasByte a s.plan.image.now = subst (λ (q : Plan). HasByte a q.image.now) same

@@ -20,14 +20,19 @@ use Rattle.dfuse_link.proofs.OwnTurns.{plan_image_is_filled}
 use Rattle.dfuse_link.proofs.Turns.{plan_elements_are_apart}
 use Rattle.dfuse_link.proofs.NextBytes.{nonempty_element_has_end}
 
--- Facts of a device and its plan that the law of mixtures needs.
-pub record FactsForNoMixture (chip : Chip) (plan : Plan) : Type 0 where
+-- The plan is for the device, no two ranges of its map share an address, the map is true of the image's pages, and an erase of the front's
+-- page reaches the front.
+pub record HasNoMixturePremises (chip : Chip) (plan : Plan) : Type 0 where
+  -- The plan is for the device.
   pub for : IsPlanFor chip plan
+  -- No two ranges of the map share an address.
   pub apart : are_apart plan.map.now.ranges ≡ true
+  -- The map is true of the image's pages.
   pub map : IsTrueMap chip plan
+  -- An erase of the front's page reaches the front.
   pub erases : ErasesFront chip plan
 
--- ---- the first byte
+-- The first byte of an image.
 
 nonempty_first_element : (e : Element) (es : List Element) → is_empty (e ∷ es) ≡ false → e.address < end_of e
 nonempty_first_element e es h =
@@ -36,8 +41,11 @@ nonempty_first_element e es h =
 
 -- The first byte of the image has the lowest address, is its own next byte, and lies before the end.
 record IsFirstByte (es : List Element) : Type 0 where
+  -- The image has this byte.
   has : HasByte (image_start es) es
+  -- The byte is its own next byte.
   next : next_byte (image_start es) es ≡ Some (image_start es)
+  -- The byte lies before the end.
   within : image_start es < image_end es
 
 image_has_first_byte : (es : List Element) → is_empty es ≡ false → IsFirstByte es
@@ -67,15 +75,15 @@ front_ends_by_page_end : (plan : Plan) → front_end plan ≤ page_end plan (ima
 unfolding front_end
 front_ends_by_page_end plan = omega arith
 
-module _ (one : AddressOnOnePage) (chip : Chip) (plan : Plan) (m : FactsForNoMixture chip plan) where
-  image_first_byte : IsFirstByte plan.image.now
-  image_first_byte = image_has_first_byte plan.image.now (plan_image_is_filled chip plan m.for)
+module _ (one : AddressOnOnePage) (chip : Chip) (plan : Plan) (m : HasNoMixturePremises chip plan) where
+  plan_image_has_first_byte : IsFirstByte plan.image.now
+  plan_image_has_first_byte = image_has_first_byte plan.image.now (plan_image_is_filled chip plan m.for)
 
   pub image_start_has_byte : HasByte (image_start plan.image.now) plan.image.now
-  image_start_has_byte = image_first_byte.has
+  image_start_has_byte = plan_image_has_first_byte.has
 
   pub image_start_is_first_byte : byte_in plan (image_start plan.image.now) (image_end plan.image.now) ≡ Some (image_start plan.image.now)
-  image_start_is_first_byte = first_byte_is_next plan image_first_byte
+  image_start_is_first_byte = first_byte_is_next plan plan_image_has_first_byte
 
   -- Each address of the front is on the front's page.
   pub front_address_on_first_page : (a : ℕ) → IsFrontAddress plan a → page_start plan a ≡ page_start plan (image_start plan.image.now)

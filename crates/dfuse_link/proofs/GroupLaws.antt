@@ -11,78 +11,80 @@ use Rattle.dfuse_host.specs.Images.{image_start}
 use Rattle.dfuse_host.specs.Plans.{page_start, page_end, front_end, write_end}
 use Rattle.dfuse_host.specs.Settling.{phase_with_step, sending_step, to_write_front, to_write, erase_phase_for, to_erase, settled_phase}
 use Rattle.dfuse_host.specs.Table.{read_on}
-use Rattle.dfuse_host.proofs.ForCallers.{fact_of_each_command, set_address, write_bytes_at}
+use Rattle.dfuse_host.proofs.ForCallers.{commands_have_fact, set_address, write_bytes_at}
 use Rattle.dfu_formats.specs.memory.Lookups.{AddressOnOnePage}
 use Rattle.dfuse_link.specs.Chips.{Chip, Device}
 use Rattle.dfuse_link.proofs.Claims.{ErasedBytesBlank, IsQuiet, IsCommandDone}
 use Rattle.dfuse_link.proofs.GroupRows.{StaysInGroup, IsWorkGroup}
 use Rattle.dfuse_link.proofs.GroupTurns.{DoneStaysInGroup}
-use Rattle.dfuse_link.proofs.FrontPages.{FactsForNoMixture, image_start_is_first_byte, first_page_fits_32_bits}
-use Rattle.dfuse_link.proofs.Groups.{page_of_front, WritesFrontOnItsPage, ErasesFirstPage, IsAfterComparison, FrontBlankAndQuiet, fact_keeps_any_phase_in_group, to_leave_stays_in_group, compare_front_stays_in_group, write_front_stays_in_group, compare_stays_in_group, write_stays_in_group, erase_stays_in_group}
+use Rattle.dfuse_link.proofs.FrontPages.{HasNoMixturePremises, image_start_is_first_byte, first_page_fits_32_bits}
+use Rattle.dfuse_link.proofs.Groups.{front_page_start, WritesFrontOnItsPage, ErasesFirstPage, IsAfterComparison, FrontBlankAndQuiet, fact_keeps_any_phase_in_group, to_leave_stays_in_group, compare_front_stays_in_group, write_front_stays_in_group, compare_stays_in_group, write_stays_in_group, erase_stays_in_group}
 
-module _ (one : AddressOnOnePage) (chip : Chip) (plan : Plan) (m : FactsForNoMixture chip plan) (d : Device) where
-  -- ---- where the front is written
+module _ (one : AddressOnOnePage) (chip : Chip) (plan : Plan) (m : HasNoMixturePremises chip plan) (d : Device) where
+  -- Works that write the front.
 
-  write_front_keeps_placed : (p : Place) (at : ℕ) → StaysInGroup (WritesFrontOnItsPage plan) ⊥ (to_write_front plan p at)
-  write_front_keeps_placed p at = write_front_stays_in_group one chip plan m (WritesFrontOnItsPage plan) ⊥ (λ c h. h) (λ c. tt) tt p at
+  write_front_keeps_front_page : (p : Place) (at : ℕ) → StaysInGroup (WritesFrontOnItsPage plan) ⊥ (to_write_front plan p at)
+  write_front_keeps_front_page p at = write_front_stays_in_group one chip plan m (WritesFrontOnItsPage plan) ⊥ (λ c h. h) (λ c. tt) tt p at
 
-  write_keeps_placed : (p : Place) (at end : ℕ) → StaysInGroup (WritesFrontOnItsPage plan) ⊥ (to_write plan p at end)
-  write_keeps_placed p at end =
+  write_keeps_front_page : (p : Place) (at end : ℕ) → StaysInGroup (WritesFrontOnItsPage plan) ⊥ (to_write plan p at end)
+  write_keeps_front_page p at end =
       write_stays_in_group one chip plan m (WritesFrontOnItsPage plan) ⊥ (λ c h. h) (λ c. tt) tt (λ c. tt) (λ c e. tt) (λ c. tt) p at end
 
-  erase_keeps_placed : (p : Place) (at : ℕ) → StaysInGroup (WritesFrontOnItsPage plan) ⊥ (to_erase plan p at)
-  erase_keeps_placed p at = erase_stays_in_group one chip plan m (WritesFrontOnItsPage plan) ⊥ (λ c h. h) (λ c. tt) tt (λ c. tt) (λ c e.
+  erase_keeps_front_page : (p : Place) (at : ℕ) → StaysInGroup (WritesFrontOnItsPage plan) ⊥ (to_erase plan p at)
+  erase_keeps_front_page p at = erase_stays_in_group one chip plan m (WritesFrontOnItsPage plan) ⊥ (λ c h. h) (λ c. tt) tt (λ c. tt) (λ c e.
       tt) (λ c. tt) p at
 
-  settled_work_keeps_placed : (w : Work) (p : Place) → WritesFrontOnItsPage plan w →
+  settled_work_keeps_front_page : (w : Work) (p : Place) → WritesFrontOnItsPage plan w →
       StaysInGroup (WritesFrontOnItsPage plan) ⊥ (settled_phase plan w p)
   unfolding settled_phase
-  settled_work_keeps_placed (work.Erase at) p g = erase_keeps_placed p at
-  settled_work_keeps_placed (work.EraseAgain page end) p g = inl tt
-  settled_work_keeps_placed (work.Write at end) p g = write_keeps_placed p at end
-  settled_work_keeps_placed (work.Compare at) p g =
+  settled_work_keeps_front_page (work.Erase at) p g = erase_keeps_front_page p at
+  settled_work_keeps_front_page (work.EraseAgain page end) p g = inl tt
+  settled_work_keeps_front_page (work.Write at end) p g = write_keeps_front_page p at end
+  settled_work_keeps_front_page (work.Compare at) p g =
       compare_stays_in_group one chip plan m (WritesFrontOnItsPage plan) ⊥ (λ c h. h) (λ c. tt) tt (λ c. tt) (λ c e. tt) (λ c. tt) p at
-  settled_work_keeps_placed (work.WriteFront at) p g = write_front_keeps_placed p at
-  settled_work_keeps_placed (work.CompareFront at) p g = compare_front_stays_in_group one chip plan m (WritesFrontOnItsPage plan) ⊥ (λ c h.
+  settled_work_keeps_front_page (work.WriteFront at) p g = write_front_keeps_front_page p at
+  settled_work_keeps_front_page (work.CompareFront at) p g =
+      compare_front_stays_in_group one chip plan m (WritesFrontOnItsPage plan) ⊥ (λ c h.
       h) (λ c. tt) tt p at
-  settled_work_keeps_placed work.Leave p g = to_leave_stays_in_group one chip plan m (WritesFrontOnItsPage plan) ⊥ (λ c h. h) (λ c. tt) tt p
+  settled_work_keeps_front_page work.Leave p g =
+      to_leave_stays_in_group one chip plan m (WritesFrontOnItsPage plan) ⊥ (λ c h. h) (λ c. tt) tt p
 
-  read_on_keeps_placed : (w : Work) → WritesFrontOnItsPage plan w → WritesFrontOnItsPage plan (read_on plan w)
-  read_on_keeps_placed (work.Compare at) g = tt
-  read_on_keeps_placed (work.CompareFront at) g = tt
-  read_on_keeps_placed (work.WriteFront at) g = g
-  read_on_keeps_placed w g = tt
+  read_on_keeps_front_page : (w : Work) → WritesFrontOnItsPage plan w → WritesFrontOnItsPage plan (read_on plan w)
+  read_on_keeps_front_page (work.Compare at) g = tt
+  read_on_keeps_front_page (work.CompareFront at) g = tt
+  read_on_keeps_front_page (work.WriteFront at) g = g
+  read_on_keeps_front_page w g = tt
 
-  work_again_keeps_placed : (w : Work) → WritesFrontOnItsPage plan w → WritesFrontOnItsPage plan (work_after_unsure_write plan w)
-  work_again_keeps_placed (work.WriteFront at) g = tt
-  work_again_keeps_placed (work.Write at end) g = tt
-  work_again_keeps_placed w g = tt
+  work_again_keeps_front_page : (w : Work) → WritesFrontOnItsPage plan w → WritesFrontOnItsPage plan (work_after_unsure_write plan w)
+  work_again_keeps_front_page (work.WriteFront at) g = tt
+  work_again_keeps_front_page (work.Write at end) g = tt
+  work_again_keeps_front_page w g = tt
 
-  pub placed_works_are_group : IsWorkGroup plan (WritesFrontOnItsPage plan) ⊥
-  placed_works_are_group = record {
-    settles = settled_work_keeps_placed;
-    reads = read_on_keeps_placed;
+  pub front_page_works_are_group : IsWorkGroup plan (WritesFrontOnItsPage plan) ⊥
+  front_page_works_are_group = record {
+    settles = settled_work_keeps_front_page;
+    reads = read_on_keeps_front_page;
     doubts = λ w c g.
-        fact_of_each_command (λ v. StaysInGroup (WritesFrontOnItsPage plan) ⊥ (phase_if_unsure plan w v)) (λ at. inl g) (λ at. inl g) (λ
-        at. inl (work_again_keeps_placed w g)) c;
+        commands_have_fact (λ v. StaysInGroup (WritesFrontOnItsPage plan) ⊥ (phase_if_unsure plan w v)) (λ at. inl g) (λ at. inl g) (λ
+        at. inl (work_again_keeps_front_page w g)) c;
   }
 
-  erased_page_keeps_placed : (w : Work) (at : ℕ) → StaysInGroup (WritesFrontOnItsPage plan) ⊥ (phase_after_erase plan w at)
-  erased_page_keeps_placed (work.EraseAgain page end) at = write_keeps_placed place.Lost (max page (front_end plan)) end
-  erased_page_keeps_placed w at = erase_keeps_placed place.Lost (page_end plan at)
+  erased_page_keeps_front_page : (w : Work) (at : ℕ) → StaysInGroup (WritesFrontOnItsPage plan) ⊥ (phase_after_erase plan w at)
+  erased_page_keeps_front_page (work.EraseAgain page end) at = write_keeps_front_page place.Lost (max page (front_end plan)) end
+  erased_page_keeps_front_page w at = erase_keeps_front_page place.Lost (page_end plan at)
 
-  written_block_keeps_placed : (w : Work) (at : ℕ) → StaysInGroup (WritesFrontOnItsPage plan) ⊥ (phase_after_write plan w at)
-  written_block_keeps_placed (work.Write from end) at = write_keeps_placed place.Lost (max from (write_end plan at end)) end
-  written_block_keeps_placed w at = write_front_keeps_placed place.Lost (write_end plan at (front_end plan))
+  written_block_keeps_front_page : (w : Work) (at : ℕ) → StaysInGroup (WritesFrontOnItsPage plan) ⊥ (phase_after_write plan w at)
+  written_block_keeps_front_page (work.Write from end) at = write_keeps_front_page place.Lost (max from (write_end plan at end)) end
+  written_block_keeps_front_page w at = write_front_keeps_front_page place.Lost (write_end plan at (front_end plan))
 
-  pub done_command_keeps_placed : DoneStaysInGroup chip plan (WritesFrontOnItsPage plan) (λ x. ⊥) d
-  done_command_keeps_placed w p g quiet is =
-      fact_of_each_command (λ v. StaysInGroup (WritesFrontOnItsPage plan) ⊥ (phase_after_command plan w v)) (λ at.
-      settled_work_keeps_placed w (place.At at) g)
-      (λ at. erased_page_keeps_placed w at)
-      (λ at. written_block_keeps_placed w at) (command_of plan w p)
+  pub done_command_keeps_front_page : DoneStaysInGroup chip plan (WritesFrontOnItsPage plan) (λ x. ⊥) d
+  done_command_keeps_front_page w p g quiet is =
+      commands_have_fact (λ v. StaysInGroup (WritesFrontOnItsPage plan) ⊥ (phase_after_command plan w v)) (λ at.
+      settled_work_keeps_front_page w (place.At at) g)
+      (λ at. erased_page_keeps_front_page w at)
+      (λ at. written_block_keeps_front_page w at) (command_of plan w p)
 
-  -- ---- the first page
+  -- The erase of the first page.
 
   settled_first_page_erase : (p : Place) →
       settled_phase plan (work.Erase (image_start plan.image.now)) p ≡ phase_with_step (work.Erase (image_start plan.image.now)) p
@@ -90,25 +92,26 @@ module _ (one : AddressOnOnePage) (chip : Chip) (plan : Plan) (m : FactsForNoMix
   unfolding settled_phase to_erase
   settled_first_page_erase p = ap (erase_phase_for plan p) (image_start_is_first_byte one chip plan m)
 
-  settled_erasing_work : (w : Work) (p : Place) → ErasesFirstPage plan w →
+  -- The erase of the image's first page settles in a phase of this erase.
+  settled_first_erase_stays : (w : Work) (p : Place) → ErasesFirstPage plan w →
       StaysInGroup (ErasesFirstPage plan) (FrontBlankAndQuiet chip plan d) (settled_phase plan w p)
-  settled_erasing_work w p e =
+  settled_first_erase_stays w p e =
       let there : settled_phase plan w p ≡ phase_with_step (work.Erase (image_start plan.image.now)) p (sending_step p) =
       ap (λ (v : Work). settled_phase plan v p) e ∙ settled_first_page_erase p in
       subst (λ (q : Phase). StaysInGroup (ErasesFirstPage plan) (FrontBlankAndQuiet chip plan d) q) (sym there) (inl refl)
 
   pub erasing_works_are_group : IsWorkGroup plan (ErasesFirstPage plan) (FrontBlankAndQuiet chip plan d)
   erasing_works_are_group = record {
-    settles = settled_erasing_work;
+    settles = settled_first_erase_stays;
     reads = λ w e. ap (read_on plan) e;
     doubts = λ w c e.
-        fact_of_each_command (λ v. StaysInGroup (ErasesFirstPage plan) (FrontBlankAndQuiet chip plan d) (phase_if_unsure plan w v)) (λ at.
+        commands_have_fact (λ v. StaysInGroup (ErasesFirstPage plan) (FrontBlankAndQuiet chip plan d) (phase_if_unsure plan w v)) (λ at.
         inl e) (λ at. inl e)
         (λ at. inl (ap (work_after_unsure_write plan) e)) c;
   }
 
   -- A device that has erased the front's page has a blank front, and is quiet.
-  erased_front_page_is_blank : IsQuiet d.device_work → ErasedBytesBlank chip (page_of_front plan % 2 ^ 32) d.memory →
+  erased_front_page_is_blank : IsQuiet d.device_work → ErasedBytesBlank chip (front_page_start plan % 2 ^ 32) d.memory →
       FrontBlankAndQuiet chip plan d
   erased_front_page_is_blank quiet phase_after_erase = (
     λ a f. phase_after_erase a (subst (λ (n : ℕ). chip.erases n a ≡ true) (sym (first_page_fits_32_bits one chip plan m)) (m.erases a f)),
@@ -117,67 +120,69 @@ module _ (one : AddressOnOnePage) (chip : Chip) (plan : Plan) (m : FactsForNoMix
 
   pub done_erase_blanks_front : DoneStaysInGroup chip plan (ErasesFirstPage plan) (λ x. FrontBlankAndQuiet chip plan x) d
   done_erase_blanks_front w p e quiet is =
-      let phase_after_erase : ErasedBytesBlank chip (page_of_front plan % 2 ^ 32) d.memory =
+      let phase_after_erase : ErasedBytesBlank chip (front_page_start plan % 2 ^ 32) d.memory =
       subst (λ (v : Work). IsCommandDone chip (command_of plan v p) d.pointer d.memory) e is in
       fact_keeps_any_phase_in_group (ErasesFirstPage plan) (FrontBlankAndQuiet chip plan d) (erased_front_page_is_blank quiet
       phase_after_erase) (phase_after_command plan w (command_of plan w p))
 
-  -- ---- after the comparison
+  -- Works after the comparison.
 
-  front_writing_after_comparison : (p : Place) (at : ℕ) → StaysInGroup (IsAfterComparison plan) (FrontBlankAndQuiet chip plan d)
+  -- A phase that writes the front, or has written it, stays after the comparison.
+  front_write_stays_after_compare : (p : Place) (at : ℕ) → StaysInGroup (IsAfterComparison plan) (FrontBlankAndQuiet chip plan d)
       (to_write_front plan p at)
-  front_writing_after_comparison p at = write_front_stays_in_group one chip plan m (IsAfterComparison plan) (FrontBlankAndQuiet chip plan
+  front_write_stays_after_compare p at = write_front_stays_in_group one chip plan m (IsAfterComparison plan) (FrontBlankAndQuiet chip plan
       d) (λ c h. h) (λ c. tt) tt p at
 
-  settled_work_after_comparison : (w : Work) (p : Place) → IsAfterComparison plan w →
+  -- A work after the comparison settles in a phase after it.
+  settled_work_stays_compared : (w : Work) (p : Place) → IsAfterComparison plan w →
       StaysInGroup (IsAfterComparison plan) (FrontBlankAndQuiet chip plan d) (settled_phase plan w p)
   unfolding settled_phase
-  settled_work_after_comparison (work.EraseAgain page end) p g = inl g
-  settled_work_after_comparison (work.WriteFront at) p g = front_writing_after_comparison p at
-  settled_work_after_comparison (work.CompareFront at) p g =
+  settled_work_stays_compared (work.EraseAgain page end) p g = inl g
+  settled_work_stays_compared (work.WriteFront at) p g = front_write_stays_after_compare p at
+  settled_work_stays_compared (work.CompareFront at) p g =
       compare_front_stays_in_group one chip plan m (IsAfterComparison plan) (FrontBlankAndQuiet chip plan d) (λ c h. h) (λ c. tt) tt p at
-  settled_work_after_comparison work.Leave p g = to_leave_stays_in_group one chip plan m (IsAfterComparison plan) (FrontBlankAndQuiet chip
+  settled_work_stays_compared work.Leave p g = to_leave_stays_in_group one chip plan m (IsAfterComparison plan) (FrontBlankAndQuiet chip
       plan d) (λ c h. h) (λ c. tt) tt p
-  settled_work_after_comparison w p g = absurd g
+  settled_work_stays_compared w p g = absurd g
 
-  read_on_after_comparison : (w : Work) → IsAfterComparison plan w → IsAfterComparison plan (read_on plan w)
-  read_on_after_comparison (work.Compare at) g = absurd g
-  read_on_after_comparison (work.CompareFront at) g = tt
-  read_on_after_comparison w g = g
+  read_on_stays_after_comparison : (w : Work) → IsAfterComparison plan w → IsAfterComparison plan (read_on plan w)
+  read_on_stays_after_comparison (work.Compare at) g = absurd g
+  read_on_stays_after_comparison (work.CompareFront at) g = tt
+  read_on_stays_after_comparison w g = g
 
-  work_again_after_comparison : (w : Work) → IsAfterComparison plan w → IsAfterComparison plan (work_after_unsure_write plan w)
-  work_again_after_comparison (work.Write at end) g = absurd g
-  work_again_after_comparison w g = g
+  work_again_stays_compared : (w : Work) → IsAfterComparison plan w → IsAfterComparison plan (work_after_unsure_write plan w)
+  work_again_stays_compared (work.Write at end) g = absurd g
+  work_again_stays_compared w g = g
 
-  pub works_after_comparison_group : IsWorkGroup plan (IsAfterComparison plan) (FrontBlankAndQuiet chip plan d)
-  works_after_comparison_group = record {
-    settles = settled_work_after_comparison;
-    reads = read_on_after_comparison;
+  pub later_works_are_group : IsWorkGroup plan (IsAfterComparison plan) (FrontBlankAndQuiet chip plan d)
+  later_works_are_group = record {
+    settles = settled_work_stays_compared;
+    reads = read_on_stays_after_comparison;
     doubts = λ w c g.
-        fact_of_each_command (λ v. StaysInGroup (IsAfterComparison plan) (FrontBlankAndQuiet chip plan d) (phase_if_unsure plan w v)) (λ
+        commands_have_fact (λ v. StaysInGroup (IsAfterComparison plan) (FrontBlankAndQuiet chip plan d) (phase_if_unsure plan w v)) (λ
         at. inl g) (λ at. inl g)
-        (λ at. inl (work_again_after_comparison w g)) c;
+        (λ at. inl (work_again_stays_compared w g)) c;
   }
 
-  written_front_by_pointer_test : (at : ℕ) (t : Bool) → page_start plan at ≡ page_of_front plan →
+  tested_front_write_stays : (at : ℕ) (t : Bool) → page_start plan at ≡ front_page_start plan →
       StaysInGroup (IsAfterComparison plan) (FrontBlankAndQuiet chip plan d) (phase_after_command plan (work.WriteFront at) (cond t
       (write_bytes_at at) (set_address at)))
-  written_front_by_pointer_test at true g = front_writing_after_comparison place.Lost (write_end plan at (front_end plan))
-  written_front_by_pointer_test at false g = settled_work_after_comparison (work.WriteFront at) (place.At at) g
+  tested_front_write_stays at true g = front_write_stays_after_compare place.Lost (write_end plan at (front_end plan))
+  tested_front_write_stays at false g = settled_work_stays_compared (work.WriteFront at) (place.At at) g
 
-  written_front_after_comparison : (p : Place) (at : ℕ) → page_start plan at ≡ page_of_front plan →
+  written_front_stays_compared : (p : Place) (at : ℕ) → page_start plan at ≡ front_page_start plan →
       StaysInGroup (IsAfterComparison plan) (FrontBlankAndQuiet chip plan d) (phase_after_command plan (work.WriteFront at) (write_command
       p at))
-  written_front_after_comparison place.Lost at g = settled_work_after_comparison (work.WriteFront at) (place.At at) g
-  written_front_after_comparison (place.At x) at g = written_front_by_pointer_test at (eqb x at) g
-  written_front_after_comparison (place.Reading x) at g = settled_work_after_comparison (work.WriteFront at) (place.At at) g
+  written_front_stays_compared place.Lost at g = settled_work_stays_compared (work.WriteFront at) (place.At at) g
+  written_front_stays_compared (place.At x) at g = tested_front_write_stays at (eqb x at) g
+  written_front_stays_compared (place.Reading x) at g = settled_work_stays_compared (work.WriteFront at) (place.At at) g
 
-  pub done_command_after_comparison : DoneStaysInGroup chip plan (IsAfterComparison plan) (λ x. FrontBlankAndQuiet chip plan x) d
-  done_command_after_comparison (work.EraseAgain page end) p g quiet is =
+  pub done_command_stays_compared : DoneStaysInGroup chip plan (IsAfterComparison plan) (λ x. FrontBlankAndQuiet chip plan x) d
+  done_command_stays_compared (work.EraseAgain page end) p g quiet is =
       fact_keeps_any_phase_in_group (IsAfterComparison plan) (FrontBlankAndQuiet chip plan d)
       (erased_front_page_is_blank quiet (subst (λ (n : ℕ). ErasedBytesBlank chip (n % 2 ^ 32) d.memory) g is))
       (phase_after_command plan (work.EraseAgain page end) (command_of plan (work.EraseAgain page end) p))
-  done_command_after_comparison (work.WriteFront at) p g quiet is = written_front_after_comparison p at g
-  done_command_after_comparison (work.CompareFront at) p g quiet is = settled_work_after_comparison (work.CompareFront at) (place.At at) g
-  done_command_after_comparison work.Leave p g quiet is = settled_work_after_comparison work.Leave (place.At plan.start) g
-  done_command_after_comparison w p g quiet is = absurd g
+  done_command_stays_compared (work.WriteFront at) p g quiet is = written_front_stays_compared p at g
+  done_command_stays_compared (work.CompareFront at) p g quiet is = settled_work_stays_compared (work.CompareFront at) (place.At at) g
+  done_command_stays_compared work.Leave p g quiet is = settled_work_stays_compared work.Leave (place.At plan.start) g
+  done_command_stays_compared w p g quiet is = absurd g

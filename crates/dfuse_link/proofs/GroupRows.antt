@@ -15,8 +15,8 @@ use Rattle.dfuse_host.specs.declared.step.Step.{Step}
 use Rattle.dfuse_host.specs.declared.step.Step.TheVariants as step
 use Rattle.dfuse_host.specs.Commands.{command_of, phase_after_command, phase_if_unsure}
 use Rattle.dfuse_host.specs.Settling.{settled_phase}
-use Rattle.dfuse_host.specs.Table.{state_found, ends_comparing, fault_found, status_found, on_abort, on_ask_state, on_ask_status, on_clear_wait, on_send, probed, on_probe, phase_if_refused, phase_after_poll, on_poll, on_poll_wait, place_with_reading_begun, place_with_reading_ended, on_begin_reading, on_end_reading, read_on, on_read, on_close, close_probed, on_close_probe, close_polled, on_close_poll, row}
-use Rattle.dfuse_host.proofs.ForCallers.{AnyCommand, AnyHeard, fact_of_each_heard, heard_comparison}
+use Rattle.dfuse_host.specs.Table.{state_found, phase_after_comparing_fault, phase_after_fault, status_found, on_abort, on_ask_state, on_ask_status, on_clear_wait, on_send, probed, on_probe, phase_if_refused, phase_after_poll, on_poll, on_poll_wait, place_with_reading_begun, place_with_reading_ended, on_begin_reading, on_end_reading, read_on, on_read, on_close, close_probed, on_close_probe, close_polled, on_close_poll, row}
+use Rattle.dfuse_host.proofs.ForCallers.{AnyCommand, AnyHeard, heards_have_fact, heard_comparison}
 use Rattle.dfuse_link.proofs.Claims.{HeardSaysState}
 
 -- The phase has a work of the group `G`, or the fact `B` holds, or the session is over.
@@ -26,16 +26,19 @@ StaysInGroup G B (Over r) = Unit {0}
 
 -- Works of a group lead to works of the group, or to the fact `B`, as long as no command is done.
 pub record IsWorkGroup (plan : Plan) (G : Work → Type 0) (B : Type 0) : Type 0 where
+  -- A work of the group settles in the group.
   pub settles : (w : Work) (p : Place) → G w → StaysInGroup G B (settled_phase plan w p)
+  -- A work of the group reads on in the group.
   pub reads : (w : Work) → G w → G (read_on plan w)
+  -- After a command whose end isn't known, the work is of the group.
   pub doubts : (w : Work) (c : AnyCommand) → G w → StaysInGroup G B (phase_if_unsure plan w c)
 
 module _ (plan : Plan) (G : Work → Type 0) (B : Type 0) (r : IsWorkGroup plan G B) (w : Work) (p : Place) (g : G w) where
-  -- ---- clearing
+  -- Rows that clear the device.
 
   abort_stays_in_group : (h : AnyHeard) → StaysInGroup G B (on_abort w h)
   abort_stays_in_group h =
-      fact_of_each_heard (λ x. StaysInGroup G B (on_abort w x)) (inl g) (λ s. inl g) (λ s. inl g) (λ b. inl g) (inl g) (inl g) (inl g) (inl
+      heards_have_fact (λ x. StaysInGroup G B (on_abort w x)) (inl g) (λ s. inl g) (λ s. inl g) (λ b. inl g) (inl g) (inl g) (inl g) (inl
       g) h
 
   found_state_stays_in_group : (t : State) → StaysInGroup G B (state_found plan w t)
@@ -46,15 +49,15 @@ module _ (plan : Plan) (G : Work → Type 0) (B : Type 0) (r : IsWorkGroup plan 
 
   ask_state_stays_in_group : (h : AnyHeard) → StaysInGroup G B (on_ask_state plan w h)
   ask_state_stays_in_group h =
-      fact_of_each_heard (λ x. StaysInGroup G B (on_ask_state plan w x)) (inl g) (λ s. inl g) (λ s. found_state_stays_in_group s) (λ b. inl
+      heards_have_fact (λ x. StaysInGroup G B (on_ask_state plan w x)) (inl g) (λ s. inl g) (λ s. found_state_stays_in_group s) (λ b. inl
       g) (inl g) (inl g) (inl g)
       (inl g) h
 
-  ended_comparison_stays_in_group : (v : Work) → G v → (c : Code) → StaysInGroup G B (ends_comparing v c)
+  ended_comparison_stays_in_group : (v : Work) → G v → (c : Code) → StaysInGroup G B (phase_after_comparing_fault v c)
   ended_comparison_stays_in_group v k code.StalledPkt = inl k
   ended_comparison_stays_in_group v k c = tt
 
-  fault_found_stays_in_group : (v : Work) → G v → (c : Code) → StaysInGroup G B (fault_found v c)
+  fault_found_stays_in_group : (v : Work) → G v → (c : Code) → StaysInGroup G B (phase_after_fault v c)
   fault_found_stays_in_group (work.Erase at) k c = inl k
   fault_found_stays_in_group v k code.Vendor = tt
   fault_found_stays_in_group (work.Compare at) k c = ended_comparison_stays_in_group (work.Compare at) k c
@@ -69,20 +72,20 @@ module _ (plan : Plan) (G : Work → Type 0) (B : Type 0) (r : IsWorkGroup plan 
 
   ask_status_stays_in_group : (h : AnyHeard) → StaysInGroup G B (on_ask_status w h)
   ask_status_stays_in_group h =
-      fact_of_each_heard (λ x. StaysInGroup G B (on_ask_status w x)) (inl g) (λ s. found_status_stays_in_group s.code s.poll_ms s.state) (λ
+      heards_have_fact (λ x. StaysInGroup G B (on_ask_status w x)) (inl g) (λ s. found_status_stays_in_group s.code s.poll_ms s.state) (λ
       s. inl g) (λ b. inl g) (inl g)
       (inl g) (inl g) (inl g) h
 
   clear_wait_stays_in_group : (ms : ℕ) (h : AnyHeard) → StaysInGroup G B (on_clear_wait w ms h)
   clear_wait_stays_in_group ms h =
-      fact_of_each_heard (λ x. StaysInGroup G B (on_clear_wait w ms x)) (inl g) (λ s. inl g) (λ s. inl g) (λ b. inl g) (inl g) (inl g) (inl
+      heards_have_fact (λ x. StaysInGroup G B (on_clear_wait w ms x)) (inl g) (λ s. inl g) (λ s. inl g) (λ b. inl g) (inl g) (inl g) (inl
       g) (inl g) h
 
-  -- ---- a command
+  -- Rows of a command.
 
   send_stays_in_group : (h : AnyHeard) → StaysInGroup G B (on_send w p h)
   send_stays_in_group h =
-      fact_of_each_heard (λ x. StaysInGroup G B (on_send w p x)) (inl g) (λ s. inl g) (λ s. inl g) (λ b. inl g) (inl g) (inl g) (inl g)
+      heards_have_fact (λ x. StaysInGroup G B (on_send w p x)) (inl g) (λ s. inl g) (λ s. inl g) (λ b. inl g) (inl g) (inl g) (inl g)
       (inl g) h
 
   probed_state_stays_in_group : (t : State) → StaysInGroup G B (probed plan w p t)
@@ -94,7 +97,7 @@ module _ (plan : Plan) (G : Work → Type 0) (B : Type 0) (r : IsWorkGroup plan 
 
   probe_stays_in_group : (h : AnyHeard) → StaysInGroup G B (on_probe plan w p h)
   probe_stays_in_group h =
-      fact_of_each_heard (λ x. StaysInGroup G B (on_probe plan w p x)) (inl g) (λ s. inl g) (λ s. probed_state_stays_in_group s) (λ b. inl
+      heards_have_fact (λ x. StaysInGroup G B (on_probe plan w p x)) (inl g) (λ s. inl g) (λ s. probed_state_stays_in_group s) (λ b. inl
       g)
       (r.doubts w (command_of plan w p) g) (inl g) (inl g) (inl g) h
 
@@ -118,28 +121,28 @@ module _ (plan : Plan) (G : Work → Type 0) (B : Type 0) (r : IsWorkGroup plan 
       → (last : ℕ) (h : AnyHeard) →
       HeardSaysState h u → StaysInGroup G B (on_poll plan w p last h)
   poll_stays_in_group u ok last h f =
-      fact_of_each_heard (λ x. HeardSaysState x u → StaysInGroup G B (on_poll plan w p last x)) (λ k. inl g)
+      heards_have_fact (λ x. HeardSaysState x u → StaysInGroup G B (on_poll plan w p last x)) (λ k. inl g)
       (λ s k. polled_status_stays_in_group u ok s.code s.poll_ms s.state k) (λ s k. inl g) (λ b k. inl g) (λ k. inl g) (λ k. inl g) (λ k.
       inl g)
       (λ k. inl g) h f
 
   poll_wait_stays_in_group : (ms : ℕ) (h : AnyHeard) → StaysInGroup G B (on_poll_wait w p ms h)
   poll_wait_stays_in_group ms h =
-      fact_of_each_heard (λ x. StaysInGroup G B (on_poll_wait w p ms x)) (inl g) (λ s. inl g) (λ s. inl g) (λ b. inl g) (inl g) (inl g)
+      heards_have_fact (λ x. StaysInGroup G B (on_poll_wait w p ms x)) (inl g) (λ s. inl g) (λ s. inl g) (λ b. inl g) (inl g) (inl g)
       (inl g) (inl g) h
 
-  -- ---- reading
+  -- Rows of reading.
 
   begin_reading_stays_in_group : (h : AnyHeard) → StaysInGroup G B (on_begin_reading plan w p h)
   begin_reading_stays_in_group h =
-      fact_of_each_heard (λ x. StaysInGroup G B (on_begin_reading plan w p x)) (r.settles w (place_with_reading_begun p) g) (λ s. inl g) (λ
+      heards_have_fact (λ x. StaysInGroup G B (on_begin_reading plan w p x)) (r.settles w (place_with_reading_begun p) g) (λ s. inl g) (λ
       s. inl g)
       (λ b. inl g) (inl g)
       (inl g) (inl g) (inl g) h
 
   end_reading_stays_in_group : (h : AnyHeard) → StaysInGroup G B (on_end_reading plan w p h)
   end_reading_stays_in_group h =
-      fact_of_each_heard (λ x. StaysInGroup G B (on_end_reading plan w p x)) (r.settles w (place_with_reading_ended p) g) (λ s. inl g) (λ
+      heards_have_fact (λ x. StaysInGroup G B (on_end_reading plan w p x)) (r.settles w (place_with_reading_ended p) g) (λ s. inl g) (λ
       s. inl g)
       (λ b. inl g) (inl g)
       (inl g) (inl g) (inl g) h
@@ -150,15 +153,15 @@ module _ (plan : Plan) (G : Work → Type 0) (B : Type 0) (r : IsWorkGroup plan 
 
   read_stays_in_group : (h : AnyHeard) → StaysInGroup G B (on_read plan w p h)
   read_stays_in_group h =
-      fact_of_each_heard (λ x. StaysInGroup G B (on_read plan w p x)) (inl g) (λ s. inl g) (λ s. inl g) (λ b. comparison_stays_in_group b)
+      heards_have_fact (λ x. StaysInGroup G B (on_read plan w p x)) (inl g) (λ s. inl g) (λ s. inl g) (λ b. comparison_stays_in_group b)
       (inl g) (inl g) (inl g)
       (inl g) h
 
-  -- ---- leaving
+  -- Rows of leaving.
 
   close_stays_in_group : (h : AnyHeard) → StaysInGroup G B (on_close w p h)
   close_stays_in_group h =
-      fact_of_each_heard (λ x. StaysInGroup G B (on_close w p x)) (inl g) (λ s. inl g) (λ s. inl g) (λ b. inl g) (inl g) (inl g) (inl g)
+      heards_have_fact (λ x. StaysInGroup G B (on_close w p x)) (inl g) (λ s. inl g) (λ s. inl g) (λ b. inl g) (inl g) (inl g) (inl g)
       (inl g) h
 
   close_probed_stays_in_group : (t : State) → StaysInGroup G B (close_probed w p t)
@@ -169,7 +172,7 @@ module _ (plan : Plan) (G : Work → Type 0) (B : Type 0) (r : IsWorkGroup plan 
 
   close_probe_stays_in_group : (h : AnyHeard) → StaysInGroup G B (on_close_probe w p h)
   close_probe_stays_in_group h =
-      fact_of_each_heard (λ x. StaysInGroup G B (on_close_probe w p x)) (inl g) (λ s. inl g) (λ s. close_probed_stays_in_group s) (λ b. inl
+      heards_have_fact (λ x. StaysInGroup G B (on_close_probe w p x)) (inl g) (λ s. inl g) (λ s. close_probed_stays_in_group s) (λ b. inl
       g) (inl g) (inl g) (inl g)
       (inl g) h
 
@@ -183,18 +186,18 @@ module _ (plan : Plan) (G : Work → Type 0) (B : Type 0) (r : IsWorkGroup plan 
 
   close_poll_stays_in_group : (h : AnyHeard) → StaysInGroup G B (on_close_poll w p h)
   close_poll_stays_in_group h =
-      fact_of_each_heard (λ x. StaysInGroup G B (on_close_poll w p x)) (inl g) (λ s. close_polled_stays_in_group s.code s.state) (λ s. inl
+      heards_have_fact (λ x. StaysInGroup G B (on_close_poll w p x)) (inl g) (λ s. close_polled_stays_in_group s.code s.state) (λ s. inl
       g) (λ b. inl g) (inl g)
       (inl g) (inl g) (inl g) h
 
-  -- ---- a row
+  -- Rows of every step.
 
-  -- For a step that asks if a command is done: if it is, the next phase stays in the group.
-  abbrev pub AsksIfDone : Step → AnyHeard → Type 0
-  AsksIfDone (step.Poll last) h = StaysInGroup G B (on_poll plan w p last h)
-  AsksIfDone s h = Unit {0}
+  -- At Poll, the phase after the result stays in the group; of other steps nothing is claimed.
+  abbrev pub PollStaysInGroup : Step → AnyHeard → Type 0
+  PollStaysInGroup (step.Poll last) h = StaysInGroup G B (on_poll plan w p last h)
+  PollStaysInGroup s h = Unit {0}
 
-  pub row_stays_in_group : (s : Step) (h : AnyHeard) → AsksIfDone s h → StaysInGroup G B (row plan w p s h)
+  pub row_stays_in_group : (s : Step) (h : AnyHeard) → PollStaysInGroup s h → StaysInGroup G B (row plan w p s h)
   row_stays_in_group step.Abort h a = abort_stays_in_group h
   row_stays_in_group step.AskState h a = ask_state_stays_in_group h
   row_stays_in_group step.AskStatus h a = ask_status_stays_in_group h

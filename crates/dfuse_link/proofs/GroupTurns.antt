@@ -25,11 +25,11 @@ use Rattle.dfuse_link.proofs.Deviced.{arriving_statuses_keep_command, idle_statu
 use Rattle.dfuse_link.proofs.Heards.{arrived_request_answers_status, get_status_says_state}
 use Rattle.dfuse_link.proofs.SentClaims.{DeedArrives}
 use Rattle.dfuse_link.proofs.Staying.{HoldsInPhase}
-use Rattle.dfuse_link.proofs.GroupRows.{StaysInGroup, IsWorkGroup, AsksIfDone, poll_stays_in_group, row_stays_in_group}
+use Rattle.dfuse_link.proofs.GroupRows.{StaysInGroup, IsWorkGroup, PollStaysInGroup, poll_stays_in_group, row_stays_in_group}
 use Rattle.dfuse_link.proofs.Pairs.{DeviceAndSession, IsTurnOfBoth}
 use Rattle.dfuse_link.proofs.ToldPhases.{fact_holds_after_restart, fact_holds_after_heard}
 
--- ---- restarts and the budget
+-- Restarts and the budget of actions.
 
 module _ (plan : Plan) (G : Work → Type 0) (B : Type 0) (r : IsWorkGroup plan G B) where
   resumed_phase_stays_in_group : (w : Work) (p : Place) (s : Step) → G w → StaysInGroup G B (phase_resumed plan w p s)
@@ -43,7 +43,7 @@ module _ (s : Session) (G : Work → Type 0) (B : Type 0) (r : IsWorkGroup s.pla
   heard_step_stays_in_group w p at h g = fact_holds_after_heard (StaysInGroup G B) (λ x. tt) s w p at h (resumed_phase_stays_in_group
       s.plan G B r w p at g)
 
--- ---- turns
+-- Turns of a device and its session.
 
 -- After a command that is done, the next phase stays in the group.
 abbrev pub DoneStaysInGroup : Chip → Plan → (G : Work → Type 0) (B : Device → Type 0) → Device → Type 0
@@ -53,11 +53,11 @@ DoneStaysInGroup chip plan G B d =
 
 module _ (chip : Chip) (s : Session) (G : Work → Type 0) (B : Device → Type 0) (d' : Device) (r : IsWorkGroup s.plan G (B d'))
     (ok : DoneStaysInGroup chip s.plan G B d') where
-  sent_request_asks_if_done : (w : Work) (p : Place) (at : Step) (d : Device) (h : AnyHeard) (n : Option Reaction) (x : Seen) → (g : G w) →
+  sent_poll_stays_in_group : (w : Work) (p : Place) (at : Step) (d : Device) (h : AnyHeard) (n : Option Reaction) (x : Seen) → (g : G w) →
       DeviceFitsStep chip s.plan w p at d → DeedArrives chip (deed_of_step s.plan w p at) d n d' → SeenOfReaction n x →
       DfuseSeenMeaning s.plan w at x h →
-      AsksIfDone s.plan G (B d') r w p g at h
-  sent_request_asks_if_done w p (step.Poll last) d h n x g k comes is hears =
+      PollStaysInGroup s.plan G (B d') r w p g at h
+  sent_poll_stays_in_group w p (step.Poll last) d h n x g k comes is hears =
       let has = arriving_statuses_keep_command chip (command_of s.plan w p) p d d' 6 _ n comes k in
       let says = get_status_says_state s.plan w (step.Poll last) h d' (λ bytes e. e) n x is (arrived_request_answers_status chip d 6 _ n d'
       comes) hears in
@@ -65,7 +65,7 @@ module _ (chip : Chip) (s : Session) (G : Work → Type 0) (B : Device → Type 
       (λ e.
       let phase_after_command = idle_status_means_done chip (command_of s.plan w p) p d'.device_work d'.pointer d'.memory e has in
       ok w p g phase_after_command.0 phase_after_command.1) last h says
-  sent_request_asks_if_done w p at d h n x g k comes is hears = tt
+  sent_poll_stays_in_group w p at d h n x g k comes is hears = tt
 
   sent_request_stays_in_group : (p : Phase) (d : Device) (h : AnyHeard) (n : Option Reaction) (x : Seen) → HoldsInPhase G p →
       DeviceFitsPhase chip s.plan p d →
@@ -74,19 +74,19 @@ module _ (chip : Chip) (s : Session) (G : Work → Type 0) (B : Device → Type 
   sent_request_stays_in_group (On at) d h n x g k comes is hears =
       heard_step_stays_in_group s G (B d') r at.work at.place at.step h g
       (row_stays_in_group s.plan G (B d') r at.work at.place g at.step h
-      (sent_request_asks_if_done at.work at.place at.step d h n x g k comes is hears))
+      (sent_poll_stays_in_group at.work at.place at.step d h n x g k comes is hears))
   sent_request_stays_in_group (Over rep) d h n x g k comes is hears = absurd comes
 
-  wait_asks_nothing : (w : Work) (p : Place) (at : Step) (h : AnyHeard) (ms : ℕ) (g : G w) → deed_of_step s.plan w p at ≡ Wait ms →
-      AsksIfDone s.plan G (B d') r w p g at h
-  wait_asks_nothing w p (step.Poll last) h ms g e = cc
-  wait_asks_nothing w p at h ms g e = tt
+  wait_step_stays_in_group : (w : Work) (p : Place) (at : Step) (h : AnyHeard) (ms : ℕ) (g : G w) → deed_of_step s.plan w p at ≡ Wait ms →
+      PollStaysInGroup s.plan G (B d') r w p g at h
+  wait_step_stays_in_group w p (step.Poll last) h ms g e = cc
+  wait_step_stays_in_group w p at h ms g e = tt
 
   wait_stays_in_group : (p : Phase) (h : AnyHeard) (ms : ℕ) → HoldsInPhase G p → dfuse_deed s.plan p ≡ Wait ms →
       StaysInGroup G (B d') (session_after_phase_heard s p h).phase
   wait_stays_in_group (On at) h ms g e =
       heard_step_stays_in_group s G (B d') r at.work at.place at.step h g
-      (row_stays_in_group s.plan G (B d') r at.work at.place g at.step h (wait_asks_nothing at.work at.place at.step h ms g e))
+      (row_stays_in_group s.plan G (B d') r at.work at.place g at.step h (wait_step_stays_in_group at.work at.place at.step h ms g e))
   wait_stays_in_group (Over rep) h ms g e = cc
 
   restart_stays_in_group : (p : Phase) (h : AnyHeard) → s.phase ≡ p → HoldsInPhase G p → DfuseSeenMeaningIn s.plan p seen.Restarted h →

@@ -19,25 +19,25 @@ use Rattle.dfuse_link.proofs.Claims.{IsQuiet}
 use Rattle.dfuse_link.proofs.NextBytes.{byte_in_is_byte_of_part}
 use Rattle.dfuse_link.proofs.OwnTurns.{plan_image_is_filled}
 use Rattle.dfuse_link.proofs.GroupRows.{StaysInGroup}
-use Rattle.dfuse_link.proofs.FrontPages.{FactsForNoMixture, front_byte_on_first_page}
+use Rattle.dfuse_link.proofs.FrontPages.{HasNoMixturePremises, front_byte_on_first_page}
 
 -- The address at which the front's page begins.
-abbrev pub page_of_front : Plan → ℕ
-page_of_front plan = page_start plan (image_start plan.image.now)
+abbrev pub front_page_start : Plan → ℕ
+front_page_start plan = page_start plan (image_start plan.image.now)
 
 -- If the work writes the front, the address that it writes is on the front's page.
 abbrev pub WritesFrontOnItsPage : Plan → Work → Type 0
-WritesFrontOnItsPage plan (work.WriteFront at) = page_start plan at ≡ page_of_front plan
+WritesFrontOnItsPage plan (work.WriteFront at) = page_start plan at ≡ front_page_start plan
 WritesFrontOnItsPage plan w = Unit {0}
 
 -- The work erases the first page of the image.
 abbrev pub ErasesFirstPage : Plan → Work → Type 0
 ErasesFirstPage plan w = w ≡ work.Erase (image_start plan.image.now)
 
--- The work comes after the comparison of all but the front, or erases the front's page again.
+-- The work comes after the comparison of all but the front, and writes only on the front's page; or it erases this page again.
 abbrev pub IsAfterComparison : Plan → Work → Type 0
-IsAfterComparison plan (work.EraseAgain page end) = page ≡ page_of_front plan
-IsAfterComparison plan (work.WriteFront at) = page_start plan at ≡ page_of_front plan
+IsAfterComparison plan (work.EraseAgain page end) = page ≡ front_page_start plan
+IsAfterComparison plan (work.WriteFront at) = page_start plan at ≡ front_page_start plan
 IsAfterComparison plan (work.CompareFront at) = Unit {0}
 IsAfterComparison plan work.Leave = Unit {0}
 IsAfterComparison plan w = ⊥
@@ -50,8 +50,8 @@ pub fact_keeps_any_phase_in_group : (G : Work → Type 0) (B : Type 0) → B →
 fact_keeps_any_phase_in_group G B b (On s) = inr b
 fact_keeps_any_phase_in_group G B b (Over r) = tt
 
-module _ (one : AddressOnOnePage) (chip : Chip) (plan : Plan) (m : FactsForNoMixture chip plan) (G : Work → Type 0) (B : Type 0)
-    (wf : (at : ℕ) → page_start plan at ≡ page_of_front plan → G (work.WriteFront at)) (cf : (at : ℕ) → G (work.CompareFront at))
+module _ (one : AddressOnOnePage) (chip : Chip) (plan : Plan) (m : HasNoMixturePremises chip plan) (G : Work → Type 0) (B : Type 0)
+    (wf : (at : ℕ) → page_start plan at ≡ front_page_start plan → G (work.WriteFront at)) (cf : (at : ℕ) → G (work.CompareFront at))
     (lv : G work.Leave) where
   leaving_stays_in_group : (p : Place) → StaysInGroup G B (phase_to_set_start plan p)
   leaving_stays_in_group place.Lost = inl lv
@@ -70,48 +70,48 @@ module _ (one : AddressOnOnePage) (chip : Chip) (plan : Plan) (m : FactsForNoMix
   to_leave_stays_in_group p = elim plan.leaves as (λ t. StaysInGroup G B (cond t (phase_to_set_start plan p) (phase_when_compared p)))
       [ true ↦ leaving_stays_in_group p | false ↦ staying_stays_in_group p ]
 
-  compare_front_by_next_byte : (p : Place) (o : Option ℕ) → StaysInGroup G B (compare_front_phase_for plan p o)
-  compare_front_by_next_byte p None = to_leave_stays_in_group p
-  compare_front_by_next_byte p (Some at) = inl (cf at)
+  compare_front_phase_stays : (p : Place) (o : Option ℕ) → StaysInGroup G B (compare_front_phase_for plan p o)
+  compare_front_phase_stays p None = to_leave_stays_in_group p
+  compare_front_phase_stays p (Some at) = inl (cf at)
 
   pub compare_front_stays_in_group : (p : Place) (at : ℕ) → StaysInGroup G B (to_compare_front plan p at)
   unfolding to_compare_front
-  compare_front_stays_in_group p at = compare_front_by_next_byte p (byte_in plan at (front_end plan))
+  compare_front_stays_in_group p at = compare_front_phase_stays p (byte_in plan at (front_end plan))
 
-  write_front_by_next_byte : (p : Place) (at : ℕ) (o : Option ℕ) → byte_in plan at (front_end plan) ≡ o →
+  write_front_phase_stays : (p : Place) (at : ℕ) (o : Option ℕ) → byte_in plan at (front_end plan) ≡ o →
       StaysInGroup G B (write_front_phase_for plan p o)
-  write_front_by_next_byte p at None e = compare_front_stays_in_group p (image_start plan.image.now)
-  write_front_by_next_byte p at (Some c) e =
+  write_front_phase_stays p at None e = compare_front_stays_in_group p (image_start plan.image.now)
+  write_front_phase_stays p at (Some c) e =
       let b = byte_in_is_byte_of_part plan at (front_end plan) c (nonempty_image_is_filled plan.image.now (plan_image_is_filled chip plan
       m.for)) e in
       inl (wf c (front_byte_on_first_page one chip plan m c b.has b.to))
 
   pub write_front_stays_in_group : (p : Place) (at : ℕ) → StaysInGroup G B (to_write_front plan p at)
   unfolding to_write_front
-  write_front_stays_in_group p at = write_front_by_next_byte p at (byte_in plan at (front_end plan)) refl
+  write_front_stays_in_group p at = write_front_phase_stays p at (byte_in plan at (front_end plan)) refl
 
-  -- The works before the comparison have these groups too.
+  -- Phases of a group that also has the works before the comparison.
   module _ (er : (at : ℕ) → G (work.Erase at)) (wr : (at end : ℕ) → G (work.Write at end)) (co : (at : ℕ) → G (work.Compare at)) where
-    compare_by_next_byte : (p : Place) (o : Option ℕ) → StaysInGroup G B (compare_phase_for plan p o)
-    compare_by_next_byte p None = write_front_stays_in_group p (image_start plan.image.now)
-    compare_by_next_byte p (Some at) = inl (co at)
+    compare_phase_stays : (p : Place) (o : Option ℕ) → StaysInGroup G B (compare_phase_for plan p o)
+    compare_phase_stays p None = write_front_stays_in_group p (image_start plan.image.now)
+    compare_phase_stays p (Some at) = inl (co at)
 
     pub compare_stays_in_group : (p : Place) (at : ℕ) → StaysInGroup G B (to_compare plan p at)
     unfolding to_compare
-    compare_stays_in_group p at = compare_by_next_byte p (byte_in plan at (image_end plan.image.now))
+    compare_stays_in_group p at = compare_phase_stays p (byte_in plan at (image_end plan.image.now))
 
-    write_by_next_byte : (p : Place) (end : ℕ) (o : Option ℕ) → StaysInGroup G B (write_phase_for plan p end o)
-    write_by_next_byte p end None = compare_stays_in_group p (front_end plan)
-    write_by_next_byte p end (Some at) = inl (wr at end)
+    write_phase_stays : (p : Place) (end : ℕ) (o : Option ℕ) → StaysInGroup G B (write_phase_for plan p end o)
+    write_phase_stays p end None = compare_stays_in_group p (front_end plan)
+    write_phase_stays p end (Some at) = inl (wr at end)
 
     pub write_stays_in_group : (p : Place) (at end : ℕ) → StaysInGroup G B (to_write plan p at end)
     unfolding to_write
-    write_stays_in_group p at end = write_by_next_byte p end (byte_in plan at end)
+    write_stays_in_group p at end = write_phase_stays p end (byte_in plan at end)
 
-    erase_by_next_byte : (p : Place) (o : Option ℕ) → StaysInGroup G B (erase_phase_for plan p o)
-    erase_by_next_byte p None = write_stays_in_group p (front_end plan) (image_end plan.image.now)
-    erase_by_next_byte p (Some at) = inl (er at)
+    erase_phase_stays : (p : Place) (o : Option ℕ) → StaysInGroup G B (erase_phase_for plan p o)
+    erase_phase_stays p None = write_stays_in_group p (front_end plan) (image_end plan.image.now)
+    erase_phase_stays p (Some at) = inl (er at)
 
     pub erase_stays_in_group : (p : Place) (at : ℕ) → StaysInGroup G B (to_erase plan p at)
     unfolding to_erase
-    erase_stays_in_group p at = erase_by_next_byte p (byte_in plan at (image_end plan.image.now))
+    erase_stays_in_group p at = erase_phase_stays p (byte_in plan at (image_end plan.image.now))

@@ -4,21 +4,21 @@ use Rattle.dfu_wire.specs.declared.states.State.{State}
 use Rattle.dfu_wire.specs.declared.requests.Request.TheVariants as request
 use Rattle.dfu_wire.specs.State.{state_byte}
 use Rattle.dfu_wire.specs.Status.{StatusFields, IsStatus}
-use Rattle.dfu_wire.specs.OneValue.{equal_state_bytes_equal_states}
-use Rattle.dfu_wire.specs.OneValue.{status_bytes_one_value}
+use Rattle.dfu_wire.specs.OneValue.{state_byte_is_injective}
+use Rattle.dfu_wire.specs.OneValue.{bytes_encode_one_status}
 use Rattle.dfuse_host.specs.declared.plan.Plan.{Plan}
 use Rattle.dfuse_host.specs.declared.work.Work.{Work}
 use Rattle.dfuse_host.specs.declared.step.Step.{Step}
 use Rattle.dfuse_host.specs.declared.seen.Seen.{Seen}
 use Rattle.dfuse_host.specs.declared.seen.Seen.TheVariants as seen
 use Rattle.dfuse_host.specs.Wire.{DfuseReadsStatus, DfuseReadsState, DfuseBytesMeaning, DfuseSeenMeaning}
-use Rattle.dfuse_host.proofs.ForCallers.{AnyHeard, fact_of_each_heard}
+use Rattle.dfuse_host.proofs.ForCallers.{AnyHeard, heards_have_fact}
 use Rattle.dfuse_link.specs.Chips.{Chip, state_in, Device}
 use Rattle.dfuse_link.specs.Reactions.{Reaction, Acks, Data, Stalls, Reacts, stalls, tells, shows}
 use Rattle.dfuse_link.specs.Histories.{RequestArrives, never, again, SeenOfReaction}
 use Rattle.dfuse_link.proofs.Claims.{HeardSaysState}
 
--- ---- what a device sends
+-- Bytes that a device sends.
 
 -- If the reaction has bytes, they are the one byte of the device's state.
 abbrev pub AnswerIsState : Option Reaction → Device → Type 0
@@ -27,10 +27,14 @@ AnswerIsState r d = Unit {0}
 
 -- The bytes are a status with the device's state.
 pub record SpellsStatusOf (bytes : List ℕ) (d : Device) : Type 0 where
+  -- Status that the bytes spell.
   pub status : StatusFields
+  -- The bytes spell it.
   pub is : IsStatus status bytes
+  -- Its state is the device's.
   pub same : status.state ≡ state_in d.device_work
 
+-- If the reaction has bytes, they are a status with the device's state.
 abbrev pub AnswerIsStatus : Option Reaction → Device → Type 0
 AnswerIsStatus (Some (Data bytes)) d = SpellsStatusOf bytes d
 AnswerIsStatus r d = Unit {0}
@@ -60,24 +64,24 @@ module _ (chip : Chip) where
   arrived_request_answers_status d n body _ d' (again {before = before} {mid = mid} {reaction = reaction} first last) =
       reaction_answers_status mid n body reaction d' last
 
--- ---- what a session hears
+-- States that a session hears.
 
 heard_state_is_sent : (bytes : List ℕ) (h : AnyHeard) (t : State) → DfuseReadsState bytes h → bytes ≡ state_byte t ∷ [] → HeardSaysState h t
 heard_state_is_sent bytes h t =
-    fact_of_each_heard (λ x. DfuseReadsState bytes x → bytes ≡ state_byte t ∷ [] → HeardSaysState x t) (λ r e. tt) (λ s r e. absurd r)
-    (λ s r e. equal_state_bytes_equal_states t s (ap (λ (xs : List ℕ). slice_index_or xs 0 0) (sym e
+    heards_have_fact (λ x. DfuseReadsState bytes x → bytes ≡ state_byte t ∷ [] → HeardSaysState x t) (λ r e. tt) (λ s r e. absurd r)
+    (λ s r e. state_byte_is_injective t s (ap (λ (xs : List ℕ). slice_index_or xs 0 0) (sym e
     ∙ r))) (λ b r e. tt) (λ r e. tt) (λ r e. tt) (λ r e. tt)
     (λ r e. tt) h
 
 heard_status_is_sent : (bytes : List ℕ) (h : AnyHeard) (d : Device) → DfuseReadsStatus bytes h → SpellsStatusOf bytes d →
     HeardSaysState h (state_in d.device_work)
 heard_status_is_sent bytes h d =
-    fact_of_each_heard (λ x. DfuseReadsStatus bytes x → SpellsStatusOf bytes d → HeardSaysState x (state_in d.device_work)) (λ r e. tt)
-    (λ s r e. sym e.same ∙ ap (λ (z : StatusFields). z.state) (status_bytes_one_value e.status s bytes e.is r)) (λ s r e. absurd r)
+    heards_have_fact (λ x. DfuseReadsStatus bytes x → SpellsStatusOf bytes d → HeardSaysState x (state_in d.device_work)) (λ r e. tt)
+    (λ s r e. sym e.same ∙ ap (λ (z : StatusFields). z.state) (bytes_encode_one_status e.status s bytes e.is r)) (λ s r e. absurd r)
     (λ b r e. tt) (λ r e. tt) (λ r e. tt) (λ r e. tt) (λ r e. tt) h
 
 module _ (plan : Plan) (w : Work) (s : Step) (h : AnyHeard) (d : Device) where
-  -- If the meaning of each answer says the state of the device, what is heard says it; without bytes nothing is claimed.
+  -- If the meaning of each answer names the state of the device, the result that is heard names it; without bytes nothing is claimed.
   heard_says_state_of_bytes : (P : Option Reaction → Type 0) → ((bytes given : List ℕ) → P (Some (Data bytes)) → given ≡ bytes →
       DfuseBytesMeaning plan w s given h → HeardSaysState h (state_in d.device_work)) → (r : Option Reaction) (x : Seen) →
       SeenOfReaction r x → P r →
@@ -92,7 +96,7 @@ module _ (plan : Plan) (w : Work) (s : Step) (h : AnyHeard) (d : Device) where
   heard_says_state_of_bytes P says (Some Stalls) (seen.Bytes given) is sent e = absurd is
   heard_says_state_of_bytes P says None (seen.Bytes given) is sent e = absurd is
 
-  -- The answer to GETSTATE says the state of the device.
+  -- The answer to GETSTATE names the state of the device.
   pub get_state_says_state : ((bytes : List ℕ) → DfuseBytesMeaning plan w s bytes h → DfuseReadsState bytes h) →
       (r : Option Reaction) (x : Seen) →
       SeenOfReaction r x →
@@ -101,7 +105,7 @@ module _ (plan : Plan) (w : Work) (s : Step) (h : AnyHeard) (d : Device) where
       heard_says_state_of_bytes (λ y. AnswerIsState y d) (λ bytes given sends same heard.
       heard_state_is_sent given h (state_in d.device_work) (reads given heard) (same ∙ sends)) r x is sent e
 
-  -- The answer to GETSTATUS says the state of the device.
+  -- The answer to GETSTATUS names the state of the device.
   pub get_status_says_state : ((bytes : List ℕ) → DfuseBytesMeaning plan w s bytes h → DfuseReadsStatus bytes h) →
       (r : Option Reaction) (x : Seen) →
       SeenOfReaction r x →

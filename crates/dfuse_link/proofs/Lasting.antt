@@ -32,7 +32,7 @@ waits_in_cons x xs = omega arith
 abbrev pub leaving_of_plan : Plan → Leaving
 leaving_of_plan plan = if plan.leaves then leaving.Left else leaving.Stayed
 
--- In the phase, the result is as the work and step of a clean run have it.
+-- In the phase, the result is one of a clean run, by the phase's work and step.
 abbrev IsCleanIn : Plan → Seen → Phase → Type 0
 IsCleanIn plan x (On at) = IsCleanResult plan at.work at.step x
 IsCleanIn plan x (Over report) = ⊥
@@ -41,12 +41,13 @@ IsCleanIn plan x (Over report) = ⊥
 abbrev pub session_in_phase : Plan → Phase → (actions restarts : ℕ) → Session
 session_in_phase plan phase actions restarts = record { plan = plan; phase = phase; actions = actions; restarts = restarts }
 
--- From this phase on each clean run is over after `n` results, of which `u` are ends of waits.
+-- From this phase on each clean run that has `n` actions left is over after `n` results, of which `u` are ends of waits.
 pub record CleanRunLasts (plan : Plan) (phase : Phase) (n u : ℕ) : Type 0 where
+  -- A clean run from this phase finishes after so many results, with any actions and restarts left.
   pub runs : (actions restarts : ℕ) (seens : List Seen) (s : Session) → n ≤ actions →
       CleanSession (session_in_phase plan phase actions restarts) seens s → FinishesAfter plan n u seens s
 
--- If the counts are equal to others, a run lasts as long by the other counts.
+-- A run lasts as long by equal counts.
 pub lasts_by_equal_counts : (plan : Plan) (phase : Phase) (n m u v : ℕ) → n ≡ m → u ≡ v → CleanRunLasts plan phase n u →
     CleanRunLasts plan phase m v
 lasts_by_equal_counts plan phase n m u v e f l = subst (λ (i : ℕ). CleanRunLasts plan phase i v) e (subst (λ (i : ℕ). CleanRunLasts plan
@@ -56,14 +57,17 @@ lasts_by_equal_counts plan phase n m u v e f l = subst (λ (i : ℕ). CleanRunLa
 pub lasts_from_equal_phase : (plan : Plan) (p q : Phase) (n u : ℕ) → p ≡ q → CleanRunLasts plan q n u → CleanRunLasts plan p n u
 lasts_from_equal_phase plan p q n u e l = subst (λ (x : Phase). CleanRunLasts plan x n u) (sym e) l
 
--- Leads by what is heard to a phase from which a clean run is over after `n` results, `u` of them ends of waits.
+-- The result that is heard leads to a phase from which a clean run is over after `n` results, `u` of them ends of waits.
 pub record LeadsToLastingPhase (plan : Plan) (w : Work) (p : Place) (s : Step) (h : AnyHeard) (n u : ℕ) : Type 0 where
+  -- Next phase.
   pub next : Phase
+  -- A clean run from the next phase lasts as long.
   pub next_phase_lasts : CleanRunLasts plan next n u
+  -- The result leads to the next phase.
   pub comes : (actions restarts : ℕ) → session_after_step_heard (session_in_phase plan (phase_with_step w p s) actions restarts) w p s h ≡
       session_after_action (session_in_phase plan (phase_with_step w p s) actions restarts) next restarts
 
--- ---- one thing more
+-- Runs that are longer by one result.
 
 -- The budget doesn't cut off a session that is over in time.
 phase_fits_budget : (plan : Plan) (next : Phase) (n u left : ℕ) → CleanRunLasts plan next n u → n ≤ left →
@@ -79,7 +83,7 @@ over_session_finishes plan actions restarts _ _ clean_nothing_seen = record { ov
 over_session_finishes plan actions restarts (x ∷ xs) s (clean_result_more at is clean row rest) = absurd (subst (IsCleanIn plan x) (sym is)
     clean)
 
--- From a phase that is over, nothing more is seen.
+-- A session that is over sees no further result.
 pub over_phase_lasts_none : (plan : Plan) → CleanRunLasts plan (Over (Verified (leaving_of_plan plan))) 0 0
 over_phase_lasts_none plan = record { runs = λ actions restarts seens s less run. over_session_finishes plan actions restarts seens s run }
 

@@ -14,26 +14,26 @@ use Rattle.dfuse_host.specs.Touching.{WorkTouchesImage, PhaseTouchesImage, WorkA
 use Rattle.dfuse_link.specs.Chips.{Chip, Device, DeviceAdvances}
 use Rattle.dfuse_link.specs.Histories.{History, so_far, passes, turns}
 use Rattle.dfuse_link.specs.Fronts.{IsFrontAddress, IsOffFrontPage}
-use Rattle.dfuse_link.proofs.Blanks.{StaysBlankAt, quiet_work_writes_nothing, blank_as_device_advances, blank_after_turn}
+use Rattle.dfuse_link.proofs.Blanks.{StaysBlankAt, quiet_work_writes_nothing, advance_keeps_blank, turn_keeps_blank}
 use Rattle.dfuse_link.proofs.Bytes.{byte_at}
-use Rattle.dfuse_link.proofs.FrontPages.{FactsForNoMixture, byte_off_page_is_after_front}
+use Rattle.dfuse_link.proofs.FrontPages.{HasNoMixturePremises, byte_off_page_is_after_front}
 use Rattle.dfuse_link.proofs.GroupRows.{StaysInGroup, IsWorkGroup}
 use Rattle.dfuse_link.proofs.GroupTurns.{DoneStaysInGroup, turn_stays_in_group}
-use Rattle.dfuse_link.proofs.GroupLaws.{placed_works_are_group, done_command_keeps_placed, erasing_works_are_group, done_erase_blanks_front, works_after_comparison_group, done_command_after_comparison}
+use Rattle.dfuse_link.proofs.GroupLaws.{front_page_works_are_group, done_command_keeps_front_page, erasing_works_are_group, done_erase_blanks_front, later_works_are_group, done_command_stays_compared}
 use Rattle.dfuse_link.proofs.Groups.{WritesFrontOnItsPage, ErasesFirstPage, IsAfterComparison, FrontBlankAndQuiet}
-use Rattle.dfuse_link.proofs.Own.{IsOwnByteInPhase, safe_byte_is_own_in_phase}
+use Rattle.dfuse_link.proofs.Own.{IsSafeInPhase, safe_byte_is_safe_in_phase}
 use Rattle.dfuse_link.proofs.OwnTurns.{plan_image_is_filled}
 use Rattle.dfuse_link.proofs.Rows.{turn_is_session_row}
-use Rattle.dfuse_host.proofs.RunLaws.{phase_after_keeps_plan}
+use Rattle.dfuse_host.proofs.RunLaws.{heard_phase_keeps_plan}
 use Rattle.dfuse_link.proofs.Spared.{IsBeforeComparison, erasing_leaves_other_page, later_work_leaves_other_page, early_deed_spares_front}
-use Rattle.dfuse_link.proofs.Staying.{HoldsInPhase, turn_keeps_own_byte, advance_keeps_own_byte}
-use Rattle.dfuse_link.proofs.Passing.{session_facts_as_device_advances}
-use Rattle.dfuse_link.proofs.Turns.{SessionFactsHold, IsRightInMemory, session_facts_after_turn}
+use Rattle.dfuse_link.proofs.Staying.{HoldsInPhase, turn_keeps_byte_safe, advance_keeps_byte_safe}
+use Rattle.dfuse_link.proofs.Passing.{advance_keeps_session_facts}
+use Rattle.dfuse_link.proofs.Turns.{SessionFactsHold, IsRightInMemory, turn_keeps_session_facts}
 use Rattle.dfuse_link.proofs.Pairs.{DeviceAndSession, IsTurnOfBoth, device_with_session}
 
 -- Before the front's page is erased: the bytes of the other pages are as at first, and may not change.
 abbrev pub OtherPagesOld : Chip → Plan → Device → Phase → Device → Type 0
-OtherPagesOld chip plan first p d = (a : ℕ) → IsOffFrontPage plan a → IsOwnByteInPhase chip a p d.device_work × (d.memory a
+OtherPagesOld chip plan first p d = (a : ℕ) → IsOffFrontPage plan a → IsSafeInPhase chip a p d.device_work × (d.memory a
     ≡ first.memory a)
 
 -- The bytes of the front are blank, and stay blank.
@@ -43,7 +43,7 @@ FrontStaysBlank chip plan d = (a : ℕ) → IsFrontAddress plan a → StaysBlank
 -- The other pages have the bytes of the image, which may not change.
 abbrev pub OtherPagesNew : Chip → Plan → Phase → Device → Type 0
 OtherPagesNew chip plan p d =
-    (a : ℕ) → IsOffFrontPage plan a → HasByte a plan.image.now → IsOwnByteInPhase chip a p d.device_work × (d.memory a
+    (a : ℕ) → IsOffFrontPage plan a → HasByte a plan.image.now → IsSafeInPhase chip a p d.device_work × (d.memory a
     ≡ byte_at a plan.image.now)
 
 -- The other pages are old, the front is blank, or the other pages are new, by the work of the phase.
@@ -56,18 +56,18 @@ OldBlankOrNew chip plan first p d =
 -- At this moment memory is no mixture: the front is blank, or the bytes off its page are all old or all new.
 pub record NoMixtureSoFar (chip : Chip) (first : Device) (l : DeviceAndSession) : Type 0 where
   pub so : SessionFactsHold chip l
-  pub mixture_facts : FactsForNoMixture chip l.session.plan
+  pub mixture_facts : HasNoMixturePremises chip l.session.plan
   pub touches : PhaseTouchesImage l.session.plan l.session.phase
   pub placed : HoldsInPhase (WritesFrontOnItsPage l.session.plan) l.session.phase
   pub old_blank_or_new : OldBlankOrNew chip l.session.plan first l.session.phase l.device
 
-module _ (one : AddressOnOnePage) (chip : Chip) (plan : Plan) (m : FactsForNoMixture chip plan) (first : Device) where
+module _ (one : AddressOnOnePage) (chip : Chip) (plan : Plan) (m : HasNoMixturePremises chip plan) (first : Device) where
   -- If all bytes off the front's page were read back, these pages have the image.
   read_back_pages_are_new : (p : Phase) (d : Device) → ((a : ℕ) → HasByte a plan.image.now → IsOffFrontPage plan a →
       WasReadInPhase plan p a) →
       ((a : ℕ) → HasByte a plan.image.now → WasReadInPhase plan p a → IsRightInMemory chip plan d a) → OtherPagesNew chip plan p d
   read_back_pages_are_new p d was right = λ a other has.
-      let r = right a has (was a has other) in (safe_byte_is_own_in_phase chip a p d.device_work r.1, r.0)
+      let r = right a has (was a has other) in (safe_byte_is_safe_in_phase chip a p d.device_work r.1, r.0)
 
   -- With a blank front, a work comes before the comparison of all but the front, or after it.
   work_before_or_after_comparison : (w : Work) → WorkTouchesImage plan w → WritesFrontOnItsPage plan w →
@@ -101,16 +101,16 @@ module _ (one : AddressOnOnePage) (chip : Chip) (plan : Plan) (m : FactsForNoMix
   blank_and_quiet_is_blank : (d : Device) → FrontBlankAndQuiet chip plan d → FrontStaysBlank chip plan d
   blank_and_quiet_is_blank d b = λ a f. record { blank = b.0 a f; work_writes_nothing = quiet_work_writes_nothing chip a d.device_work b.1 }
 
-group_or_fact_in_phase : (G : Work → Type 0) (B : Type 0) (p : Phase) → StaysInGroup G B p → HoldsInPhase G p ⊎ B
-group_or_fact_in_phase G B (On s) k = k
-group_or_fact_in_phase G B (Over r) k = inl tt
+phase_is_in_group_or_has_fact : (G : Work → Type 0) (B : Type 0) (p : Phase) → StaysInGroup G B p → HoldsInPhase G p ⊎ B
+phase_is_in_group_or_has_fact G B (On s) k = k
+phase_is_in_group_or_has_fact G B (Over r) k = inl tt
 
-left_of_two : (A : Type 0) → A ⊎ ⊥ → A
-left_of_two A k = elim k [ inl a ↦ a | inr b ↦ absurd b ]
+left_of_impossible_right : (A : Type 0) → A ⊎ ⊥ → A
+left_of_impossible_right A k = elim k [ inl a ↦ a | inr b ↦ absurd b ]
 
 module _ (one : AddressOnOnePage) (read : OnlyReadBack) (closes : AlwaysClosesAfterCompare) (always : WorkAlwaysTouchesImage) (chip : Chip)
     (first : Device) where
-  -- Consequences, of the plan as it was.
+  -- Facts after a turn, by the plan of the session before the turn.
   module _ (l l' : DeviceAndSession) (x : Seen) (turn : IsTurnOfBoth chip l x l') (k : NoMixtureSoFar chip first l)
       (touches : PhaseTouchesImage l.session.plan l'.session.phase) (placed : HoldsInPhase (WritesFrontOnItsPage l.session.plan)
       l'.session.phase)
@@ -130,7 +130,7 @@ module _ (one : AddressOnOnePage) (read : OnlyReadBack) (closes : AlwaysClosesAf
         DoneStaysInGroup chip l.session.plan G (λ d. FrontBlankAndQuiet chip l.session.plan d) l'.device → HoldsInPhase G l.session.phase →
         HoldsInPhase G l'.session.phase ⊎ FrontBlankAndQuiet chip l.session.plan l'.device
     turn_stays_or_blanks_front G group done q =
-        group_or_fact_in_phase G (FrontBlankAndQuiet chip l.session.plan l'.device) l'.session.phase
+        phase_is_in_group_or_has_fact G (FrontBlankAndQuiet chip l.session.plan l'.device) l'.session.phase
         (turn_stays_in_group chip l l' G (λ d. FrontBlankAndQuiet chip l.session.plan d) group done x turn q k.so.stands)
 
     no_mixture_from_old_pages : HoldsInPhase (ErasesFirstPage l.session.plan) l.session.phase →
@@ -144,7 +144,7 @@ module _ (one : AddressOnOnePage) (read : OnlyReadBack) (closes : AlwaysClosesAf
             now,
             λ a other.
                 let was = old a other in
-                let stays = turn_keeps_own_byte chip a (ErasesFirstPage l.session.plan) l l'
+                let stays = turn_keeps_byte_safe chip a (ErasesFirstPage l.session.plan) l l'
                 (λ w p at d e s. erasing_leaves_other_page one chip l.session.plan k.mixture_facts a other w p at d e s) x turn q
                 k.so.stands was.0 in
                 (stays.own, stays.byte ∙ was.1),
@@ -156,14 +156,14 @@ module _ (one : AddressOnOnePage) (read : OnlyReadBack) (closes : AlwaysClosesAf
         OtherPagesNew chip l.session.plan l.session.phase l.device →
         OldBlankOrNew chip l.session.plan first l'.session.phase l'.device
     no_mixture_from_new_pages q new =
-        elim (turn_stays_or_blanks_front (IsAfterComparison l.session.plan) (works_after_comparison_group one chip l.session.plan
+        elim (turn_stays_or_blanks_front (IsAfterComparison l.session.plan) (later_works_are_group one chip l.session.plan
         k.mixture_facts l'.device)
-        (done_command_after_comparison one chip l.session.plan k.mixture_facts l'.device) q) [
+        (done_command_stays_compared one chip l.session.plan k.mixture_facts l'.device) q) [
           | inl now ↦ inr (inr (
             now,
             λ a other has.
                 let was = new a other has in
-                let stays = turn_keeps_own_byte chip a (IsAfterComparison l.session.plan) l l'
+                let stays = turn_keeps_byte_safe chip a (IsAfterComparison l.session.plan) l l'
                 (λ w p at d e s. later_work_leaves_other_page one chip l.session.plan k.mixture_facts a other has w p at d e s) x turn q
                 k.so.stands was.0 in
                 (stays.own, stays.byte ∙ was.1),
@@ -175,7 +175,7 @@ module _ (one : AddressOnOnePage) (read : OnlyReadBack) (closes : AlwaysClosesAf
         FrontStaysBlank chip l.session.plan l.device →
         OldBlankOrNew chip l.session.plan first l'.session.phase l'.device
     no_mixture_from_blank_front q blank =
-        no_mixture_from_blank (λ a f. blank_after_turn chip a (IsBeforeComparison l.session.plan) l l'
+        no_mixture_from_blank (λ a f. turn_keeps_blank chip a (IsBeforeComparison l.session.plan) l l'
         (λ w p at d e s. early_deed_spares_front one chip l.session.plan k.mixture_facts a f w p at d e s) x turn q k.so.stands (blank a f))
 
     no_mixture_in_next_phase : OldBlankOrNew chip l.session.plan first l.session.phase l.device →
@@ -190,25 +190,25 @@ module _ (one : AddressOnOnePage) (read : OnlyReadBack) (closes : AlwaysClosesAf
   no_mixture_after_turn l l' x turn k =
       let row = turn_is_session_row chip l l' x turn in
       let plan : l'.session.plan ≡ l.session.plan =
-      ap (λ (t : Session). t.plan) row.same ∙ phase_after_keeps_plan l.session l.session.phase row.heard in
+      ap (λ (t : Session). t.plan) row.same ∙ heard_phase_keeps_plan l.session l.session.phase row.heard in
       let phase : l'.session.phase ≡ (session_after_heard l.session row.heard).phase = ap (λ (t : Session). t.phase) row.same in
-      let so = session_facts_after_turn chip read closes l l' x turn k.so in
+      let so = turn_keeps_session_facts chip read closes l l' x turn k.so in
       let touches : PhaseTouchesImage l.session.plan l'.session.phase =
       subst (λ (p : Phase). PhaseTouchesImage l.session.plan p) (sym phase)
       (always.1 l.session row.heard (plan_image_is_filled chip l.session.plan k.so.for) k.so.closes k.touches) in
       let placed : HoldsInPhase (WritesFrontOnItsPage l.session.plan) l'.session.phase =
-      left_of_two (HoldsInPhase (WritesFrontOnItsPage l.session.plan) l'.session.phase)
-      (group_or_fact_in_phase (WritesFrontOnItsPage l.session.plan) ⊥ l'.session.phase
-      (turn_stays_in_group chip l l' (WritesFrontOnItsPage l.session.plan) (λ d. ⊥) (placed_works_are_group one chip l.session.plan
+      left_of_impossible_right (HoldsInPhase (WritesFrontOnItsPage l.session.plan) l'.session.phase)
+      (phase_is_in_group_or_has_fact (WritesFrontOnItsPage l.session.plan) ⊥ l'.session.phase
+      (turn_stays_in_group chip l l' (WritesFrontOnItsPage l.session.plan) (λ d. ⊥) (front_page_works_are_group one chip l.session.plan
       k.mixture_facts l'.device)
-      (done_command_keeps_placed one chip l.session.plan k.mixture_facts l'.device) x turn k.placed k.so.stands)) in
+      (done_command_keeps_front_page one chip l.session.plan k.mixture_facts l'.device) x turn k.placed k.so.stands)) in
       let right = subst (λ (q : Plan). (a : ℕ) → HasByte a q.image.now → WasReadInPhase q l'.session.phase a →
       IsRightInMemory chip q l'.device a) plan
       so.right in
       let old_blank_or_new = no_mixture_in_next_phase l l' x turn k touches placed right k.old_blank_or_new in
       record {
         so = so;
-        mixture_facts = subst (λ (q : Plan). FactsForNoMixture chip q) (sym plan) k.mixture_facts;
+        mixture_facts = subst (λ (q : Plan). HasNoMixturePremises chip q) (sym plan) k.mixture_facts;
         touches = subst (λ (q : Plan). PhaseTouchesImage q l'.session.phase) (sym plan) touches;
         placed = subst (λ (q : Plan). HoldsInPhase (WritesFrontOnItsPage q) l'.session.phase) (sym plan) placed;
         old_blank_or_new = subst (λ (q : Plan). OldBlankOrNew chip q first l'.session.phase l'.device) (sym plan) old_blank_or_new;
@@ -222,15 +222,15 @@ module _ (one : AddressOnOnePage) (read : OnlyReadBack) (closes : AlwaysClosesAf
       o.0,
       λ a other.
           let was = o.1 a other in
-          let stays = advance_keeps_own_byte chip a l d more was.0 in (stays.own, stays.byte ∙ was.1),
+          let stays = advance_keeps_byte_safe chip a l d more was.0 in (stays.own, stays.byte ∙ was.1),
     )
     | inr rest ↦ elim rest [
-      | inl b ↦ inr (inl (b.0, λ a f. blank_as_device_advances chip a l.device d more (b.1 a f)))
+      | inl b ↦ inr (inl (b.0, λ a f. advance_keeps_blank chip a l.device d more (b.1 a f)))
       | inr n ↦ inr (inr (
         n.0,
         λ a other has.
             let was = n.1 a other has in
-            let stays = advance_keeps_own_byte chip a l d more was.0 in (stays.own, stays.byte ∙ was.1),
+            let stays = advance_keeps_byte_safe chip a l d more was.0 in (stays.own, stays.byte ∙ was.1),
       ))
     ]
   ]
@@ -240,7 +240,7 @@ module _ (one : AddressOnOnePage) (read : OnlyReadBack) (closes : AlwaysClosesAf
       NoMixtureSoFar chip first (device_with_session d' s')
   no_mixture_in_history d _ s _ _ so_far k = k
   no_mixture_in_history d d' s s' seens (passes mid more rest) k = no_mixture_in_history mid d' s s' seens rest (record {
-    so = session_facts_as_device_advances chip (device_with_session d s) mid more k.so;
+    so = advance_keeps_session_facts chip (device_with_session d s) mid more k.so;
     mixture_facts = k.mixture_facts;
     touches = k.touches;
     placed = k.placed;

@@ -17,20 +17,20 @@ use Rattle.dfuse_host.specs.declared.phase.Standing.{Standing}
 use Rattle.dfuse_host.specs.Plans.{front_end}
 use Rattle.dfuse_link.proofs.Bytes.{byte_of_element_at}
 use Rattle.dfuse_link.proofs.FrontLast.{found_element_has_byte}
-use Rattle.dfuse_link.proofs.FrontPages.{FactsForNoMixture}
+use Rattle.dfuse_link.proofs.FrontPages.{HasNoMixturePremises}
 use Rattle.dfuse_link.proofs.Groups.{ErasesFirstPage, IsAfterComparison}
 use Rattle.dfuse_link.proofs.OwnTurns.{plan_image_is_filled, idle_work_is_safe_before_start}
 use Rattle.dfuse_link.proofs.Turns.{IsRightInMemory}
-use Rattle.dfuse_link.proofs.Verified.{session_facts_at_begin, history_keeps_plan}
+use Rattle.dfuse_link.proofs.Verified.{begun_session_has_facts, history_keeps_plan}
 use Rattle.dfuse_link.proofs.Mixtures.{OldBlankOrNew, NoMixtureSoFar, no_mixture_in_history}
 use Rattle.dfuse_link.proofs.Pairs.{session_begun_with}
 
 -- When a session begins, memory is no mixture.
 no_mixture_at_begin : (always : WorkAlwaysTouchesImage) (chip : Chip) (plan : Plan) (limits : Limits) (d : Device) →
-    FactsForNoMixture chip plan → CarriesNoOrder d →
+    HasNoMixturePremises chip plan → CarriesNoOrder d →
     NoMixtureSoFar chip d (session_begun_with d plan limits)
 no_mixture_at_begin always chip plan limits d m idle = record {
-  so = session_facts_at_begin chip plan limits d m.for;
+  so = begun_session_has_facts chip plan limits d m.for;
   mixture_facts = m;
   touches = always.0 plan limits (plan_image_is_filled chip plan m.for);
   placed = tt;
@@ -39,7 +39,7 @@ no_mixture_at_begin always chip plan limits d m idle = record {
 
 pub no_mixture : AddressOnOnePage → OnlyReadBack → AlwaysClosesAfterCompare → WorkAlwaysTouchesImage → NoMixture
 no_mixture one read closes always chip plan limits d d' s seens for apart map erases idle history =
-    let m : FactsForNoMixture chip plan = record { for = for; apart = apart; map = map; erases = erases } in
+    let m : HasNoMixturePremises chip plan = record { for = for; apart = apart; map = map; erases = erases } in
     let k = no_mixture_in_history one read closes always chip d d d' (initial_dfuse_session plan limits) s seens history
     (no_mixture_at_begin always chip plan limits d m idle) in
     let old_blank_or_new : OldBlankOrNew chip plan d s.phase d' =
@@ -53,7 +53,7 @@ no_mixture one read closes always chip plan limits d d' s seens for apart map er
       ]
     ]
 
--- ---- while no page is to be erased
+-- Moments at which no page is to be erased.
 
 -- The work is to erase a page.
 abbrev pub IsToErase : Work → Type 0
@@ -95,7 +95,7 @@ no_mixture_unless_erasing chip plan first s d no_erase right old_blank_or_new = 
 
 pub none_but_erasing : AddressOnOnePage → OnlyReadBack → AlwaysClosesAfterCompare → WorkAlwaysTouchesImage → NoneButErasing
 none_but_erasing one read closes always chip plan limits d d' s seens here for apart map erases idle history phase first again =
-    let m : FactsForNoMixture chip plan = record { for = for; apart = apart; map = map; erases = erases } in
+    let m : HasNoMixturePremises chip plan = record { for = for; apart = apart; map = map; erases = erases } in
     let k = no_mixture_in_history one read closes always chip d d d' (initial_dfuse_session plan limits) s seens history
     (no_mixture_at_begin always chip plan limits d m idle) in
     let same = history_keeps_plan chip d d' (initial_dfuse_session plan limits) s seens history in

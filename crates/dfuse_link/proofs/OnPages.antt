@@ -18,7 +18,7 @@ use Rattle.dfuse_host.specs.Plans.{page_of, page_start, page_end}
 use Rattle.dfuse_host.specs.Refusing.{EachAddressGranted, IsSoundPlan, wanted_access}
 use Rattle.dfuse_host.specs.ReadBack.{HasByte}
 
--- ---- ranges
+-- Ranges of a map.
 
 -- The range that has an address is the first range, if that has it, and else a later one.
 pub range_at_cons : (a : ℕ) (p : Pages) (ps : List Pages) → range_at a (p ∷ ps) ≡ cond (range_has a p) (Some p) (range_at a ps)
@@ -27,8 +27,11 @@ range_at_cons a p ps = refl
 
 -- The range `q` that was found for `a` has `a`, and is sound if all ranges are.
 record IsInRange (a : ℕ) (q : Pages) (ps : List Pages) : Type 0 where
+  -- The range begins at `a` or before it.
   low : q.start ≤ a
+  -- The range ends after `a`.
   high : a < ranges.end_of_range q
+  -- The range is sound if all are.
   range : All IsRange ps → IsRange q
 
 range_found_by_test : (a : ℕ) (p q : Pages) (ps : List Pages) (t : Bool) → range_has a p ≡ t → (range_at a ps ≡ Some q → IsInRange a q ps) →
@@ -48,23 +51,27 @@ found_range_has_address a q [] e = absurd (no_range_in_empty_map a q e)
 found_range_has_address a q (p ∷ ps) e = range_found_by_test a p q ps (range_has a p) refl (found_range_has_address a q ps) (sym
     (range_at_cons a p ps) ∙ e)
 
--- ---- pages
+-- Pages of a map.
 
 -- On the map of the plan, the address is on the page.
 pub record IsOnPage (plan : Plan) (a : ℕ) (page : Page) : Type 0 where
+  -- The map has this page for the address.
   pub is : page_at a plan.map.now.ranges ≡ Some page
+  -- The page begins at the address or before it.
   pub low : page.start ≤ a
+  -- The page ends after the address.
   pub high : a < page.start + page.size
+  -- The address has 32 bits.
   pub fits : a < 2 ^ 32
 
 quotient_multiple_above : (x n : ℕ) → 1 ≤ n → x < x / n * n + n
 quotient_multiple_above x n some = grind arith
 
-page_on_map_by_range : (plan : Plan) (a : ℕ) (page : Page) (o : Option Pages) → range_at a plan.map.now.ranges ≡ o →
+found_range_has_page : (plan : Plan) (a : ℕ) (page : Page) (o : Option Pages) → range_at a plan.map.now.ranges ≡ o →
     All IsRange plan.map.now.ranges →
     option_map (page_in a) o ≡ Some page → IsOnPage plan a page
-page_on_map_by_range plan a page None e all h = cc
-page_on_map_by_range plan a page (Some q) e all h =
+found_range_has_page plan a page None e all h = cc
+found_range_has_page plan a page (Some q) e all h =
     let there = found_range_has_address a q plan.map.now.ranges e in
     let range = there.range all in
     let same : page_in a q ≡ page = cc in
@@ -79,7 +86,7 @@ page_on_map_by_range plan a page (Some q) e all h =
 pub page_at_has_address : (plan : Plan) (a : ℕ) (page : Page) → All IsRange plan.map.now.ranges → page_at a plan.map.now.ranges
     ≡ Some page →
     IsOnPage plan a page
-page_at_has_address plan a page all h = page_on_map_by_range plan a page (range_at a plan.map.now.ranges) refl all h
+page_at_has_address plan a page all h = found_range_has_page plan a page (range_at a plan.map.now.ranges) refl all h
 
 pub page_start_of_page : (plan : Plan) (a : ℕ) (page : Page) → IsOnPage plan a page → page_start plan a ≡ page.start
 unfolding page_of
@@ -101,7 +108,7 @@ pub page_addresses_share_page : AddressOnOnePage → (plan : Plan) (a b : ℕ) (
 page_addresses_share_page one plan a b page all apart on low high =
     page_at_has_address plan b page all (one plan.map.now.ranges a b page all apart on.is low high)
 
--- ---- bytes of an image are on pages
+-- Each byte of an image is on a page.
 
 each_image_byte_granted : (wanted : Access) (a : ℕ) (ps : List Pages) (es : List Element) → EachAddressGranted wanted ps es → HasByte a es →
     IsGranted wanted (range_at a ps)
@@ -111,7 +118,9 @@ each_image_byte_granted wanted a ps (e ∷ es) granted b =
 
 -- The address has a page.
 pub record HasPage (plan : Plan) (a : ℕ) : Type 0 where
+  -- Page of the address.
   pub page : Page
+  -- The address is on this page.
   pub on : IsOnPage plan a page
 
 granted_range_has_page : (plan : Plan) (a : ℕ) (wanted : Access) (o : Option Pages) → range_at a plan.map.now.ranges ≡ o →

@@ -1,4 +1,4 @@
--- A byte on a page that the image doesn't touch stays, whatever comes.
+-- A byte on a page that the image doesn't touch stays in each turn.
 use Rattle.std.proofs.Common.{◌≡◌, ℕ, false, List, ◌∷◌, refl, sym, ap, ◌∙◌, subst}
 use Rattle.std.proofs.lemmas.Bool.{false_from_ne_true}
 use Rattle.dfuse_host.specs.declared.plan.Plan.{Plan}
@@ -15,24 +15,29 @@ use Rattle.dfuse_link.specs.Histories.{History, so_far, passes, turns}
 use Rattle.dfuse_link.specs.Promises.{IsPlanFor}
 use Rattle.dfuse_link.specs.Touched.{OtherPagesStay}
 use Rattle.dfuse_link.proofs.Rows.{turn_is_session_row}
-use Rattle.dfuse_host.proofs.RunLaws.{phase_after_keeps_plan}
-use Rattle.dfuse_link.proofs.Staying.{HoldsInPhase, turn_keeps_own_byte, advance_keeps_own_byte}
-use Rattle.dfuse_link.proofs.Passing.{session_facts_as_device_advances}
-use Rattle.dfuse_link.proofs.Turns.{SessionFactsHold, session_facts_after_turn}
-use Rattle.dfuse_link.proofs.Verified.{session_facts_at_begin}
+use Rattle.dfuse_host.proofs.RunLaws.{heard_phase_keeps_plan}
+use Rattle.dfuse_link.proofs.Staying.{HoldsInPhase, turn_keeps_byte_safe, advance_keeps_byte_safe}
+use Rattle.dfuse_link.proofs.Passing.{advance_keeps_session_facts}
+use Rattle.dfuse_link.proofs.Turns.{SessionFactsHold, turn_keeps_session_facts}
+use Rattle.dfuse_link.proofs.Verified.{begun_session_has_facts}
 use Rattle.dfuse_link.proofs.Changes.{IsSafeBeforeStart}
-use Rattle.dfuse_link.proofs.Own.{IsOwnByteInPhase}
+use Rattle.dfuse_link.proofs.Own.{IsSafeInPhase}
 use Rattle.dfuse_link.proofs.SentOwn.{IsOnOtherPage, step_leaves_other_page}
 use Rattle.dfuse_link.proofs.Pairs.{DeviceAndSession, IsTurnOfBoth, device_with_session}
 
--- ---- what is so at each moment
+-- Facts at each moment.
 
--- The byte at `a` is as at first, and stays so.
+-- The byte at `a` is as it was at first, and no request of the session may change it.
 record IsOtherByteKept (chip : Chip) (a : ℕ) (first : Device) (l : DeviceAndSession) : Type 0 where
+  -- The facts of the session hold.
   so : SessionFactsHold chip l
+  -- The page of the byte has no byte of the image.
   apart : IsOnOtherPage chip l.session.plan a
+  -- The session works at bytes of the image.
   touches : PhaseTouchesImage l.session.plan l.session.phase
-  own : IsOwnByteInPhase chip a l.session.phase l.device.device_work
+  -- No order may change the byte in this phase.
+  own : IsSafeInPhase chip a l.session.phase l.device.device_work
+  -- The byte is as it was at first.
   byte : l.device.memory a ≡ first.memory a
 
 pub plan_image_is_filled : (chip : Chip) (plan : Plan) → IsPlanFor chip plan → is_empty plan.image.now ≡ false
@@ -50,14 +55,14 @@ module _ (read : OnlyReadBack) (closes : AlwaysClosesAfterCompare) (always : Wor
   turn_keeps_other_byte l l' x turn k =
       let row = turn_is_session_row chip l l' x turn in
       let plan : l.session.plan ≡ l'.session.plan =
-      sym (ap (λ (t : Session). t.plan) row.same ∙ phase_after_keeps_plan l.session l.session.phase row.heard) in
+      sym (ap (λ (t : Session). t.plan) row.same ∙ heard_phase_keeps_plan l.session l.session.phase row.heard) in
       let phase : (session_after_heard l.session row.heard).phase ≡ l'.session.phase = sym (ap (λ (t : Session). t.phase) row.same) in
       let touches = always.1 l.session row.heard (plan_image_is_filled chip l.session.plan k.so.for) k.so.closes k.touches in
-      let stays = turn_keeps_own_byte chip a (WorkTouchesImage l.session.plan) l l'
+      let stays = turn_keeps_byte_safe chip a (WorkTouchesImage l.session.plan) l l'
       (λ w p at d t. step_leaves_other_page only chip l.session.plan a k.apart k.so.for w p at d t) x turn
       (touching_phase_has_touching_work l.session.plan l.session.phase k.touches) k.so.stands k.own in
       record {
-        so = session_facts_after_turn chip read closes l l' x turn k.so;
+        so = turn_keeps_session_facts chip read closes l l' x turn k.so;
         apart = subst (λ (q : Plan). IsOnOtherPage chip q a) plan k.apart;
         touches = subst (λ (p : Phase). PhaseTouchesImage l'.session.plan p) phase
             (subst (λ (q : Plan). PhaseTouchesImage q (session_after_heard l.session row.heard).phase) plan touches);
@@ -68,9 +73,9 @@ module _ (read : OnlyReadBack) (closes : AlwaysClosesAfterCompare) (always : Wor
   advance_keeps_other_byte : (l : DeviceAndSession) (d : Device) → DeviceAdvances chip l.device d → IsOtherByteKept chip a first l →
       IsOtherByteKept chip a first (record { device = d; session = l.session })
   advance_keeps_other_byte l d x k =
-      let stays = advance_keeps_own_byte chip a l d x k.own in
+      let stays = advance_keeps_byte_safe chip a l d x k.own in
       record {
-        so = session_facts_as_device_advances chip l d x k.so;
+        so = advance_keeps_session_facts chip l d x k.so;
         apart = k.apart;
         touches = k.touches;
         own = stays.own;
@@ -95,7 +100,7 @@ idle_work_is_safe_before_start chip a device_work idle = tt
 pub others_stay : OnlyReadBack → AlwaysClosesAfterCompare → WorkAlwaysTouchesImage → OnlyTouchedPagesChange → OtherPagesStay
 others_stay read closes always only chip plan limits d d' s seens a for map idle history page_is_untouched =
     (history_keeps_other_byte read closes always only chip a d d d' (initial_dfuse_session plan limits) s seens history (record {
-      so = session_facts_at_begin chip plan limits d for;
+      so = begun_session_has_facts chip plan limits d for;
       apart = record { page_is_untouched = page_is_untouched; map = map };
       touches = always.0 plan limits (plan_image_is_filled chip plan for);
       own = idle_work_is_safe_before_start chip a d.device_work idle;

@@ -1,4 +1,4 @@
--- Facts of a device and its session stay while the device goes on by itself.
+-- The facts of a device and its session stay while the device goes on by itself.
 use Rattle.std.proofs.Common.{◌≡◌, subst}
 use Rattle.dfuse_host.specs.declared.plan.Plan.{Plan}
 use Rattle.dfuse_host.specs.declared.phase.Phase.{Phase}
@@ -11,8 +11,8 @@ use Rattle.dfuse_host.specs.Commands.{command_of}
 use Rattle.dfuse_host.proofs.ForCallers.{AnyCommand}
 use Rattle.dfuse_link.specs.Chips.{Chip, Order, CarriesOut, Device, DeviceAdvances, goes_on, ends, fails}
 use Rattle.dfuse_link.proofs.Claims.{IsQuiet, MayHaveCommand, DeviceFitsStep, DeviceFitsPhase}
-use Rattle.dfuse_link.proofs.Deviced.{quiet_work_is_not_busy, command_as_device_advances}
-use Rattle.dfuse_link.proofs.Safe.{byte_kept_as_device_advances}
+use Rattle.dfuse_link.proofs.Deviced.{quiet_work_is_not_busy, advance_keeps_command}
+use Rattle.dfuse_link.proofs.Safe.{advance_keeps_byte}
 use Rattle.dfuse_link.proofs.Turns.{SessionFactsHold, kept_byte_is_right}
 use Rattle.dfuse_link.proofs.Pairs.{DeviceAndSession}
 
@@ -29,32 +29,32 @@ advancing_device_was_started : (chip : Chip) (c : AnyCommand) (d d' : Device) �
     MayHaveCommand c d.device_work → ⊥
 advancing_device_was_started chip c d d' x h = let b = advancing_device_is_busy chip d d' x in subst (MayHaveCommand c) b.1 h
 
-step_fits_as_device_advances : (chip : Chip) (plan : Plan) (w : Work) (p : Place) (s : Step) (d d' : Device) → DeviceAdvances chip d d' →
+advance_keeps_step_fit : (chip : Chip) (plan : Plan) (w : Work) (p : Place) (s : Step) (d d' : Device) → DeviceAdvances chip d d' →
     DeviceFitsStep chip plan w p s d →
     DeviceFitsStep chip plan w p s d'
-step_fits_as_device_advances chip plan w p step.Send d d' x k = absurd (advancing_device_was_started chip (command_of plan w p) d d' x k.0)
-step_fits_as_device_advances chip plan w p step.Probe d d' x k = absurd (advancing_device_was_started chip (command_of plan w p) d d' x k.0)
-step_fits_as_device_advances chip plan w p (step.Poll last) d d' x k = command_as_device_advances chip (command_of plan w p) p d d' x k
-step_fits_as_device_advances chip plan w p (step.PollWait ms) d d' x k = command_as_device_advances chip (command_of plan w p) p d d' x k
-step_fits_as_device_advances chip plan w p step.BeginReading d d' x k = absurd (advancing_device_is_not_quiet chip d d' x k.0)
-step_fits_as_device_advances chip plan w p step.EndReading d d' x k = absurd (advancing_device_is_not_quiet chip d d' x k.0)
-step_fits_as_device_advances chip plan w p step.Read d d' x k = absurd (advancing_device_is_not_quiet chip d d' x k.0)
-step_fits_as_device_advances chip plan w p s d d' x k = tt
+advance_keeps_step_fit chip plan w p step.Send d d' x k = absurd (advancing_device_was_started chip (command_of plan w p) d d' x k.0)
+advance_keeps_step_fit chip plan w p step.Probe d d' x k = absurd (advancing_device_was_started chip (command_of plan w p) d d' x k.0)
+advance_keeps_step_fit chip plan w p (step.Poll last) d d' x k = advance_keeps_command chip (command_of plan w p) p d d' x k
+advance_keeps_step_fit chip plan w p (step.PollWait ms) d d' x k = advance_keeps_command chip (command_of plan w p) p d d' x k
+advance_keeps_step_fit chip plan w p step.BeginReading d d' x k = absurd (advancing_device_is_not_quiet chip d d' x k.0)
+advance_keeps_step_fit chip plan w p step.EndReading d d' x k = absurd (advancing_device_is_not_quiet chip d d' x k.0)
+advance_keeps_step_fit chip plan w p step.Read d d' x k = absurd (advancing_device_is_not_quiet chip d d' x k.0)
+advance_keeps_step_fit chip plan w p s d d' x k = tt
 
-phase_fits_as_device_advances : (chip : Chip) (plan : Plan) (p : Phase) (d d' : Device) → DeviceAdvances chip d d' →
+advance_keeps_phase_fit : (chip : Chip) (plan : Plan) (p : Phase) (d d' : Device) → DeviceAdvances chip d d' →
     DeviceFitsPhase chip plan p d →
     DeviceFitsPhase chip plan p d'
-phase_fits_as_device_advances chip plan (On at) d d' x k = step_fits_as_device_advances chip plan at.work at.place at.step d d' x k
-phase_fits_as_device_advances chip plan (Over r) d d' x k = tt
+advance_keeps_phase_fit chip plan (On at) d d' x k = advance_keeps_step_fit chip plan at.work at.place at.step d d' x k
+advance_keeps_phase_fit chip plan (Over r) d d' x k = tt
 
-pub session_facts_as_device_advances : (chip : Chip) (l : DeviceAndSession) (d : Device) → DeviceAdvances chip l.device d →
+pub advance_keeps_session_facts : (chip : Chip) (l : DeviceAndSession) (d : Device) → DeviceAdvances chip l.device d →
     SessionFactsHold chip l →
     SessionFactsHold chip (record { device = d; session = l.session })
-session_facts_as_device_advances chip l d x so = record {
+advance_keeps_session_facts chip l d x so = record {
   for = so.for;
   closes = so.closes;
-  stands = phase_fits_as_device_advances chip l.session.plan l.session.phase l.device d x so.stands;
+  stands = advance_keeps_phase_fit chip l.session.plan l.session.phase l.device d x so.stands;
   right = λ a b was.
-      kept_byte_is_right chip l.session.plan l.device d a (byte_kept_as_device_advances chip a l.device d x (so.right a b was).1) (so.right
+      kept_byte_is_right chip l.session.plan l.device d a (advance_keeps_byte chip a l.device d x (so.right a b was).1) (so.right
       a b was);
 }

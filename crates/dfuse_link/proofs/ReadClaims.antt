@@ -28,9 +28,9 @@ use Rattle.dfuse_link.proofs.Claims.{IsQuiet, KnowsPointer, CanReadWork, DeviceF
 use Rattle.dfuse_link.proofs.Deviced.{arriving_uploads_keep_quiet}
 use Rattle.dfuse_link.proofs.SentClaims.{DeedArrives}
 use Rattle.dfuse_link.proofs.Safe.{IsSafeAt}
-use Rattle.dfuse_link.proofs.Bytes.{byte_of_element_at, byte_at, found_element_has_address, later_address_same_element, byte_in_part}
+use Rattle.dfuse_link.proofs.Bytes.{byte_of_element_at, byte_at, found_element_has_address, later_address_same_element, part_has_same_byte}
 
--- ---- where the bytes come from
+-- Place in memory of the bytes that are read.
 
 -- The bytes from `at` on are a whole number of blocks after `base`, few enough for a block number.
 record BlockReadableFrom (plan : Plan) (base at : ℕ) : Type 0 where
@@ -38,9 +38,9 @@ record BlockReadableFrom (plan : Plan) (base at : ℕ) : Type 0 where
   whole : (at - base) % block_size plan ≡ 0
   few : (at - base) / block_size plan ≤ 65533
 
-readable_block_facts : (plan : Plan) (base at : ℕ) → can_read plan base at ≡ true → BlockReadableFrom plan base at
+readable_block_is_whole : (plan : Plan) (base at : ℕ) → can_read plan base at ≡ true → BlockReadableFrom plan base at
 unfolding can_read
-readable_block_facts plan base at h =
+readable_block_is_whole plan base at h =
     let one = and_parts (leb base at) _ h in
     let two = and_parts (eqb ((at - base) % block_size plan) 0) _ one.1 in
     let three = and_parts (leb ((at - base) / block_size plan) 65533) _ two.1 in
@@ -65,12 +65,11 @@ pub upload_block_is_two_at_least : (plan : Plan) (p : Place) (at : ℕ) → 2 �
 unfolding upload_block
 upload_block_is_two_at_least plan p at = omega arith
 
--- The bytes of the block that is asked for are those from `at` on.
-from_there : (plan : Plan) (transfer base at pointer : ℕ) → can_read plan base at ≡ true → plan.transfer ≡ transfer → 1 ≤ transfer →
-    at < 2 ^ 32 →
-    pointer ≡ base % 2 ^ 32 → pointer + (upload_block plan (place.Reading base) at - 2) * transfer ≡ at
-from_there plan transfer base at pointer can e some fits known =
-    let reads = readable_block_facts plan base at can in
+-- The bytes of the block that is requested are those from `at` on.
+requested_block_begins_at : (plan : Plan) (transfer base at pointer : ℕ) → can_read plan base at ≡ true → plan.transfer ≡ transfer →
+    1 ≤ transfer → at < 2 ^ 32 → pointer ≡ base % 2 ^ 32 → pointer + (upload_block plan (place.Reading base) at - 2) * transfer ≡ at
+requested_block_begins_at plan transfer base at pointer can e some fits known =
+    let reads = readable_block_is_whole plan base at can in
     let size : block_size plan ≡ transfer = omega (arith, e, some) in
     let same : upload_block plan (place.Reading base) at - 2 ≡ (at - base) / block_size plan =
     ap (λ (n : ℕ). n - 2) (upload_block_of_base plan base at) ∙ small_block_number_kept ((at - base) / block_size plan) reads.few in
@@ -81,57 +80,58 @@ from_there plan transfer base at pointer can e some fits known =
     let low : pointer ≡ base = omega (arith, known, fits, reads.low) in
     omega (arith, there, low, reads.low)
 
--- ---- what they are
+-- Bytes of the image in a block.
 
-bytes_in_of_element : (plan : Plan) (at end : ℕ) (e : Element) → element_at at plan.image.now ≡ Some e →
+bytes_in_are_of_element : (plan : Plan) (at end : ℕ) (e : Element) → element_at at plan.image.now ≡ Some e →
     bytes_in plan at end ≡ take (end - at) (drop (at - e.address) e.bytes.now)
-bytes_in_of_element plan at end e h =
+bytes_in_are_of_element plan at end e h =
     ap (λ (o : Option Element). elim o as (λ _. List ℕ) [ None ↦ [] | Some x ↦ take (end - at) (drop (at - x.address) x.bytes.now) ]) h
 
-element_end_if_found : (plan : Plan) (at : ℕ) (e : Element) → element_at at plan.image.now ≡ Some e → element_end plan at ≡ end_of e
-element_end_if_found plan at e h = ap (λ (o : Option Element). elim o as (λ _. ℕ) [ None ↦ at | Some x ↦ end_of x ]) h
+found_element_has_end : (plan : Plan) (at : ℕ) (e : Element) → element_at at plan.image.now ≡ Some e → element_end plan at ≡ end_of e
+found_element_has_end plan at e h = ap (λ (o : Option Element). elim o as (λ _. ℕ) [ None ↦ at | Some x ↦ end_of x ]) h
 
-ends_here : (plan : Plan) (at : ℕ) → element_at at plan.image.now ≡ None → element_end plan at ≡ at
-ends_here plan at h = ap (λ (o : Option Element). elim o as (λ _. ℕ) [ None ↦ at | Some x ↦ end_of x ]) h
+unfound_element_ends_at_address : (plan : Plan) (at : ℕ) → element_at at plan.image.now ≡ None → element_end plan at ≡ at
+unfound_element_ends_at_address plan at h = ap (λ (o : Option Element). elim o as (λ _. ℕ) [ None ↦ at | Some x ↦ end_of x ]) h
 
-read_within : (plan : Plan) (at end : ℕ) → (read_end plan at end ≤ element_end plan at) × (read_end plan at end ≤ end)
+read_end_within_element : (plan : Plan) (at end : ℕ) → (read_end plan at end ≤ element_end plan at) × (read_end plan at end ≤ end)
 unfolding read_end
-read_within plan at end = (omega arith, omega arith)
+read_end_within_element plan at end = (omega arith, omega arith)
 
 read_is_image_byte : (plan : Plan) (at end a : ℕ) (o : Option Element) → element_at at plan.image.now ≡ o → apart_from 0 plan.image.now
-    ≡ true →
-    at ≤ a →
+    ≡ true → at ≤ a →
     a < read_end plan at end → get_or (bytes_in plan at (read_end plan at end)) (a - at) 0 ≡ byte_at a plan.image.now
-read_is_image_byte plan at end a None h apart low high = absurd (omega (arith, low, high, (read_within plan at end).0, ends_here plan at h))
+read_is_image_byte plan at end a None h apart low high =
+    absurd (omega (arith, low, high, (read_end_within_element plan at end).0, unfound_element_ends_at_address plan at h))
 read_is_image_byte plan at end a (Some e) h apart low high =
     let there = found_element_has_address at 0 e plan.image.now apart h in
-    let later : a < end_of e = omega (arith, high, (read_within plan at end).0, element_end_if_found plan at e h) in
-    ap (λ (xs : List ℕ). get_or xs (a - at) 0) (bytes_in_of_element plan at (read_end plan at end) e h)
-    ∙ byte_in_part e at a (read_end plan at end) there.1 low high
+    let later : a < end_of e = omega (arith, high, (read_end_within_element plan at end).0, found_element_has_end plan at e h) in
+    ap (λ (xs : List ℕ). get_or xs (a - at) 0) (bytes_in_are_of_element plan at (read_end plan at end) e h)
+    ∙ part_has_same_byte e at a (read_end plan at end) there.1 low high
     ∙ sym (ap (byte_of_element_at a) (later_address_same_element at a 0 e plan.image.now apart h low later))
 
-byte_within_read : (plan : Plan) (at end a : ℕ) (o : Option Element) → element_at at plan.image.now ≡ o → apart_from 0 plan.image.now
-    ≡ true →
-    at ≤ a →
+read_byte_within_length : (plan : Plan) (at end a : ℕ) (o : Option Element) → element_at at plan.image.now ≡ o → apart_from 0 plan.image.now
+    ≡ true → at ≤ a →
     a < read_end plan at end → a - at < length (bytes_in plan at (read_end plan at end))
-byte_within_read plan at end a None h apart low high = absurd (omega (arith, low, high, (read_within plan at end).0, ends_here plan at h))
-byte_within_read plan at end a (Some e) h apart low high =
+read_byte_within_length plan at end a None h apart low high =
+    absurd (omega (arith, low, high, (read_end_within_element plan at end).0, unfound_element_ends_at_address plan at h))
+read_byte_within_length plan at end a (Some e) h apart low high =
     let there = found_element_has_address at 0 e plan.image.now apart h in
-    let later : a < end_of e = omega (arith, high, (read_within plan at end).0, element_end_if_found plan at e h) in
-    let same = ap length (bytes_in_of_element plan at (read_end plan at end) e h) in
+    let later : a < end_of e = omega (arith, high, (read_end_within_element plan at end).0, found_element_has_end plan at e h) in
+    let same = ap length (bytes_in_are_of_element plan at (read_end plan at end) e h) in
     let size = length-take (read_end plan at end - at) (drop (at - e.address) e.bytes.now) in
     let rest = length-drop (at - e.address) e.bytes.now in
     omega (arith, same, size, rest, later, there.1, low, high)
 
-wanted_is : (plan : Plan) (w : Work) → read_bytes plan w ≡ bytes_in plan (stands_at w) (read_end plan (stands_at w) (end_of_work plan w))
+read_bytes_are_part : (plan : Plan) (w : Work)
+    → read_bytes plan w ≡ bytes_in plan (stands_at w) (read_end plan (stands_at w) (end_of_work plan w))
 unfolding read_bytes
-wanted_is plan w = refl
+read_bytes_are_part plan w = refl
 
--- A byte of the block that is wanted is the byte of the image at its address.
+-- A byte of the block that the session expects is the byte of the image at its address.
 wanted_byte_is_image_byte : (plan : Plan) (w : Work) (a : ℕ) → apart_from 0 plan.image.now ≡ true → stands_at w ≤ a →
     a < read_end plan (stands_at w) (end_of_work plan w) → get_or (read_bytes plan w) (a - stands_at w) 0 ≡ byte_at a plan.image.now
 wanted_byte_is_image_byte plan w a apart low high =
-    ap (λ (xs : List ℕ). get_or xs (a - stands_at w) 0) (wanted_is plan w)
+    ap (λ (xs : List ℕ). get_or xs (a - stands_at w) 0) (read_bytes_are_part plan w)
     ∙ read_is_image_byte plan (stands_at w) (end_of_work plan w) a (element_at (stands_at w) plan.image.now) refl apart low high
 
 wanted_byte_in_length : (plan : Plan) (w : Work) (a : ℕ) → apart_from 0 plan.image.now ≡ true → stands_at w ≤ a →
@@ -139,32 +139,32 @@ wanted_byte_in_length : (plan : Plan) (w : Work) (a : ℕ) → apart_from 0 plan
 wanted_byte_in_length plan w a apart low high =
     omega (
       arith,
-      byte_within_read plan (stands_at w) (end_of_work plan w) a (element_at (stands_at w) plan.image.now) refl apart low high,
+      read_byte_within_length plan (stands_at w) (end_of_work plan w) a (element_at (stands_at w) plan.image.now) refl apart low high,
       ap
-          length (wanted_is plan w),
+          length (read_bytes_are_part plan w),
     )
 
--- ---- what was compared
+-- Bytes that were compared.
 
--- A byte counts as read back only if the bytes that came are those of the image.
+-- The bytes that came are those of the image that the work reads, and the byte at `a` is one of them.
 record MatchesImage (plan : Plan) (w : Work) (given : List ℕ) (a : ℕ) : Type 0 where
   same : given ≡ read_bytes plan w
   low : stands_at w ≤ a
   high : a < read_end plan (stands_at w) (end_of_work plan w)
 
-match_by_comparison : (plan : Plan) (w : Work) (given : List ℕ) (a : ℕ) (t u : Bool) → bytes_eq given (read_bytes plan w) ≡ u →
+comparison_is_match : (plan : Plan) (w : Work) (given : List ℕ) (a : ℕ) (t u : Bool) → bytes_eq given (read_bytes plan w) ≡ u →
     ReadsBack plan w step.Read (cond t (heard_comparison u) heard_nothing) a → MatchesImage plan w given a
-match_by_comparison plan w given a true true e h = record { same = (bytes_eq-Decides given (read_bytes plan w)).0 e; low = h.0; high = h.1 }
-match_by_comparison plan w given a true false e h = absurd h
-match_by_comparison plan w given a false u e h = absurd h
+comparison_is_match plan w given a true true e h = record { same = (bytes_eq-Decides given (read_bytes plan w)).0 e; low = h.0; high = h.1 }
+comparison_is_match plan w given a true false e h = absurd h
+comparison_is_match plan w given a false u e h = absurd h
 
 read_back_means_match : (plan : Plan) (w : Work) (given : List ℕ) (a : ℕ) →
     ReadsBack plan w step.Read (heard_of_compare (read_bytes plan w) given) a →
     MatchesImage plan w given a
 read_back_means_match plan w given a h =
-    match_by_comparison plan w given a (eqb (length given) (length (read_bytes plan w))) (bytes_eq given (read_bytes plan w)) refl h
+    comparison_is_match plan w given a (eqb (length given) (length (read_bytes plan w))) (bytes_eq given (read_bytes plan w)) refl h
 
--- ---- what the device gave
+-- Bytes that the device gave.
 
 -- The bytes that the device gave are in its memory, and its work may change none of them.
 record GaveBytes (chip : Chip) (p : Place) (block : ℕ) (bytes : List ℕ) (d : Device) : Type 0 where
@@ -189,6 +189,7 @@ module _ (chip : Chip) (p : Place) where
   upload_gave_memory d block n body _ bytes _ e from known (gives_other_bytes _ _ _ sent may low) = absurd (omega (arith, from, low))
   upload_gave_memory d block n body r bytes d' e from known step = cc
 
+  -- An UPLOAD that was answered with bytes, however often it came, gave bytes of the memory.
   given_of : (d : Device) (block n : ℕ) (body bytes : List ℕ) (d' : Device) → 2 ≤ block → IsQuiet d.device_work × KnowsPointer p d.pointer →
       RequestArrives chip (request.Upload block n) body d (Some (Data bytes)) d' → GaveBytes chip p block bytes d'
   given_of d block n body bytes d' from known (again {before = before} {mid = mid} first last) =
@@ -204,7 +205,7 @@ module _ (chip : Chip) (plan : Plan) (w : Work) (a : ℕ) (transfer : plan.trans
   matched_byte_is_right (place.At p) given d can g m = absurd can
   matched_byte_is_right (place.Reading base) given d can g m =
       let there : g.pointer + (upload_block plan (place.Reading base) (stands_at w) - 2) * chip.transfer ≡ stands_at w =
-      from_there plan chip.transfer base (stands_at w) g.pointer can transfer some (omega (arith, fits, m.low)) g.known in
+      requested_block_begins_at plan chip.transfer base (stands_at w) g.pointer can transfer some (omega (arith, fits, m.low)) g.known in
       let at : stands_at w + (a - stands_at w) ≡ a = omega (arith, m.low) in
       let value : get_or given (a - stands_at w) 0 ≡ byte_at a plan.image.now =
       ap (λ (xs : List ℕ). get_or xs (a - stands_at w) 0) m.same ∙ wanted_byte_is_image_byte plan w a apart m.low m.high in
@@ -214,13 +215,12 @@ module _ (chip : Chip) (plan : Plan) (w : Work) (a : ℕ) (transfer : plan.trans
       ∙ g.stand (a - stands_at w) long
       ∙ value
 
-  read_byte_by_comparison : (p : Place) (d d' : Device) (h : AnyHeard) (r : Option Reaction) (given : List ℕ) (bytes : List ℕ) →
+  compared_byte_is_right : (p : Place) (d d' : Device) (h : AnyHeard) (r : Option Reaction) (given : List ℕ) (bytes : List ℕ) →
       DeviceFitsStep chip plan w p step.Read d →
       DeedArrives chip (deed_of_step plan w p step.Read) d (Some (Data bytes)) d' → given ≡ bytes → h
-      ≡ heard_of_compare (read_bytes plan w) given
-      →
+      ≡ heard_of_compare (read_bytes plan w) given →
       ReadsBack plan w step.Read h a → (d'.memory a ≡ byte_at a plan.image.now) × IsSafeAt chip a d'.device_work
-  read_byte_by_comparison p d d' h r given bytes k comes same e reads =
+  compared_byte_is_right p d d' h r given bytes k comes same e reads =
       let m = read_back_means_match plan w given a (subst (λ x. ReadsBack plan w step.Read x a) e reads) in
       let g = given_of chip p d (upload_block plan p (stands_at w)) (length (read_bytes plan w)) [] bytes d'
       (upload_block_is_two_at_least plan p (stands_at w))
@@ -239,7 +239,7 @@ module _ (chip : Chip) (plan : Plan) (w : Work) (a : ℕ) (transfer : plan.trans
       → ReadsBack plan w step.Read h a →
       (d'.memory a ≡ byte_at a plan.image.now) × IsSafeAt chip a d'.device_work
   read_back_byte_is_right p d d' h (Some (Data bytes)) (seen.Bytes given) k comes is e reads =
-      read_byte_by_comparison p d d' h (Some (Data bytes)) given.now bytes k comes is e reads
+      compared_byte_is_right p d d' h (Some (Data bytes)) given.now bytes k comes is e reads
   read_back_byte_is_right p d d' h (Some Acks) (seen.Bytes given) k comes is e reads = absurd is
   read_back_byte_is_right p d d' h (Some Stalls) (seen.Bytes given) k comes is e reads = absurd is
   read_back_byte_is_right p d d' h None (seen.Bytes given) k comes is e reads = absurd is

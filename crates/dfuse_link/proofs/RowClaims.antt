@@ -10,8 +10,8 @@ use Rattle.dfuse_host.specs.declared.work.Work.TheVariants as work
 use Rattle.dfuse_host.specs.declared.place.Place.{Place}
 use Rattle.dfuse_host.specs.declared.place.Place.TheVariants as place
 use Rattle.dfuse_host.specs.Commands.{command_of}
-use Rattle.dfuse_host.specs.Table.{state_found, ends_comparing, fault_found, status_found, on_abort, on_ask_state, on_ask_status, on_clear_wait, on_send, probed, on_probe, phase_if_refused, phase_after_poll, on_poll, on_poll_wait, place_with_reading_begun, place_with_reading_ended, on_begin_reading, on_end_reading, read_on, on_read, on_close, close_probed, on_close_probe, close_polled, on_close_poll}
-use Rattle.dfuse_host.proofs.ForCallers.{AnyHeard, heard_comparison, fact_of_each_heard}
+use Rattle.dfuse_host.specs.Table.{state_found, phase_after_comparing_fault, phase_after_fault, status_found, on_abort, on_ask_state, on_ask_status, on_clear_wait, on_send, probed, on_probe, phase_if_refused, phase_after_poll, on_poll, on_poll_wait, place_with_reading_begun, place_with_reading_ended, on_begin_reading, on_end_reading, read_on, on_read, on_close, close_probed, on_close_probe, close_polled, on_close_poll}
+use Rattle.dfuse_host.proofs.ForCallers.{AnyHeard, heard_comparison, heards_have_fact}
 use Rattle.dfuse_link.specs.Chips.{Chip, Device, state_in}
 use Rattle.dfuse_link.proofs.Claims.{IsQuiet, KnowsPointer, MayHaveCommand, HasCommand, CanReadWork, DeviceFitsPhase, HeardSaysState}
 use Rattle.dfuse_link.proofs.SentClaims.{AckMeansHasCommand}
@@ -27,10 +27,10 @@ ended_reading_knows_pointer (place.Reading p) pointer k = k
 ended_reading_knows_pointer p pointer k = k
 
 module _ (chip : Chip) (plan : Plan) (w : Work) (p : Place) (d : Device) where
-  -- ---- clearing
+  -- Rows that clear the device.
 
   pub device_fits_after_abort : (h : AnyHeard) → DeviceFitsPhase chip plan (on_abort w h) d
-  device_fits_after_abort h = fact_of_each_heard (λ x. DeviceFitsPhase chip plan (on_abort w x) d) tt (λ s. tt) (λ s. tt) (λ b. tt) tt tt
+  device_fits_after_abort h = heards_have_fact (λ x. DeviceFitsPhase chip plan (on_abort w x) d) tt (λ s. tt) (λ s. tt) (λ b. tt) tt tt
       tt tt h
 
   device_fits_found_state : (t : State) → state_in d.device_work ≡ t → DeviceFitsPhase chip plan (state_found plan w t) d
@@ -42,14 +42,14 @@ module _ (chip : Chip) (plan : Plan) (w : Work) (p : Place) (d : Device) where
   pub device_fits_after_ask_state : (h : AnyHeard) → HeardSaysState h (state_in d.device_work) →
       DeviceFitsPhase chip plan (on_ask_state plan w h) d
   device_fits_after_ask_state h =
-      fact_of_each_heard (λ x. HeardSaysState x (state_in d.device_work) → DeviceFitsPhase chip plan (on_ask_state plan w x) d)
+      heards_have_fact (λ x. HeardSaysState x (state_in d.device_work) → DeviceFitsPhase chip plan (on_ask_state plan w x) d)
       (λ f. tt) (λ s f. tt) (λ s f. device_fits_found_state s f) (λ b f. tt) (λ f. tt) (λ f. tt) (λ f. tt) (λ f. tt) h
 
-  device_fits_ended_comparison : (v : Work) (c : Code) → DeviceFitsPhase chip plan (ends_comparing v c) d
+  device_fits_ended_comparison : (v : Work) (c : Code) → DeviceFitsPhase chip plan (phase_after_comparing_fault v c) d
   device_fits_ended_comparison v code.StalledPkt = tt
   device_fits_ended_comparison v c = tt
 
-  device_fits_found_fault : (v : Work) (c : Code) → DeviceFitsPhase chip plan (fault_found v c) d
+  device_fits_found_fault : (v : Work) (c : Code) → DeviceFitsPhase chip plan (phase_after_fault v c) d
   device_fits_found_fault (work.Erase at) c = tt
   device_fits_found_fault v code.Vendor = tt
   device_fits_found_fault (work.Compare at) c = device_fits_ended_comparison (work.Compare at) c
@@ -62,21 +62,21 @@ module _ (chip : Chip) (plan : Plan) (w : Work) (p : Place) (d : Device) where
 
   pub device_fits_after_ask_status : (h : AnyHeard) → DeviceFitsPhase chip plan (on_ask_status w h) d
   device_fits_after_ask_status h =
-      fact_of_each_heard (λ x. DeviceFitsPhase chip plan (on_ask_status w x) d) tt (λ s. device_fits_found_status s.code s.poll_ms s.state)
+      heards_have_fact (λ x. DeviceFitsPhase chip plan (on_ask_status w x) d) tt (λ s. device_fits_found_status s.code s.poll_ms s.state)
       (λ s. tt) (λ b. tt) tt tt tt
       tt h
 
   pub device_fits_after_clear_wait : (ms : ℕ) (h : AnyHeard) → DeviceFitsPhase chip plan (on_clear_wait w ms h) d
-  device_fits_after_clear_wait ms h = fact_of_each_heard (λ x. DeviceFitsPhase chip plan (on_clear_wait w ms x) d) tt (λ s. tt) (λ s. tt)
+  device_fits_after_clear_wait ms h = heards_have_fact (λ x. DeviceFitsPhase chip plan (on_clear_wait w ms x) d) tt (λ s. tt) (λ s. tt)
       (λ b. tt) tt tt tt tt h
 
-  -- ---- a command
+  -- Rows of a command.
 
   pub device_fits_after_send : (h : AnyHeard) → AckMeansHasCommand chip (command_of plan w p) d h →
       MayHaveCommand (command_of plan w p) d.device_work × KnowsPointer p d.pointer →
       DeviceFitsPhase chip plan (on_send w p h) d
   device_fits_after_send h f k =
-      fact_of_each_heard (λ x. AckMeansHasCommand chip (command_of plan w p) d x → DeviceFitsPhase chip plan (on_send w p x) d)
+      heards_have_fact (λ x. AckMeansHasCommand chip (command_of plan w p) d x → DeviceFitsPhase chip plan (on_send w p x) d)
       (λ f. f) (λ s f. k) (λ s f. k) (λ b f. k) (λ f. k) (λ f. k) (λ f. k) (λ f. k) h f
 
   device_fits_probed_state : (t : State) → state_in d.device_work ≡ t → MayHaveCommand (command_of plan w p) d.device_work
@@ -93,7 +93,7 @@ module _ (chip : Chip) (plan : Plan) (w : Work) (p : Place) (d : Device) where
       MayHaveCommand (command_of plan w p) d.device_work × KnowsPointer p d.pointer →
       DeviceFitsPhase chip plan (on_probe plan w p h) d
   device_fits_after_probe h f k =
-      fact_of_each_heard (λ x. HeardSaysState x (state_in d.device_work) →
+      heards_have_fact (λ x. HeardSaysState x (state_in d.device_work) →
       DeviceFitsPhase chip plan (on_probe plan w p x) d) (λ f. k) (λ s f. k)
       (λ s f. device_fits_probed_state s f k)
       (λ b f. k)
@@ -119,20 +119,20 @@ module _ (chip : Chip) (plan : Plan) (w : Work) (p : Place) (d : Device) where
       HasCommand chip (command_of plan w p) d.device_work d.pointer d.memory →
       DeviceFitsPhase chip plan (on_poll plan w p last h) d
   device_fits_after_poll last h f k =
-      fact_of_each_heard (λ x. HeardSaysState x (state_in d.device_work) → DeviceFitsPhase chip plan (on_poll plan w p last x) d) (λ f. k)
+      heards_have_fact (λ x. HeardSaysState x (state_in d.device_work) → DeviceFitsPhase chip plan (on_poll plan w p last x) d) (λ f. k)
       (λ s f. device_fits_polled_status s.code s.poll_ms s.state f k) (λ s f. k) (λ b f. k) (λ f. k) (λ f. k) (λ f. k) (λ f. k) h f
 
   pub device_fits_after_poll_wait : (ms : ℕ) (h : AnyHeard) → HasCommand chip (command_of plan w p) d.device_work d.pointer d.memory →
       DeviceFitsPhase chip plan (on_poll_wait w p ms h) d
-  device_fits_after_poll_wait ms h k = fact_of_each_heard (λ x. DeviceFitsPhase chip plan (on_poll_wait w p ms x) d) k (λ s. k) (λ s. k) (λ
+  device_fits_after_poll_wait ms h k = heards_have_fact (λ x. DeviceFitsPhase chip plan (on_poll_wait w p ms x) d) k (λ s. k) (λ s. k) (λ
       b. k) k k k k h
 
-  -- ---- reading
+  -- Rows of reading.
 
   pub device_fits_begun_reading : (h : AnyHeard) → IsQuiet d.device_work × KnowsPointer p d.pointer →
       DeviceFitsPhase chip plan (on_begin_reading plan w p h) d
   device_fits_begun_reading h k =
-      fact_of_each_heard (λ x. DeviceFitsPhase chip plan (on_begin_reading plan w p x) d)
+      heards_have_fact (λ x. DeviceFitsPhase chip plan (on_begin_reading plan w p x) d)
       (device_fits_settled_phase chip plan d k.0 w (place_with_reading_begun p) (begun_reading_knows_pointer p d.pointer k.1))
       (λ s. k) (λ s. k) (λ b. k)
       tt k k k h
@@ -140,7 +140,7 @@ module _ (chip : Chip) (plan : Plan) (w : Work) (p : Place) (d : Device) where
   pub device_fits_ended_reading : (h : AnyHeard) → IsQuiet d.device_work × KnowsPointer p d.pointer →
       DeviceFitsPhase chip plan (on_end_reading plan w p h) d
   device_fits_ended_reading h k =
-      fact_of_each_heard (λ x. DeviceFitsPhase chip plan (on_end_reading plan w p x) d)
+      heards_have_fact (λ x. DeviceFitsPhase chip plan (on_end_reading plan w p x) d)
       (device_fits_settled_phase chip plan d k.0 w (place_with_reading_ended p) (ended_reading_knows_pointer p d.pointer k.1)) (λ s. k)
       (λ s. k) (λ b. k)
       tt k k k h
@@ -153,14 +153,14 @@ module _ (chip : Chip) (plan : Plan) (w : Work) (p : Place) (d : Device) where
   pub device_fits_after_read : (h : AnyHeard) → IsQuiet d.device_work × KnowsPointer p d.pointer × CanReadWork plan w p →
       DeviceFitsPhase chip plan (on_read plan w p h) d
   device_fits_after_read h k =
-      fact_of_each_heard (λ x. DeviceFitsPhase chip plan (on_read plan w p x) d) k (λ s. k) (λ s. k)
+      heards_have_fact (λ x. DeviceFitsPhase chip plan (on_read plan w p x) d) k (λ s. k) (λ s. k)
       (λ b. device_fits_after_comparison b k)
       tt k k k h
 
-  -- ---- leaving
+  -- Rows of leaving.
 
   pub device_fits_after_close : (h : AnyHeard) → DeviceFitsPhase chip plan (on_close w p h) d
-  device_fits_after_close h = fact_of_each_heard (λ x. DeviceFitsPhase chip plan (on_close w p x) d) tt (λ s. tt) (λ s. tt) (λ b. tt) tt tt
+  device_fits_after_close h = heards_have_fact (λ x. DeviceFitsPhase chip plan (on_close w p x) d) tt (λ s. tt) (λ s. tt) (λ b. tt) tt tt
       tt tt h
 
   device_fits_close_probed : (t : State) → DeviceFitsPhase chip plan (close_probed w p t) d
@@ -171,7 +171,7 @@ module _ (chip : Chip) (plan : Plan) (w : Work) (p : Place) (d : Device) where
 
   pub device_fits_after_close_probe : (h : AnyHeard) → DeviceFitsPhase chip plan (on_close_probe w p h) d
   device_fits_after_close_probe h =
-      fact_of_each_heard (λ x. DeviceFitsPhase chip plan (on_close_probe w p x) d) tt (λ s. tt) (λ s. device_fits_close_probed s) (λ b. tt)
+      heards_have_fact (λ x. DeviceFitsPhase chip plan (on_close_probe w p x) d) tt (λ s. tt) (λ s. device_fits_close_probed s) (λ b. tt)
       tt tt tt tt h
 
   device_fits_close_polled : (c : Code) (t : State) → DeviceFitsPhase chip plan (close_polled w p c t) d
@@ -183,6 +183,6 @@ module _ (chip : Chip) (plan : Plan) (w : Work) (p : Place) (d : Device) where
   device_fits_close_polled c t = tt
 
   pub device_fits_after_close_poll : (h : AnyHeard) → DeviceFitsPhase chip plan (on_close_poll w p h) d
-  device_fits_after_close_poll h = fact_of_each_heard (λ x. DeviceFitsPhase chip plan (on_close_poll w p x) d) tt (λ s.
+  device_fits_after_close_poll h = heards_have_fact (λ x. DeviceFitsPhase chip plan (on_close_poll w p x) d) tt (λ s.
       device_fits_close_polled s.code s.state) (λ s. tt)
       (λ b. tt) tt tt tt tt h

@@ -1,4 +1,4 @@
--- The session of a history goes by rows of its table, and ends in time.
+-- The session of a history follows the rows of its table, and ends within its actions.
 use Rattle.std.proofs.Common.{[], ◌∷◌, arith}
 use Rattle.dfuse_host.specs.declared.seen.Seen.{Seen}
 use Rattle.dfuse_host.specs.Budget.{OverInTime}

@@ -22,7 +22,7 @@ use Rattle.dfuse_host.proofs.ForCallers.{set_address, write_bytes_at}
 use Rattle.dfuse_link.specs.Chips.{Chip, Order, DeviceWork, RestsInState, Pending, CarriesOut, Device, ChangedBy, DeviceAdvances, goes_on, ends, fails}
 use Rattle.dfuse_link.specs.Reactions.{Reaction, order_of, work_with_order_started, work_after_status, Reacts, stalls, takes, closes, gives, gives_other_bytes, tells, shows, aborts, clears_error}
 use Rattle.dfuse_link.specs.Histories.{RequestArrives, never, again}
-use Rattle.dfuse_link.proofs.Changes.{OrderMayChange, byte_stays_if_safe, fact_after_stall, started_order_keeps_fact, told_status_keeps_fact}
+use Rattle.dfuse_link.proofs.Changes.{OrderMayChange, byte_stays_if_safe, stall_keeps_fact, started_order_keeps_fact, told_status_keeps_fact}
 use Rattle.dfuse_link.proofs.Claims.{KnowsPointer, DeviceFitsStep}
 use Rattle.dfuse_link.proofs.SentClaims.{set_address_order}
 
@@ -43,7 +43,9 @@ RequestLeavesByte chip a q body pointer = Unit {0}
 
 -- The byte at `a` stays, and the work may not change it afterwards.
 pub record KeepsByte (chip : Chip) (a : ℕ) (d d' : Device) : Type 0 where
+  -- The byte stays.
   pub byte : d'.memory a ≡ d.memory a
+  -- The work may not change it.
   pub safe : IsSafeAt chip a d'.device_work
 
 module _ (chip : Chip) (a : ℕ) where
@@ -57,16 +59,16 @@ module _ (chip : Chip) (a : ℕ) where
       IsSafeAt chip a device_work → OrderMayChange chip order a → ⊥
   busy_order_changes_nothing device_work order e safe = subst (IsSafeAt chip a) e safe
 
-  pub byte_kept_as_device_advances : (d d' : Device) → DeviceAdvances chip d d' → IsSafeAt chip a d.device_work → KeepsByte chip a d d'
-  byte_kept_as_device_advances d d' (goes_on order e e' changed) safe = record {
+  pub advance_keeps_byte : (d d' : Device) → DeviceAdvances chip d d' → IsSafeAt chip a d.device_work → KeepsByte chip a d d'
+  advance_keeps_byte d d' (goes_on order e e' changed) safe = record {
     byte = byte_stays_if_safe chip a (CarriesOut order) d.memory d'.memory changed (busy_order_changes_nothing d.device_work order e safe);
     safe = subst (IsSafeAt chip a) (sym e') (busy_order_changes_nothing d.device_work order e safe);
   }
-  byte_kept_as_device_advances d d' (ends order s e e' end changed set_address_order) safe = record {
+  advance_keeps_byte d d' (ends order s e e' end changed set_address_order) safe = record {
     byte = byte_stays_if_safe chip a (CarriesOut order) d.memory d'.memory changed (busy_order_changes_nothing d.device_work order e safe);
     safe = subst (IsSafeAt chip a) (sym e') (λ x. x);
   }
-  byte_kept_as_device_advances d d' (fails order e e' changed) safe = record {
+  advance_keeps_byte d d' (fails order e e' changed) safe = record {
     byte = byte_stays_if_safe chip a (CarriesOut order) d.memory d'.memory changed (busy_order_changes_nothing d.device_work order e safe);
     safe = subst (IsSafeAt chip a) (sym e') (λ x. x);
   }
@@ -80,30 +82,30 @@ module _ (chip : Chip) (a : ℕ) where
       changed safe
 
   -- A restart keeps a byte that the work may not change.
-  pub byte_kept_after_restart : (d d' : Device) (s : State) → d'.device_work ≡ RestsInState s →
+  pub restart_keeps_byte : (d d' : Device) (s : State) → d'.device_work ≡ RestsInState s →
       ChangedBy chip d.device_work d.memory d'.memory →
       IsSafeAt chip a d.device_work → KeepsByte chip a d d'
-  byte_kept_after_restart d d' s rests changed safe = record {
+  restart_keeps_byte d d' s rests changed safe = record {
     byte = safe_work_leaves_byte d.device_work d.memory d'.memory changed safe;
     safe = subst (IsSafeAt chip a) (sym rests) (λ x. x);
   }
 
-  byte_kept_at_status : (d mid : Device) → (mid ≡ record d { device_work = work_with_order_started d.device_work })
+  status_keeps_byte : (d mid : Device) → (mid ≡ record d { device_work = work_with_order_started d.device_work })
       ⊎ DeviceAdvances chip (record d { device_work = work_with_order_started d.device_work }) mid →
       IsSafeAt chip a d.device_work →
       KeepsByte chip a d mid
-  byte_kept_at_status d mid (inl e) safe =
+  status_keeps_byte d mid (inl e) safe =
       subst (λ (x : Device). KeepsByte chip a d x) (sym e) (record { byte = refl; safe = started_order_is_safe d.device_work safe })
-  byte_kept_at_status d mid (inr w) safe =
-      let k = byte_kept_as_device_advances (record d { device_work = work_with_order_started d.device_work }) mid w (started_order_is_safe
+  status_keeps_byte d mid (inr w) safe =
+      let k = advance_keeps_byte (record d { device_work = work_with_order_started d.device_work }) mid w (started_order_is_safe
       d.device_work safe) in
       record { byte = k.byte; safe = k.safe }
 
-  byte_kept_after_reaction : (d : Device) (q : Request) (body : List ℕ) (r : Reaction) (d' : Device) → Reacts chip d q body r d' →
+  reaction_keeps_byte : (d : Device) (q : Request) (body : List ℕ) (r : Reaction) (d' : Device) → Reacts chip d q body r d' →
       RequestLeavesByte chip a q body d.pointer →
       IsSafeAt chip a d.device_work → KeepsByte chip a d d' × RequestLeavesByte chip a q body d'.pointer
-  byte_kept_after_reaction d _ _ _ _ (stalls q body device_work may is) new safe = (
-    fact_after_stall (λ (t : DeviceWork). KeepsByte chip a d (record d { device_work = t })) d.device_work device_work is (record {
+  reaction_keeps_byte d _ _ _ _ (stalls q body device_work may is) new safe = (
+    stall_keeps_fact (λ (t : DeviceWork). KeepsByte chip a d (record d { device_work = t })) d.device_work device_work is (record {
       byte =
           refl;
       safe = safe;
@@ -111,22 +113,22 @@ module _ (chip : Chip) (a : ℕ) where
         (record { byte = refl; safe = λ x. x }),
     new,
   )
-  byte_kept_after_reaction d _ _ _ _ (takes block n body may some) new safe = (record { byte = refl; safe = new }, new)
-  byte_kept_after_reaction d _ _ _ _ (closes block n may) new safe = (record { byte = refl; safe = λ x. x }, new)
-  byte_kept_after_reaction d _ _ _ _ (gives block n body bytes s may from most stands is) new safe = (
+  reaction_keeps_byte d _ _ _ _ (takes block n body may some) new safe = (record { byte = refl; safe = new }, new)
+  reaction_keeps_byte d _ _ _ _ (closes block n may) new safe = (record { byte = refl; safe = λ x. x }, new)
+  reaction_keeps_byte d _ _ _ _ (gives block n body bytes s may from most stands is) new safe = (
     record {
       byte = refl;
       safe = λ x. x;
     },
     tt,
   )
-  byte_kept_after_reaction d _ _ _ _ (gives_other_bytes block n body bytes may low) new safe = (record { byte = refl; safe = λ x. x }, tt)
-  byte_kept_after_reaction d _ _ _ _ (tells n body bytes status mid way is same) new safe =
-      let k = byte_kept_at_status d mid way safe in
+  reaction_keeps_byte d _ _ _ _ (gives_other_bytes block n body bytes may low) new safe = (record { byte = refl; safe = λ x. x }, tt)
+  reaction_keeps_byte d _ _ _ _ (tells n body bytes status mid way is same) new safe =
+      let k = status_keeps_byte d mid way safe in
       (record { byte = k.byte; safe = work_after_status_is_safe mid.device_work k.safe }, tt)
-  byte_kept_after_reaction d _ _ _ _ (shows n body) new safe = (record { byte = refl; safe = safe }, tt)
-  byte_kept_after_reaction d _ _ _ _ (aborts body may) new safe = (record { byte = refl; safe = λ x. x }, tt)
-  byte_kept_after_reaction d _ _ _ _ (clears_error body e) new safe = (record { byte = refl; safe = λ x. x }, tt)
+  reaction_keeps_byte d _ _ _ _ (shows n body) new safe = (record { byte = refl; safe = safe }, tt)
+  reaction_keeps_byte d _ _ _ _ (aborts body may) new safe = (record { byte = refl; safe = λ x. x }, tt)
+  reaction_keeps_byte d _ _ _ _ (clears_error body e) new safe = (record { byte = refl; safe = λ x. x }, tt)
 
   arriving_request_keeps_byte : (q : Request) (body : List ℕ) (d : Device) (r : Option Reaction) (d' : Device) →
       RequestArrives chip q body d r d' →
@@ -135,16 +137,16 @@ module _ (chip : Chip) (a : ℕ) where
   arriving_request_keeps_byte q body d _ _ never new safe = (record { byte = refl; safe = safe }, new)
   arriving_request_keeps_byte q body d _ d' (again {before = before} {mid = mid} {reaction = reaction} first last) new safe =
       let k = arriving_request_keeps_byte q body d before mid first new safe in
-      let l = byte_kept_after_reaction mid q body reaction d' last k.1 k.0.safe in
+      let l = reaction_keeps_byte mid q body reaction d' last k.1 k.0.safe in
       (record { byte = l.0.byte ∙ k.0.byte; safe = l.0.safe }, l.1)
 
   -- A request that brings no order that may change the byte leaves the byte as it is.
-  pub byte_kept_as_request_arrives : (q : Request) (body : List ℕ) (d : Device) (r : Option Reaction) (d' : Device) →
+  pub harmless_request_keeps_byte : (q : Request) (body : List ℕ) (d : Device) (r : Option Reaction) (d' : Device) →
       RequestArrives chip q body d r d' →
       RequestLeavesByte chip a q body d.pointer → IsSafeAt chip a d.device_work → KeepsByte chip a d d'
-  byte_kept_as_request_arrives q body d r d' comes new safe = (arriving_request_keeps_byte q body d r d' comes new safe).0
+  harmless_request_keeps_byte q body d r d' comes new safe = (arriving_request_keeps_byte q body d r d' comes new safe).0
 
--- ---- what a session sends
+-- Requests that a session sends.
 
 -- The request of an action brings no order that may change the byte at `a`.
 abbrev pub DeedLeavesByte : Chip → (a : ℕ) → DfuseDeed → (pointer : ℕ) → Type 0
@@ -182,15 +184,15 @@ module _ (chip : Chip) (plan : Plan) (a pointer : ℕ) where
             (front_end plan),
       )
 
-  front_command_by_pointer : (p : ℕ) (at : ℕ) (t : Bool) → eqb p at ≡ t → pointer ≡ p % 2 ^ 32 → front_end plan ≤ a →
+  front_command_leaves_by_pointer : (p : ℕ) (at : ℕ) (t : Bool) → eqb p at ≡ t → pointer ≡ p % 2 ^ 32 → front_end plan ≤ a →
       DeedLeavesByte chip a (command_deed plan (work.WriteFront at) (cond t (write_bytes_at at) (set_address at))) pointer
-  front_command_by_pointer p at true e k behind = front_write_leaves_byte at (omega (arith, k, eqb-true p at e)) behind
-  front_command_by_pointer p at false e k behind = set_address_leaves_byte (work.WriteFront at) at
+  front_command_leaves_by_pointer p at true e k behind = front_write_leaves_byte at (omega (arith, k, eqb-true p at e)) behind
+  front_command_leaves_by_pointer p at false e k behind = set_address_leaves_byte (work.WriteFront at) at
 
   front_command_leaves_byte : (p : Place) (at : ℕ) → KnowsPointer p pointer → front_end plan ≤ a →
       DeedLeavesByte chip a (command_deed plan (work.WriteFront at) (write_command p at)) pointer
   front_command_leaves_byte place.Lost at k behind = set_address_leaves_byte (work.WriteFront at) at
-  front_command_leaves_byte (place.At p) at k behind = front_command_by_pointer p at (eqb p at) refl k behind
+  front_command_leaves_byte (place.At p) at k behind = front_command_leaves_by_pointer p at (eqb p at) refl k behind
   front_command_leaves_byte (place.Reading p) at k behind = set_address_leaves_byte (work.WriteFront at) at
 
   send_leaves_read_byte : (w : Work) (p : Place) → WasReadInWork plan w a → KnowsPointer p pointer →

@@ -12,7 +12,7 @@ use Rattle.dfuse_host.specs.Wire.{DfuseSeenMeaning}
 use Rattle.dfuse_host.specs.Plans.{write_end}
 use Rattle.dfuse_host.specs.Commands.{end_of_work, bytes_in}
 use Rattle.dfuse_host.specs.Deeds.{DfuseDeed, Send, Wait, Done, command_deed}
-use Rattle.dfuse_host.proofs.ForCallers.{AnyCommand, fact_of_each_command, AnyHeard, fact_of_each_heard, set_address, erase_page, write_bytes_at}
+use Rattle.dfuse_host.proofs.ForCallers.{AnyCommand, commands_have_fact, AnyHeard, heards_have_fact, set_address, erase_page, write_bytes_at}
 use Rattle.dfuse_link.specs.Chips.{Chip, SetsPointer, ErasesPage, Device}
 use Rattle.dfuse_link.specs.Reactions.{Reaction, Acks, Data, Stalls, order_of}
 use Rattle.dfuse_link.specs.Histories.{RequestArrives, SeenOfReaction}
@@ -25,12 +25,12 @@ DeedArrives chip (Send q body) d r d' = RequestArrives chip q body d r d'
 DeedArrives chip (Wait ms) d r d' = ⊥
 DeedArrives chip (Done report) d r d' = ⊥
 
--- The order of a command that sets the pointer is that to set it.
+-- The order of a command that sets the pointer is to set it.
 pub set_address_order : (chip : Chip) (pointer at : ℕ) → order_of chip pointer 0 (0x21 ∷ to_le_bytes w32 (at % 2 ^ 32))
     ≡ SetsPointer (at % 2 ^ 32)
 set_address_order chip pointer at = ap SetsPointer (from_le_bytes-to_le_bytes_4 (at % 2 ^ 32) (omega arith))
 
--- The order of a command that erases is that to erase.
+-- The order of a command that erases is to erase.
 pub erase_command_order : (chip : Chip) (pointer at : ℕ) → order_of chip pointer 0 (0x41 ∷ to_le_bytes w32 (at % 2 ^ 32))
     ≡ ErasesPage (at % 2 ^ 32)
 erase_command_order chip pointer at = ap ErasesPage (from_le_bytes-to_le_bytes_4 (at % 2 ^ 32) (omega arith))
@@ -38,7 +38,7 @@ erase_command_order chip pointer at = ap ErasesPage (from_le_bytes-to_le_bytes_4
 -- If the acknowledgement of a command is heard, the device has the command.
 abbrev pub AckMeansHasCommand : Chip → AnyCommand → Device → AnyHeard → Type 0
 AckMeansHasCommand chip c d h =
-    fact_of_each_heard (λ _. Type 0) (HasCommand chip c d.device_work d.pointer d.memory) (λ s. Unit {0}) (λ s. Unit {0}) (λ b. Unit {0})
+    heards_have_fact (λ _. Type 0) (HasCommand chip c d.device_work d.pointer d.memory) (λ s. Unit {0}) (λ s. Unit {0}) (λ b. Unit {0})
     (Unit {0}) (Unit {0}) (Unit {0}) (Unit {0}) h
 
 module _ (chip : Chip) (plan : Plan) (w : Work) (p : Place) (d d' : Device) where
@@ -47,7 +47,7 @@ module _ (chip : Chip) (plan : Plan) (w : Work) (p : Place) (d d' : Device) wher
       × KnowsPointer p d.pointer →
       MayHaveCommand c d'.device_work × KnowsPointer p d'.pointer
   sent_command_may_arrive r c =
-      fact_of_each_command (λ v. DeedArrives chip (command_deed plan w v) d r d' → MayHaveCommand v d.device_work
+      commands_have_fact (λ v. DeedArrives chip (command_deed plan w v) d r d' → MayHaveCommand v d.device_work
       × KnowsPointer p d.pointer → MayHaveCommand v d'.device_work ×
       KnowsPointer p d'.pointer)
       (λ at comes h. dnloads_arriving_keep_command chip (set_address at) p d d' 0 5 (0x21 ∷ to_le_bytes w32 (at % 2 ^ 32)) r
@@ -63,7 +63,7 @@ module _ (chip : Chip) (plan : Plan) (w : Work) (p : Place) (d d' : Device) wher
       MayHaveCommand c d.device_work × KnowsPointer p d.pointer →
       HasCommand chip c d'.device_work d'.pointer d'.memory
   acked_command_has_arrived c =
-      fact_of_each_command (λ v. DeedArrives chip (command_deed plan w v) d (Some Acks) d' → MayHaveCommand v d.device_work
+      commands_have_fact (λ v. DeedArrives chip (command_deed plan w v) d (Some Acks) d' → MayHaveCommand v d.device_work
       × KnowsPointer p d.pointer →
       HasCommand chip v d'.device_work d'.pointer d'.memory)
       (λ at comes h. acked_dnloads_have_command chip (set_address at) p d d' 0 5 (0x21 ∷ to_le_bytes w32 (at % 2 ^ 32))
@@ -76,7 +76,7 @@ module _ (chip : Chip) (plan : Plan) (w : Work) (p : Place) (d d' : Device) wher
       (bytes_in plan at (write_end plan at (end_of_work plan w))) (λ pointer k. tt) (λ pointer memory e. tt) comes h)
       c
 
-  -- A command whose acknowledgement is heard has come to the device.
+  -- A command whose acknowledgement is heard has reached the device.
   pub heard_ack_means_has_command : (h : AnyHeard) (r : Option Reaction) (x : Seen) (c : AnyCommand) → SeenOfReaction r x
       → DeedArrives chip (command_deed plan w c) d r d' →
       MayHaveCommand c d.device_work × KnowsPointer p d.pointer → DfuseSeenMeaning plan w step.Send x h → AckMeansHasCommand chip c d' h

@@ -18,7 +18,7 @@ use Rattle.dfuse_host.specs.Commands.{write_command, command_of, end_of_work}
 use Rattle.dfuse_host.specs.Deeds.{command_deed, deed_of_step}
 use Rattle.dfuse_host.specs.ReadBack.{HasByte}
 use Rattle.dfuse_host.specs.Touching.{IsTouchedPage, WorkTouchesImage, ChangesOnlyImagePages, OnlyTouchedPagesChange}
-use Rattle.dfuse_host.proofs.ForCallers.{AnyCommand, fact_of_each_command, set_address, erase_page, write_bytes_at}
+use Rattle.dfuse_host.proofs.ForCallers.{AnyCommand, commands_have_fact, set_address, erase_page, write_bytes_at}
 use Rattle.dfuse_link.specs.Chips.{Chip, Order, Device}
 use Rattle.dfuse_link.specs.Promises.{IsPlanFor}
 use Rattle.dfuse_link.specs.Touched.{IsTrueMap}
@@ -28,7 +28,7 @@ use Rattle.dfuse_link.proofs.SentClaims.{erase_command_order}
 use Rattle.dfuse_link.proofs.Safe.{DeedLeavesByte, set_address_leaves_byte, bytes_in_within_range}
 use Rattle.dfuse_link.proofs.Turns.{image_byte_below_address_end}
 
--- ---- a page begins no later than its addresses
+-- A page begins no later than its addresses.
 
 range_begins_by_test : (a : ℕ) (p q : Pages) (ps : List Pages) (t : Bool) → range_has a p ≡ t → (range_at a ps ≡ Some q → q.start ≤ a) →
     cond t (Some p) (range_at a ps) ≡ Some q → q.start ≤ a
@@ -58,11 +58,11 @@ unfolding page_of
 page_begins_by_address plan a = page_begins_by_test a (range_at a plan.map.now.ranges) (ltb a (2 ^ 32)) (λ q e. range_begins_by_address a q
     plan.map.now.ranges e)
 
--- ---- orders
+-- Orders of the commands that a session sends.
 
 -- If the command writes bytes, the pointer is set to their address.
 abbrev PointerSetForWrite : AnyCommand → (pointer : ℕ) → Type 0
-PointerSetForWrite c pointer = fact_of_each_command (λ _. Type 0) (λ at. Unit {0}) (λ at. Unit {0}) (λ at. pointer ≡ at % 2 ^ 32) c
+PointerSetForWrite c pointer = commands_have_fact (λ _. Type 0) (λ at. Unit {0}) (λ at. Unit {0}) (λ at. pointer ≡ at % 2 ^ 32) c
 
 pointer_set_by_test : (p at pointer : ℕ) (t : Bool) → eqb p at ≡ t → pointer ≡ p % 2 ^ 32 →
     PointerSetForWrite (cond t (write_bytes_at at) (set_address at)) pointer
@@ -84,9 +84,11 @@ work_command_has_pointer plan (work.WriteFront at) p pointer k = write_command_h
 work_command_has_pointer plan (work.CompareFront at) p pointer k = tt
 work_command_has_pointer plan work.Leave p pointer k = tt
 
--- Facts of a byte that is to stay: its page has no byte of the image, and the map is true of the pages that have one.
+-- The page of the byte has no byte of the image, and the map is true of the pages that have one.
 pub record IsOnOtherPage (chip : Chip) (plan : Plan) (a : ℕ) : Type 0 where
+  -- The page of the byte has no byte of the image.
   pub page_is_untouched : IsTouchedPage plan (page_start plan a) → ⊥
+  -- The map is true of the image's pages.
   pub map : IsTrueMap chip plan
 
 module _ (chip : Chip) (plan : Plan) (a : ℕ) (apart : IsOnOtherPage chip plan a) (for : IsPlanFor chip plan) (pointer : ℕ) where
@@ -121,7 +123,7 @@ module _ (chip : Chip) (plan : Plan) (a : ℕ) (apart : IsOnOtherPage chip plan 
       PointerSetForWrite c pointer →
       DeedLeavesByte chip a (command_deed plan w c) pointer
   command_leaves_other_page w c =
-      fact_of_each_command (λ v. ChangesOnlyImagePages plan (end_of_work plan w) v → PointerSetForWrite v pointer
+      commands_have_fact (λ v. ChangesOnlyImagePages plan (end_of_work plan w) v → PointerSetForWrite v pointer
       → DeedLeavesByte chip a (command_deed plan w v) pointer)
       (λ at only k. set_address_leaves_byte chip plan a pointer w at) (λ page only k. erase_leaves_other_page w page only)
       (λ at only k. write_leaves_other_page w at (λ x low high. (only x low high).0) k) c

@@ -12,7 +12,7 @@ use Rattle.dfuse_host.specs.Plans.{front_end, page_end, write_end}
 use Rattle.dfuse_host.specs.Settling.{phase_with_step, byte_in, can_read, sending_step, comparing_step, phase_to_set_start, phase_when_compared, to_leave, compare_front_phase_for, to_compare_front, write_front_phase_for, to_write_front, compare_phase_for, to_compare, write_phase_for, to_write, erase_phase_for, to_erase, settled_phase}
 use Rattle.dfuse_host.specs.Commands.{command_of, phase_after_command, phase_after_erase, phase_after_write, phase_if_unsure}
 use Rattle.dfuse_host.specs.Deeds.{stands_at}
-use Rattle.dfuse_host.proofs.ForCallers.{AnyCommand, fact_of_each_command}
+use Rattle.dfuse_host.proofs.ForCallers.{AnyCommand, commands_have_fact}
 use Rattle.dfuse_link.specs.Chips.{Chip, Device}
 use Rattle.dfuse_link.proofs.Claims.{IsQuiet, KnowsPointer, IsCommandDone, DeviceFitsStep, DeviceFitsPhase}
 use Rattle.dfuse_link.proofs.Deviced.{quiet_work_may_have_command}
@@ -115,7 +115,7 @@ module _ (chip : Chip) (plan : Plan) (d : Device) (quiet : IsQuiet d.device_work
   device_fits_settled_phase (work.CompareFront at) p k = device_fits_to_compare_front p at k
   device_fits_settled_phase work.Leave p k = device_fits_to_leave p k
 
-  -- ---- commands
+  -- Phases after a command.
 
   device_fits_after_erase : (w : Work) (at : ℕ) → DeviceFitsPhase chip plan (phase_after_erase plan w at) d
   device_fits_after_erase (work.EraseAgain page end) at = device_fits_to_write place.Lost _ end tt
@@ -127,12 +127,12 @@ module _ (chip : Chip) (plan : Plan) (d : Device) (quiet : IsQuiet d.device_work
 
   pub device_fits_after_command : (w : Work) (c : AnyCommand) → IsCommandDone chip c d.pointer d.memory →
       DeviceFitsPhase chip plan (phase_after_command plan w c) d
-  device_fits_after_command w c = fact_of_each_command (λ v. IsCommandDone chip v d.pointer d.memory →
+  device_fits_after_command w c = commands_have_fact (λ v. IsCommandDone chip v d.pointer d.memory →
       DeviceFitsPhase chip plan (phase_after_command plan w v) d)
       (λ at k. device_fits_settled_phase w (place.At at) k) (λ at k. device_fits_after_erase w at) (λ at k. device_fits_after_write w at) c
 
 -- If the end of a command isn't known, nothing is claimed of the device.
 pub device_fits_unsure_phase : (chip : Chip) (plan : Plan) (d : Device) (w : Work) (c : AnyCommand) →
     DeviceFitsPhase chip plan (phase_if_unsure plan w c) d
-device_fits_unsure_phase chip plan d w c = fact_of_each_command (λ v. DeviceFitsPhase chip plan (phase_if_unsure plan w v) d) (λ at. tt) (λ
+device_fits_unsure_phase chip plan d w c = commands_have_fact (λ v. DeviceFitsPhase chip plan (phase_if_unsure plan w v) d) (λ at. tt) (λ
     at. tt) (λ at. tt) c

@@ -24,10 +24,10 @@ use Rattle.dfuse_link.proofs.SentClaims.{set_address_order, erase_command_order}
 use Rattle.dfuse_link.proofs.Safe.{DeedLeavesByte, deed_leaves_read_byte}
 use Rattle.dfuse_link.proofs.Turns.{image_byte_below_address_end}
 use Rattle.dfuse_link.proofs.Blanks.{OrderWritesNothingAt, DeedWritesNothingAt}
-use Rattle.dfuse_link.proofs.FrontPages.{FactsForNoMixture, image_start_has_byte, first_page_fits_32_bits, byte_off_page_is_after_front}
-use Rattle.dfuse_link.proofs.Groups.{page_of_front, ErasesFirstPage, IsAfterComparison}
+use Rattle.dfuse_link.proofs.FrontPages.{HasNoMixturePremises, image_start_has_byte, first_page_fits_32_bits, byte_off_page_is_after_front}
+use Rattle.dfuse_link.proofs.Groups.{front_page_start, ErasesFirstPage, IsAfterComparison}
 
--- Works up to the comparison of all but the front. A write is of a byte of the image behind the front.
+-- The work is one up to the comparison of all but the front. A write is one of a byte of the image after the front.
 abbrev pub IsBeforeComparison : Plan → Work → Type 0
 IsBeforeComparison plan (work.Erase at) = Unit {0}
 IsBeforeComparison plan (work.EraseAgain page end) = Unit {0}
@@ -35,22 +35,22 @@ IsBeforeComparison plan (work.Write at end) = HasByte at plan.image.now × (fron
 IsBeforeComparison plan (work.Compare at) = Unit {0}
 IsBeforeComparison plan w = ⊥
 
-module _ (one : AddressOnOnePage) (chip : Chip) (plan : Plan) (m : FactsForNoMixture chip plan) (a : ℕ) where
-  -- ---- other pages
+module _ (one : AddressOnOnePage) (chip : Chip) (plan : Plan) (m : HasNoMixturePremises chip plan) (a : ℕ) where
+  -- Bytes of other pages.
 
-  front_page_erase_leaves_byte : IsOffFrontPage plan a → (w : Work) (page pointer : ℕ) → page ≡ page_of_front plan →
+  front_page_erase_leaves_byte : IsOffFrontPage plan a → (w : Work) (page pointer : ℕ) → page ≡ front_page_start plan →
       DeedLeavesByte chip a (command_deed plan w (erase_page page)) pointer
   front_page_erase_leaves_byte other w page pointer e = λ may.
       let erased : chip.erases (page % 2 ^ 32) a ≡ true =
       subst (λ (o : Order). OrderMayChange chip o a) (erase_command_order chip pointer page) may in
-      let whole : page % 2 ^ 32 ≡ page_of_front plan = ap (λ (n : ℕ). n % 2 ^ 32) e ∙ first_page_fits_32_bits one chip plan m in
-      let here : chip.erases (page_of_front plan) a ≡ true = subst (λ (n : ℕ). chip.erases n a ≡ true) whole erased in
+      let whole : page % 2 ^ 32 ≡ front_page_start plan = ap (λ (n : ℕ). n % 2 ^ 32) e ∙ first_page_fits_32_bits one chip plan m in
+      let here : chip.erases (front_page_start plan) a ≡ true = subst (λ (n : ℕ). chip.erases n a ≡ true) whole erased in
       other (m.map (image_start plan.image.now) a (image_start_has_byte one chip plan m) here)
 
   first_erase_leaves_byte : IsOffFrontPage plan a → (p : Place) (s : Step) (pointer : ℕ) →
       DeedLeavesByte chip a (deed_of_step plan (work.Erase (image_start plan.image.now)) p s) pointer
   first_erase_leaves_byte other p step.Send pointer = front_page_erase_leaves_byte other (work.Erase (image_start plan.image.now))
-      (page_of_front plan) pointer refl
+      (front_page_start plan) pointer refl
   first_erase_leaves_byte other p step.Close pointer = λ may. omega (arith, may.0, may.1)
   first_erase_leaves_byte other p s pointer = tt
 
@@ -60,7 +60,7 @@ module _ (one : AddressOnOnePage) (chip : Chip) (plan : Plan) (m : FactsForNoMix
   erasing_leaves_other_page other w p s d e k =
       subst (λ (v : Work). DeedLeavesByte chip a (deed_of_step plan v p s) d.pointer) (sym e) (first_erase_leaves_byte other p s d.pointer)
 
-  erase_again_leaves_byte : IsOffFrontPage plan a → (page end : ℕ) (p : Place) (s : Step) (pointer : ℕ) → page ≡ page_of_front plan →
+  erase_again_leaves_byte : IsOffFrontPage plan a → (page end : ℕ) (p : Place) (s : Step) (pointer : ℕ) → page ≡ front_page_start plan →
       DeedLeavesByte chip a (deed_of_step plan (work.EraseAgain page end) p s) pointer
   erase_again_leaves_byte other page end p step.Send pointer e = front_page_erase_leaves_byte other (work.EraseAgain page end) page pointer
       e
@@ -78,7 +78,7 @@ module _ (one : AddressOnOnePage) (chip : Chip) (plan : Plan) (m : FactsForNoMix
   later_work_leaves_other_page other has work.Leave p s d g k = deed_leaves_read_byte chip plan a work.Leave p s d tt k
   later_work_leaves_other_page other has w p s d g k = absurd g
 
-  -- ---- a blank front
+  -- Bytes of a blank front.
 
   erase_writes_nothing : (w : Work) (page pointer : ℕ) → DeedWritesNothingAt chip a (command_deed plan w (erase_page page)) pointer
   erase_writes_nothing w page pointer = subst (OrderWritesNothingAt chip a) (sym (erase_command_order chip pointer page)) tt

@@ -10,7 +10,7 @@ use Rattle.dfuse_host.specs.Wire.{DfuseSeenMeaning}
 use Rattle.dfuse_host.specs.Commands.{command_of}
 use Rattle.dfuse_host.specs.Deeds.{Wait, command_deed, deed_of_step}
 use Rattle.dfuse_host.specs.Table.{row}
-use Rattle.dfuse_host.proofs.ForCallers.{AnyCommand, fact_of_each_command, AnyHeard}
+use Rattle.dfuse_host.proofs.ForCallers.{AnyCommand, commands_have_fact, AnyHeard}
 use Rattle.dfuse_link.specs.Chips.{Chip, Device}
 use Rattle.dfuse_link.specs.Reactions.{Reaction}
 use Rattle.dfuse_link.specs.Histories.{SeenOfReaction}
@@ -58,7 +58,7 @@ module _ (chip : Chip) (plan : Plan) (w : Work) (p : Place) (d d' : Device) (h :
   device_fits_after_request step.ClosePoll r x k comes is hears = device_fits_after_close_poll chip plan w p d' h
 
 command_deed_is_no_wait : (plan : Plan) (w : Work) (c : AnyCommand) (ms : ℕ) → command_deed plan w c ≡ Wait ms → ⊥
-command_deed_is_no_wait plan w c ms = fact_of_each_command (λ v. command_deed plan w v ≡ Wait ms →
+command_deed_is_no_wait plan w c ms = commands_have_fact (λ v. command_deed plan w v ≡ Wait ms →
     ⊥) (λ at e. cc) (λ at e. cc) (λ at e. cc) c
 
 -- After a wait the device fits the phase of the row.

@@ -12,46 +12,46 @@ use Rattle.dfuse_host.specs.declared.report.Report.{Report}
 use Rattle.dfuse_host.specs.declared.report.Report.TheVariants as report
 use Rattle.dfuse_host.specs.declared.report.Leaving.TheVariants as leaving
 use Rattle.dfuse_host.specs.Table.{row}
-use Rattle.dfuse_host.specs.Sessions.{phase_within_budget, spent_at, phase_resumed, session_with_restart_taken, restarted_leaving, session_after_restart, session_after_step_heard}
-use Rattle.dfuse_host.proofs.ForCallers.{AnyHeard, fact_of_each_heard}
+use Rattle.dfuse_host.specs.Sessions.{phase_within_budget, phase_without_actions, phase_resumed, session_with_restart_taken, restarted_leaving, session_after_restart, session_after_step_heard}
+use Rattle.dfuse_host.proofs.ForCallers.{AnyHeard, heards_have_fact}
 
 module _ (P : Phase → Type 0) (over : (r : Report) → P (Over r)) where
-  fact_holds_of_spent : (w : Work) (s : Step) → P (spent_at w s)
-  fact_holds_of_spent work.Leave s = over _
-  fact_holds_of_spent w s = over _
+  fact_holds_of_spent_phase : (w : Work) (s : Step) → P (phase_without_actions w s)
+  fact_holds_of_spent_phase work.Leave s = over _
+  fact_holds_of_spent_phase w s = over _
 
   -- A fact of a phase, and of a session that is out of actions, holds once the action is counted.
-  fact_holds_of_budgeted : (n : ℕ) (p : Phase) → P p → P (phase_within_budget n p)
-  fact_holds_of_budgeted n (Over r) h = over r
-  fact_holds_of_budgeted zero (On s) h = fact_holds_of_spent s.work s.step
-  fact_holds_of_budgeted (suc n) (On s) h = h
+  fact_holds_in_budget : (n : ℕ) (p : Phase) → P p → P (phase_within_budget n p)
+  fact_holds_in_budget n (Over r) h = over r
+  fact_holds_in_budget zero (On s) h = fact_holds_of_spent_phase s.work s.step
+  fact_holds_in_budget (suc n) (On s) h = h
 
   module _ (s : Session) where
-    fact_holds_of_restarted : (p : Phase) (n : ℕ) → P p → P (session_with_restart_taken s p n).phase
-    fact_holds_of_restarted p zero h = fact_holds_of_budgeted (pred s.actions) (Over report.RestartsSpent) (over report.RestartsSpent)
-    fact_holds_of_restarted p (suc n) h = fact_holds_of_budgeted (pred s.actions) p h
+    fact_holds_of_restarted_phase : (p : Phase) (n : ℕ) → P p → P (session_with_restart_taken s p n).phase
+    fact_holds_of_restarted_phase p zero h = fact_holds_in_budget (pred s.actions) (Over report.RestartsSpent) (over report.RestartsSpent)
+    fact_holds_of_restarted_phase p (suc n) h = fact_holds_in_budget (pred s.actions) p h
 
-    fact_holds_of_restart_leaving : (p : Place) (at : Step) → P (phase_resumed s.plan work.Leave p at) → P (restarted_leaving s p at).phase
-    fact_holds_of_restart_leaving p step.Close h = fact_holds_of_budgeted (pred s.actions) (Over (report.Verified leaving.Unknown)) (over _)
-    fact_holds_of_restart_leaving p step.CloseProbe h = fact_holds_of_budgeted (pred s.actions) (Over (report.Verified leaving.Unknown))
+    fact_holds_of_leaving_restart : (p : Place) (at : Step) → P (phase_resumed s.plan work.Leave p at) → P (restarted_leaving s p at).phase
+    fact_holds_of_leaving_restart p step.Close h = fact_holds_in_budget (pred s.actions) (Over (report.Verified leaving.Unknown)) (over _)
+    fact_holds_of_leaving_restart p step.CloseProbe h = fact_holds_in_budget (pred s.actions) (Over (report.Verified leaving.Unknown))
         (over _)
-    fact_holds_of_restart_leaving p step.ClosePoll h = fact_holds_of_budgeted (pred s.actions) (Over (report.Verified leaving.Unknown))
+    fact_holds_of_leaving_restart p step.ClosePoll h = fact_holds_in_budget (pred s.actions) (Over (report.Verified leaving.Unknown))
         (over _)
-    fact_holds_of_restart_leaving p at h = fact_holds_of_restarted (phase_resumed s.plan work.Leave p at) s.restarts h
+    fact_holds_of_leaving_restart p at h = fact_holds_of_restarted_phase (phase_resumed s.plan work.Leave p at) s.restarts h
 
     -- A fact of the phase that a restart resumes holds once the device has restarted.
     pub fact_holds_after_restart : (w : Work) (p : Place) (at : Step) → P (phase_resumed s.plan w p at) →
         P (session_after_restart s w p at).phase
-    fact_holds_after_restart work.Leave p at h = fact_holds_of_restart_leaving p at h
-    fact_holds_after_restart w p at h = fact_holds_of_restarted (phase_resumed s.plan w p at) s.restarts h
+    fact_holds_after_restart work.Leave p at h = fact_holds_of_leaving_restart p at h
+    fact_holds_after_restart w p at h = fact_holds_of_restarted_phase (phase_resumed s.plan w p at) s.restarts h
 
-    -- A fact of the phase that a restart resumes, and of the phase of the row, holds after what is heard.
+    -- A fact of the phase that a restart resumes, and of the phase of the row, holds after a result is heard.
     pub fact_holds_after_heard : (w : Work) (p : Place) (at : Step) (h : AnyHeard) → P (phase_resumed s.plan w p at) →
         P (row s.plan w p at h)
         → P (session_after_step_heard s w p at h).phase
     fact_holds_after_heard w p at h resumes =
-        fact_of_each_heard (λ x. P (row s.plan w p at x) → P (session_after_step_heard s w p at x).phase)
-        (λ k. fact_holds_of_budgeted (pred s.actions) _ k) (λ t k. fact_holds_of_budgeted (pred s.actions) _ k)
-        (λ t k. fact_holds_of_budgeted (pred s.actions) _ k) (λ b k. fact_holds_of_budgeted (pred s.actions) _ k)
-        (λ k. fact_holds_of_budgeted (pred s.actions) _ k) (λ k. fact_holds_of_budgeted (pred s.actions) _ k)
-        (λ k. fact_holds_of_budgeted (pred s.actions) _ k) (λ k. fact_holds_after_restart w p at resumes) h
+        heards_have_fact (λ x. P (row s.plan w p at x) → P (session_after_step_heard s w p at x).phase)
+        (λ k. fact_holds_in_budget (pred s.actions) _ k) (λ t k. fact_holds_in_budget (pred s.actions) _ k)
+        (λ t k. fact_holds_in_budget (pred s.actions) _ k) (λ b k. fact_holds_in_budget (pred s.actions) _ k)
+        (λ k. fact_holds_in_budget (pred s.actions) _ k) (λ k. fact_holds_in_budget (pred s.actions) _ k)
+        (λ k. fact_holds_in_budget (pred s.actions) _ k) (λ k. fact_holds_after_restart w p at resumes) h

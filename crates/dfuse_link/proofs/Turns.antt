@@ -1,4 +1,4 @@
--- Facts of a device and its session stay, whatever comes next.
+-- Each turn keeps the facts of a device and its session.
 use Rattle.std.proofs.Common.{◌≡◌, ℕ, ◌≤◌, ◌<◌, ◌^◌, inl, inr, true, false, Option, refl, sym, ap, ◌∙◌, subst, arith}
 use Rattle.std.proofs.lemmas.Bool.{true_from_ne_false}
 use Rattle.dfuse_host.specs.declared.plan.Plan.{Plan}
@@ -24,10 +24,10 @@ use Rattle.dfuse_link.specs.Promises.{IsPlanFor}
 use Rattle.dfuse_link.proofs.Claims.{DeviceFitsStep, DeviceFitsPhase}
 use Rattle.dfuse_link.proofs.SentClaims.{DeedArrives}
 use Rattle.dfuse_link.proofs.StepClaims.{device_fits_after_request, device_fits_after_wait}
-use Rattle.dfuse_host.proofs.RunLaws.{phase_after_keeps_plan}
+use Rattle.dfuse_host.proofs.RunLaws.{heard_phase_keeps_plan}
 use Rattle.dfuse_link.proofs.Sessions.{device_fits_after_heard, device_fits_restart_phase, device_fits_after_restart}
-use Rattle.dfuse_link.proofs.Safe.{IsSafeAt, KeepsByte, DeedLeavesByte, byte_kept_as_request_arrives, byte_kept_after_restart, deed_leaves_read_byte}
-use Rattle.dfuse_link.proofs.Bytes.{byte_at, image_byte_has_address}
+use Rattle.dfuse_link.proofs.Safe.{IsSafeAt, KeepsByte, DeedLeavesByte, harmless_request_keeps_byte, restart_keeps_byte, deed_leaves_read_byte}
+use Rattle.dfuse_link.proofs.Bytes.{byte_at, image_byte_fits_32_bits}
 use Rattle.dfuse_link.proofs.ReadClaims.{read_back_byte_is_right}
 use Rattle.dfuse_link.proofs.Pairs.{DeviceAndSession, IsTurnOfBoth}
 
@@ -35,15 +35,20 @@ use Rattle.dfuse_link.proofs.Pairs.{DeviceAndSession, IsTurnOfBoth}
 abbrev pub IsRightInMemory : Chip → Plan → Device → ℕ → Type 0
 IsRightInMemory chip plan d a = (d.memory a ≡ byte_at a plan.image.now) × IsSafeAt chip a d.device_work
 
--- Facts of a device and its session: the device fits the phase, and each byte that counts as read back is right.
+-- The plan is for the device, the device is asked to leave only after the comparison, the device fits the phase, and each byte of the image
+-- that counts as read back is right.
 pub record SessionFactsHold (chip : Chip) (l : DeviceAndSession) : Type 0 where
+  -- The plan is for the device.
   pub for : IsPlanFor chip l.session.plan
+  -- The device is asked to leave only after the comparison.
   pub closes : PhaseClosesAfterCompare l.session.phase
+  -- The device fits the phase.
   pub stands : DeviceFitsPhase chip l.session.plan l.session.phase l.device
+  -- Each byte that counts as read back is that of the image in memory.
   pub right : (a : ℕ) → HasByte a l.session.plan.image.now → WasReadInPhase l.session.plan l.session.phase a →
       IsRightInMemory chip l.session.plan l.device a
 
--- ---- what a plan says
+-- Facts of a plan.
 
 pub plan_elements_are_apart : (chip : Chip) (plan : Plan) → IsPlanFor chip plan → apart_from 0 plan.image.now ≡ true
 plan_elements_are_apart chip plan for = true_from_ne_false (apart_from 0 plan.image.now) for.sound.0.0.0.0.1
@@ -55,9 +60,9 @@ transfer_is_positive chip plan for =
 
 pub image_byte_below_address_end : (chip : Chip) (plan : Plan) (a : ℕ) → IsPlanFor chip plan → HasByte a plan.image.now → a < 2 ^ 32
 image_byte_below_address_end chip plan a for b =
-    image_byte_has_address (wanted_access false false false) a plan.map.now.ranges plan.image.now for.ranges for.sound.0.0.0.1 b
+    image_byte_fits_32_bits (wanted_access false false false) a plan.map.now.ranges plan.image.now for.ranges for.sound.0.0.0.1 b
 
--- ---- a byte that was read before
+-- Bytes that were read before.
 
 pub kept_byte_is_right : (chip : Chip) (plan : Plan) (d d' : Device) (a : ℕ) → KeepsByte chip a d d' → IsRightInMemory chip plan d a →
     IsRightInMemory chip plan d' a
@@ -67,7 +72,7 @@ pub deed_keeps_read_byte : (chip : Chip) (a : ℕ) (x : DfuseDeed) (d : Device) 
     DeedArrives chip x d r d' →
     DeedLeavesByte chip a x d.pointer →
     IsSafeAt chip a d.device_work → KeepsByte chip a d d'
-deed_keeps_read_byte chip a (Send q body) d r d' comes new safe = byte_kept_as_request_arrives chip a q body d r d' comes new safe
+deed_keeps_read_byte chip a (Send q body) d r d' comes new safe = harmless_request_keeps_byte chip a q body d r d' comes new safe
 deed_keeps_read_byte chip a (Wait ms) d r d' comes new safe = absurd comes
 deed_keeps_read_byte chip a (Done report) d r d' comes new safe = absurd comes
 
@@ -83,7 +88,7 @@ read_byte_stays_right : (chip : Chip) (plan : Plan) (a : ℕ) (p : Phase) (d : D
 read_byte_stays_right chip plan a p d r d' comes k was h = deed_keeps_read_byte chip a (dfuse_deed plan p) d r d' comes
     (phase_leaves_read_byte chip plan a p d was k) h.1
 
--- ---- a byte that is read just now
+-- Bytes that were just read.
 
 step_reads_right_byte : (chip : Chip) (plan : Plan) (for : IsPlanFor chip plan) (a : ℕ) → HasByte a plan.image.now →
     (w : Work) (p : Place) (s : Step) (d d' : Device)
@@ -125,7 +130,7 @@ restart_reads_nothing_back : (plan : Plan) (p : Phase) (h : AnyHeard) (a : ℕ) 
 restart_reads_nothing_back plan (On at) h a e reads = restart_step_reads_nothing plan at.work at.step h a e reads
 restart_reads_nothing_back plan (Over r) h a e reads = reads
 
--- ---- facts at the next step
+-- Facts of a device and its session at the next step.
 
 device_fits_over_phase : (chip : Chip) (s : Session) (rep : Phase) (d : Device) → s.phase ≡ rep → DeviceFitsPhase chip s.plan rep d →
     DeviceFitsPhase chip s.plan s.phase d
@@ -155,16 +160,16 @@ device_fits_phase_after_restart chip s (On at) d h e hears =
     device_fits_after_restart chip s d at.work at.place at.step h _ hears (device_fits_restart_phase chip s d at.work at.place at.step)
 device_fits_phase_after_restart chip s (Over rep) d h e hears = device_fits_over_phase chip s (Over rep) d e tt
 
--- ---- turns
+-- Turns of a device and its session.
 
 -- The facts of a session follow from those of its plan and its phase.
-session_facts_of_parts : (chip : Chip) (l : DeviceAndSession) (plan : Plan) (phase : Phase) → l.session.plan ≡ plan → l.session.phase
+parts_make_session_facts : (chip : Chip) (l : DeviceAndSession) (plan : Plan) (phase : Phase) → l.session.plan ≡ plan → l.session.phase
     ≡ phase → IsPlanFor chip plan →
     PhaseClosesAfterCompare phase →
     DeviceFitsPhase chip plan phase l.device → ((a : ℕ) → HasByte a plan.image.now → WasReadInPhase plan phase a →
     IsRightInMemory chip plan l.device a) →
     SessionFactsHold chip l
-session_facts_of_parts chip l plan phase e f for closes stands right = record {
+parts_make_session_facts chip l plan phase e f for closes stands right = record {
   for = subst (IsPlanFor chip) (sym e) for;
   closes = subst PhaseClosesAfterCompare (sym f) closes;
   stands = subst (λ (p : Phase). DeviceFitsPhase chip l.session.plan p l.device) (sym f)
@@ -176,7 +181,7 @@ session_facts_of_parts chip l plan phase e f for closes stands right = record {
 
 module _ (chip : Chip) (only : OnlyReadBack) (always : AlwaysClosesAfterCompare) where
   -- After a row the facts still hold: a byte counts as read back because it did before, or was read just now.
-  session_facts_after_row : (l l' : DeviceAndSession) (x : Seen) → SessionFactsHold chip l → (row : SessionRow l.session x l'.session) →
+  row_keeps_session_facts : (l l' : DeviceAndSession) (x : Seen) → SessionFactsHold chip l → (row : SessionRow l.session x l'.session) →
       DeviceFitsPhase chip l.session.plan (session_after_heard l.session row.heard).phase l'.device →
       ((a : ℕ) → HasByte a l.session.plan.image.now → WasReadInPhase l.session.plan l.session.phase a →
       IsRightInMemory chip l.session.plan l'.device a)
@@ -184,9 +189,9 @@ module _ (chip : Chip) (only : OnlyReadBack) (always : AlwaysClosesAfterCompare)
       ((a : ℕ) → HasByte a l.session.plan.image.now → PhaseReadsBack l.session.plan l.session.phase row.heard a →
       IsRightInMemory chip l.session.plan l'.device a) →
       SessionFactsHold chip l'
-  session_facts_after_row l l' x so row stands was now =
+  row_keeps_session_facts l l' x so row stands was now =
       let plan : l'.session.plan ≡ l.session.plan =
-      ap (λ (t : Session). t.plan) row.same ∙ phase_after_keeps_plan l.session l.session.phase row.heard in
+      ap (λ (t : Session). t.plan) row.same ∙ heard_phase_keeps_plan l.session l.session.phase row.heard in
       let phase : l'.session.phase ≡ (session_after_heard l.session row.heard).phase = ap (λ (t : Session). t.phase) row.same in
       let right = λ (a : ℕ) (b : HasByte a l.session.plan.image.now)
       (h : WasReadInPhase l.session.plan (session_after_heard l.session row.heard).phase a).
@@ -195,23 +200,23 @@ module _ (chip : Chip) (only : OnlyReadBack) (always : AlwaysClosesAfterCompare)
         | inl w ↦ was a b w
         | inr w ↦ now a b w
       ] in
-      session_facts_of_parts chip l' l.session.plan (session_after_heard l.session row.heard).phase plan phase so.for (always l.session
+      parts_make_session_facts chip l' l.session.plan (session_after_heard l.session row.heard).phase plan phase so.for (always l.session
       row.heard so.closes)
       stands right
 
-  read_byte_while_under_way : (s : Session) (p : Phase) (d mid : Device) (a : ℕ) → s.phase ≡ p → RequestUnderWay chip s d mid
+  read_byte_stays_while_under_way : (s : Session) (p : Phase) (d mid : Device) (a : ℕ) → s.phase ≡ p → RequestUnderWay chip s d mid
       → DeviceFitsPhase chip s.plan s.phase d →
       WasReadInPhase s.plan s.phase a → IsRightInMemory chip s.plan d a → KeepsByte chip a d mid
-  read_byte_while_under_way s p d _ a e none k was h = record { byte = refl; safe = h.1 }
-  read_byte_while_under_way s p d mid a e (request {reaction = reaction} q body is comes) k was h =
+  read_byte_stays_while_under_way s p d _ a e none k was h = record { byte = refl; safe = h.1 }
+  read_byte_stays_while_under_way s p d mid a e (request {reaction = reaction} q body is comes) k was h =
       read_byte_stays_right chip s.plan a s.phase d reaction mid (subst (λ (x : DfuseDeed). DeedArrives chip x d reaction mid) (sym is)
       comes) k was h
 
-  pub session_facts_after_turn : (l l' : DeviceAndSession) (x : Seen) → IsTurnOfBoth chip l x l' → SessionFactsHold chip l →
+  pub turn_keeps_session_facts : (l l' : DeviceAndSession) (x : Seen) → IsTurnOfBoth chip l x l' → SessionFactsHold chip l →
       SessionFactsHold chip l'
-  session_facts_after_turn l l' x (sent q body reaction is comes seen row) so =
+  turn_keeps_session_facts l l' x (sent q body reaction is comes seen row) so =
       let by = subst (λ (y : DfuseDeed). DeedArrives chip y l.device reaction l'.device) (sym is) comes in
-      session_facts_after_row l l' x so row
+      row_keeps_session_facts l l' x so row
       (device_fits_phase_after_request chip l.session l.session.phase l.device l'.device row.heard reaction x refl so.stands by seen
       row.hears)
       (λ a b was. kept_byte_is_right chip l.session.plan l.device l'.device a
@@ -220,18 +225,18 @@ module _ (chip : Chip) (only : OnlyReadBack) (always : AlwaysClosesAfterCompare)
       (λ a b reads. phase_reads_right_byte chip l.session.plan so.for a b l.session.phase l.device l'.device row.heard reaction x so.stands
       by seen
       row.hears reads)
-  session_facts_after_turn l l' x (waited ms is same seen row) so =
-      session_facts_after_row l l' x so row
+  turn_keeps_session_facts l l' x (waited ms is same seen row) so =
+      row_keeps_session_facts l l' x so row
       (subst (λ (d : Device). DeviceFitsPhase chip l.session.plan (session_after_heard l.session row.heard).phase d) (sym same)
       (device_fits_phase_after_wait chip l.session l.session.phase l.device row.heard ms refl so.stands is))
       (λ a b was. subst (λ (d : Device). IsRightInMemory chip l.session.plan d a) (sym same) (so.right a b was))
       (λ a b reads. absurd (waiting_phase_reads_nothing l.session.plan l.session.phase row.heard ms a is reads))
-  session_facts_after_turn l l' x (restarted mid any way rests changed seen row) so =
+  turn_keeps_session_facts l l' x (restarted mid any way rests changed seen row) so =
       let hears = subst (λ (y : Seen). DfuseSeenMeaningIn l.session.plan l.session.phase y row.heard) seen row.hears in
-      session_facts_after_row l l' x so row
+      row_keeps_session_facts l l' x so row
       (device_fits_phase_after_restart chip l.session l.session.phase l'.device row.heard refl hears)
       (λ a b was.
-      let one = read_byte_while_under_way l.session l.session.phase l.device mid a refl way so.stands was (so.right a b was) in
-      kept_byte_is_right chip l.session.plan mid l'.device a (byte_kept_after_restart chip a mid l'.device any rests changed one.safe)
+      let one = read_byte_stays_while_under_way l.session l.session.phase l.device mid a refl way so.stands was (so.right a b was) in
+      kept_byte_is_right chip l.session.plan mid l'.device a (restart_keeps_byte chip a mid l'.device any rests changed one.safe)
       (kept_byte_is_right chip l.session.plan l.device mid a one (so.right a b was)))
       (λ a b reads. absurd (restart_reads_nothing_back l.session.plan l.session.phase row.heard a hears reads))

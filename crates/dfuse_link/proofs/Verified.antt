@@ -14,32 +14,32 @@ use Rattle.dfuse_link.specs.Reactions.{BytesInMemoryAt}
 use Rattle.dfuse_link.specs.Histories.{History, so_far, passes, turns}
 use Rattle.dfuse_link.specs.Promises.{IsPlanFor, VerifiedIsTrue}
 use Rattle.dfuse_link.proofs.Rows.{turn_is_session_row}
-use Rattle.dfuse_host.proofs.RunLaws.{phase_after_keeps_plan}
-use Rattle.dfuse_link.proofs.Bytes.{all_elements_in_memory}
-use Rattle.dfuse_link.proofs.Passing.{session_facts_as_device_advances}
-use Rattle.dfuse_link.proofs.Turns.{SessionFactsHold, plan_elements_are_apart, session_facts_after_turn}
+use Rattle.dfuse_host.proofs.RunLaws.{heard_phase_keeps_plan}
+use Rattle.dfuse_link.proofs.Bytes.{all_elements_are_in_memory}
+use Rattle.dfuse_link.proofs.Passing.{advance_keeps_session_facts}
+use Rattle.dfuse_link.proofs.Turns.{SessionFactsHold, plan_elements_are_apart, turn_keeps_session_facts}
 use Rattle.dfuse_link.proofs.Pairs.{session_begun_with, device_with_session}
 
 -- The facts hold when a session begins, because no byte counts as read back.
-pub session_facts_at_begin : (chip : Chip) (plan : Plan) (limits : Limits) (d : Device) → IsPlanFor chip plan →
+pub begun_session_has_facts : (chip : Chip) (plan : Plan) (limits : Limits) (d : Device) → IsPlanFor chip plan →
     SessionFactsHold chip (session_begun_with d plan limits)
-session_facts_at_begin chip plan limits d for = record { for = for; closes = tt; stands = tt; right = λ a b was. absurd was }
+begun_session_has_facts chip plan limits d for = record { for = for; closes = tt; stands = tt; right = λ a b was. absurd was }
 
-pub session_facts_in_history : (chip : Chip) → OnlyReadBack → AlwaysClosesAfterCompare →
+pub history_has_session_facts : (chip : Chip) → OnlyReadBack → AlwaysClosesAfterCompare →
     (d d' : Device) (s s' : Session) (seens : List Seen) →
     History chip d s seens d' s' → SessionFactsHold chip (device_with_session d s) → SessionFactsHold chip (device_with_session d' s')
-session_facts_in_history chip only always d _ s _ _ so_far so = so
-session_facts_in_history chip only always d d' s s' seens (passes mid more rest) so =
-    session_facts_in_history chip only always mid d' s s' seens rest (session_facts_as_device_advances chip (device_with_session d s) mid
+history_has_session_facts chip only always d _ s _ _ so_far so = so
+history_has_session_facts chip only always d d' s s' seens (passes mid more rest) so =
+    history_has_session_facts chip only always mid d' s s' seens rest (advance_keeps_session_facts chip (device_with_session d s) mid
     more so)
-session_facts_in_history chip only always d d' s s' (x ∷ seens) (turns {mid = mid} {at = at} turn rest) so =
-    session_facts_in_history chip only always mid d' at s' seens rest (session_facts_after_turn chip only always (device_with_session d s)
+history_has_session_facts chip only always d d' s s' (x ∷ seens) (turns {mid = mid} {at = at} turn rest) so =
+    history_has_session_facts chip only always mid d' at s' seens rest (turn_keeps_session_facts chip only always (device_with_session d s)
     (device_with_session mid at) x turn so)
 
 row_keeps_plan : (s s' : Session) (x : Seen) → SessionRow s x s' → s'.plan ≡ s.plan
-row_keeps_plan s s' x row = ap (λ (t : Session). t.plan) row.same ∙ phase_after_keeps_plan s s.phase row.heard
+row_keeps_plan s s' x row = ap (λ (t : Session). t.plan) row.same ∙ heard_phase_keeps_plan s s.phase row.heard
 
--- A session keeps its plan.
+-- A session keeps its plan through a history.
 pub history_keeps_plan : (chip : Chip) (d d' : Device) (s s' : Session) (seens : List Seen) → History chip d s seens d' s' → s'.plan
     ≡ s.plan
 history_keeps_plan chip d _ s _ _ so_far = refl
@@ -50,10 +50,10 @@ history_keeps_plan chip d d' s s' (x ∷ seens) (turns {mid = mid} {at = at} tur
 
 pub verified_is_true : OnlyReadBack → AlwaysClosesAfterCompare → VerifiedIsTrue
 verified_is_true only always chip plan limits d d' s seens leaving for history over =
-    let so = session_facts_in_history chip only always d d' (initial_dfuse_session plan limits) s seens history (session_facts_at_begin
+    let so = history_has_session_facts chip only always d d' (initial_dfuse_session plan limits) s seens history (begun_session_has_facts
     chip plan limits d for) in
     let counts = λ (a : ℕ). subst (λ (p : Phase). WasReadInPhase s.plan p a) (sym over) tt in
-    let all = all_elements_in_memory d'.memory 0 s.plan.image.now (plan_elements_are_apart chip s.plan so.for) (λ a b. (so.right a b
+    let all = all_elements_are_in_memory d'.memory 0 s.plan.image.now (plan_elements_are_apart chip s.plan so.for) (λ a b. (so.right a b
     (counts a)).0) in
     subst
     (λ (q : Plan). AllByRecursion (λ (e : Element). BytesInMemoryAt d'.memory e.address e.bytes.now) q.image.now)

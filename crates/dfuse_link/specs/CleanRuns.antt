@@ -17,32 +17,41 @@ use Rattle.dfuse_host.specs.declared.session.Session.{Session}
 use Rattle.dfuse_host.specs.Deeds.{read_bytes}
 use Rattle.dfuse_host.specs.Sessions.{SessionRow}
 
--- The bytes are the answer.
+-- The answer is these bytes.
 abbrev pub BytesAnswered : List ℕ → Seen → Type 0
 BytesAnswered wanted (seen.Bytes bytes) = bytes.now ≡ wanted
 BytesAnswered wanted s = ⊥
 
--- The answer is the bytes of the status.
+-- The answer is the bytes of this status.
 abbrev pub StatusAnswered : StatusFields → Seen → Type 0
 StatusAnswered status (seen.Bytes bytes) = IsStatus status bytes.now
 StatusAnswered status s = ⊥
 
 -- The device reports that it is busy, and a time to wait that is not 0.
 pub record BusyReported (s : Seen) : Type 0 where
+  -- Status that the device reports.
   pub status : StatusFields
+  -- The answer is this status.
   pub told : StatusAnswered status s
+  -- Its state is dfuDNBUSY.
   pub is_busy : status.state ≡ state.DownloadBusy
+  -- Its time to wait is not 0.
   pub time : 0 < status.poll_ms
 
 -- The device reports the state, and no fault.
 pub record StateAnswered (t : State) (s : Seen) : Type 0 where
+  -- Status that the device reports.
   pub status : StatusFields
+  -- The answer is this status.
   pub told : StatusAnswered status s
+  -- Its code is OK.
   pub no_fault : status.code ≡ code.Ok
+  -- Its state is `t`.
   pub is_there : status.state ≡ t
 
 -- Result of an action if the device works, gives back only bytes of the image, and nothing gets lost. The device is in dfuIDLE at first. A
--- command is started by a GETSTATUS, which reports dfuDNBUSY, and is done by the next one, after a wait.
+-- command is started by a GETSTATUS, which reports dfuDNBUSY, and is done by the next one, after a wait. Steps that a clean run doesn't
+-- take have no clean result.
 abbrev pub IsCleanResult : Plan → Work → Step → Seen → Type 0
 IsCleanResult plan w step.Abort s = s ≡ seen.Ack
 IsCleanResult plan w step.AskState s = BytesAnswered (state_byte state.DfuIdle ∷ []) s
@@ -57,9 +66,11 @@ IsCleanResult plan w step.Close s = s ≡ seen.Ack
 IsCleanResult plan w step.ClosePoll s = StateAnswered state.Manifest s
 IsCleanResult plan w at s = ⊥
 
--- A session that isn't over sees results, one after the other, each as a clean run has it.
+-- A session that isn't over sees results, one after the other, each as in a clean run.
 pub data CleanSession : Session → List Seen → Session → Type 0 where
+  -- Nothing is seen, and the session stays.
   clean_nothing_seen : {s : Session} → CleanSession s [] s
+  -- A clean result is seen, and then others.
   clean_result_more : {s mid s' : Session} {seen : Seen} {more : List Seen} (at : Standing) → s.phase ≡ On at
       → IsCleanResult s.plan at.work at.step seen → SessionRow s seen mid → CleanSession mid more s' → CleanSession s (seen ∷ more) s'
 

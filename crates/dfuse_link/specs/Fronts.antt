@@ -23,13 +23,13 @@ abbrev pub ImageInMemory : Plan → (IsSelected : ℕ → Type 0) → (memory : 
 ImageInMemory plan IsSelected memory =
     (a : ℕ) (e : Element) → IsSelected a → element_at a plan.image.now ≡ Some e → memory a ≡ slice_index e.bytes.now (a - e.address)
 
--- While a session writes its front, each byte of the image after the front is in the memory.
+-- While a session whose plan is for the device writes its front, each byte of the image after the front is in the memory.
 abbrev pub RestInMemory : Type 0
 RestInMemory = (chip : Chip) (plan : Plan) (limits : Limits) (d d' : Device) (s : Session) (seens : List Seen) (here : Standing) (at : ℕ)
     → IsPlanFor chip plan → History chip d (initial_dfuse_session plan limits) seens d' s → s.phase ≡ On here → here.work ≡ WriteFront at
     → ImageInMemory plan (λ (a : ℕ). front_end plan ≤ a) d'.memory
 
--- The address is of the front.
+-- The address is in the front.
 abbrev pub IsFrontAddress : Plan → (a : ℕ) → Type 0
 IsFrontAddress plan a = (image_start plan.image.now ≤ a) × (a < front_end plan)
 
@@ -45,9 +45,9 @@ ErasesFront chip plan = (a : ℕ) → IsFrontAddress plan a → chip.erases (pag
 abbrev pub FrontIsBlank : Chip → Plan → (memory : ℕ → ℕ) → Type 0
 FrontIsBlank chip plan memory = (a : ℕ) → IsFrontAddress plan a → chip.blank (memory a) ≡ true
 
--- At each moment the front is blank, or the bytes off its page are all as they were, or are all bytes of the image: if no two ranges of the
--- map share an address, the map is true of the image's pages, the device carries out no order at first, and an erase of the front's page
--- reaches the front.
+-- At each moment the front is blank, or the bytes off its page are all as they were, or are all bytes of the image: if the plan is for the
+-- device, no two ranges of the map share an address, the map is true of the image's pages, the device carries out no order at first, and an
+-- erase of the front's page reaches the front.
 abbrev pub NoMixture : Type 0
 NoMixture = (chip : Chip) (plan : Plan) (limits : Limits) (d d' : Device) (s : Session) (seens : List Seen) → IsPlanFor chip plan →
     are_apart plan.map.now.ranges ≡ true → IsTrueMap chip plan → ErasesFront chip plan → CarriesNoOrder d →
@@ -55,8 +55,8 @@ NoMixture = (chip : Chip) (plan : Plan) (limits : Limits) (d d' : Device) (s : S
     ((a : ℕ) → IsOffFrontPage plan a → d'.memory a ≡ d.memory a)
     ⊎ (FrontIsBlank chip plan d'.memory ⊎ ImageInMemory plan (IsOffFrontPage plan) d'.memory)
 
--- If the same holds, and the session's work is not to erase, nor to erase again, the front is blank, or each byte of the image after the
--- front is in the memory, also those on the front's page.
+-- With the premises of `NoMixture`, and if the session's work is neither to erase nor to erase again, the front is blank, or each byte of
+-- the image after the front is in the memory, also those on the front's page.
 abbrev pub NoneButErasing : Type 0
 NoneButErasing = (chip : Chip) (plan : Plan) (limits : Limits) (d d' : Device) (s : Session) (seens : List Seen) (here : Standing) →
     IsPlanFor chip plan → are_apart plan.map.now.ranges ≡ true → IsTrueMap chip plan → ErasesFront chip plan → CarriesNoOrder d →

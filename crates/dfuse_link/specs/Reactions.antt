@@ -11,11 +11,15 @@ use Rattle.dfuse_link.specs.Chips.{Chip, Order, SetsPointer, ErasesPage, WritesB
 
 -- A request is acknowledged, answered with bytes, or stalled.
 pub data Reaction : Type 0 where
+  -- The request is acknowledged.
   Acks : Reaction
+  -- The request is answered with these bytes.
   Data : (bytes : List ℕ) → Reaction
+  -- The request is stalled.
   Stalls : Reaction
 
--- Order in the body of a DNLOAD of block 0: a number, and an address of four bytes, the low one first. 21h sets the pointer, 41h erases.
+-- Order in the body of a DNLOAD of block 0: a number, and an address of four bytes, the low one first. 21h sets the pointer, 41h erases;
+-- anything else is another order.
 abbrev pub order_of_command_bytes : List ℕ → Order
 order_of_command_bytes [] = Other
 order_of_command_bytes (number ∷ address) =
@@ -24,7 +28,8 @@ order_of_command_bytes (number ∷ address) =
     else (if number == 0x41 then ErasesPage (from_le_bytes w32 address) else Other))
     else Other
 
--- Order of a DNLOAD: from block 2 on to write its bytes where the pointer is, and in block 0 a command.
+-- Order of a DNLOAD: in block 0 a command, from block 2 on to write its bytes at the block's place after the pointer, and in block 1
+-- another order.
 abbrev pub order_of : Chip → (pointer block : ℕ) → (body : List ℕ) → Order
 order_of chip pointer block body =
     if nat_le 2 block then WritesByteRange (pointer + (block - 2) * chip.transfer) (length body)
@@ -48,39 +53,41 @@ AbortLeadsToIdle device_work = ⊥
 abbrev pub BytesInMemoryAt : (memory : ℕ → ℕ) → (at : ℕ) → List ℕ → Type 0
 BytesInMemoryAt memory at bytes = (i : ℕ) → i < length bytes → memory (at + i) ≡ slice_index bytes i
 
--- GETSTATUS starts an order.
+-- Work once GETSTATUS has started its order.
 abbrev pub work_with_order_started : DeviceWork → DeviceWork
 work_with_order_started (Pending order) = CarriesOut order
 work_with_order_started device_work = device_work
 
--- GETSTATUS reports that an order is done, and goes on to leave.
+-- Work after a GETSTATUS: an order that is done is reported as done, and a device that leaves goes on to dfuMANIFEST.
 abbrev pub work_after_status : DeviceWork → DeviceWork
 work_after_status (RestsInState state.DownloadSync) = RestsInState state.DownloadIdle
 work_after_status (RestsInState state.DownloadBusy) = RestsInState state.DownloadIdle
 work_after_status (RestsInState state.ManifestSync) = RestsInState state.Manifest
 work_after_status device_work = device_work
 
--- A device reacts to a request with this body.
+-- A device reacts to a request with this body, and is changed by it.
 pub data Reacts (chip : Chip) (d : Device) : Request → List ℕ → Reaction → Device → Type 0 where
-  -- Any request may be stalled, but GETSTATE while an order isn't started. The device goes on as before, or is in dfuERROR.
+  -- Any request may be stalled, except GETSTATE while an order isn't started. The device goes on as before, or is in dfuERROR.
   stalls : (q : Request) (body : List ℕ) (device_work : DeviceWork)
       → ((order : Order) (n : ℕ) → d.device_work ≡ Pending order → q ≡ request.GetState n → ⊥)
       → (device_work ≡ d.device_work) ⊎ (device_work ≡ RestsInState state.Error) →
       Reacts chip d q body Stalls (record d { device_work = device_work })
-  -- DNLOAD brings an order, and starts nothing.
+  -- DNLOAD of bytes in dfuIDLE or dfuDNLOAD-IDLE brings an order, and starts nothing.
   takes : (block n : ℕ) (body : List ℕ) → RestsIdleOr state.DownloadIdle d.device_work → 0 < length body
       → Reacts chip d (request.Dnload block n) body Acks (record d { device_work = Pending (order_of chip d.pointer block body) })
-  -- DNLOAD without bytes asks the device to leave.
+  -- DNLOAD without bytes in dfuIDLE or dfuDNLOAD-IDLE asks the device to leave.
   closes : (block n : ℕ) → RestsIdleOr state.DownloadIdle d.device_work
       → Reacts chip d (request.Dnload block n) [] Acks (record d { device_work = RestsInState state.ManifestSync })
-  -- UPLOAD from block 2 on gives the bytes of the memory from the pointer on, or fewer of them.
+  -- UPLOAD from block 2 on, in dfuIDLE or dfuUPLOAD-IDLE, gives bytes of the memory from the block's place after the pointer on, at most as
+  -- many as it asks for.
   gives : (block n : ℕ) (body bytes : List ℕ) (s : State) → RestsIdleOr state.UploadIdle d.device_work → 2 ≤ block → length bytes ≤ n
       → BytesInMemoryAt d.memory (d.pointer + (block - 2) * chip.transfer) bytes → (s ≡ state.DfuIdle) ⊎ (s ≡ state.UploadIdle)
       → Reacts chip d (request.Upload block n) body (Data bytes) (record d { device_work = RestsInState s })
-  -- UPLOAD of block 0 or 1 gives other bytes.
+  -- UPLOAD of block 0 or 1, in dfuIDLE or dfuUPLOAD-IDLE, gives any bytes.
   gives_other_bytes : (block n : ℕ) (body bytes : List ℕ) → RestsIdleOr state.UploadIdle d.device_work → block < 2
       → Reacts chip d (request.Upload block n) body (Data bytes) (record d { device_work = RestsInState state.UploadIdle })
-  -- GETSTATUS starts an order, and reports its state, with any code and any time.
+  -- GETSTATUS starts an order that isn't started, perhaps lets the device go on with its order, and reports the state after that, with any
+  -- code and any time.
   tells : (n : ℕ) (body bytes : List ℕ) (status : StatusFields) (mid : Device)
       → (mid ≡ record d { device_work = work_with_order_started d.device_work }) ⊎ DeviceAdvances chip (record d {
         device_work =
@@ -89,13 +96,13 @@ pub data Reacts (chip : Chip) (d : Device) : Request → List ℕ → Reaction �
       → IsStatus status bytes
       → status.state ≡ state_in (work_after_status mid.device_work) → Reacts chip d (request.GetStatus n) body (Data bytes)
       (record mid { device_work = work_after_status mid.device_work })
-  -- GETSTATE changes nothing.
+  -- GETSTATE shows the state, and changes nothing.
   shows : (n : ℕ) (body : List ℕ) → Reacts chip d (request.GetState n) body (Data (state_byte (state_in d.device_work) ∷ [])) d
-  -- ABORT drops an order that isn't started.
+  -- ABORT leads to dfuIDLE, and drops an order that isn't started.
   aborts : (body : List ℕ) → AbortLeadsToIdle d.device_work → Reacts chip d request.Abort body Acks (record d {
     device_work = RestsInState
         state.DfuIdle;
   })
-  -- CLRSTATUS leaves dfuERROR.
+  -- CLRSTATUS leads from dfuERROR to dfuIDLE.
   clears_error : (body : List ℕ) → d.device_work ≡ RestsInState state.Error
       → Reacts chip d request.ClrStatus body Acks (record d { device_work = RestsInState state.DfuIdle })

@@ -21,8 +21,8 @@ IsTrueMap chip plan =
 abbrev pub CarriesNoOrder : Device → Type 0
 CarriesNoOrder d = (order : Order) → d.device_work ≡ CarriesOut order → ⊥
 
--- At each moment, a byte on a page that has no byte of the image is as it was when the session began, if the map is true of the image's
--- pages, and the device carried out no order at first.
+-- At each moment, a byte on a page that has no byte of the image is as it was when the session began, if the plan is for the device, the
+-- map is true of the image's pages, and the device carried out no order at first.
 abbrev pub OtherPagesStay : Type 0
 OtherPagesStay = (chip : Chip) (plan : Plan) (limits : Limits) (d d' : Device) (s : Session) (seens : List Seen) (a : ℕ) →
     IsPlanFor chip plan

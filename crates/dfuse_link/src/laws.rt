@@ -1,4 +1,6 @@
 //! Laws of sessions with a DfuSe device. Each is the contract of a function that calls only other laws, which is proved and has no effect.
+//! The plan is always one with which a session can begin, and whose map is sound; a law that tells of the memory asks that its blocks are
+//! the device's.
 
 ghost use Rattle.dfuse_link.specs.Counts.{CleanRunsAreCounted, PlansHaveCounts};
 ghost use Rattle.dfuse_link.specs.Fronts.{NoMixture, NoneButErasing, RestInMemory};
@@ -8,7 +10,7 @@ ghost use Rattle.dfuse_link.specs.Touched.{OtherPagesStay};
 use dfu_formats::memory::laws::one_page;
 use dfuse_host::laws::{only_touched, sessions_end, verified_is_read_back};
 
-/// A session with a device is over in time.
+/// A session with a device ends within its actions.
 pub fn sessions_end_in_time()
     ensures rows { HistoriesAreRows }
     ensures in_time { EndsWithinActions }

@@ -1,5 +1,5 @@
-//! Laws of the reports that the host of DfuSe gives of a device over a link, whatever is lost on the way and whenever the device restarts,
-//! over lists of all that may come.
+//! Laws of the reports that the host of DfuSe gives of a device over a link, on which any message may be lost and the device may restart at
+//! any time. Each law holds of every history.
 #![tactic(auto)]
 
 pub mod laws;

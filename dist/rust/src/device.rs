@@ -1,7 +1,7 @@
 // Of crates/dfu_device/src/lib.rt, whose contracts are taken away.
 
 //! The device's side of USB device firmware upgrade (USB DFU 1.1): a machine that answers every
-//! setup with every body, takes no memory, and never fails. Each of its steps is a row of the
+//! setup with every body, allocates no memory, and never fails. Each of its steps is a row of the
 //! device table, `crates/dfu_device/specs/Table.antt`.
 
 mod answer;

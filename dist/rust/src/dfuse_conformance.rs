@@ -1,7 +1,7 @@
 // Of crates/dfu_conformance/src/dfuse.rt, whose contracts are taken away.
 
-//! Could a DfuSe device have given these answers? Rows that DfuSe adds to the table of USB DFU 1.1, and a judge that follows each device
-//! that keeps both.
+//! Checks whether a DfuSe device could have given the answers in a log: rows that DfuSe adds to the tables of USB DFU 1.1, and a judge that
+//! follows all places of such a device at once.
 
 mod judge;
 mod rows;

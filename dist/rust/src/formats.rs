@@ -1,10 +1,10 @@
 // Of crates/dfu_formats/src/images.rt, whose contracts are taken away.
 
-//! Images in the files that builds produce: bytes, by their addresses.
+//! Images in the files that builds produce: bytes at addresses.
 //!
-//! Bytes that begin where those of the record before them end belong to its element, and others begin one. For example, two elements may
-//! touch if the file has them apart. A file has up to 16,777,216 bytes of data and 1,024 elements. Overlaps are looked for once all is
-//! read.
+//! Bytes that begin at the end of the bytes of the record before them join its element; all others begin an element. For example, two
+//! elements may touch if other records lie between theirs in the file. A file has up to 16,777,216 bytes of data and 1,024 elements.
+//! Overlaps are checked once the whole file is read.
 
 mod digits;
 mod element;

@@ -1,10 +1,9 @@
 // Of crates/dfu_host/src/lib.rt, whose contracts are taken away.
 
-//! The host of USB device firmware upgrade (USB DFU 1.1): a machine that says which request, wait
-//! or reset comes next, and what a session's end was.
+//! The host of USB device firmware upgrade (USB DFU 1.1): a machine that says which request, wait or reset comes
+//! next, and how a session ended.
 //!
-//! It sends nothing itself. Only the calls that begin a session can refuse, and only `take` of an
-//! upload takes memory.
+//! The machine sends nothing itself. Only the calls that begin a session can refuse, and only `take` of an upload takes memory.
 
 mod action;
 mod comparing;

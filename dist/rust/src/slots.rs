@@ -25,7 +25,7 @@ mod slots;
 mod steps;
 mod writes;
 
-// For a caller that reads a medium by itself, and knows which slot is active.
+// For callers that read a medium directly and know which slot is active.
 pub use both::{Both, check_both};
 pub use fault::{FormatFault, OpenFault, PutFault, WriteFault};
 pub use layout::{

@@ -53,6 +53,7 @@ def simulated(browser, address, work):
     browser.click('#next')
     browser.wait('document.getElementById("device-refused").textContent.startsWith("WrongTarget")')
     check('a file for another board', (shown(browser, '#tally'), shown(browser, '#report')), ('3 simulated boards are flashed.', ''))
+    check('its words name no option of a program', '--' in shown(browser, '#device-refused'), False)
     is_quiet(browser, 'flash, a simulated board')
 
 

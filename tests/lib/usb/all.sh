@@ -105,7 +105,7 @@ all --timeout 1 new.dfu
 expect 'one hangs' test "$code" -eq 10
 expect 'one hangs: the other one first' test "$(sed -n '1s/ .*//p' out)" = 1-1
 ended 1-1 verified new
-expect 'one hangs: its record' grep -q '^1-2 .*silent: it did not end in time' out
+expect 'one hangs: its record' grep -q '^1-2 serial F1 .*silent: it did not end in time' out
 # Those that are at work give up at a signal, one that hangs too.
 # begin WORDS..: the same in the background; its number is in $first. reap: waits for it.
 begin() {
@@ -226,6 +226,9 @@ expect 'the same serial number: the same board' test ! -e saved-late
 says '1-1: the device that was flashed here is back; another one with its serial number has to be plugged in again'
 expect 'no serial number: another board' cmp saved-late-other new
 
+# shellcheck source=tests/lib/usb/all_again.sh
+. "$top/tests/lib/usb/all_again.sh"
+
 # What is refused before anything is sent.
 all any.dfu
 expect 'a file for any device' test "$code-$(cut -d : -f 1 out)" = 1-ForAny
@@ -237,6 +240,8 @@ expect 'no folder' test "$code" -eq 3
 all other.dfu
 expect 'no device' test "$code" -eq 4
 says 'the file is for vendor 1209, product 0002'
+all --wait=1 other.dfu
+says 'dfu-flash: no device that is there now is the one that is asked for: the file is for vendor 1209, product 0002'
 for words in '--path 1-1 new.dfu' '--serial F1 new.dfu' '--dry-run new.dfu' '--verbose new.dfu' '--verbose=x new.dfu' '--list' \
     '--upload never' '--detach' ''; do
     # shellcheck disable=SC2086

@@ -66,7 +66,7 @@ row 0 new 'installed: ' 'USB_APP_STALLS=all' --no-verify new.dfu
 # It has another product in DFU mode, and is stuck there: both are named, and the file's is the first.
 stuck='USB_IDS=1209:0001:0100 USB_DFU_IDS=1209:00ff:0100'
 row 4 old '' "$stuck" new.dfu
-says 'see --device RUN,DFU'
+says 'if the one at 1-1 is the board that the file is for: --device 1209:0001,1209:00ff'
 row 1 old 'WrongTarget: ' "$stuck" --device 1209:00ff new.dfu
 expect 'WrongTarget: what helps' grep -q -- '--device RUN,DFU' out
 expect 'WrongTarget: nothing is sent' is_untouched
@@ -74,8 +74,14 @@ for more in '' USB_START=app USB_AWAY=4 'USB_DEVICE=small USB_ATTRIBUTES=0b'; do
     row 0 new 'verified: ' "$stuck $more" --device 1209:0001,1209:00ff new.dfu
 done
 row 0 new 'verified: ' "$stuck" --device 1209:0001,1209:00ff any.dfu
+# A file may be for the one of DFU mode.
+"$dfu" add new mode.dfu --vid 1209 --pid 00ff > /dev/null
+row 0 new 'verified: ' "$stuck" --device 1209:0001,1209:00ff mode.dfu
+row 0 new 'verified: ' "$stuck USB_START=app USB_AWAY=4" -d 1209:1,:ff -D mode.dfu
+row 1 old 'WrongTarget: ' '' --path 1-1 mode.dfu
 row 0 new 'verified: ' "$stuck" --device 1209:0001,ffff:ffff new.dfu
 row 1 old 'WrongTarget: ' "$stuck" --device 1209:0001,1209:00ff other.dfu
+says 'next: the file is for 1209:0002, and --device names 1209:0001: '
 row 1 old 'WrongTarget: ' "$stuck" --device ffff:ffff,1209:00ff new.dfu
 row 4 old '' "$stuck" --device 1209:0001,1209:00fe new.dfu
 row 0 - '1209:00ff path 1-1 ' "$stuck" --device 1209:0001,1209:00ff --list

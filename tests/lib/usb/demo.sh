@@ -68,6 +68,36 @@ done
 row 2 - '' '' --demo --all --json 'a b.dfu'
 says 'dfu-flash: --demo goes with a FILE, --json and --quiet alone, because its one board is simulated; leave out: --all'
 says "next: run: dfu-flash --demo --json 'a b.dfu'"
+# Each option of --help, before --demo and behind it: all that don't go with it are named, and the line to type has the rest.
+LD_LIBRARY_PATH=$work ./dfu-flash --help | sed -n 's/^ *\(-[hV], \)*--\([a-z-]*\) .*/\2/p' > longs
+expect 'options' test "$(wc -l < longs)" -ge 30
+while read -r long; do
+    value=
+    case $long in
+    device | path | serial | interface | alt | upload | timeout | transfer-size | length | log | report | ports | retry | count | stamp)
+        value=1 ;;
+    limits) value='1 1' ;;
+    address) value=0x08000000 ;;
+    stamp-at) value=16:8 ;;
+    esac
+    [ "$long" != device ] || value=1209:0001
+    case $long in
+    quiet | json | demo | help | version) continue ;;
+    esac
+    for words in "--demo --quiet --json --$long $value demo.bin" "--json --$long $value --demo demo.bin"; do
+        # shellcheck disable=SC2086
+        row 2 - '' '' $words
+        says "because its one board is simulated; leave out: --$long"
+        case $words in
+        *quiet*) both='--json --quiet' ;;
+        *) both=--json ;;
+        esac
+        expect "$words: what to type" test "$(tail -n 1 err)" = "next: run: dfu-flash --demo $both demo.bin"
+    done
+done < longs
+row 2 - '' '' -l --demo --all -s 0x08000000:leave --device 1209:0001 new.dfu --verbose
+says 'leave out: --all, --list, --device, -s, --verbose'
+says 'next: run: dfu-flash --demo new.dfu'
 row 2 - '' '' --retry 2 --demo
 says 'leave out: --retry'
 says 'next: run: dfu-flash --demo'

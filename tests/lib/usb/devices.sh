@@ -23,6 +23,7 @@ row 4 old '' USB_DEVICES=1 --alt 1 new.dfu
 row 4 old '' USB_DEVICES=1 other.dfu
 says 'product 0002'
 row 1 old 'WrongTarget: ' USB_DEVICES=1 --path 1-1 other.dfu
+says 'next: the file is for 1209:0002, and the board is 1209:0001: give the file for this device, or choose'
 row 4 - '' USB_DEVICES=0 new.dfu
 says 'no device with DFU'
 row 5 old '' USB_DENIED=3 new.dfu
@@ -76,7 +77,15 @@ for settings in USB_SWAP_INTERFACE=1 USB_SWAP_NAME=other; do
         row 13 - 'other: ' "USB_SERIAL= $settings" new.dfu
     done
 done
+# The record is of the one that was left, and the other one is named behind it.
 fate='swap 4'
+row 13 - '{"status":13,"report":"other",' 'USB_SERIAL=F7 USB_SWAP_IDS=1209:0002:0100' --json --report other.csv new.dfu
+expect 'the one that was left' grep -q '"vendor":"1209","product":"0001",.*"serial":"F7",' out
+expect 'the one that came' grep -q '"next":"1209:0002 serial OTHER came in its place: plug in only the one that is meant' out
+expect 'so in the report' \
+    grep -q ',13,"other","another .* (1209:0002 serial OTHER came in its place)",.*,"1209","0001","0100","F7","1-1",' other.csv
+row 13 - 'other: ' USB_SERIAL=F7 new.dfu
+says 'next: 1209:0001 serial OTHER came in its place: plug in only the one that is meant'
 row 0 new 'verified: ' USB_SERIAL=OTHER new.dfu
 fate=
 

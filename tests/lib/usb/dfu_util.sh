@@ -4,6 +4,7 @@
 # Long options, with their value behind = or as the next word.
 row 0 new 'verified: ' '' --download new.dfu
 row 0 new 'verified: ' '' --download=new.dfu --reset
+says "dfu-flash: -R of dfu-util isn't needed: a session ends with a reset, and with DfuSe as -s says; U-Boot's \`dfu\` stays in DFU mode"
 row 0 new 'verified: ' '' --intf 0 --alt 0 --reset --download new.dfu
 row 0 new 'verified: ' USB_ALTERNATES=3 --intf=0 --altsetting=1 --download new.dfu
 row 0 new 'verified: ' USB_ALTERNATES=3 --altsetting kernel --download new.dfu
@@ -11,7 +12,7 @@ row 0 old 'uploaded: ' '' --upload-size 13 --upload pasted
 says 'dfu-flash: -Z of dfu-util isn'\''t needed: an upload ends by itself'
 expect 'an upload' cmp old pasted
 row 0 new 'verified: ' '' --cfg 1 --detach-delay=5 -D new.dfu
-says 'dfu-flash: -c of dfu-util isn'\''t needed: a device is used in the configuration that it is in'
+says 'dfu-flash: -c of dfu-util isn'\''t looked at: the active configuration is taken'
 says 'dfu-flash: -E of dfu-util isn'\''t needed: a device that left is asked for until it is back'
 row 0 new 'verified: ' '' --configuration=1 -D new.dfu
 row 0 new 'verified: ' '' -Z 0x1a -c1 -E 5 -D new.dfu --quiet
@@ -25,7 +26,10 @@ expect '-l -v lists' test ! -s err
 row 0 - '1209:0001 path 1-1 serial F1 ' '' -v --list -v
 row 2 - '' '' --list --verbose=trace
 row 0 new 'verified: ' USB_START=app -e -D new.dfu
-says 'dfu-flash: -e of dfu-util isn'\''t needed with -D: a download brings the device to DFU mode by itself'
+says 'dfu-flash: -e of dfu-util isn'\''t done with -D: a download brings a board to DFU mode by itself; one of DfuSe needs '
+# One of DfuSe is refused, and the step is for the same board.
+row 1 - 'RunTimeMode: ' 'USB_DEVICE=dfuse USB_START=app' -e -d 1209:0001 -p 1-1 -s 0x08000000 -D new
+says 'next: run dfu-flash --detach --device 1209:0001 --path 1-1, and then this again'
 row 0 new 'verified: ' '' --detach --download new.dfu --quiet
 expect 'quiet' test ! -s err
 row 1 old 'BadCrc: ' USB_START=app -e -D damaged.dfu
@@ -52,10 +56,16 @@ row 0 new 'verified: ' 'USB_START=app USB_AWAY=4 USB_DFU_IDS=1209:00ff:0100' -d 
 row 0 new 'verified: ' USB_DFU_IDS=1209:00ff:0100 -d 1209:1,:ff -D new.dfu
 row 4 old '' USB_START=app -d ,1209:0001 -D new.dfu
 says 'none has them in DFU mode'
+# A hyphen is no device: so none in run-time mode.
+row 0 new 'verified: ' '' -d -,1209:0001 -D new.dfu
+row 4 old '' USB_START=app -d -,1209:0001 -D new.dfu
 row 4 old '' USB_START=app -d ,1209:0001 --dry-run -D new.dfu
 row 0 new 'verified: ' '' -d 0x1209:0x1 -D new
 for ids in 0x1209:0x2 1208:1 :2 1209:2,:3 ,1209:2; do
     row 4 old '' '' -d "$ids" new.dfu
+done
+for ids in - '-,'; do
+    row 2 - '' '' -d "$ids" new.dfu
 done
 for ids in '' ',' : ',:' x 1209:x 01209:0001 1209:00001 0x:1 1209:1:1 1209:1,2,3 1209-0001 -1209:1 '1209: 1' 1209:0001,1209:0001x '**:1'; do
     row 2 - '' '' -d "$ids" new.dfu
@@ -93,6 +103,8 @@ expect 'to the end of the segment' test "$(wc -c < segment)" -eq 3072
 row 0 - 'uploaded: ' "USB_DEVICE=dfuse USB_MAPS=$maps USB_PAGES=$maps" --dfuse-address=0x08001000:leave --upload second
 expect 'the next one' test "$(wc -c < second)" -eq 4096
 says ":leave of dfu-util isn't done behind an upload"
+row 0 - 'uploaded: ' "USB_DEVICE=dfuse USB_MAPS=$maps USB_PAGES=$maps" -s 0x08001000:leave -U hushed --quiet
+says ":leave of dfu-util isn't done behind an upload"
 row 0 - 'uploaded: ' "USB_DEVICE=dfuse USB_MAPS=$maps USB_PAGES=$maps" -s 0x08001fff -U last
 expect 'its last byte' test "$(wc -c < last)" -eq 1
 row 0 - 'uploaded: ' "USB_DEVICE=dfuse USB_MAPS=$maps USB_PAGES=$maps" -s 0x08000000:5 -U five
@@ -107,6 +119,9 @@ for words in mass-erase unprotect will-reset force mass-erase:force force:unprot
         expect "$address:$words: nothing is sent" is_silent
     done
 done
+row 2 - '' USB_DEVICE=dfuse -s 0x08000000:unprotect:leave:mass-erase:force -D new
+expect 'each word is answered, in one run' test "$(grep -o 'of dfu-util has [a-z-]*' err | cut -d ' ' -f 4 | tr '\n' ' ')" = \
+    'unprotect mass-erase force '
 for words in 0x08000000:fast 0x08000000:leaves 0x08000000:mass 0x08000000: :x 0x08000000:leave:1x '' 08000000; do
     row 2 - '' USB_DEVICE=dfuse -s "$words" -D new
 done

@@ -32,7 +32,14 @@ dfuse_row 0 expected 'verified: ' 'USB_ERASE=7 USB_BUSY=1' --quiet some.dfu
 equal 'each page is erased once' 2 "$(grep -c ' GETSTATUS .* 000700000400,' log)"
 dfuse_row 0 expected 'verified: ' '' --no-leave some.dfu
 is 'it is not started' test "$(grep -c '^started' log)" -eq 0
-dfuse_row 0 expected 'verified: ' '' -a 0 -s :leave -D some.dfu
+started='dfu-flash: the application is started at the end; --no-leave keeps the board in DFU mode, as for the next of several files'
+dfuse_row 0 expected 'verified: ' '' -D some.dfu
+is '-D says that it is started' grep -qxF -e "$started" err
+for words in '-a 0 -s :leave -D some.dfu' '--no-leave -D some.dfu' '--quiet -D some.dfu' some.dfu; do
+    # shellcheck disable=SC2086
+    dfuse_row 0 expected 'verified: ' '' $words
+    is "$words: no such line" test "$(grep -c 'the application is started' err)" -eq 0
+done
 dfuse_row 0 expected 'verified: ' 'USB_TRANSFER=100 USB_CELLS=fail' --quiet some.dfu
 dfuse_row 0 old 'dry-run: download and compare 708 bytes at 08000000 ' '' --dry-run some.dfu
 dfuse_silent 'a dry run'

@@ -33,6 +33,8 @@ answer 'decimal' -a 0x1 -D new.dfu
 # A raw image is taken with --device, which names vendor and product; it is sent whole, and standard error says so.
 row 0 new 'verified: ' '' --device 1209:0001 new
 says 'dfu-flash: there is no suffix: all 26 bytes are sent, to 1209:0001'
+row 0 old 'dry-run: ' '' --dry-run --device 1209:0001 new
+says 'dfu-flash: there is no suffix: all 26 bytes would be sent, to 1209:0001'
 row 0 new 'verified: ' '' -d 1209:0001 --quiet -D new
 expect 'quiet' test ! -s err
 row 0 new 'verified: ' 'USB_START=app USB_AWAY=4 USB_DFU_IDS=1209:00ff:0100' --device 1209:0001,1209:00ff new
@@ -58,6 +60,26 @@ row 0 old 'dry-run: ' '' --device 1209:0001 --dry-run new
 for size in 1 15 16 17 255 1000 65537; do
     { printf '\1'; head -c $((size - 1)) /dev/urandom; } > sized
     row 0 old "dry-run: download and compare $size bytes" '' --device 1209:0001 --dry-run sized
+done
+
+# A file that is for any board says to which one it goes, unless the words name the board.
+"$dfu" add new vendor.dfu --vid 1209 > /dev/null
+"$dfu" add new product.dfu --pid 0001 > /dev/null
+row 0 new 'verified: ' USB_PATH=3-1.4 any.dfu
+says 'dfu-flash: the file is for any board; it is sent to 1209:0001 at 3-1.4'
+expect 'once, before the first block' test "$(grep -n 'for any board' err | cut -d : -f 1)" = 1
+row 0 new '{"status":0,' '' --json vendor.dfu
+says 'dfu-flash: the file is for any board of vendor 1209; it is sent to 1209:0001 at 1-1'
+row 0 new 'verified: ' USB_START=app product.dfu
+says 'dfu-flash: the file is for any board with product 0001; it is sent to 1209:0001 at 1-1'
+row 0 old 'dry-run: ' '' --dry-run any.dfu
+says 'dfu-flash: the file is for any board; it would be sent to 1209:0001 at 1-1'
+row 12 old '' USB_DEVICES=2 any.dfu
+expect 'two boards: to none' test "$(grep -c 'for any board' err)" -eq 0
+for words in '--quiet any.dfu' '--device 1209:0001 any.dfu' '--path 1-1 any.dfu' '--serial F1 any.dfu' new.dfu; do
+    # shellcheck disable=SC2086
+    row 0 new 'verified: ' '' $words
+    expect "$words: no such line" test "$(grep -c 'for any board' err)" -eq 0
 done
 
 # Standard input.
@@ -105,8 +127,32 @@ lacks() {
     expect "$*: nothing is sent" is_untouched
 }
 lacks 'the file is for vendor 1209, product 0002 (ffff is any), and none has them; there is:' '' other.dfu
-says 'see --device RUN,DFU'
+says 'if the one at 1-1 is the board that the file is for: --device 1209:0002,1209:0001'
 lacks '--device names vendor 1209, product 0003 (ffff is any), and none has them' '' --device 1209:0003 new.dfu
+says 'if the one at 1-1 is the board that is meant: --device 1209:0003,1209:0001'
+lacks '--device names vendor ffff, product 0003 (ffff is any), and none has them' '' -d :3 new.dfu
+says 'in DFU mode a device may have other numbers: see --device RUN,DFU'
+lacks 'the file is for vendor 1209, product 0002 (ffff is any), and none has them' USB_DEVICES=2 other.dfu
+says 'in DFU mode a device may have other numbers: see --device RUN,DFU'
+lacks 'the file is for vendor 1209, product 0002 (ffff is any), and none has them' USB_START=app other.dfu
+expect 'no device is in DFU mode' test "$(grep -c 'in DFU mode a device' err)" -eq 0
+# After --detach a board whose numbers in DFU mode are others.
+row 4 old '' 'USB_IDS=1209:0001:0100 USB_DFU_IDS=1200:0007:0100' new.dfu
+says 'if the one at 1-1 is the board that the file is for: --device 1209:0001,1200:0007'
+row 0 new 'verified: ' 'USB_IDS=1209:0001:0100 USB_DFU_IDS=1200:0007:0100' --device 1209:0001,1200:0007 new.dfu
+# With --wait it is said at the begin, once, which boards are there, and why they aren't taken.
+row 4 old '' '' --wait=1 other.dfu
+says 'dfu-flash: no device that is there now is the one that is asked for: the file is for vendor 1209, product 0002 (ffff is any)'
+expect 'once' test "$(grep -c 'there now' err)" -eq 1
+for words in '--quiet --wait=1 other.dfu' '--wait=1 --device 1209:0002 new.dfu'; do
+    settings=USB_DEVICES=0
+    case $words in *quiet*) settings= ;; esac
+    # shellcheck disable=SC2086
+    row 4 - '' "$settings" $words
+    expect "$words: nothing of that" test "$(grep -c 'there now' err)" -eq 0
+done
+row 0 new 'verified: ' USB_ABSENT=3 --wait new.dfu
+expect 'nor of one that comes' test "$(grep -c 'there now' err)" -eq 0
 lacks 'none of these is at --path 1-9' '' --path 1-9 new.dfu
 lacks 'none of these has --serial F2' '' --serial F2 new.dfu
 lacks 'none of these has --interface 3' '' --interface 3 new.dfu

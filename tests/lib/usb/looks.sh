@@ -11,7 +11,8 @@ of_name="NoSignature: the file isn't of the format that its name says: it was cu
 cut="NoSignature: the file's name ends in .dfu, and it has no DFU suffix: it was cut short or changed; get it anew"
 
 # refused FILE REFUSAL TEXT: with each way to name the device, and on standard input, nothing is sent; the whole refusal is that, the text
-# is on standard error, and no hint leads to sending the file. With --raw and a device all of its bytes are sent.
+# is on standard error, and no hint leads to sending the file, but for a condition of the step. With --raw and a device all of its bytes are
+# sent.
 refused() {
     it=$1 refusal=$2 hint=$3
     for words in '' '--device 1209:0001' '--address 0x08000000' '--device 1209:0001 --quiet'; do
@@ -20,7 +21,7 @@ refused() {
         expect "$it $words: the whole refusal" test "$(cat out)" = "$refusal"
         expect "$it $words: nothing is sent" is_silent
         says "$hint"
-        found=$(grep -c -e --device -e --raw -e 'format raw' err) || :
+        found=$(grep -v '^next: .*; if .*, add --raw$' err | grep -c -e --device -e --raw -e 'format raw') || :
         expect "$it $words: no hint leads to sending it" test "$found" -eq 0
     done
     row 1 old "{\"status\":1,\"report\":\"NoSignature\",\"words\":\"${refusal#*: }\",\"next\":\"" '' --json --device 1209:0001 "$it"
@@ -33,7 +34,7 @@ refused() {
         *) expect "$it $words: all of its bytes" cmp saved "$it" ;;
         esac
     done
-    says "there is no suffix: all $(wc -c < "$it") bytes are sent, to 1209:0001"
+    says "there is no suffix: all $(wc -c < "$it") bytes would be sent, to 1209:0001"
     row 1 old 'NotDfuSe: ' '' --raw --address 0x08000000 "$it"
     expect "$it: --raw says nothing of the device" is_not_for_any "$it"
 }
@@ -105,12 +106,14 @@ printf 'x' > letter
 for it in notes page.dfu utf8.bin letter; do
     refused "$it" "$of_text" 'dfu-flash: it is text and no image: give the file that the build made'
     row 1 old "$of_text" '' "$it"
-    says 'next: flash the .bin, .hex, .elf or .dfu file of the build, a .hex or .elf by way of `dfu add --format auto`'
+    says "next: flash the build's .bin, .dfu, .hex or .elf, the last two by \`dfu add --format auto\`; if the board takes text, add --raw"
 done
 { printf 'PK\3\4'; head -c 100 /dev/zero; } > it.zip
 { printf '\37\213'; head -c 100 /dev/zero; } > it.dfu.gz
 refused it.zip "$packed" 'dfu-flash: it is a zip archive: unpack it first'
 refused it.dfu.gz "$packed" 'dfu-flash: it is a gzip archive: unpack it first'
+flash '' it.dfu.gz
+says 'next: unpack it, and flash the file that is in it; if the board takes the archive, add --raw'
 
 # Names that say another format, in letters of either case. A DFU file that was cut is no image, and needs no device to be one.
 { printf '\1'; head -c 2999 /dev/urandom; } > whole
@@ -165,17 +168,32 @@ for words in '--raw --upload never' '--raw --list' '--raw --detach'; do
     says '--raw goes with a FILE that is downloaded'
 done
 
-# An image in a DFU file is sent, whatever it looks like; text of records gets a warning.
-for it in it.ihex it.srec it.uf2 it.elf marked.HEX notes; do
-    case $it in
-    it.ihex | marked.HEX) name='Intel HEX' format=ihex warnings=1 ;;
-    it.srec) name='Motorola S-records' format=srec warnings=1 ;;
-    *) name='' format='' warnings=0 ;;
-    esac
-    "$dfu" add "$it" it.dfu > /dev/null
-    row 0 "$it" 'verified: ' USB_CAPACITY=1000 it.dfu
-    found=$(grep -c "the image in the file looks like $name: \`dfu add --format $format\`" err) || :
-    expect "$it: a warning" test "$found" -eq "$warnings"
+# An image in a DFU file is sent, whatever it looks like; one that looks like a file of another format, or is text, gets a warning.
+# warns FILE TEXT
+warns() {
+    "$dfu" add "$1" it.dfu --vid 1209 --pid 0001 > /dev/null
+    for quiet in '' --quiet; do
+        # shellcheck disable=SC2086
+        row 0 "$1" 'verified: ' USB_CAPACITY=1000 $quiet it.dfu
+        says "dfu-flash: the image in the file $2"
+    done
+}
+warns it.ihex 'looks like Intel HEX: `dfu add --format ihex` takes out the image that it describes'
+warns marked.HEX 'looks like Intel HEX: `dfu add --format ihex` takes out'
+warns it.srec 'looks like Motorola S-records: `dfu add --format srec` takes out'
+warns it.uf2 'looks like UF2: `dfu add --format uf2` takes out'
+warns it.elf 'looks like an ELF file: unless the board loads ELF files, `dfu add --format elf` takes out the image'
+warns it.zip 'looks like a zip archive: unless the board unpacks it, add a suffix to what is in it'
+warns it.dfu.gz 'looks like a gzip archive: unless the board unpacks it, add a suffix to what is in it'
+warns notes "is text: unless the board takes text, add a suffix to the build's image"
+# None of them is an image of a processor, or begins like one of these and is another.
+for bytes in '\0\40\0\40\301\1\0\10' '\1\2' '\0' '\377\377\377\377' ':1\1' 'S1\1' 'UF3\n\1' '\177EL\1' 'PK\3\1' '\37\1' 'text\1' 'DfuS\1' \
+    '\27\3\1\0o\0\0\0' '\351\2\2\40'; do
+    # shellcheck disable=SC2059
+    { printf "$bytes"; printf '\2\1'; } > likely
+    "$dfu" add likely it.dfu --vid 1209 --pid 0001 > /dev/null
+    row 0 likely 'verified: ' '' it.dfu
+    expect "$bytes: no warning" test "$(grep -c 'the image in the file' err)" -eq 0
 done
 # Who follows a hint sends the image, and not its text.
 printf AAAA > inside

@@ -66,7 +66,13 @@ steps 6 USB_CAPACITY=13 'make the image smaller, or get the file for this board,
 steps 6 'USB_DEVICE=uboot USB_CAPACITY=20' \
     'run it again: U-Boot answers so once after a run that was broken off; if it stays so, get the file for this board' new.dfu
 steps 10 'USB_APP=plain' \
-    'look whether it runs the new image: if so, its application has no DFU, and --no-verify asks for no comparison' new.dfu
+    'look whether it runs the new image: if so, --no-verify asks for no comparison; else plug it in, and run it again' new.dfu
+# Each code of the standard has a step of its own; with DfuSe the last one is taken for a stall.
+expect 'steps of codes' test "$(grep -c '^    \[ERR_[A-Z_]*\] = "' "$top/apps/flash/codes.c")" -eq 15
+for code in 1 2 3 4 5 6 7 8 9 10 11 12 13 14; do
+    row 6 - '' "USB_DEVICE=dfuse USB_FAILS=0 USB_CODE=$code" --address 0x08000000 new
+    expect "code $code: a step" test "$(grep -c '^next: go by the code' err)-$(grep -c '^next: ' err)" = 0-1
+done
 # A code of an upload isn't about a file.
 failing='USB_DEVICE=dfuse USB_FAILS=0 USB_CODE=1'
 steps 6 "$failing" 'go by the code (see CODES in man dfu-flash), and ask the maker whether the device gives its image' \
@@ -156,6 +162,12 @@ flash '' new.dfu
 fate="short $(sed -n 's/^\([0-9]*\) UPLOAD .*/\1/p' log | head -n 1) 3"
 row 9 - 'different: ' '' new.dfu
 next "at byte 3 what the device gave ends, and the file has 65: $again"
+fate=
+flash USB_TRANSFER=16 --transfer-size 8 new.dfu
+fate="short $(sed -n 's/^\([0-9]*\) UPLOAD .*/\1/p' log | head -n 1) 3"
+row 9 - 'different: ' USB_TRANSFER=16 --transfer-size 8 new.dfu
+next 'at byte 3 what the device gave ends, and the file has 65: run it again without --transfer-size: the board may count places by '\
+'blocks of its own size'
 fate=
 row 9 - 'different: ' 'USB_DEVICE=uboot USB_STORE=raw' new.dfu
 case $(tail -n 1 err) in

@@ -9,7 +9,7 @@ row 0 old 'detached: ' 'USB_START=app USB_AWAY=4 USB_DFU_IDS=1209:00ff:0100' --d
 row 0 old 'detached: ' 'USB_START=app USB_ATTRIBUTES=0f USB_DETACH=5' --detach
 expect 'it detaches by itself: no reset' test "$(grep -c reset log)" -eq 0
 row 0 old 'detached: ' 'USB_START=app USB_DESCRIPTOR=0' --detach
-row 0 old 'detached: ' '' --detach
+row 0 old 'detached: the device was in DFU mode already: nothing was sent' '' --detach
 expect 'in DFU mode: nothing is sent' is_silent
 record='{"status":0,"report":"detached","words":"the device is in DFU mode","goal":"detach","vendor":"1209",'
 row 0 old "$record" USB_START=app --detach --json
@@ -51,6 +51,24 @@ for words in '--transfer-size 0 new.dfu' '--transfer-size 4097 new.dfu' '--trans
     # shellcheck disable=SC2086
     row 2 - '' '' $words
 done
+# Smaller blocks than the board's own: a board that counts places by that size writes elsewhere, and gives them back from there.
+flash USB_TRANSFER=16 --quiet --transfer-size 8 new.dfu
+expect 'a warning, and nothing else' test "$(cat err)" = 'dfu-flash: blocks have 8 bytes, and the board takes 16: a board that counts '\
+'places by its own size writes elsewhere, which a comparison can'\''t see'
+flash 'USB_TRANSFER=16 USB_START=app' --transfer-size 1 new.dfu
+expect 'once, before the first block' test "$(grep -n 'blocks have 1 byte, and the board takes 16: ' err | cut -d : -f 1)" = 1
+flash USB_TRANSFER=16 --transfer-size 5 --quiet --upload smaller
+says 'dfu-flash: blocks have 5 bytes, and the board takes 16: a board that counts places by its own size reads elsewhere'
+row 0 new 'verified: ' 'USB_SAID=8192 USB_TRANSFER=4096' --quiet new.dfu
+expect 'a file of one block' test ! -s err
+{ head -c 5000 /dev/zero; printf '\1'; } > blocks
+flash 'USB_SAID=8192 USB_TRANSFER=4096 USB_CAPACITY=5001' --quiet --device 1209:0001 blocks
+says 'dfu-flash: blocks have 4096 bytes, and the board takes 8192: '
+for words in new.dfu '--transfer-size 16 new.dfu' '--transfer-size 32 new.dfu'; do
+    # shellcheck disable=SC2086
+    flash USB_TRANSFER=16 --quiet $words
+    expect "$words: no warning" test "$(grep -c 'blocks have' err)" -eq 0
+done
 
 # Records: of --list one for each line, and of --dry-run one.
 row 0 - '{"vendor":"1209","product":"0001","release":"0100","path":"1-2","serial":"OTHER","interface":0,"alt":0,"name":"stand-in",' \
@@ -80,6 +98,11 @@ assert (r["download"], r["upload"], r["tolerant"], r["will_detach"]) == (True, F
 r = json.load(open("out"))
 assert r["goal"] == "upload" and r["transfer"] == 8 and r["most_restarts"] == 3 and "bytes" not in r, r'
 fi
+
+# Without access nothing is known of a memory map.
+row 0 - "    the memory map can't be read without access" 'USB_DEVICE=dfuse USB_DENIED=3' --list
+row 0 - '{' 'USB_DEVICE=dfuse USB_DENIED=3' --list --json
+expect 'neither map nor fault' test "$(grep -c 'map"' out)" -eq 0
 
 # Who may not open the device is shown the rule for it, and how to get one for every device.
 row 5 old '' USB_DENIED=3 new.dfu
@@ -128,7 +151,10 @@ for pair in '--stamp list new.dfu|next: add --stamp-at PLACE:BYTES, as --stamp-a
     '--retry new.dfu|next: give it a decimal number behind it' \
     '--count x --all new.dfu|next: give it a decimal number behind it' \
     '-n 5 new.dfu|next: name its path by --path' \
-    '-s :mass-erase:force new.dfu|next: leave that word out'; do
+    '-s :mass-erase new.dfu|next: leave that word out' \
+    '-s :mass-erase:force new.dfu|next: leave those words out' \
+    '-t 8192 -D new.dfu|next: leave it out, or type 4096: a control transfer carries no more on Linux' \
+    '--transfer-size 0 new.dfu|next: give it a decimal number behind it'; do
     # shellcheck disable=SC2086
     row 2 - '' '' ${pair%|*}
     says "${pair#*|}"

@@ -30,7 +30,7 @@ printf '\357\273\277SN-1\n\n# the second shift\n  SN-2 \r\n0X414243\nkey 1\t0x01
 # Each run takes the next entry, and the record of it has the check sum of the image with it.
 row 0 - 'verified: ' '' $at 0x10:8 room.dfu
 stamped SN-1
-says 'dfu-flash: SN-1 is written at 0x10'
+says 'dfu-flash: the board gets SN-1 at 0x10'
 expect 'a record' test "$(used)" = 'SN-1 1-1 begun,SN-1 1-1 verified,'
 row 0 - '{"status":0,"report":"verified",' '' --json $at 16:0x8 room.dfu
 stamped SN-2
@@ -101,21 +101,26 @@ printf '2026-11-30T09:15:00Z\t11' >> serials.used
 row 0 - 'verified: ' '' $at 16:8 room.dfu
 stamped 112
 expect 'the line is gone' test "$(grep -c '11$' serials.used)" -eq 0
+# One that lacks only its end may be a board's: it counts as used.
+printf '2026-11-30T09:15:00Z\t113\t1-1\tbegun' >> serials.used
+row 0 - 'verified: ' '' $at 16:8 room.dfu
+stamped 114
+expect 'the line is there, with its end' grep -q '	113	1-1	begun$' serials.used
 printf '113 by hand\n' >> serials.used
 row 3 - '' '' $at 16:8 room.dfu
 says 'dfu-flash: serials.used, line '
 says ': it is no time, entry, path and report, with a tab between each'
 sed -i '$d' serials.used
-printf '\t113\t\t\n' >> serials.used
+printf '\t115\t\t\n' >> serials.used
 row 0 - 'verified: ' '' $at 16:8 room.dfu
-stamped 114
+stamped 116
 # By a link it is the same list; and one that is in use is nobody else's.
 if [ -z "${NO_ALL-}" ]; then
     ln -s serials serials-link
     row 0 - 'verified: ' '' --stamp serials-link --stamp-at 16:8 room.dfu
-    stamped 115
+    stamped 117
     env LD_LIBRARY_PATH="$work" USB_BUSY=2500 USB_IMAGE="$work/old" ./dfu-flash $at 16:8 room.dfu > other 2>&1 &
-    soon grep -q '	116	.*begun' serials.used
+    soon grep -q '	118	.*begun' serials.used
     row 3 - '' '' $at 16:8 room.dfu
     says 'dfu-flash: serials.used: another dfu-flash is at work with it'
     wait "$!" || wrong "the first of two: $(cat other)"
@@ -144,6 +149,10 @@ bad 'line 2: it is the same as line 1' 'one\t0x01' 'two\t0x01'
 bad 'line 1: it has a control character, or is no UTF-8' 'a\033b'
 bad 'line 1: it has a control character, or is no UTF-8' '\377'
 bad 'line 1: its name is too long' 'a\033\tb'
+bad 'line 2: it has a tab with nothing before it, or behind it' A 'SN-2\t'
+bad 'line 1: it has a tab with nothing before it, or behind it' ' \t0x01'
+bad 'line 1: it begins with a quotation mark, which would be written too' '"SN-1"'
+bad 'line 1: it begins with a quotation mark, which would be written too' 'key\t"a"'
 bad 'serials: there is no entry in it' '# none' ''
 printf 'a\0b\n' > serials
 row 3 - '' '' $at 16:8 room.dfu
@@ -161,6 +170,18 @@ for make in 'mkdir serials.used' 'ln -s nothing serials.used' 'mkfifo serials.us
     expect "$make: nothing is sent" is_silent
 done
 rm -rf serials.used
+# A list that begins anew is named, and an entry that may be more than one column, also with --quiet.
+printf 'A,B\nC;\nkey\td #e\nF  G\nH I\n' > serials
+row 0 - 'verified: ' '' $at 16:8 room.dfu
+says 'dfu-flash: serials.used is new, so the list begins with A,B'
+says 'dfu-flash: serials, line 1 is taken as it stands: A,B; so are 3 more'
+row 0 - 'verified: ' '' --quiet $at 16:8 room.dfu
+expect "quiet: $(cat err)" test "$(cat err)" = 'dfu-flash: serials, line 2 is taken as it stands: C;; so are 2 more'
+row 0 - 'dry-run: ' '' --dry-run $at 16:8 room.dfu
+expect "no key: $(cat err)" grep -q 'line 3 is taken as it stands: key; so are 1 more$' err
+expect 'it is new once' test "$(grep -c 'is new' err)" -eq 0
+printf 'A\nB\n' > serials
+rm -f serials.used
 # The words.
 for words in '--stamp serials room.dfu' '--stamp-at 16:8 room.dfu' '--stamp - --stamp-at 16:8 room.dfu' \
     '--stamp= --stamp-at 16:8 room.dfu' \
@@ -174,7 +195,7 @@ says 'next: did you mean --stamp?'
 expect 'no record of these' test ! -e serials.used
 # DfuSe: the place is an address, of a raw image by --address or of an element of a file.
 row 0 - 'verified: ' USB_DEVICE=dfuse --stamp serials --stamp-at 0x08000410:8 --address 0x08000400 --device 1209:0001 room
-says 'dfu-flash: A is written at 0x8000410'
+says 'dfu-flash: the board gets A at 0x8000410'
 expect 'a record' grep -q '	A	1-1	verified$' serials.used
 row 1 - 'OutsideTheImage: ' USB_DEVICE=dfuse --stamp serials --stamp-at 0x10:8 --address 0x08000400 --device 1209:0001 room
 says 'the image is 0x8000400 to 0x800043f'

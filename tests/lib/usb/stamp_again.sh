@@ -28,6 +28,19 @@ fate='deaf 20'
 row 1 - 'NoEntry: ' USB_SERIAL= --retry 1 $at 16:8 room.dfu
 fate=
 
+# A board without a serial number that leaves by itself in the middle is gone: what comes may be another one, and is sent nothing.
+printf '1\n2\n3\n' > serials
+rm -f serials.used
+for fate in 'swap 20' 'leave 20'; do
+    row 10 - 'gone: ' 'USB_SERIAL= USB_AWAY=60' $at 16:8 room.dfu
+    says 'next: a board came that may be another one, as it has no serial number, and was sent nothing: '
+    expect "$fate: no block" test "$(sed "1,/ ${fate%% *} /d" log | grep -c DNLOAD)" -eq 0
+done
+fate='leave 20'
+row 0 - 'verified: ' 'USB_AWAY=60' $at 16:8 room.dfu
+fate=
+expect "an entry each: $(used)" test "$(used)" = '1 1-1 begun,1 1-1 gone,2 1-1 begun,2 1-1 gone,3 1-1 begun,3 1-1 verified,'
+
 # An entry in another form is the same entry, and a named one is known by its name.
 printf 'AB\nC\nkey\t0x01\n' > serials
 rm -f serials.used
@@ -94,7 +107,8 @@ if [ -z "${NO_ALL-}" ]; then
     code=0
     wait "$!" || code=$?
     expect "a record that was replaced: $code, $(cat other)" test "$code" -eq 3
-    expect 'it says so' grep -q "serials.used: it can't be written, so nothing is sent" other
+    expect 'it says so' grep -q "serials.used: it was removed or replaced while the program ran, so nothing is sent" other
+    expect 'the step' grep -q '^next: bring that same file back, since it says which entries are used' other
     ln serials hard-link
     row 3 - '' '' $at 16:8 room.dfu
     says 'dfu-flash: serials.used: its list has another name by a hard link'

@@ -33,7 +33,8 @@ expect 'each of these ended' test "$(grep -vc begun serials.used)" -eq 15
 expect 'one that was killed has its end' grep -q '	1-14	broken$' serials.used
 expect 'one that was not opened took none' test "$(grep -c '	1-12	' serials.used)" -eq 0
 expect 'one that was killed has its entry in the report' grep -q ',14,"broken",.*"1-14",,[0-9.]*,1,"10[0-9]*"$' stamp-all.csv
-expect 'those that are left' grep -q '"report":"summary","words":"12 flashed, 4 not","flashed":12,"failed":4,"entries":5,' out
+expect 'those that are left' \
+    grep -q '"report":"summary","words":"12 flashed, 4 not[^"]*","flashed":12,"failed":4,"unconfirmed":[0-9]*,"entries":5,' out
 expect 'it is named' grep -q '^1-9: dfu-flash: 10[0-9]* is used: this board may have it, and no other gets it$' err
 # The same boards once more: five entries are left, for eleven that are refused.
 sixteen

@@ -39,7 +39,25 @@ assert len(r) == 5 and r[4]["serial"] == "a\",b\\x07" and r[0]["port"] == "", r'
 fi
 printf '{"time":"broken off' > torn.json
 row 0 new 'verified: ' '' --report torn.json new.dfu
-expect 'a line that was broken off is ended' test "$(wc -l < torn.json)-$(tail -n 1 torn.json | cut -c 1-9)" = '2-{"time":"'
+says 'dfu-flash: torn.json: its last line was broken off, and is taken away'
+expect 'a line that was broken off is gone' test "$(wc -l < torn.json)-$(tail -n 1 torn.json | cut -c 1-9)" = '1-{"time":"'
+cp report.csv torn.csv
+printf '"2026-11-30T09:15:00Z",0,"verified","after\0\0\0' >> torn.csv
+row 0 new 'verified: ' '' --report torn.csv new.dfu
+says 'dfu-flash: torn.csv: its last line was broken off, and is taken away'
+expect 'a line more' test "$(wc -l < torn.csv)-$(grep -c '^\"20' torn.csv)" = "$(($(wc -l < report.csv) + 1))-$(wc -l < report.csv)"
+head -c -1 report.csv > torn.csv
+row 0 new 'verified: ' '' --report torn.csv new.dfu
+expect 'one that lacks only its end stays' test "$(wc -l < torn.csv)" -eq $(($(wc -l < report.csv) + 1))
+if [ -z "${NO_ALL-}" ]; then
+    env LD_LIBRARY_PATH="$work" USB_BUSY=100 USB_ABSENT=40 USB_IMAGE="$work/old" ./dfu-flash --wait --report torn.csv new.dfu > other 2>&1 &
+    soon grep -q 'waiting for the device' other
+    rm torn.csv
+    code=0
+    wait "$!" || code=$?
+    expect "a report that was removed: $code, $(cat other)" test "$code" -eq 3
+    expect 'it says so' grep -q "torn.csv can't be written: it was removed or replaced while the program ran" other
+fi
 # One for which there is no room is named, with the next step; what becomes of the board is said all the same.
 cp report.csv no-room.csv
 {
@@ -108,7 +126,7 @@ row 0 new '{"status":0,' '' --json --ports ports new.dfu
 expect 'a record has it' grep -q '"port":"bay 7",' out
 row 0 new 'verified: ' '' --ports ports --report ports.csv new.dfu
 expect 'so has the report' grep -q ',"1-1","bay 7",' ports.csv
-for line in '1-1' 'bay 7 = 1-1' '1 = bus' '1-1 =' '= x' '1-1 = a|1-1 = b' '1-x = a' "$(head -c 80 /dev/zero | tr '\0' 1)-1 = a"; do
+for line in '1-1' 'bay 7 = 1-1' '1 = bus' '1-1 =' '= x' '1-1 = a|1-1 = b' '1-1 = a|1-2 = a' '1-x = a' "$(head -c 80 /dev/zero | tr '\0' 1)-1 = a"; do
     printf '%s\n' "$line" | tr '|' '\n' > wrong-ports
     row 3 - '' '' --ports wrong-ports new.dfu
     says 'wrong-ports, line '

@@ -13,11 +13,12 @@ all --json --ports ports --report all.csv new.dfu
 expect "the highest status: $code" test "$code" -eq 14
 expect 'a line for each, one for all, and the header' test "$(wc -l < all.csv)" -eq 12
 expect 'each line is whole' test "$(grep -c "^\"$time\",[0-9]*,\"[a-z-]*\",\".*,[0-9.]*,1*\$" all.csv)" -eq 11
-expect 'one that was killed has its identifiers, and no release' grep -q ',14,"broken",.*,"1209","0001",,,"1-10",,' all.csv
+expect 'one that was killed has its identifiers and serial number, and no release' \
+    grep -q ',14,"broken",.*,"1209","0001",,"F10","1-10",,' all.csv
 expect 'so has one without access' grep -q ',5,"no-access",.*,"1209","0001","0100",,"1-9",,' all.csv
 expect 'the name of its port' grep -q ',"F3","1-3","bay 3",' all.csv
 expect 'a summary' grep -q ',14,"summary","8 flashed, 2 not","new.dfu",' all.csv
-expect 'a record of all' grep -q '^{"status":14,"report":"summary","words":"8 flashed, 2 not","flashed":8,"failed":2,' out
+expect 'a record of all' grep -q '^{"status":14,"report":"summary","words":"8 flashed, 2 not","flashed":8,"failed":2,"unconfirmed":0,' out
 expect 'broken has its device, and no release' grep -q '^{"status":14,"report":"broken",.*"vendor":"1209","product":"0001","path":' out
 if command -v python3 > /dev/null; then
     expect 'records' python3 -c 'import json
@@ -34,7 +35,7 @@ done
 # those that are there: no more than that, and a batch that ends short has a status of its own
 all --count 3 --json new.dfu
 expect "three of five: $code" test "$code-$(grep -c '"report":"verified"' out)" = 0-3
-expect 'none is missing' grep -q '"report":"summary","words":"3 flashed, 0 not","flashed":3,"failed":0,"short":0,' out
+expect 'none is missing' grep -q '"report":"summary","words":"3 flashed, 0 not","flashed":3,"failed":0,"unconfirmed":0,"short":0,' out
 all --count 7 --json --report short.csv new.dfu
 expect "five of seven: $code" test "$code-$(grep -c '"report":"verified"' out)" = 17-5
 expect 'two are missing' grep -q '^{"status":17,"report":"summary",.*"short":2,"next":"plug in others, .* --count 2; ' out
@@ -63,6 +64,13 @@ for port in 1 2 3; do
 done
 all --count 2 new.dfu
 expect "unconfirmed: $code" test "$code-$(grep -c unconfirmed out)" = 8-2
+says 'dfu-flash: 0 flashed, 2 not: 2 unconfirmed, 0 failed'
+board 1-4 USB_SERIAL=F4
+board 1-5 USB_CAPACITY=13
+all --json --count 5 new.dfu
+expect "three numbers: $code" test "$code" -eq 6
+expect 'in a record' grep -q ',"words":"1 flashed, 4 not: 3 unconfirmed, 1 failed","flashed":1,"failed":4,"unconfirmed":3,"short":1,' out
+sed -i '/PATH=1-[45]/d' boards
 all --count 4 new.dfu
 expect "unconfirmed, and one is missing: $code" test "$code-$(grep -c unconfirmed out)" = 17-3
 row 2 - '' '' --count 2 new.dfu
@@ -79,6 +87,27 @@ board 1-1 'USB_FATE=leave 5' USB_AWAY=220
 all --retry 1 new.dfu
 expect "one of several is tried again: $(cat out err)" test "$code" -eq 0
 expect 'it says so' grep -q '^1-1: dfu-flash: gone: .*; it is tried again, 1 of 1$' err
+# A board whose line in the report can't be written has the image all the same, so none is flashed in its place.
+for port in 1 2 3 4; do
+    printf 'USB_PATH=1-%s\tUSB_SERIAL=F%s\tUSB_SAVE=%s/saved-1-%s\n' "$port" "$port" "$work" "$port"
+done > boards
+rm -f saved-*
+cp report.csv full.csv
+{
+    (
+        trap '' XFSZ
+        ulimit -f 1
+        code=0
+        env LD_LIBRARY_PATH="$work" USB_IMAGE="$work/old" USB_BOARDS="$work/boards" ./dfu-flash --all --count 2 --json --report full.csv \
+            new.dfu 2>&1 || code=$?
+        echo "$code" >&3
+    ) | cat > out
+} 3> status
+expect "no room for the report: $(cat status out)" test "$(cat status)-$(grep -c '"report":"verified"' out)" = 3-2
+expect 'no board is missing' grep -q '"report":"summary",.*"short":0,' out
+expect 'they are flashed' grep -q '"2 flashed, 2 of them without their line in the log or the report, 0 not","flashed":2,"failed":0,' out
+expect 'two boards alone' test "$(find . -name 'saved-1-*' | wc -l)" -eq 2
+expect 'it is said of each' test "$(grep -c "^1-[0-9]: dfu-flash: full.csv can't be written: " out)" -eq 2
 # A session that ends before a board is begun took no time.
 no_boards
 board 1-1

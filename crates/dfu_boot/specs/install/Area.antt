@@ -1,7 +1,7 @@
--- A run area, and how its bytes compare with those of an image.
+-- A run area, and the comparison of its bytes with those of an image.
 use Rattle.std.specs.Prelude.{◌≡◌, ◌≢◌, ℕ, ◌-◌, ◌%◌, ◌^◌, ◌≤◌, ◌<◌, List, length, take, drop, ◌++◌, replicate, slice_index}
 
--- A run area of `len` bytes may have sectors of this size: a multiple of 256 bytes, at most 2^17, that divides `len`.
+-- A run area of `len` bytes, below 2^32, may have sectors of this size: a multiple of 256 bytes, from 256 to 2^18, that divides `len`.
 pub record IsRunArea (len sector : ℕ) : Type 0 where
   pub some : 0 < sector
   pub pieces : sector % 256 ≡ 0
@@ -9,26 +9,26 @@ pub record IsRunArea (len sector : ℕ) : Type 0 where
   pub bound : len < 2 ^ 32
   pub whole : len % sector ≡ 0
 
--- The run area holds the image.
+-- The run area begins with all bytes of the image.
 abbrev pub AreaStores : List ℕ → List ℕ → Type 0
 AreaStores run image = take (length image) run ≡ image
 
--- From one place on and before another, the run area has the bytes of the image, as far as the image goes.
+-- The run area equals the image from `from` to before `to`, as far as the image goes.
 abbrev pub RangeMatchesImage : List ℕ → List ℕ → ℕ → ℕ → Type 0
 RangeMatchesImage image run from to = (i : ℕ) → from ≤ i → i < to → i < length image → slice_index run i ≡ slice_index image i
 
--- From one place on and before another, all bytes of the run area are FFh.
+-- The bytes of the run area from `from` to before `to` are all FFh.
 abbrev pub RangeIsBlank : List ℕ → ℕ → ℕ → Type 0
 RangeIsBlank run from to = (i : ℕ) → from ≤ i → i < to → slice_index run i ≡ 255
 
--- The first byte that differs, from `from` on and before `to`.
-pub record FirstDiffers (image run : List ℕ) (from to at : ℕ) : Type 0 where
+-- Byte `at` is the first one that differs from the image, from `from` to before `to`.
+pub record IsFirstDifference (image run : List ℕ) (from to at : ℕ) : Type 0 where
   pub after : from ≤ at
   pub within : at < to
   pub differs : slice_index run at ≢ slice_index image at
   pub before : RangeMatchesImage image run from at
 
--- Beginning of the part that a place is in, if parts have n bytes: of a sector, or of a piece of 256.
+-- Beginning of the part that holds a place: of its sector, or of its piece of 256 bytes.
 abbrev pub start_of : ℕ → ℕ → ℕ
 start_of part at = at - at % part
 

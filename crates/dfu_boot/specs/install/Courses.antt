@@ -4,10 +4,10 @@ use Rattle.dfu_boot.specs.declared.install.due.Due.{Due}
 use Rattle.dfu_boot.specs.declared.install.due.Due.TheVariants.{Refuse, Erase, Program, Start}
 use Rattle.dfu_boot.specs.install.Area.{AreaStores, start_of}
 use Rattle.dfu_boot.specs.install.Next.{IsNextDue}
-use Rattle.dfu_boot.specs.install.OperationReport.{DueReported}
+use Rattle.dfu_boot.specs.install.OperationReport.{IsNoteOfDue}
 use Rattle.dfu_boot.specs.install.Operations.{operation_start, operation_end, OutsideUnchanged}
 
--- A moment: the image that is to be started, the run area, the place of the last operation, and the operations since the power came, the
+-- A moment: the image that is to be started, the run area, the place of the last operation, and the operations since the last power-on, the
 -- last one first.
 pub record InstallMoment : Type 0 where
   pub image : List ℕ
@@ -21,42 +21,42 @@ pub record OperationCarriedOut (sector : ℕ) (before after : InstallMoment) : T
   pub does : IsNextDue before.image before.run sector before.last due
   pub leaves : OutsideUnchanged before.run after.run (operation_start due) (operation_end sector due)
   pub failed : Bool
-  pub took : DueReported before.image after.run sector due failed after.last
+  pub took : IsNoteOfDue before.image after.run sector due failed after.last
   pub image : after.image ≡ before.image
   pub since : after.since ≡ due ∷ before.since
 
--- Power is lost, and another image may be the one to be started when it comes back.
-pub record LosesPower (before after : InstallMoment) : Type 0 where
+-- The power is lost, and with it the notes of operations. Another image may be the one to be started when it is back.
+pub record PowerIsLost (before after : InstallMoment) : Type 0 where
   pub run : after.run ≡ before.run
   pub last : after.last ≡ None
   pub since : after.since ≡ []
 
--- Another image becomes the one to be started.
-pub record IsOfAnotherImage (before after : InstallMoment) : Type 0 where
+-- Another image, or the same one, becomes the one to be started.
+pub record ImageIsReplaced (before after : InstallMoment) : Type 0 where
   pub run : after.run ≡ before.run
   pub last : after.last ≡ before.last
   pub since : after.since ≡ before.since
 
 -- One event of a run area: an operation, a loss of power, or another image.
 abbrev pub IsInstallStep : ℕ → InstallMoment → InstallMoment → Type 0
-IsInstallStep sector before after = OperationCarriedOut sector before after ⊎ (LosesPower before after ⊎ IsOfAnotherImage before after)
+IsInstallStep sector before after = OperationCarriedOut sector before after ⊎ (PowerIsLost before after ⊎ ImageIsReplaced before after)
 
--- Events come one after another, any number of them, in any order.
-abbrev pub InstallCourse : ℕ → InstallMoment → List InstallMoment → Type 0
-InstallCourse sector m [] = Unit {0}
-InstallCourse sector m (next ∷ rest) = IsInstallStep sector m next × InstallCourse sector next rest
+-- Moments one after another, each of which is a possible result of one event on the moment before.
+abbrev pub IsInstallTrace : ℕ → InstallMoment → List InstallMoment → Type 0
+IsInstallTrace sector m [] = Unit {0}
+IsInstallTrace sector m (next ∷ rest) = IsInstallStep sector m next × IsInstallTrace sector next rest
 
--- Moment after all events of a course.
-abbrev pub end_of_course : InstallMoment → List InstallMoment → InstallMoment
-end_of_course m [] = m
-end_of_course m (next ∷ rest) = end_of_course next rest
+-- Moment after all events.
+abbrev pub end_of_trace : InstallMoment → List InstallMoment → InstallMoment
+end_of_trace m [] = m
+end_of_trace m (next ∷ rest) = end_of_trace next rest
 
--- No image of a course reaches the sector of this place.
+-- No image that is to be started, at first or after an event, reaches the sector of this place.
 abbrev pub NoImageReachesSector : ℕ → ℕ → InstallMoment → List InstallMoment → Type 0
 NoImageReachesSector sector at m [] = length m.image ≤ start_of sector at
 NoImageReachesSector sector at m (next ∷ rest) = (length m.image ≤ start_of sector at) × NoImageReachesSector sector at next rest
 
--- By these operations, the last one first, the sector of a piece was erased, and the piece was not programmed since.
+-- The operations, the last one first, erased the sector of a piece, and did not program the piece since.
 abbrev pub IsErasedSinceProgram : ℕ → ℕ → List Due → Type 0
 IsErasedSinceProgram sector piece [] = ⊥
 IsErasedSinceProgram sector piece (Erase at ∷ earlier) = (at ≡ start_of sector piece) ⊎ IsErasedSinceProgram sector piece earlier
@@ -64,20 +64,21 @@ IsErasedSinceProgram sector piece (Program at ∷ earlier) = (¬ (at ≡ piece))
 IsErasedSinceProgram sector piece (Refuse refusal ∷ earlier) = IsErasedSinceProgram sector piece earlier
 IsErasedSinceProgram sector piece (Start ∷ earlier) = IsErasedSinceProgram sector piece earlier
 
--- After any course, the image is started only if the run area holds all of it.
+-- After any events, the image is started only if the run area holds all of it.
 abbrev pub StartsOnlyWhole : Type 0
 StartsOnlyWhole =
-    (sector : ℕ) (m : InstallMoment) (rest : List InstallMoment) → InstallCourse sector m rest → let e = end_of_course m rest in
+    (sector : ℕ) (m : InstallMoment) (rest : List InstallMoment) → IsInstallTrace sector m rest → let e = end_of_trace m rest in
     IsNextDue e.image e.run sector e.last Start → AreaStores e.run e.image
 
--- After any course, the bytes of a sector that no image reaches are as they were.
+-- After any events, the bytes of a sector that no image reaches are as they were.
 abbrev pub NeighboursUnchanged : Type 0
 NeighboursUnchanged =
-    (sector at : ℕ) (m : InstallMoment) (rest : List InstallMoment) → InstallCourse sector m rest → NoImageReachesSector sector at m rest →
-    slice_index (end_of_course m rest).run at ≡ slice_index m.run at
+    (sector at : ℕ) (m : InstallMoment) (rest : List InstallMoment) → IsInstallTrace sector m rest
+    → NoImageReachesSector sector at m rest →
+    slice_index (end_of_trace m rest).run at ≡ slice_index m.run at
 
--- After any course since a first power-on, a piece is programmed only if its sector was erased since the power last came, and the piece was
--- not programmed since.
+-- After any events since a first power-on, a piece is programmed only if its sector was erased since the last power-on, and the piece was
+-- not programmed since that erase.
 abbrev pub ProgramsOnlyFresh : Type 0
-ProgramsOnlyFresh = (sector at : ℕ) (m : InstallMoment) (rest : List InstallMoment) → m.last ≡ None → InstallCourse sector m rest →
-    let e = end_of_course m rest in IsNextDue e.image e.run sector e.last (Program at) → IsErasedSinceProgram sector at e.since
+ProgramsOnlyFresh = (sector at : ℕ) (m : InstallMoment) (rest : List InstallMoment) → m.last ≡ None → IsInstallTrace sector m rest →
+    let e = end_of_trace m rest in IsNextDue e.image e.run sector e.last (Program at) → IsErasedSinceProgram sector at e.since

@@ -3,49 +3,48 @@ use Rattle.std.specs.Prelude.{◌≡◌, ◌⊎◌, ℕ, ◌+◌, ◌≤◌, ◌
 use Rattle.dfu_boot.specs.declared.install.due.Due.{Due}
 use Rattle.dfu_boot.specs.declared.install.due.Due.TheVariants.{Refuse, Erase, Program, Start}
 use Rattle.dfu_boot.specs.declared.install.due.Refusal.TheVariants.{WrongSize, NoImage, TooLarge}
-use Rattle.dfu_boot.specs.install.Area.{IsRunArea, AreaStores, RangeMatchesImage, RangeIsBlank, FirstDiffers, start_of}
+use Rattle.dfu_boot.specs.install.Area.{IsRunArea, AreaStores, RangeMatchesImage, RangeIsBlank, IsFirstDifference, start_of}
 
--- Facts of a run area and an image that are not refused.
-pub record HasNoRefusal (image run : List ℕ) (sector : ℕ) : Type 0 where
+-- An image and a run area are not refused: the sectors are allowed, and the image has bytes and fits.
+pub record IsNotRefused (image run : List ℕ) (sector : ℕ) : Type 0 where
   pub area : IsRunArea (length run) sector
   pub some : 0 < length image
   pub fits : length image ≤ length run
 
--- Place at which the search for a difference begins: that of the last operation if it is in the image, and else the front.
+-- Place at which the search for a difference begins: that of the last operation, but at most the end of the image; 0 without one.
 abbrev pub search_start : List ℕ → Option ℕ → ℕ
 search_start image None = 0
 search_start image (Some at) = min at (length image)
 
--- First byte that differs from the search's place on; if none does, the first one from the front.
+-- Byte `at` is the first one of the image that differs, from `from` on or, if none does, from 0 on.
 abbrev pub IsNextDifference : List ℕ → List ℕ → ℕ → ℕ → Type 0
 IsNextDifference image run from at =
-    FirstDiffers image run from (length image) at
-    ⊎ (RangeMatchesImage image run from (length image) × FirstDiffers image run 0 from at)
+    IsFirstDifference image run from (length image) at
+    ⊎ (RangeMatchesImage image run from (length image) × IsFirstDifference image run 0 from at)
 
--- A piece may be programmed if the last operation worked in the same sector, and not after the piece, and all of the piece is blank.
+-- A piece may be programmed if it is blank, and the last operation worked in the sector of the piece, not behind the piece.
 abbrev pub MayProgram : List ℕ → ℕ → Option ℕ → ℕ → Type 0
 MayProgram run sector None piece = ⊥
 MayProgram run sector (Some last) piece =
     (last ≤ piece) × (start_of sector last ≡ start_of sector piece) × RangeIsBlank run piece (piece + 256)
 
 -- The piece of the next byte that differs is due to be programmed, because it may be.
-pub record IsProgramOf (image run : List ℕ) (sector : ℕ) (last : Option ℕ) (piece at : ℕ) : Type 0 where
+pub record IsProgramDueAt (image run : List ℕ) (sector : ℕ) (last : Option ℕ) (piece at : ℕ) : Type 0 where
   pub next : IsNextDifference image run (search_start image last) at
   pub is : piece ≡ start_of 256 at
   pub may : MayProgram run sector last piece
 
 -- The sector of the next byte that differs is due to be erased, because its piece may not be programmed.
-pub record IsEraseOf (image run : List ℕ) (sector : ℕ) (last : Option ℕ) (begins at : ℕ) : Type 0 where
+pub record IsEraseDueAt (image run : List ℕ) (sector : ℕ) (last : Option ℕ) (begins at : ℕ) : Type 0 where
   pub next : IsNextDifference image run (search_start image last) at
   pub is : begins ≡ start_of sector at
   pub may_not_program : ¬ MayProgram run sector last (start_of 256 at)
 
--- Operation that is due: the first refusal that there is, or else an operation for the next byte that differs, and if none differs, the
--- start.
+-- Next operation: the first refusal, or else an operation for the next byte that differs, or the start if none differs.
 abbrev pub IsNextDue : List ℕ → List ℕ → ℕ → Option ℕ → Due → Type 0
 IsNextDue image run sector last (Refuse WrongSize) = ¬ IsRunArea (length run) sector
 IsNextDue image run sector last (Refuse NoImage) = IsRunArea (length run) sector × (length image ≡ 0)
 IsNextDue image run sector last (Refuse TooLarge) = IsRunArea (length run) sector × (0 < length image) × (length run < length image)
-IsNextDue image run sector last (Erase at) = HasNoRefusal image run sector × ((d : ℕ) × IsEraseOf image run sector last at d)
-IsNextDue image run sector last (Program at) = HasNoRefusal image run sector × ((d : ℕ) × IsProgramOf image run sector last at d)
-IsNextDue image run sector last Start = HasNoRefusal image run sector × AreaStores run image
+IsNextDue image run sector last (Erase at) = IsNotRefused image run sector × ((d : ℕ) × IsEraseDueAt image run sector last at d)
+IsNextDue image run sector last (Program at) = IsNotRefused image run sector × ((d : ℕ) × IsProgramDueAt image run sector last at d)
+IsNextDue image run sector last Start = IsNotRefused image run sector × AreaStores run image

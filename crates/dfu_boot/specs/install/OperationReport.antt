@@ -12,16 +12,16 @@ IsBlankSector run sector at = (at + sector ≤ length run) × RangeIsBlank run a
 abbrev pub PieceReadsAsImage : List ℕ → List ℕ → ℕ → Type 0
 PieceReadsAsImage image run at = (at + 256 ≤ length run) × RangeMatchesImage image run at (at + 256)
 
--- An operation at a place worked, by the bytes that are read.
+-- An operation at a place worked, as the run area reads: its sector is blank, or its piece is that of the image.
 abbrev pub OperationWorked : List ℕ → List ℕ → ℕ → Due → ℕ → Type 0
 OperationWorked image run sector (Erase begins) at = (begins ≡ at) × IsBlankSector run sector at
 OperationWorked image run sector (Program piece) at = (piece ≡ at) × PieceReadsAsImage image run at
 OperationWorked image run sector (Refuse refusal) at = ⊥
 OperationWorked image run sector Start at = ⊥
 
--- Note of an operation: its place if it did not fail and its bytes are there, and none else.
-abbrev pub DueReported : List ℕ → List ℕ → ℕ → Due → Bool → Option ℕ → Type 0
-DueReported image run sector due failed (Some at) =
+-- Note of an operation: its place if it did not fail, its bytes are there, and the run area may have such sectors; else None.
+abbrev pub IsNoteOfDue : List ℕ → List ℕ → ℕ → Due → Bool → Option ℕ → Type 0
+IsNoteOfDue image run sector due failed (Some at) =
     (failed ≡ false) × IsRunArea (length run) sector × OperationWorked image run sector due at
-DueReported image run sector due failed None =
+IsNoteOfDue image run sector due failed None =
     failed ≡ false → IsRunArea (length run) sector → (at : ℕ) → ¬ OperationWorked image run sector due at

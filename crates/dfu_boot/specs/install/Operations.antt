@@ -1,10 +1,10 @@
--- Bytes that an operation may change, and those that a working medium makes of them.
+-- Bytes that an operation may change, and the bytes that it leaves on a working medium.
 use Rattle.std.specs.Prelude.{◌≡◌, ◌⊎◌, ℕ, ◌+◌, ◌≤◌, ◌<◌, List, length, slice_index}
 use Rattle.dfu_boot.specs.declared.install.due.Due.{Due}
 use Rattle.dfu_boot.specs.declared.install.due.Due.TheVariants.{Refuse, Erase, Program, Start}
 use Rattle.dfu_boot.specs.install.Area.{RangeIsBlank, program_piece}
 
--- Beginning of the range of an operation.
+-- Beginning of the range of an operation; 0 for a `Due` that is no operation.
 abbrev pub operation_start : Due → ℕ
 operation_start (Erase at) = at
 operation_start (Program at) = at
@@ -24,8 +24,8 @@ pub record OutsideUnchanged (before after : List ℕ) (from to : ℕ) : Type 0 w
   pub others : (i : ℕ) → (i < from) ⊎ (to ≤ i) → slice_index after i ≡ slice_index before i
 
 -- The range of an operation has the bytes that the operation asks for.
-abbrev pub HasBytes : List ℕ → List ℕ → ℕ → Due → Type 0
-HasBytes image run sector (Erase at) = RangeIsBlank run at (at + sector)
-HasBytes image run sector (Program at) = (i : ℕ) → i < 256 → slice_index run (at + i) ≡ slice_index (program_piece image at) i
-HasBytes image run sector (Refuse refusal) = ⊥
-HasBytes image run sector Start = ⊥
+abbrev pub HasDueBytes : List ℕ → List ℕ → ℕ → Due → Type 0
+HasDueBytes image run sector (Erase at) = RangeIsBlank run at (at + sector)
+HasDueBytes image run sector (Program at) = (i : ℕ) → i < 256 → slice_index run (at + i) ≡ slice_index (program_piece image at) i
+HasDueBytes image run sector (Refuse refusal) = ⊥
+HasDueBytes image run sector Start = ⊥

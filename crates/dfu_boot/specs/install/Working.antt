@@ -3,30 +3,30 @@ use Rattle.std.specs.Prelude.{◌≡◌, ℕ, ◌+◌, ◌*◌, ◌≤◌, false
 use Rattle.dfu_boot.specs.declared.install.due.Due.{Due}
 use Rattle.dfu_boot.specs.declared.install.due.Due.TheVariants.{Start}
 use Rattle.dfu_boot.specs.install.Area.{AreaStores}
-use Rattle.dfu_boot.specs.install.Next.{IsNextDue, HasNoRefusal}
-use Rattle.dfu_boot.specs.install.OperationReport.{DueReported}
-use Rattle.dfu_boot.specs.install.Operations.{operation_start, operation_end, OutsideUnchanged, HasBytes}
+use Rattle.dfu_boot.specs.install.Next.{IsNextDue, IsNotRefused}
+use Rattle.dfu_boot.specs.install.OperationReport.{IsNoteOfDue}
+use Rattle.dfu_boot.specs.install.Operations.{operation_start, operation_end, OutsideUnchanged, HasDueBytes}
 
 -- The due operation is carried out on a medium that works.
 pub record MediumCarriesOut (image run run' : List ℕ) (sector : ℕ) (last last' : Option ℕ) (due : Due) : Type 0 where
   pub does : IsNextDue image run sector last due
   pub leaves : OutsideUnchanged run run' (operation_start due) (operation_end sector due)
-  pub bytes : HasBytes image run' sector due
-  pub took : DueReported image run' sector due false last'
+  pub bytes : HasDueBytes image run' sector due
+  pub took : IsNoteOfDue image run' sector due false last'
 
--- Due operations are carried out one after another.
+-- Operations are carried out one after another on a medium that works, each when it is due.
 abbrev pub AllOperationsWork : List ℕ → ℕ → List ℕ → Option ℕ → List Due → Type 0
 AllOperationsWork image sector run last [] = Unit {0}
 AllOperationsWork image sector run last (due ∷ rest) =
     (run' : List ℕ) × ((last' : Option ℕ) × (MediumCarriesOut image run run' sector last last' due
     × AllOperationsWork image sector run' last' rest))
 
--- An image in n sectors of k pieces takes at most n * (1 + k) + k operations, whatever the run area had before.
+-- An image in n sectors of k pieces takes at most n * (1 + k) + k operations, from any bytes of the run area.
 abbrev pub FewOperations : Type 0
 FewOperations = (image run : List ℕ) (n k : ℕ) (last : Option ℕ) (dues : List Due) → length image ≤ n * (256 * k) →
     AllOperationsWork image (256 * k) run last dues → length dues ≤ n * (1 + k) + k
 
 -- If the run area holds the image, only the start is due.
 abbrev pub FilledAreaStarts : Type 0
-FilledAreaStarts = (image run : List ℕ) (sector : ℕ) (last : Option ℕ) (due : Due) → HasNoRefusal image run sector → AreaStores run image →
+FilledAreaStarts = (image run : List ℕ) (sector : ℕ) (last : Option ℕ) (due : Due) → IsNotRefused image run sector → AreaStores run image →
     IsNextDue image run sector last due → due ≡ Start

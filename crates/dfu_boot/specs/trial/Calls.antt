@@ -1,4 +1,4 @@
--- Results of the calls.
+-- Results of the calls of a trial.
 use Rattle.std.specs.Prelude.{◌≡◌, ℕ, ◌+◌, ◌*◌, ◌≤◌, ◌<◌, ◌==◌, nat_lt, ◌%◌, Option, Some, None, length, slice_range, if◌then◌else◌}
 use Rattle.dfu_slots.specs.Units.{Grain, gate_room, IsMultiple}
 use Rattle.dfu_slots.specs.Medium.{MediumState, IsWritable}
@@ -38,8 +38,8 @@ IsStanding m tries (standing.OnTrial t) = IsOnTrial m t.slot t.base × (t.starts
 abbrev pub mark_op : Grain → ℕ → ℕ → Operation
 mark_op grain at i = Mark (mark_at grain at i) (mark_size grain)
 
--- Result of a start. On trial the mark of the next start is set first, and if it does not read set the confirmed image runs. Without a
--- start left the trial ends.
+-- Result of a start. If nothing is on trial the active image runs, without an operation. On trial the mark of the next start is set first,
+-- and if it does not read set the confirmed image runs; without a start left the trial ends, and the confirmed image runs.
 abbrev pub trial_start : Grain → ℕ → Standing → Starting
 trial_start grain tries (standing.Settled s) = record { operation = None; slot = s.slot; otherwise = s.slot }
 trial_start grain tries (standing.OnTrial t) =
@@ -47,18 +47,18 @@ trial_start grain tries (standing.OnTrial t) =
     then record { operation = Some (mark_op grain t.slot (t.starts + 1)); slot = t.slot; otherwise = t.base }
     else record { operation = Some (Close t.slot); slot = t.base; otherwise = t.base }
 
--- Slot that runs after the operation of a start, whatever became of it.
+-- Slot that runs after the operation of a start, for any outcome of the operation.
 abbrev pub runs_in : MediumState → Starting → Option Operation → ℕ
 runs_in m s (Some (Mark at len)) = if is_marked (slice_range m.bytes at (at + len)) then s.slot else s.otherwise
 runs_in m s (Some (Close at)) = s.slot
 runs_in m s None = s.slot
 
--- Place at which the image begins in the slot at a place.
+-- Place at which the image begins in the slot that begins at `slot`.
 abbrev pub image_place : Grain → ℕ → ℕ
 image_place grain slot = slot + 2 * gate_room grain
 
--- Confirmation of the image at a place: by its mark 0, if the image is active and that mark is not set. The image that a trial would fall
--- back to is confirmed already.
+-- Confirmation of the image at a place. The active image is confirmed by its mark 0, or already if that mark is set; the image that a
+-- trial would fall back to is confirmed already. Elsewhere no image may run.
 abbrev pub trial_confirmation : Grain → Standing → ℕ → Confirmation
 trial_confirmation grain (standing.Settled s) at =
     if at == image_place grain s.slot
@@ -90,12 +90,12 @@ abbrev pub MediumAccepts : MediumState → Operation → Type 0
 MediumAccepts m (Mark at len) = (at + len ≤ length m.bytes) × IsMultiple m.grain.unit at × IsMultiple m.grain.unit len × IsWritable m at len
 MediumAccepts m (Close at) = (at + m.grain.sector ≤ length m.bytes) × (at % m.grain.sector ≡ 0)
 
--- A mark lies within the medium, and has at most 256 bytes.
+-- A mark lies within the medium, and has at most 256 bytes. For an erase there is no condition.
 abbrev pub MarkIsWithin : MediumState → Operation → Type 0
 MarkIsWithin m (Mark at len) = (at + len ≤ length m.bytes) × (len ≤ 256)
 MarkIsWithin m (Close at) = Unit {0}
 
--- A medium accepts the operation that a confirmation asks for.
+-- A medium accepts the operation that a confirmation asks for, if it asks for one.
 abbrev pub ConfirmationAccepted : MediumState → Confirmation → Type 0
 ConfirmationAccepted m (confirm.By operation) = MediumAccepts m operation × MarkIsWithin m operation
 ConfirmationAccepted m confirm.Confirmed = Unit {0}

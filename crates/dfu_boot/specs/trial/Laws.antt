@@ -1,7 +1,7 @@
--- Images of a medium after an operation, whatever becomes of it.
+-- Images of a medium after an operation that works, fails, lies or is cut.
 use Rattle.std.specs.Prelude.{◌≡◌, ◌⊎◌, ℕ, ◌+◌, ◌≤◌, ◌<◌, true, false, List, slice_range, replicate, Option, Some, None}
 use Rattle.dfu_slots.specs.declared.fault.WriteFault.TheVariants.{Failed}
-use Rattle.dfu_slots.specs.Medium.{MediumState, FrameOutside, WroteOrLied, FailedWrite}
+use Rattle.dfu_slots.specs.Medium.{MediumState, ChangedWithin, WroteOrLied, FailedWrite}
 use Rattle.dfu_boot.specs.trial.Marks.{is_marked}
 use Rattle.dfu_boot.specs.trial.Trial.{image_at}
 use Rattle.dfu_boot.specs.trial.Calls.{IsSettledSlot, IsStanding, upload_operation, upload_slot}
@@ -12,17 +12,17 @@ use Rattle.dfu_boot.specs.declared.trial.standing.Standing.{Standing}
 use Rattle.dfu_boot.specs.declared.trial.standing.Standing.TheVariants as standing
 use Rattle.dfu_boot.specs.declared.trial.standing.Standing.TheVariants.{OnTrial}
 
--- An operation worked, failed, lied or was cut: its range has any bytes, and elsewhere there are the old ones.
+-- An operation worked, failed, lied or was cut: its range has any bytes, and all other bytes and the grain are the old ones.
 abbrev pub OperationOutcome : MediumState → Operation → MediumState → Type 0
-OperationOutcome m (Mark at len) now = FrameOutside at (at + len) m.bytes now.bytes × (now.grain ≡ m.grain)
-OperationOutcome m (Close at) now = FrameOutside at (at + m.grain.sector) m.bytes now.bytes × (now.grain ≡ m.grain)
+OperationOutcome m (Mark at len) now = ChangedWithin at (at + len) m.bytes now.bytes × (now.grain ≡ m.grain)
+OperationOutcome m (Close at) now = ChangedWithin at (at + m.grain.sector) m.bytes now.bytes × (now.grain ≡ m.grain)
 
--- An operation was reported to work: its bytes are there, or the medium lied.
+-- An operation was reported to work: its range holds its bytes, or the medium lied.
 abbrev pub OperationReportedOk : MediumState → Operation → MediumState → Type 0
 OperationReportedOk m (Mark at len) now = WroteOrLied m at (replicate len 0) now
 OperationReportedOk m (Close at) now = WroteOrLied m at (replicate m.grain.sector 255) now
 
--- An operation was reported to fail, and the medium did.
+-- An operation was reported to fail, and its range may be torn.
 abbrev pub OperationReportedFailed : MediumState → Operation → MediumState → Type 0
 OperationReportedFailed m (Mark at len) now = FailedWrite Failed m at (replicate len 0) now
 OperationReportedFailed m (Close at) now = FailedWrite Failed m at (replicate m.grain.sector 255) now
@@ -32,12 +32,12 @@ pub record ImagesSurvive (m : MediumState) (t : Trial) (now : MediumState) : Typ
   pub new : image_at now t.slot ≡ image_at m t.slot
   pub base : image_at now t.base ≡ image_at m t.base
 
--- The trial goes on as it was.
+-- The trial goes on as it was, with the same images and as many starts.
 pub record TrialContinues (m : MediumState) (tries : ℕ) (t : Trial) (now : MediumState) : Type 0 where
   pub stands : IsStanding now tries (OnTrial t)
   pub images : ImagesSurvive m t now
 
--- One start more is recorded, or several: the trial goes on with fewer left.
+-- At least one more start is recorded, and the trial goes on.
 pub record StartIsRecorded (m : MediumState) (tries : ℕ) (t : Trial) (now : MediumState) : Type 0 where
   pub starts : ℕ
   pub more : t.starts < starts
@@ -72,7 +72,7 @@ StartOutcome m tries (standing.Settled s) now ran = (now ≡ m) × (ran ≡ s.sl
 StartOutcome m tries (standing.OnTrial t) now ran = MarkOutcome m tries t now ran
     ⊎ ((tries ≤ t.starts) × (ran ≡ t.base) × (TrialContinues m tries t now ⊎ ConfirmedImageIsBack m t now))
 
--- A start was carried out on a medium.
+-- A start was carried out on a medium, and the slot at `ran` runs.
 pub record HasBooted (m : MediumState) (tries : ℕ) (now : MediumState) (ran : ℕ) : Type 0 where
   pub standing : Standing
   pub stands : IsStanding m tries standing
@@ -85,8 +85,8 @@ pub record RunsAtNextStart (m : MediumState) (tries : ℕ) (image : List ℕ) : 
   pub asks : upload_operation tries standing ≡ None
   pub image_is : image_at m (upload_slot standing) ≡ image
 
--- Result of the operation that an upload asks for: the next start is to run what the upload then gives, the active image, or the confirmed
--- one if no start was left. Or the trial that was to end goes on.
+-- Result of the operation that an upload asks for: the next start is to run the active image, or the confirmed one if no start was left. Or
+-- the trial that was to end goes on.
 abbrev pub UploadOutcome : MediumState → ℕ → Standing → MediumState → Type 0
 UploadOutcome m tries (standing.Settled s) now = RunsAtNextStart now tries (image_at m s.slot)
 UploadOutcome m tries (standing.OnTrial t) now = ((t.starts < tries) × RunsAtNextStart now tries (image_at m t.slot))
@@ -99,5 +99,6 @@ MarkReadsUnset now (Some (Mark at len)) = is_marked (slice_range now.bytes at (a
 MarkReadsUnset now (Some (Close at)) = ⊥
 
 -- A start runs this image, or its mark does not read set and the next start is to run the image.
-abbrev pub RunsOrIsNext : List ℕ → ℕ → Option Operation → MediumState → ℕ → Type 0
-RunsOrIsNext image tries operation now ran = (image_at now ran ≡ image) ⊎ (MarkReadsUnset now operation × RunsAtNextStart now tries image)
+abbrev pub RunsOrIsNextToRun : List ℕ → ℕ → Option Operation → MediumState → ℕ → Type 0
+RunsOrIsNextToRun image tries operation now ran =
+    (image_at now ran ≡ image) ⊎ (MarkReadsUnset now operation × RunsAtNextStart now tries image)

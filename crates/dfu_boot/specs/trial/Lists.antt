@@ -1,6 +1,6 @@
--- Events of a medium with sectors, one after another, once an image was confirmed; and what becomes of its images.
+-- Events of a medium with sectors, one after another, once an image was confirmed; and the images that the medium has after them.
 use Rattle.std.specs.Prelude.{◌≡◌, ◌⊎◌, ℕ, ◌+◌, ◌≤◌, ◌<◌, true, false, List, [], ◌∷◌, Option, Some, None}
-use Rattle.dfu_slots.specs.Medium.{MediumState, FrameOutside}
+use Rattle.dfu_slots.specs.Medium.{MediumState, ChangedWithin}
 use Rattle.dfu_slots.specs.Layout.{slot_size, ArePlaces}
 use Rattle.dfu_slots.specs.Image.{slot_of, IsNewest}
 use Rattle.dfu_boot.specs.trial.Marks.{is_mark_set}
@@ -15,7 +15,7 @@ use Rattle.dfu_boot.specs.declared.trial.starting.Starting.{Starting}
 use Rattle.dfu_boot.specs.declared.trial.confirming.Confirmation.{Confirmation}
 use Rattle.dfu_boot.specs.declared.trial.confirming.Confirmation.TheVariants as confirm
 
--- Event of a medium. Whatever becomes of its operation, the medium is the one after it.
+-- Event of a medium. Its operation may work, fail, lie or be cut.
 pub data TrialEvent : Type 0 where
   -- A start, after which the image in the slot at `ran` runs; None if the power was lost before.
   Starts : (ran : Option ℕ) → TrialEvent
@@ -25,7 +25,7 @@ pub data TrialEvent : Type 0 where
   Ends : TrialEvent
   -- An upload begins, and gives this image; None if it is stalled, because the trial that was to end goes on.
   Uploads : (given : Option (List ℕ)) → TrialEvent
-  -- A download of this image goes on, up to any point.
+  -- A download of this image, complete or broken off at any point.
   Downloads : (image : List ℕ) → TrialEvent
 
 -- An event, and the medium after it.
@@ -33,26 +33,26 @@ pub record TrialStep : Type 0 where
   pub event : TrialEvent
   pub now : MediumState
 
--- Slot that a start runs, by the medium after its operation; none if the power was lost.
-abbrev pub ImageRunBy : Starting → MediumState → Option ℕ → Type 0
-ImageRunBy s now None = Unit {0}
-ImageRunBy s now (Some slot) = slot ≡ runs_in now s s.operation
+-- A start runs this slot, by the medium after its operation; None if the power was lost.
+abbrev pub IsSlotRunBy : Starting → MediumState → Option ℕ → Type 0
+IsSlotRunBy s now None = Unit {0}
+IsSlotRunBy s now (Some slot) = slot ≡ runs_in now s s.operation
 
--- The operation of a confirmation was carried out, whatever became of it; if there was none, nothing changed.
+-- The operation of a confirmation was carried out, with any outcome; without an operation nothing changed.
 abbrev pub ConfirmationOutcome : MediumState → Confirmation → MediumState → Type 0
 ConfirmationOutcome m (confirm.By operation) now = OperationOutcome m operation now
 ConfirmationOutcome m confirm.Confirmed now = now ≡ m
 ConfirmationOutcome m confirm.Elsewhere now = now ≡ m
 
--- Image that an upload gives unless it is stalled: the one that the next start is to run.
+-- An upload gives the image that the next start is to run; None if the upload is stalled.
 abbrev pub UploadResult : MediumState → ℕ → Option (List ℕ) → Type 0
 UploadResult now tries None = Unit {0}
 UploadResult now tries (Some image) = RunsAtNextStart now tries image
 
--- The image of a download is put in place, or not. If not, the confirmed one is the newest. If so, the new one is the newest, and no mark
--- of its slot is set, because the sector of its header was erased before the header was written.
-abbrev pub NewImagePlacedOrNot : MediumState → ℕ → (slot spare : ℕ) → List ℕ → Type 0
-NewImagePlacedOrNot now tries slot spare image = IsNewest (slot_of now slot) (slot_of now spare)
+-- Result of a download. Without its image in place, the confirmed one is the newest. Else the new one is the newest, and no mark of its
+-- slot is set, because the sector of its header was erased before the header was written.
+abbrev pub DownloadPlacesImageOrNot : MediumState → ℕ → (slot spare : ℕ) → List ℕ → Type 0
+DownloadPlacesImageOrNot now tries slot spare image = IsNewest (slot_of now slot) (slot_of now spare)
     ⊎ (IsNewest (slot_of now spare) (slot_of now slot) × IsFilledSlot (slot_of now spare) × (image_at now spare ≡ image)
     × ((i : ℕ) → i ≤ tries → is_mark_set now spare i ≡ false))
 
@@ -62,14 +62,14 @@ pub record IsDownload (m : MediumState) (tries : ℕ) (image : List ℕ) (now : 
   pub stands : IsSettledSlot m settled
   pub spare : ℕ
   pub places : ArePlaces m.bytes settled.slot spare
-  pub keeps : FrameOutside spare (spare + slot_size m.bytes) m.bytes now.bytes
+  pub keeps : ChangedWithin spare (spare + slot_size m.bytes) m.bytes now.bytes
   pub grain : now.grain ≡ m.grain
-  pub put : NewImagePlacedOrNot now tries settled.slot spare image
+  pub put : DownloadPlacesImageOrNot now tries settled.slot spare image
 
--- An event came to a medium with this number of tries, by what `look` returned for the medium.
+-- Result of an event on a medium with this number of tries, by the standing that `look` returned for the medium.
 abbrev pub TrialStepResult : ℕ → MediumState → TrialEvent → MediumState → Type 0
 TrialStepResult tries m (Starts ran) now = (s : Standing) × IsStanding m tries s × AskedResult m (trial_start m.grain tries s).operation now
-    × ImageRunBy (trial_start m.grain tries s) now ran
+    × IsSlotRunBy (trial_start m.grain tries s) now ran
 TrialStepResult tries m (Confirms at) now = (s : Standing) × IsStanding m tries s
     × ConfirmationOutcome m (trial_confirmation m.grain s at) now
 TrialStepResult tries m Ends now = (s : Standing) × IsStanding m tries s × AskedResult m (end_of_trial s) now
@@ -77,13 +77,12 @@ TrialStepResult tries m (Uploads given) now = (s : Standing) × IsStanding m tri
     × UploadResult now tries given
 TrialStepResult tries m (Downloads image) now = IsDownload m tries image now
 
--- Events came one after another, in any order.
-abbrev pub TrialCourse : ℕ → MediumState → List TrialStep → Type 0
-TrialCourse tries m [] = Unit {0}
-TrialCourse tries m (s ∷ rest) = TrialStepResult tries m s.event s.now × TrialCourse tries s.now rest
+-- Events one after another: the medium of each step is a possible result of its event on the medium before.
+abbrev pub IsTrialTrace : ℕ → MediumState → List TrialStep → Type 0
+IsTrialTrace tries m [] = Unit {0}
+IsTrialTrace tries m (s ∷ rest) = TrialStepResult tries m s.event s.now × IsTrialTrace tries s.now rest
 
--- Images that are trusted: the one that was confirmed last, and beside it maybe one on trial, with the number of its runs since it was put
--- in place.
+-- Trusted images: the one that was confirmed last, and maybe one on trial, with the number of its runs since it was put in place.
 pub data TrustedImages : Type 0 where
   Alone : (base : List ℕ) → TrustedImages
   Tried : (base image : List ℕ) (runs : ℕ) → TrustedImages
@@ -94,41 +93,42 @@ AreTrusted m tries (Alone base) = (s : Settled) × IsSettledSlot m s × (s.is_co
 AreTrusted m tries (Tried base image runs) = (t : Trial) × IsStanding m tries (OnTrial t) × (image_at m t.base ≡ base)
     × (image_at m t.slot ≡ image) × (runs ≤ t.starts) × (t.starts ≤ tries)
 
--- The trial goes on as it was, or it has ended and the confirmed image is back.
-abbrev pub TrialIsOnOrBack : (base image : List ℕ) → ℕ → TrustedImages → Type 0
-TrialIsOnOrBack base image runs next = (next ≡ Tried base image runs) ⊎ (next ≡ Alone base)
+-- The trial goes on as it was, or it has ended and only the confirmed image is trusted.
+abbrev pub TrialContinuesOrIsOver : (base image : List ℕ) → ℕ → TrustedImages → Type 0
+TrialContinuesOrIsOver base image runs next = (next ≡ Tried base image runs) ⊎ (next ≡ Alone base)
 
--- Images after a start. The image that runs is the confirmed one, or the one on trial, which ran fewer than `tries` times before.
-abbrev pub ImagesAfterStart : ℕ → TrustedImages → MediumState → Option ℕ → TrustedImages → Type 0
-ImagesAfterStart tries (Alone base) now None next = next ≡ Alone base
-ImagesAfterStart tries (Alone base) now (Some slot) next = (image_at now slot ≡ base) × (next ≡ Alone base)
-ImagesAfterStart tries (Tried base image runs) now None next = TrialIsOnOrBack base image runs next
-ImagesAfterStart tries (Tried base image runs) now (Some slot) next =
+-- Trusted images after a start. The image that runs is the confirmed one, or the one on trial, which ran fewer than `tries` times before.
+abbrev pub TrustedImagesAfterStart : ℕ → TrustedImages → MediumState → Option ℕ → TrustedImages → Type 0
+TrustedImagesAfterStart tries (Alone base) now None next = next ≡ Alone base
+TrustedImagesAfterStart tries (Alone base) now (Some slot) next = (image_at now slot ≡ base) × (next ≡ Alone base)
+TrustedImagesAfterStart tries (Tried base image runs) now None next = TrialContinuesOrIsOver base image runs next
+TrustedImagesAfterStart tries (Tried base image runs) now (Some slot) next =
     ((image_at now slot ≡ image) × (runs < tries) × (next ≡ Tried base image (runs + 1)))
-    ⊎ ((image_at now slot ≡ base) × TrialIsOnOrBack base image runs next)
+    ⊎ ((image_at now slot ≡ base) × TrialContinuesOrIsOver base image runs next)
 
--- Image that an upload gives: the confirmed one if nothing is on trial, and else the one on trial, which has a start left.
+-- Image that an upload gives: the confirmed one if nothing is on trial, and else the one on trial, which has a start left. None if the
+-- upload is stalled.
 abbrev pub ImageOfUpload : ℕ → Option (List ℕ) → TrustedImages → Type 0
 ImageOfUpload tries None next = Unit {0}
 ImageOfUpload tries (Some image) (Alone base) = image ≡ base
 ImageOfUpload tries (Some image) (Tried base new runs) = (image ≡ new) × (runs < tries)
 
--- Images that may follow an event. Only a download brings an image on trial, with no run of it; an image whose trial ended runs no more
+-- Trusted images after an event. Only a download brings an image on trial, with no run of it; an image whose trial ended runs no more
 -- unless it is downloaded again.
-abbrev pub ImagesAfterEvent : ℕ → TrustedImages → TrialEvent → MediumState → TrustedImages → Type 0
-ImagesAfterEvent tries trust (Starts ran) now next = ImagesAfterStart tries trust now ran next
-ImagesAfterEvent tries (Alone base) (Confirms at) now next = next ≡ Alone base
-ImagesAfterEvent tries (Tried base image runs) (Confirms at) now next = (next ≡ Tried base image runs) ⊎ (next ≡ Alone image)
-ImagesAfterEvent tries (Alone base) Ends now next = next ≡ Alone base
-ImagesAfterEvent tries (Tried base image runs) Ends now next = TrialIsOnOrBack base image runs next
-ImagesAfterEvent tries (Alone base) (Uploads given) now next = (next ≡ Alone base) × ImageOfUpload tries given next
-ImagesAfterEvent tries (Tried base image runs) (Uploads given) now next =
-    TrialIsOnOrBack base image runs next × ImageOfUpload tries given next
-ImagesAfterEvent tries (Alone base) (Downloads new) now next = (next ≡ Alone base) ⊎ (next ≡ Tried base new 0)
-ImagesAfterEvent tries (Tried base image runs) (Downloads new) now next = ⊥
+abbrev pub TrustedImagesAfterEvent : ℕ → TrustedImages → TrialEvent → MediumState → TrustedImages → Type 0
+TrustedImagesAfterEvent tries trust (Starts ran) now next = TrustedImagesAfterStart tries trust now ran next
+TrustedImagesAfterEvent tries (Alone base) (Confirms at) now next = next ≡ Alone base
+TrustedImagesAfterEvent tries (Tried base image runs) (Confirms at) now next = (next ≡ Tried base image runs) ⊎ (next ≡ Alone image)
+TrustedImagesAfterEvent tries (Alone base) Ends now next = next ≡ Alone base
+TrustedImagesAfterEvent tries (Tried base image runs) Ends now next = TrialContinuesOrIsOver base image runs next
+TrustedImagesAfterEvent tries (Alone base) (Uploads given) now next = (next ≡ Alone base) × ImageOfUpload tries given next
+TrustedImagesAfterEvent tries (Tried base image runs) (Uploads given) now next =
+    TrialContinuesOrIsOver base image runs next × ImageOfUpload tries given next
+TrustedImagesAfterEvent tries (Alone base) (Downloads new) now next = (next ≡ Alone base) ⊎ (next ≡ Tried base new 0)
+TrustedImagesAfterEvent tries (Tried base image runs) (Downloads new) now next = ⊥
 
--- Each event of a course is followed by trusted images, and the medium after it has them.
+-- The medium has trusted images at first and after each event, and those after an event may follow those before it.
 abbrev pub AllTrusted : ℕ → TrustedImages → MediumState → List TrialStep → Type 0
 AllTrusted tries trust m [] = AreTrusted m tries trust
 AllTrusted tries trust m (s ∷ rest) = AreTrusted m tries trust
-    × ((next : TrustedImages) × ImagesAfterEvent tries trust s.event s.now next × AllTrusted tries next s.now rest)
+    × ((next : TrustedImages) × TrustedImagesAfterEvent tries trust s.event s.now next × AllTrusted tries next s.now rest)

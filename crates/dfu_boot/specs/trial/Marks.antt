@@ -16,7 +16,7 @@ mark_at grain at i = at + gate_room grain + mark_size grain + i * mark_size grai
 abbrev pub mark_bytes : MediumState → ℕ → ℕ → List ℕ
 mark_bytes m at i = slice_range m.bytes (mark_at m.grain at i) (mark_at m.grain at i + mark_size m.grain)
 
--- True if a byte is as an erase leaves it.
+-- True if a byte is FFh, as an erase leaves it.
 abbrev pub is_erased : ℕ → Bool
 is_erased byte = byte == 255
 
@@ -24,21 +24,21 @@ is_erased byte = byte == 255
 abbrev pub is_marked : List ℕ → Bool
 is_marked bytes = not (list_all is_erased bytes)
 
--- True if mark i is set, of the slot at a place.
+-- True if mark i of the slot at a place is set.
 unfoldable pub is_mark_set : MediumState → ℕ → ℕ → Bool
 is_mark_set m at i = is_marked (mark_bytes m at i)
 
--- Number of marks that are set one after the other, from mark i on, of at most `most`.
+-- Number of marks that are set in a row, from mark i on, at most `most`.
 abbrev pub marks_set_in_row : MediumState → ℕ → ℕ → ℕ → ℕ
 marks_set_in_row m at i zero = 0
 marks_set_in_row m at i (suc most) = if is_mark_set m at i then marks_set_in_row m at (i + 1) most + 1 else 0
 
--- Starts of the image in a slot that are recorded, of at most `tries`.
+-- Number of recorded starts of the image in a slot, at most `tries`.
 abbrev pub recorded_starts : MediumState → ℕ → ℕ → ℕ
 recorded_starts m tries at = marks_set_in_row m at 1 tries
 
--- A number of tries that can be marked on a medium: it is 2 at least, the medium has sectors, and the header, the confirmation and a mark
--- for each try fit in one sector.
+-- Number of tries for which a medium has marks: at least 2, on a medium with sectors, and the header, the confirmation and a mark for each
+-- try fit in one sector.
 pub record AreTries (grain : Grain) (tries : ℕ) : Type 0 where
   pub sectors : 0 < grain.sector
   pub few : 2 ≤ tries

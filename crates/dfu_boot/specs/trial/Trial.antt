@@ -10,8 +10,8 @@ pub record IsFilledSlot (s : Slot) : Type 0 where
   pub counts : SlotCounts s
   pub header_is : HasHeader s (header_length s)
 
--- The slot at `at` is on trial beside the one at `base`: both have an image, it is the newer one and not confirmed, and the other one is
--- confirmed.
+-- The slot at `at` is on trial beside the slot at `base`, on a medium of two slots: both have an image, the first is newer and not
+-- confirmed, and the second is confirmed.
 pub record IsOnTrial (m : MediumState) (at base : ℕ) : Type 0 where
   pub sized : IsSizedMedium m
   pub places : ArePlaces m.bytes at base
@@ -27,6 +27,6 @@ pub record HasTrial (m : MediumState) : Type 0 where
   pub base : ℕ
   pub trial : IsOnTrial m at base
 
--- Image in the slot at a place.
+-- Image in the slot at a place, with the length in the slot's header.
 abbrev pub image_at : MediumState → ℕ → List ℕ
 image_at m at = take (header_length (slot_of m at)) (slot_of m at).data_bytes

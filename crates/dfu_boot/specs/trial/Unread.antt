@@ -1,4 +1,4 @@
--- Bytes of a medium that the slot store does not read: marks are among them, and change no image, whatever becomes of them.
+-- Bytes of a medium that the slot store does not read, as those of marks: their changes change no image.
 use Rattle.std.specs.Prelude.{◌≡◌, ◌↔◌, ℕ, ◌≤◌, List, length}
 use Rattle.dfu_slots.specs.Medium.{MediumState}
 use Rattle.dfu_slots.specs.Layout.{ArePlaces}
@@ -13,8 +13,8 @@ pub record ChangedUnreadBytes (m now : MediumState) : Type 0 where
   pub grain : now.grain ≡ m.grain
   pub slots : (p q : ℕ) → ArePlaces m.bytes p q → slot_of now p ≡ slot_of m p
 
--- A mark of one of the two slots was set, for a confirmation or a start; it worked, failed, lied or was cut.
-pub record MarkWasSet (m : MediumState) (tries : ℕ) (now : MediumState) : Type 0 where
+-- A mark of one of the two slots was written, for a confirmation or a start: it worked, failed, lied or was cut.
+pub record MarkIsWritten (m : MediumState) (tries : ℕ) (now : MediumState) : Type 0 where
   pub at : ℕ
   pub other : ℕ
   pub places : ArePlaces m.bytes at other
@@ -25,7 +25,7 @@ pub record MarkWasSet (m : MediumState) (tries : ℕ) (now : MediumState) : Type
 -- A mark is not read by the store, on any medium of two slots with room for the tries, on trial or not.
 abbrev pub MarksAreUnread : Type 0
 MarksAreUnread =
-    (m now : MediumState) (tries : ℕ) → IsSizedMedium m → AreTries m.grain tries → MarkWasSet m tries now → ChangedUnreadBytes m now
+    (m now : MediumState) (tries : ℕ) → IsSizedMedium m → AreTries m.grain tries → MarkIsWritten m tries now → ChangedUnreadBytes m now
 
 -- A change of bytes that the store does not read changes no image: an image is active afterwards exactly if it was before.
 abbrev pub UnreadChangesNoImage : Type 0

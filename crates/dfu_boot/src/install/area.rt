@@ -1,4 +1,4 @@
-//! The sizes of a run area, and its blank parts.
+//! Sizes of a run area, and the test of its blank bytes.
 ghost use Rattle.std.specs.Prelude.{◌≡◌, ◌≤◌, length, IsTrue, ◌↔◌};
 ghost use Rattle.dfu_boot.specs.install.Area.{IsRunArea, RangeIsBlank};
 

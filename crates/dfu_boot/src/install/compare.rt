@@ -1,11 +1,11 @@
 //! Places at which a run area differs from an image.
 ghost use Rattle.std.specs.Prelude.{◌≡◌, ◌≤◌, ◌<◌, ◌^◌, ◌+◌, ◌↔◌, length, min, slice_index, IfSome, IfNone, IsTrue};
-ghost use Rattle.dfu_boot.specs.install.Area.{RangeMatchesImage, FirstDiffers};
+ghost use Rattle.dfu_boot.specs.install.Area.{RangeMatchesImage, IsFirstDifference};
 ghost use Rattle.dfu_boot.specs.install.Next.{IsNextDifference};
 
 use dfu_slots::flash_byte_at;
 
-// Returns whether a byte of the run area is the image's.
+// Returns whether byte `at` of the run area equals that of the image.
 fn is_same(image: &[u8], run: &[u8], at: usize) -> bool
     requires image { at < length image.now }
     requires run { at < length run.now }
@@ -14,7 +14,7 @@ fn is_same(image: &[u8], run: &[u8], at: usize) -> bool
     flash_byte_at(run, at) == flash_byte_at(image, at)
 }
 
-// Returns whether the four bytes from there on are the same.
+// Returns true only if the four bytes from `at` on are equal in the image and the run area.
 fn are_four_same(image: &[u8], run: &[u8], at: u32) -> bool
     requires image { at + 4 ≤ length image.now }
     requires run { at + 4 ≤ length run.now }
@@ -31,11 +31,11 @@ fn are_four_same(image: &[u8], run: &[u8], at: u32) -> bool
 pub(crate) fn first_difference(image: &[u8], run: &[u8], from: u32, to: u32) -> Option<u32>
     requires image { to ≤ length image.now }
     requires run { to ≤ length run.now }
-    ensures some { IfSome result (λ at. FirstDiffers image.now run.now from to at) }
+    ensures some { IfSome result (λ at. IsFirstDifference image.now run.now from to at) }
     ensures none { IfNone result (RangeMatchesImage image.now run.now from to) }
 {
     let mut at = from;
-    // (four at a time take half as many instructions)
+    // (comparing four at a time takes half as many instructions)
     while at < to && to - at >= 4 && are_four_same(image, run, at) {
         at += 4;
     }
@@ -48,8 +48,8 @@ pub(crate) fn first_difference(image: &[u8], run: &[u8], from: u32, to: u32) -> 
     None
 }
 
-/// Returns the index of the first byte of `image` from `from` on that differs in `run`; if there is none, that of the first one from the
-/// front; None if the whole image is there.
+/// Returns the index of the first byte of `image` from `from` on that differs in `run`, or else of the first one from 0 on; None if the run
+/// area holds the whole image.
 pub(crate) fn next_difference(image: &[u8], run: &[u8], from: u32) -> Option<u32>
     requires from { from ≤ length image.now }
     requires bound { length image.now < 2 ^ 32 }

@@ -1,13 +1,13 @@
-//! The choice of the operation that is due next.
+//! Operation that is due next, by the place at which the run area differs.
 ghost use Rattle.std.specs.Prelude.{◌≡◌, ◌+◌, ◌-◌, ◌%◌, ◌<◌, ◌≤◌, ◌^◌, length, min, IsTrue, ◌↔◌};
 ghost use Rattle.dfu_boot.specs.install.Area.{IsRunArea, start_of};
-ghost use Rattle.dfu_boot.specs.install.Next.{IsNextDue, IsNextDifference, HasNoRefusal, MayProgram, search_start};
+ghost use Rattle.dfu_boot.specs.install.Next.{IsNextDue, IsNextDifference, IsNotRefused, MayProgram, search_start};
 
 use crate::install::area::{PROGRAM, are_blank, is_run_area};
 use crate::install::compare::next_difference;
 use crate::install::due::{Due, Refusal};
 
-// Returns the place at which the search begins.
+// Returns the place at which the search for a difference begins: that of the last operation, at most the end of the image; 0 without one.
 fn look_from(image: &[u8], last: Option<u32>) -> u32
     requires { length image.now < 2 ^ 32 }
     ensures value { result ≡ search_start image.now last }
@@ -19,7 +19,8 @@ fn look_from(image: &[u8], last: Option<u32>) -> u32
     }
 }
 
-// Returns whether the piece that begins there may be programmed, in a sector that begins there.
+// Returns whether the piece that begins at `piece` may be programmed: it is blank, and the last operation went to its sector, not behind
+// it.
 fn may_program(run: &[u8], sector: u32, last: Option<u32>, piece: u32) -> bool
     requires some { 0 < sector }
     requires inside { piece + 256 ≤ length run.now }
@@ -36,9 +37,9 @@ fn may_program(run: &[u8], sector: u32, last: Option<u32>, piece: u32) -> bool
     }
 }
 
-// Returns the operation that is due of the sector in which that byte differs.
+// Returns the next operation for the byte at `at`, which differs: a program of its piece, or else an erase of its sector.
 fn mend(image: &[u8], run: &[u8], sector: u32, last: Option<u32>, at: u32) -> Due
-    requires ready { HasNoRefusal image.now run.now sector }
+    requires ready { IsNotRefused image.now run.now sector }
     requires next { IsNextDifference image.now run.now (search_start image.now last) at }
     ensures { IsNextDue image.now run.now sector last result }
 {
@@ -50,11 +51,11 @@ fn mend(image: &[u8], run: &[u8], sector: u32, last: Option<u32>, at: u32) -> Du
     }
 }
 
-/// Returns the operation that is due next, so that the run area comes to hold the image.
+/// Returns the next operation that brings the image to the run area.
 ///
-/// `image` has the bytes of the image, `run` those of the run area as they are, in sectors of `sector` bytes. `last` is the result of
-/// `took` returned for the last operation, and None after each loss of power; whatever it is, Start comes only if the run area holds the
-/// whole image, and no operation lies outside the sectors of the image.
+/// `image` has the bytes of the image, `run` the present bytes of the run area, in sectors of `sector` bytes. `last` is what `took`
+/// returned for the last operation, and None after each loss of power. For any `last`, Start is returned only if the run area holds the
+/// whole image, and each operation lies within the sectors of the image.
 ///
 /// Refused, in this order: `WrongSize`, `NoImage`, `TooLarge`.
 pub fn next(image: &[u8], run: &[u8], sector: u32, last: Option<u32>) -> Due

@@ -1,9 +1,9 @@
-//! Operation that is due next of a run area.
+//! Next operation of a run area.
 
 /// Refusals of an image that can't be started.
 #[derive(Clone, Copy, Drop)]
 pub enum Refusal {
-    /// The sectors are not of a multiple of 256 bytes up to 262,144, or the run area is not whole in them, or has 2^32 bytes or more.
+    /// The sector is not a multiple of 256 bytes up to 262,144, or the run area is not whole sectors, or has 2^32 bytes or more.
     WrongSize,
     /// The image has no bytes.
     NoImage,
@@ -11,7 +11,7 @@ pub enum Refusal {
     TooLarge,
 }
 
-/// Operation that is due next.
+/// Next operation of a run area.
 #[derive(Clone, Copy, Drop)]
 pub enum Due {
     /// Nothing: no image can be started.

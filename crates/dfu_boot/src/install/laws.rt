@@ -3,35 +3,35 @@ ghost use Rattle.dfu_boot.specs.install.Allowed.{DueIsAllowed};
 ghost use Rattle.dfu_boot.specs.install.Courses.{StartsOnlyWhole, NeighboursUnchanged, ProgramsOnlyFresh};
 ghost use Rattle.dfu_boot.specs.install.Working.{FewOperations, FilledAreaStarts};
 
-/// Whatever is there, each operation lies in the run area and has something to mend: an erase is of a whole sector that differs, a
-/// program of a piece that differs and is blank, in the sector of the last operation.
+/// For any bytes of the run area, each operation lies in it and mends a difference: an erase is of a whole sector that differs from the
+/// image, a program of a piece that differs and is blank, in the sector of the last operation.
 pub fn does_only_allowed()
     ensures { DueIsAllowed }
 {}
 
-/// Whatever came, an image is started only if the run area holds all of it: cuts, harm in the range of an operation, failures, lies and
-/// losses of power, in any order.
+/// An image is started only if the run area holds all of it, after any cuts, harm in the range of an operation, failures, lies and losses
+/// of power, in any order.
 pub fn starts_only_whole()
     ensures { StartsOnlyWhole }
 {}
 
-/// Whatever came, the bytes of a sector that no image reaches are as they were.
+/// After any events, the bytes of a sector that no image reaches are as they were.
 pub fn leaves_what_is_beside()
     ensures { NeighboursUnchanged }
 {}
 
-/// Whatever came since a first power-on, a piece is programmed only after an erase of its sector since the power came last, and once. So
-/// it is on a part with ECC.
+/// After any events since a first power-on, a piece is programmed only if its sector was erased since the last power-on, and only once
+/// after that erase, as a part with ECC needs it.
 pub fn programs_only_fresh()
     ensures { ProgramsOnlyFresh }
 {}
 
-/// If the run area holds the image, nothing is due but the start.
+/// If the run area holds the image, only the start is due.
 pub fn held_is_started()
     ensures { FilledAreaStarts }
 {}
 
-/// A medium that works comes to the start after at most n * (1 + k) + k operations, for an image in n sectors of k pieces.
+/// On a medium that works, an image in n sectors of k pieces is started after at most n * (1 + k) + k operations.
 pub fn few_operations()
     ensures { FewOperations }
 {}

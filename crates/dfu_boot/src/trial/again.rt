@@ -1,4 +1,4 @@
-//! A look that was handed on: the standing is found again without reading the images.
+//! Finds the standing of an earlier look again, without reading the images.
 ghost use Rattle.std.specs.Prelude.{◌≡◌, IfSome, IsTrue};
 ghost use Rattle.dfu_slots.specs.Layout.{ArePlaces};
 ghost use Rattle.dfu_slots.specs.Image.{IsSizedMedium, slot_of, SlotCounts, IsNewest};
@@ -10,7 +10,7 @@ use crate::trial::marks::{is_set, starts};
 use crate::trial::{Settled, Standing, Trial};
 use dfu_slots::{Medium, Places, capacity_of, data_at, generation, is_open, is_sized};
 
-// Returns the places of the slots, if the data of one begins there.
+// Returns the places of the slots, with the slot whose data begins at `at` as the active one; None if no slot's data begins there.
 fn places_by_data<M: Medium>(medium: &M, at: u32) -> Option<Places>
     requires { IsSizedMedium (M.state medium.now) }
     ensures places { IfSome result (λ p. ArePlaces (M.state medium.now).bytes p.active p.spare) }
@@ -33,8 +33,8 @@ fn places_by_data<M: Medium>(medium: &M, at: u32) -> Option<Places>
     None
 }
 
-// Returns whether the gate of the first of two slots is open, and that of the second is not, or its header is one generation behind: the
-// first is the newest then, if it counts.
+// Returns whether the slot at `places.active` is open, and the other slot is closed or one generation older. If so, and if the first slot
+// counts, it is the newest.
 fn is_ahead<M: Medium>(medium: &M, places: Places) -> bool
     requires sized { IsSizedMedium (M.state medium.now) }
     requires places { ArePlaces (M.state medium.now).bytes places.active places.spare }
@@ -48,9 +48,9 @@ fn is_ahead<M: Medium>(medium: &M, places: Places) -> bool
         || generation(medium, places.active) == generation(medium, places.spare).wrapping_add(1)
 }
 
-/// Finds the standing again that a look before found: the image that begins at `at` was active, and if it was on trial the one that begins
-/// at `base` was to come back. It reads gates, headers and marks, and no image: all that it takes from the look is that these images are
-/// whole. None if another slot may have the active image by now, or if an image may be on trial that the look didn't say: look anew then.
+/// Finds the standing of an earlier `look` again: the image that begins at `at` was active and, if it was on trial, the image that begins
+/// at `base` was the one to come back. Reads gates, headers and marks, but no image: it relies on the look for these images being whole.
+/// None if another slot may have the active image by now, or if an image may be on trial that the look did not report: call `look` then.
 pub fn look_again<M: Medium>(medium: &M, tries: u32, at: u32, base: Option<u32>) -> Option<Standing>
     requires tries { AreTries (M.state medium.now).grain tries }
     ensures stands { IfSome result (λ s. ImagesAreWhole (M.state medium.now) at base → IsStanding (M.state medium.now) tries s) }

@@ -8,18 +8,18 @@ use crate::trial::marks::{mark_at, mark_size};
 use crate::trial::{Operation, Standing};
 use dfu_slots::{Medium, data_at};
 
-/// Confirmation of a running image.
+/// Answer to a running image that asks to be confirmed.
 #[derive(Clone, Copy, Drop)]
 pub enum Confirmation {
-    /// By this operation.
+    /// The caller must carry out this operation.
     By(Operation),
-    /// The image is confirmed.
+    /// The image is confirmed already.
     Confirmed,
-    /// No image that may run begins there.
+    /// No image that may run begins at the place given.
     Elsewhere,
 }
 
-// The operation that sets the confirmation of the slot that begins there.
+// Returns the operation that sets the confirmation mark of the slot that begins at `slot`.
 fn by_mark<M: Medium>(medium: &M, slot: u32) -> Confirmation
     requires { mark_at (M.state medium.now).grain slot 0 ≤ length (M.state medium.now).bytes }
     ensures { result ≡ By (mark_op (M.state medium.now).grain slot 0) }
@@ -28,8 +28,8 @@ fn by_mark<M: Medium>(medium: &M, slot: u32) -> Confirmation
 }
 
 impl Standing {
-    /// Tells how the image that begins at `at` is confirmed: its caller's own place, as `image_at` of a store gives it. So an old image
-    /// that runs since the mark of a start failed does not confirm the new one.
+    /// Returns the confirmation of the image that begins at `at`: the calling image's own place, as `image_at` of a store gives it. So an
+    /// old image that runs because the mark of a start failed does not confirm the new one.
     pub fn confirm<M: Medium>(self, medium: &M, tries: u32, at: u32) -> Confirmation
         requires tries { AreTries (M.state medium.now).grain tries }
         requires stands { IsStanding (M.state medium.now) tries self }

@@ -1,4 +1,4 @@
-//! Looks at the medium for an image on trial.
+//! Standing of a medium's images, which a look finds.
 ghost use Rattle.std.specs.Prelude.{OnOk, IfOk, IfErr};
 ghost use Rattle.dfu_slots.specs.Image.{HasImage};
 ghost use Rattle.dfu_slots.specs.Changes.{FirstOpenFault};

@@ -1,4 +1,4 @@
-//! Marks of a slot, as they read.
+//! Marks of a slot, as they are read.
 ghost use Rattle.std.specs.Prelude.{◌≡◌, ◌+◌, ◌*◌, ◌≤◌, ◌<◌, length, slice_range};
 ghost use Rattle.std.specs.List.{list_all};
 ghost use Rattle.dfu_slots.specs.Layout.{slot_size};
@@ -53,7 +53,7 @@ pub(crate) fn is_set<M: Medium>(medium: &M, at: u32, i: u32) -> bool
     is_marked(medium, mark_at(medium, at, i), mark_size(medium))
 }
 
-/// Returns the number of recorded starts of the image in the slot that begins at `at`.
+/// Returns the number of recorded starts, at most `tries`, of the image in the slot that begins at `at`.
 pub(crate) fn starts<M: Medium>(medium: &M, tries: u32, at: u32) -> u32
     requires sized { IsSizedMedium (M.state medium.now) }
     requires tries { AreTries (M.state medium.now).grain tries }

@@ -1,26 +1,25 @@
-//! Operations that the calls ask of their caller.
+//! Operations that the calls ask their caller to carry out.
 ghost use Rattle.std.specs.Prelude.{OnOk, OnErr};
 ghost use Rattle.dfu_boot.specs.trial.Calls.{MediumAccepts, MarkIsWithin};
 ghost use Rattle.dfu_boot.specs.trial.Laws.{OperationOutcome, OperationReportedOk, OperationReportedFailed};
 
 use dfu_slots::{Failed, Medium};
 
-/// One operation on the medium, which the caller must carry out. Whatever becomes of the operation, only the bytes of its range may
-/// change.
+/// One operation on the medium, which the caller must carry out. Even if it fails, only the bytes of its range may change.
 #[derive(Clone, Copy, Drop)]
 pub enum Operation {
-    /// A program of zeros, at most 256, over a mark, all of whose bytes are FFh: the place of the first byte, and the number of bytes.
+    /// Programs zeros, at most 256, over a mark whose bytes are all FFh: the place of the first byte, and the number of bytes.
     Mark(u32, u32),
-    /// The sector that begins there is erased: a gate is closed.
+    /// Erases the sector that begins at this place, and so closes a gate.
     Close(u32),
 }
 
 impl Operation {
-    /// Performs the operation on `medium`. Nothing is read back: the next look at the medium shows what became of the operation.
+    /// Performs the operation on `medium`. Nothing is read back: the next look at the medium shows its outcome.
     ///
     /// # Errors
     ///
-    /// Failed if the medium answered that it failed.
+    /// `Failed` if the medium reported a failure.
     pub fn carry_out<M: Medium>(self, medium: &mut M) -> Result<(), Failed>
         requires taken { MediumAccepts (M.state medium.old) self }
         requires within { MarkIsWithin (M.state medium.old) self }

@@ -1,24 +1,24 @@
--- Meaning of the numbers in the calls of a run area.
+-- Meanings of the numbers in the calls for a run area.
 use Rattle.std.specs.Prelude.{ℕ, ℤ, negsuc, ◌==◌, if◌then◌else◌, Option, Some, None}
 use Rattle.dfu_boot.specs.declared.install.due.Due.{Due}
 use Rattle.dfu_boot.specs.declared.install.due.Due.TheVariants.{Erase, Program, Start}
 use Rattle.dfu_boot.specs.declared.install.due.Refusal.{Refusal}
 use Rattle.dfu_boot.specs.declared.install.due.Refusal.TheVariants.{WrongSize, NoImage, TooLarge}
 
--- The place of a number, and none for DFU_NOWHERE.
+-- Place with this number; None for DFU_NOWHERE.
 abbrev pub last_of : ℕ → Option ℕ
 last_of number = if number == 4294967295 then None else Some number
 
--- The number of a place, and DFU_NOWHERE for none.
+-- Number of a place; DFU_NOWHERE for None.
 abbrev pub number_of_place : Option ℕ → ℕ
 number_of_place None = 4294967295
 number_of_place (Some at) = at
 
--- The operation of a kind at a place; any other kind stands for the start, which is no operation.
+-- Operation of a kind at a place: an erase for kind 1, a program for kind 2, and the start, which is no operation, for any other kind.
 abbrev pub due_of_kind : ℕ → ℕ → Due
 due_of_kind kind at = if kind == 1 then Erase at else if kind == 2 then Program at else Start
 
--- The number of a refusal: DFU_WRONG_SIZE, DFU_NO_IMAGE, DFU_TOO_LARGE.
+-- Number of a refusal: DFU_WRONG_SIZE, DFU_NO_IMAGE, DFU_TOO_LARGE.
 abbrev pub install_refusal_number : Refusal → ℤ
 install_refusal_number WrongSize = negsuc 5
 install_refusal_number NoImage = negsuc 14

@@ -1,4 +1,4 @@
--- Records in which a program in C gets the facts of a trial.
+-- Records in which a program in C gets the state of a trial.
 use Rattle.std.specs.Prelude.{◌≡◌, ℕ, ℤ, pos, ◌-◌, ◌+◌, ◌==◌, Bool, nat_le, ◌&&◌, List, length, replicate, slice_range, Option, Some, None, if◌then◌else◌}
 use Rattle.dfu_slots.specs.Medium.{MediumState}
 use Rattle.dfu_slots.specs.Layout.{header_length}
@@ -16,11 +16,11 @@ use Rattle.dfu_core.specs.Numbers.{WRITE_PENDING_NUMBER}
 use Rattle.dfu_boot_c.specs.declared.trial.told.DfuStanding.{DfuStanding}
 use Rattle.dfu_boot_c.specs.declared.trial.told.DfuStarting.{DfuStarting}
 
--- Place of the image in the slot at a place, and its length by its header.
+-- Place of the image in a slot, and its length from the slot's header.
 abbrev pub image_in : MediumState → ℕ → DfuPlace
 image_in m slot = record { at = image_place m.grain slot; length = header_length (slot_of m slot) }
 
--- The record of a standing.
+-- Record of a standing, as a program in C gets it. If no image is on trial, the base is the active image, and no starts are left.
 abbrev pub standing_told : MediumState → ℕ → Standing → DfuStanding
 standing_told m tries (Settled s) = record {
   active = image_in m s.slot;
@@ -37,12 +37,12 @@ standing_told m tries (OnTrial t) = record {
   is_confirmed = 0;
 }
 
--- Record of a start: the image to run, and the one to run instead if the mark of this start doesn't read back as set.
+-- Record of a start: the image to run, and the image to run instead if the mark of this start doesn't read back as set.
 abbrev pub starting_told : MediumState → Starting → DfuStarting
 starting_told m s = record { run = image_in m s.slot; otherwise = image_in m s.otherwise }
 
--- An operation is written into the record of the operation, and the call returns DFU_WRITE_PENDING: zeros are programmed, or a sector of
--- the given size is erased. If no operation is due the call returns 0, and the record of the operation stays.
+-- A due operation is written into `after`, and the call returns DFU_WRITE_PENDING: zeros are programmed, or a sector of this size is
+-- erased. If no operation is due the call returns 0, and `after` equals `before`.
 abbrev pub TrialOpInAsk : ℕ → Option Operation → ℤ → DfuAsk → DfuAsk → Type 0
 TrialOpInAsk sector None result before after = (result ≡ pos 0) × (after ≡ before)
 TrialOpInAsk sector (Some (Mark at len)) result before after =
@@ -50,10 +50,11 @@ TrialOpInAsk sector (Some (Mark at len)) result before after =
 TrialOpInAsk sector (Some (Close at)) result before after =
     (result ≡ WRITE_PENDING_NUMBER) × (after ≡ record { kind = 1; at = at; length = sector; bytes = before.bytes })
 
--- True if the mark of an operation reads set: its range lies within the flash, and one of its bytes is not FFh.
-abbrev pub is_there : List ℕ → DfuAsk → Bool
-is_there flash ask = nat_le (ask.at + ask.length) (length flash) && is_marked (slice_range flash ask.at (ask.at + ask.length))
+-- True if the mark in an operation reads as set: its range is within the flash, and one of its bytes is not FFh.
+abbrev pub mark_reads_as_set : List ℕ → DfuAsk → Bool
+mark_reads_as_set flash ask = nat_le (ask.at + ask.length) (length flash) && is_marked (slice_range flash ask.at (ask.at + ask.length))
 
--- Image that runs once an operation was carried out or failed. After a program that does not read set, the other image runs.
+-- Image that runs after an operation was carried out or failed: `otherwise` if the operation programs a mark that does not read as set,
+-- else `run`.
 abbrev pub run_place_of_operation : List ℕ → DfuAsk → DfuStarting → DfuPlace
-run_place_of_operation flash ask s = if ask.kind == 2 then (if is_there flash ask then s.run else s.otherwise) else s.run
+run_place_of_operation flash ask s = if ask.kind == 2 then (if mark_reads_as_set flash ask then s.run else s.otherwise) else s.run

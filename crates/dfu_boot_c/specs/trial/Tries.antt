@@ -1,4 +1,4 @@
--- Unit, sectors and tries with which a program in C looks at a trial.
+-- Unit, sectors and tries in the configuration of a trial in C.
 use Rattle.std.specs.Prelude.{◌≡◌, ◌⊎◌, ℕ, nat_lt, ◌%◌, ◌^◌, ◌≤◌, List, length, if◌then◌else◌}
 use Rattle.dfu_slots.specs.declared.layout.Unit.{Unit as WriteUnit}
 use Rattle.dfu_slots.specs.declared.layout.Unit.TheVariants.{Byte, U16, U64, U256}
@@ -13,34 +13,35 @@ use Rattle.dfu_boot_c.specs.declared.trial.flash.DfuTries.{DfuTries}
 use Rattle.dfu_boot_c.specs.declared.trial.flash.Refusal.{Refusal}
 use Rattle.dfu_boot_c.specs.declared.trial.flash.Refusal.TheVariants.{NoConfig, Tries, NoMedium}
 
--- The largest unit of at most n bytes; the byte for 0.
-unfoldable pub unit_sized : ℕ → WriteUnit
-unit_sized n = if nat_lt n 16 then Byte else if nat_lt n 64 then U16 else if nat_lt n 256 then U64 else U256
+-- The largest unit of at most n bytes; one byte for 0.
+unfoldable pub unit_of_at_most : ℕ → WriteUnit
+unit_of_at_most n = if nat_lt n 16 then Byte else if nat_lt n 64 then U16 else if nat_lt n 256 then U64 else U256
 
--- The unit and the sectors of the flash.
-abbrev pub tries_grain : DfuTries → Grain
-tries_grain t = record { unit = unit_sized t.unit; sector = t.sector }
+-- Unit and sectors of the flash, from the configuration of a trial.
+abbrev pub grain_of_tries : DfuTries → Grain
+grain_of_tries t = record { unit = unit_of_at_most t.unit; sector = t.sector }
 
--- The flash as a medium with that unit and those sectors.
+-- The flash as a medium with this unit and these sectors.
 abbrev pub trial_medium_state : DfuTries → List ℕ → MediumState
-trial_medium_state t flash = mapped_medium (tries_grain t) flash
+trial_medium_state t flash = mapped_medium (grain_of_tries t) flash
 
--- A unit has the unit size, and the sector size is allowed; 0 says that the flash has no sectors.
+-- The unit size of the configuration is that of a unit, and its sector size is a multiple of 256 and at most 262,144. Sector size 0 means
+-- that the flash has no sectors.
 pub record HasTriesUnitAndSector (t : DfuTries) : Type 0 where
-  pub unit_is : unit_size (unit_sized t.unit) ≡ t.unit
+  pub unit_is : unit_size (unit_of_at_most t.unit) ≡ t.unit
   pub pages : t.sector % 256 ≡ 0
   pub bound : t.sector ≤ 2 ^ 18
 
--- The flash can have the number of tries, and its images have the standing.
+-- The configuration and its number of tries are allowed, and the images of the flash have this standing.
 pub record HasStanding (t : DfuTries) (flash : List ℕ) (s : Standing) : Type 0 where
   pub part : HasTriesUnitAndSector t
-  pub tries : AreTries (tries_grain t) t.tries
+  pub tries : AreTries (grain_of_tries t) t.tries
   pub stands : IsStanding (trial_medium_state t flash) t.tries s
 
--- A call is refused for a reason. In this order: no unit or sectors have the sizes given; the number of tries is refused; the flash has no
+-- A call is refused for a reason, in this order: no unit or sectors have the given sizes; the number of tries is refused; the flash has no
 -- active image, or 2^32 bytes or more.
 abbrev pub IsTrialRefused : Refusal → DfuTries → List ℕ → Type 0
 IsTrialRefused NoConfig t flash = ¬ HasTriesUnitAndSector t
-IsTrialRefused (Tries fault) t flash = HasTriesUnitAndSector t × IsTriesFault fault (tries_grain t) t.tries
-IsTrialRefused NoMedium t flash = HasTriesUnitAndSector t × AreTries (tries_grain t) t.tries
+IsTrialRefused (Tries fault) t flash = HasTriesUnitAndSector t × IsTriesFault fault (grain_of_tries t) t.tries
+IsTrialRefused NoMedium t flash = HasTriesUnitAndSector t × AreTries (grain_of_tries t) t.tries
     × (¬ HasImage (trial_medium_state t flash) ⊎ (2 ^ 32 ≤ length flash))

@@ -1,9 +1,9 @@
-//! The calls for two areas, as a program in C makes them: `include/dfu_home_core.h` says each for a reader of C.
+//! Calls for two areas, as a program in C makes them. `include/dfu_home_core.h` describes them.
 ghost use Rattle.std.specs.Prelude.{◌≡◌, ◌⊎◌, ◌+◌, ◌-◌, ◌^◌, min, not, ◌==◌, pos, negsuc};
-ghost use Rattle.dfu_home.specs.OperationReport.{NoteOfOperation};
+ghost use Rattle.dfu_home.specs.OperationReport.{IsNoteOfHomeDue};
 ghost use Rattle.dfu_boot_c.specs.install.Calls.{last_of};
 ghost use Rattle.dfu_boot_c.specs.home.Flash.{home_medium_state, RefusesFlash};
-ghost use Rattle.dfu_boot_c.specs.home.DueRecords.{HomeNextResult, due_of_ask, HomeDownloadAnswer};
+ghost use Rattle.dfu_boot_c.specs.home.DueRecords.{HomeNextResult, due_of_ask, DownloadAllowedResult};
 ghost use Rattle.dfu_slots.specs.Image.{HasImage};
 
 use crate::home::flash::medium;
@@ -12,11 +12,11 @@ use crate::install::area::number_of as place_number;
 use dfu_core::{ASKS, DfuAsk, DfuConfig, ERASE, PROGRAM};
 use dfu_home::{Due, is_home, next, took};
 
-/// Returns the operation that is due next, as `next` of dfu_home: 0, and the active image is in the first slot; or -11, and `ask` has the
+/// Returns the operation that is due next, as `next` of dfu_home: 0 if the active image is in the first slot; or -11, and `ask` has the
 /// operation.
 ///
-/// Refused, in this order: -2 if no unit has that size or there are no such sectors, -3 if the flash has 2^32 bytes or more, -16 without
-/// sectors, -3 without an active image, -8 if more operations came than the flash has times 128 bytes.
+/// Refused, in this order: -2 if no unit or sectors have the configured sizes, -3 if the flash has 2^32 bytes or more, -16 without sectors,
+/// -3 without an active image, -8 after one operation for each 128 bytes of the flash.
 #[unsafe(no_mangle)]
 pub extern "C" fn dfu_core_home_next(
     config: &DfuConfig,
@@ -49,8 +49,8 @@ pub extern "C" fn dfu_core_home_next(
     }
 }
 
-/// Takes the report that the operation that `dfu_core_home_next` gave was carried out, or that it failed if `failed` is not 0, as `took`
-/// of dfu_home. Returns 0, and `kept` has noted the report.
+/// Takes the report, as `took` of dfu_home, that the operation from `dfu_core_home_next` was carried out, or, if `failed` is not 0, that it
+/// failed. Returns 0, and `kept` has noted the report.
 #[unsafe(no_mangle)]
 pub extern "C" fn dfu_core_home_took(
     kept: &mut DfuHomeRecord,
@@ -59,7 +59,7 @@ pub extern "C" fn dfu_core_home_took(
     failed: u32,
 ) -> i32
     ensures result { result ≡ pos 0 }
-    ensures noted { NoteOfOperation flash.now ask.now.length (due_of_ask ask.now) ask.now.bytes (not (failed == 0))
+    ensures noted { IsNoteOfHomeDue flash.now ask.now.length (due_of_ask ask.now) ask.now.bytes (not (failed == 0))
         (last_of kept.new.last) }
     ensures count { kept.new.count ≡ min (kept.old.count + 1) (2 ^ 32 - 1) }
 {
@@ -76,14 +76,14 @@ pub extern "C" fn dfu_core_home_took(
     0
 }
 
-/// Returns whether a program that runs from the first slot may take a download, as `is_home` of dfu_home: 1 if the active image is there,
-/// and then a download goes to the second slot; 0 if it is in the second, and a download would be written over the program.
+/// Returns whether a program that runs from the first slot may accept a download, as `is_home` of dfu_home: 1 if the active image is in the
+/// first slot, because the download then goes to the second; 0 if it is in the second slot, because the download would overwrite the
+/// program.
 ///
-/// Refused, in this order: -2 if no unit has that size or there are no such sectors, -3 if the flash has no active image, or 2^32 bytes or
-/// more.
+/// Refused, in this order: -2 if no unit or sectors have the configured sizes, -3 if the flash has no active image, or 2^32 bytes or more.
 #[unsafe(no_mangle)]
 pub extern "C" fn dfu_core_home_may_download(config: &DfuConfig, flash: &[u8]) -> i32
-    ensures outcome { HomeDownloadAnswer (home_medium_state config.now flash.now) result
+    ensures outcome { DownloadAllowedResult (home_medium_state config.now flash.now) result
         ⊎ (((¬ HasImage (home_medium_state config.now flash.now)) × (result ≡ negsuc 2)) ⊎ RefusesFlash config.now flash.now result) }
 {
     match medium(config, flash) {

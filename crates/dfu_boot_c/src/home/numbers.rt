@@ -1,4 +1,4 @@
-//! Record that a program in C keeps of a copy, and the numbers that it gets and hands in.
+//! Record of a copy that a program in C keeps, and the numbers of its operations and refusals.
 ghost use Rattle.std.specs.Prelude.{◌≡◌};
 ghost use Rattle.dfu_boot_c.specs.home.Flash.{progress_of};
 ghost use Rattle.dfu_boot_c.specs.home.DueRecords.{home_refusal_number, due_of_ask};
@@ -11,13 +11,13 @@ use dfu_home::{Due, Progress, Refusal};
 #[repr(C)]
 #[derive(Drop)]
 pub struct DfuHomeRecord {
-    /// Place of the last operation, if it worked and the power has not gone since; else FFFFFFFFh.
+    /// Place of the last operation, if it worked and the power has not been off since; else FFFFFFFFh.
     pub last: u32,
-    /// Number of operations that were taken since the last power-on.
+    /// Number of operations since the last power-on.
     pub count: u32,
 }
 
-/// Returns the progress of a copy that `kept` has.
+/// Returns the progress of a copy from its record.
 pub(crate) fn progress_of(kept: &DfuHomeRecord) -> Progress
     ensures { result ≡ progress_of kept.now }
 {
@@ -27,7 +27,7 @@ pub(crate) fn progress_of(kept: &DfuHomeRecord) -> Progress
     }
 }
 
-/// Returns the operation that the program was asked for by `ask`; `Home`, which is none, for another kind.
+/// Returns the operation in `ask`; `Home`, which is no operation, for another kind.
 pub(crate) fn due_of(ask: &DfuAsk) -> Due
     ensures { result ≡ due_of_ask ask.now }
 {

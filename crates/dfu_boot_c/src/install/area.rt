@@ -1,4 +1,4 @@
-//! Record that a program in C keeps of a run area.
+//! Record of a run area that a program in C keeps.
 ghost use Rattle.std.specs.Prelude.{◌≡◌};
 ghost use Rattle.dfu_boot_c.specs.install.Calls.{last_of, number_of_place};
 
@@ -8,11 +8,11 @@ ghost use Rattle.dfu_boot_c.specs.install.Calls.{last_of, number_of_place};
 pub struct DfuRunArea {
     /// Number of bytes of a sector.
     pub sector: u32,
-    /// Place of the last operation, if it worked and the power has not gone since; else FFFFFFFFh.
+    /// Place of the last operation, if it worked and the power has not been off since; else FFFFFFFFh.
     pub last: u32,
 }
 
-/// Returns the place that `number` means: None for FFFFFFFFh.
+/// Returns the place with this number; None for FFFFFFFFh.
 pub(crate) fn last_of(number: u32) -> Option<u32>
     ensures { result ≡ last_of number }
 {
@@ -23,7 +23,7 @@ pub(crate) fn last_of(number: u32) -> Option<u32>
     }
 }
 
-/// Returns the number of the place `last`: FFFFFFFFh for None.
+/// Returns the number of a place; FFFFFFFFh for None.
 pub(crate) fn number_of(last: Option<u32>) -> u32
     ensures { result ≡ number_of_place last }
 {

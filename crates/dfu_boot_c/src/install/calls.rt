@@ -1,7 +1,7 @@
-//! The calls for a run area, as a program in C makes them: `include/dfu_install_core.h` says each for a reader of C.
+//! Calls for a run area, as a program in C makes them. `include/dfu_install_core.h` describes them.
 ghost use Rattle.std.specs.Prelude.{◌≡◌, not, ◌==◌, pos};
 ghost use Rattle.dfu_boot.specs.install.Next.{IsNextDue};
-ghost use Rattle.dfu_boot.specs.install.OperationReport.{DueReported};
+ghost use Rattle.dfu_boot.specs.install.OperationReport.{IsNoteOfDue};
 ghost use Rattle.dfu_boot.specs.declared.install.due.Due.{Due};
 ghost use Rattle.dfu_boot_c.specs.install.Calls.{last_of, due_of_kind};
 ghost use Rattle.dfu_boot_c.specs.install.DueRecords.{InstallDueInAsk};
@@ -11,8 +11,9 @@ use crate::install::numbers::{due_of, number_of as refusal_number};
 use dfu_boot::install::{Due, next, piece, took};
 use dfu_core::{ASKS, DfuAsk, ERASE, PROGRAM};
 
-// Tells what is due.
-fn tell(due: Due, image: &[u8], sector: u32, ask: &mut DfuAsk) -> i32
+// Writes the operation that is due, if there is one, into `ask`. Returns -11 for an operation, 0 for the start, and the number of a
+// refusal.
+fn write_ask(due: Due, image: &[u8], sector: u32, ask: &mut DfuAsk) -> i32
     ensures { InstallDueInAsk image.now sector due result ask.old ask.new }
 {
     match due {
@@ -34,9 +35,9 @@ fn tell(due: Due, image: &[u8], sector: u32, ask: &mut DfuAsk) -> i32
     }
 }
 
-/// Returns the operation that is due next, as `next`: 0, and the run area holds the whole image; or -11, and `ask` has the operation.
+/// Returns the operation that is due next, as `next`: 0 if the run area holds the whole image; or -11, and `ask` has the operation.
 ///
-/// Refused with -6 if it is no run area, -15 if the image has no bytes, -7 if it has more than the run area.
+/// Refused with -6 if the sizes are no run area's, -15 if the image has no bytes, -7 if the image is larger than the run area.
 #[unsafe(no_mangle)]
 pub extern "C" fn dfu_core_install_next(
     area: &DfuRunArea,
@@ -48,11 +49,11 @@ pub extern "C" fn dfu_core_install_next(
         × InstallDueInAsk image.now area.now.sector due result ask.old ask.new) }
 {
     let due = next(image, run, area.sector, last_of(area.last));
-    tell(due, image, area.sector, ask)
+    write_ask(due, image, area.sector, ask)
 }
 
-/// Takes the report that the operation that `dfu_core_install_next` gave was carried out, or that it failed if `failed` is not 0, as
-/// `took`. Returns 0, and `area` has noted the report.
+/// Takes the report, as `took`, that the operation from `dfu_core_install_next` was carried out, or, if `failed` is not 0, that it failed.
+/// Returns 0, and `area` has noted the report.
 #[unsafe(no_mangle)]
 pub extern "C" fn dfu_core_install_took(
     area: &mut DfuRunArea,
@@ -63,7 +64,7 @@ pub extern "C" fn dfu_core_install_took(
 ) -> i32
     ensures result { result ≡ pos 0 }
     ensures sector { area.new.sector ≡ area.old.sector }
-    ensures noted { DueReported image.now run.now area.old.sector (due_of_kind ask.now.kind ask.now.at) (not (failed == 0))
+    ensures noted { IsNoteOfDue image.now run.now area.old.sector (due_of_kind ask.now.kind ask.now.at) (not (failed == 0))
         (last_of area.new.last) }
 {
     area.last = number_of(took(image, run, area.sector, due_of(ask), failed != 0));

@@ -1,11 +1,11 @@
-//! The numbers of a program in C: the operation that they describe, and those that it gets.
+//! Numbers of a run area's operations and refusals.
 ghost use Rattle.std.specs.Prelude.{◌≡◌};
 ghost use Rattle.dfu_boot_c.specs.install.Calls.{due_of_kind, install_refusal_number};
 
 use dfu_boot::install::{Due, Refusal};
 use dfu_core::{DfuAsk, ERASE, PROGRAM};
 
-/// Returns the operation that the program was asked for by `ask`; the start for another kind.
+/// Returns the operation in `ask`; `Start`, which is no operation, for another kind.
 pub(crate) fn due_of(ask: &DfuAsk) -> Due
     ensures { result ≡ due_of_kind ask.now.kind ask.now.at }
 {

@@ -1,20 +1,20 @@
-//! A start by the standing that a look before told.
+//! Start of an image by the standing from an earlier look.
 ghost use Rattle.std.specs.Prelude.{◌≡◌, ◌⊎◌, IfOk, OnOk, IfErr};
 ghost use Rattle.dfu_asks.specs.Mapped.{grain_of as mapped_grain, mapped_medium};
 ghost use Rattle.dfu_boot.specs.trial.Marks.{AreTries};
 ghost use Rattle.dfu_boot.specs.trial.Again.{MatchesMedium, ImagesAreWhole};
-ghost use Rattle.dfu_boot_c.specs.trial.Tries.{tries_grain, trial_medium_state, HasTriesUnitAndSector, HasStanding, IsTrialRefused};
-ghost use Rattle.dfu_boot_c.specs.trial.Again.{base_told};
+ghost use Rattle.dfu_boot_c.specs.trial.Tries.{grain_of_tries, trial_medium_state, HasTriesUnitAndSector, HasStanding, IsTrialRefused};
+ghost use Rattle.dfu_boot_c.specs.trial.Again.{base_of_trial};
 ghost use Rattle.dfu_boot_c.specs.trial.TrialCalls.{RefusesTrial, TrialStartResult};
 
 use crate::trial::flash::{DfuTries, Flash, Refusal, looked, prepared};
-use crate::trial::told::{DfuStanding, DfuStarting, starting_told, tell};
+use crate::trial::told::{DfuStanding, DfuStarting, starting_told, write_ask};
 use dfu_boot::trial::look_again;
 use dfu_core::DfuAsk;
 
-// Returns the place of the image that comes back, if a standing has one on trial.
-fn base_told(standing: &DfuStanding) -> Option<u32>
-    ensures { result ≡ base_told standing.now }
+// Returns the place of the image that comes back if the trial fails; None if no image is on trial.
+fn base_of_trial(standing: &DfuStanding) -> Option<u32>
+    ensures { result ≡ base_of_trial standing.now }
 {
     if standing.on_trial == 0 {
         None
@@ -23,29 +23,29 @@ fn base_told(standing: &DfuStanding) -> Option<u32>
     }
 }
 
-// The standing of the images of the flash, as a look before told it, if that is still so; else by a look.
-fn looked_again<'f>(
+// Returns the standing of the flash's images: from an earlier look, if it still fits the flash, else from a new look.
+fn standing_from_earlier_look<'f>(
     tries: &DfuTries,
     flash: &'f [u8],
     standing: &DfuStanding,
 ) -> Result<Flash<'f>, Refusal>
     ensures state { IfOk result (λ l. mapped_medium (mapped_grain l.medium.unit l.medium.sector) l.medium.bytes.now
         ≡ trial_medium_state tries.now flash.now) }
-    ensures tries { OnOk result (AreTries (tries_grain tries.now) tries.now.tries) }
+    ensures tries { OnOk result (AreTries (grain_of_tries tries.now) tries.now.tries) }
     ensures fits { IfOk result (λ l. MatchesMedium (trial_medium_state tries.now flash.now) tries.now.tries l.standing) }
-    ensures stands { IfOk result (λ l. ImagesAreWhole (trial_medium_state tries.now flash.now) standing.now.active.at (base_told standing.now) →
+    ensures stands { IfOk result (λ l. ImagesAreWhole (trial_medium_state tries.now flash.now) standing.now.active.at (base_of_trial standing.now) →
         HasStanding tries.now flash.now l.standing) }
     ensures err { IfErr result (λ e. IsTrialRefused e tries.now flash.now) }
 {
     let medium = prepared(tries, flash)?;
-    let base = base_told(standing);
+    let base = base_of_trial(standing);
     match look_again(&medium, tries.tries, standing.active.at, base) {
         Some(standing) => Ok(Flash { medium, standing }),
         None => looked(tries, flash),
     }
 }
 
-// Returns the image that starts, by a standing that was told before.
+// Returns the image that starts, by the standing from an earlier look.
 #[inline(never)]
 pub(crate) fn start_from(
     tries: &DfuTries,
@@ -54,25 +54,25 @@ pub(crate) fn start_from(
     ask: &mut DfuAsk,
     told: &mut DfuStarting,
 ) -> i32
-    ensures outcome { ImagesAreWhole (trial_medium_state tries.now flash.now) standing.now.active.at (base_told standing.now) →
+    ensures outcome { ImagesAreWhole (trial_medium_state tries.now flash.now) standing.now.active.at (base_of_trial standing.now) →
         TrialStartResult tries.now flash.now result ask.old ask.new told.new
         ⊎ (RefusesTrial tries.now flash.now result × (ask.new ≡ ask.old) × (told.new ≡ told.old)) }
 {
-    match looked_again(tries, flash, standing) {
+    match standing_from_earlier_look(tries, flash, standing) {
         Ok(looked) => {
             let starts = looked.standing.start(&looked.medium, tries.tries);
             *told = starting_told(&looked.medium, starts);
-            tell(starts.operation, tries.sector, ask)
+            write_ask(starts.operation, tries.sector, ask)
         }
         Err(refusal) => refusal.number(),
     }
 }
 
-/// Returns the image that starts, as `dfu_core_trial_start`, by a standing that `dfu_core_trial_look` told: it reads gates, headers and
-/// marks, and no image. All that it takes from that standing is that the images which it names are whole; what their slots say otherwise
-/// comes from the flash. If that does not fit it looks anew.
+/// Returns the image that starts, as `dfu_core_trial_start`, by a standing from `dfu_core_trial_look`. The call reads gates, headers and
+/// marks, but no image. It trusts the standing only in that the images which it names are whole; everything else about their slots is read
+/// from the flash. If the standing does not fit the flash, the call looks again.
 ///
-/// Refused as `dfu_core_trial_look`.
+/// Refused like `dfu_core_trial_look`.
 #[unsafe(no_mangle)]
 pub extern "C" fn dfu_core_trial_start_from(
     tries: &DfuTries,
@@ -81,7 +81,7 @@ pub extern "C" fn dfu_core_trial_start_from(
     ask: &mut DfuAsk,
     told: &mut DfuStarting,
 ) -> i32
-    ensures outcome { ImagesAreWhole (trial_medium_state tries.now flash.now) standing.now.active.at (base_told standing.now) →
+    ensures outcome { ImagesAreWhole (trial_medium_state tries.now flash.now) standing.now.active.at (base_of_trial standing.now) →
         TrialStartResult tries.now flash.now result ask.old ask.new told.new
         ⊎ (RefusesTrial tries.now flash.now result × (ask.new ≡ ask.old) × (told.new ≡ told.old)) }
 {

@@ -1,9 +1,9 @@
--- Packets of one transfer.
+-- Tests that two packets are of one transfer.
 use Rattle.std.specs.Prelude.{◌≡◌}
 use Rattle.dfu_conformance.specs.declared.captures.event.UsbEvent.{UsbEvent}
 
--- Two events have the same id on the same bus. An id is in use once at a time: as the address of an object of the kernel it may be used
--- again by the next transfer of any device.
+-- Two events have the same id on the same bus. Only one transfer at a time has an id, but the id is the address of a kernel object, which a
+-- later transfer of any device may reuse.
 abbrev pub HasSameId : UsbEvent → UsbEvent → Type 0
 HasSameId one other = (one.id ≡ other.id) × (one.address.bus ≡ other.address.bus)
 

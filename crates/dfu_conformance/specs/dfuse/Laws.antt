@@ -1,4 +1,4 @@
--- A law of the table.
+-- Law of the DfuSe table.
 use Rattle.std.specs.Prelude.{List}
 use Rattle.dfu_conformance.specs.declared.row.StandardState.{StandardState}
 use Rattle.dfu_conformance.specs.declared.event.LogEvent.{LogEvent}

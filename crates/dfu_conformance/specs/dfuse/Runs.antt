@@ -1,4 +1,4 @@
--- Answers that a DfuSe device may give: the rows are in the tables of dfu_conformance and in `src/rows.rt`.
+-- Answers that a DfuSe device may give, by the rows of USB DFU 1.1, of the habits and of `src/dfuse/rows.rt`.
 use Rattle.std.specs.Prelude.{◌≡◌, ◌⊎◌, ℕ, ◌&&◌, Bool, true, false, List, [], ◌∷◌}
 use Rattle.dfu_conformance.specs.declared.row.StandardState.{StandardState}
 use Rattle.dfu_conformance.specs.declared.row.EventKind.{EventKind}
@@ -9,8 +9,8 @@ use Rattle.dfu_conformance.specs.declared.marks.TheConstants.{MARKS}
 use Rattle.dfu_conformance.specs.declared.habits.TheConstants.{HABITS}
 use Rattle.dfu_conformance.specs.declared.row.Row.{Row}
 use Rattle.dfu_conformance.specs.declared.row.When.{When}
-use Rattle.dfu_conformance.specs.RowMatches.{device_stays_at}
-use Rattle.dfu_conformance.specs.Candidates.{is_row_for}
+use Rattle.dfu_conformance.specs.RowMatches.{may_stay_by_answer}
+use Rattle.dfu_conformance.specs.Candidates.{applies_to}
 use Rattle.dfu_conformance.specs.MayAnswer.{RowStep, MayMove}
 use Rattle.dfu_conformance.specs.declared.dfuse.rows.TheConstants.{DFUSE}
 
@@ -22,48 +22,50 @@ dfuse_attributes = 0x0b
 abbrev pub dfuse_habits : ℕ
 dfuse_habits = 0x0f
 
--- A row or a move for these devices is for a DfuSe device.
+-- A row or a move with this `when` applies to a DfuSe device.
 abbrev pub of_dfuse : When → Bool
-of_dfuse when = is_row_for when dfuse_attributes dfuse_habits
+of_dfuse when = applies_to when dfuse_attributes dfuse_habits
 
--- A DfuSe device goes by a row of the list: the event leads it from one place to another.
+-- A row of the list leads a DfuSe device from place `from` to place `next` at the event.
 abbrev pub DfuseRowStep : List Row → StandardState → LogEvent → StandardState → Type 0
 DfuseRowStep rows from e next = RowStep rows dfuse_attributes dfuse_habits from e next
 
--- Between two events a DfuSe device stays or moves by itself.
-abbrev pub MayMoveDfuse : StandardState → StandardState → Type 0
-MayMoveDfuse from next = MayMove dfuse_attributes dfuse_habits from next
+-- Between two events a DfuSe device stays at its place or moves by itself.
+abbrev pub DfuseMayMove : StandardState → StandardState → Type 0
+DfuseMayMove from next = MayMove dfuse_attributes dfuse_habits from next
 
--- GETSTATUS and GETSTATE report where a device is.
+-- The request reports the place of a device: GETSTATUS or GETSTATE.
 abbrev pub reports_place : EventKind → Bool
 reports_place GetStatus = true
 reports_place GetState = true
 reports_place asked = false
 
--- The request has to be answered: it reports where a device is, and is as section 3 of USB DFU 1.1 has it.
-abbrev pub is_place_report : LogEvent → Bool
-is_place_report e = e.is_plain && reports_place e.asked
+-- A device must answer the request: GETSTATUS or GETSTATE, well-formed by section 3 of USB DFU 1.1.
+abbrev pub must_be_answered : LogEvent → Bool
+must_be_answered e = e.is_plain && reports_place e.asked
 
--- A device may stay where it was: nothing was seen, so that the request may not have come; or a request was stalled that needs no answer.
-abbrev pub dfuse_device_stays : LogEvent → Bool
-dfuse_device_stays e = device_stays_at (is_place_report e) e.answer
+-- A device may stay at its place: no answer was seen, so the request may not have come; or it stalled a request that it need not answer.
+abbrev pub dfuse_may_stay_at_event : LogEvent → Bool
+dfuse_may_stay_at_event e = may_stay_by_answer (must_be_answered e) e.answer
 
--- An event may lead a DfuSe device from one place to another by a row of USB DFU 1.1, of a habit or of DfuSe; or the device stays.
-abbrev pub DfuseAnswer : StandardState → LogEvent → StandardState → Type 0
-DfuseAnswer from e next =
+-- The event may lead a DfuSe device from place `from` to place `next` by a row of USB DFU 1.1, of a habit or of DfuSe; or the device may
+-- stay at the event.
+abbrev pub DfuseMayAnswer : StandardState → LogEvent → StandardState → Type 0
+DfuseMayAnswer from e next =
     DfuseRowStep STANDARD from e next ⊎ DfuseRowStep MARKS from e next ⊎ DfuseRowStep HABITS from e next ⊎ DfuseRowStep DFUSE from e next
-    ⊎ ((next ≡ from) × (dfuse_device_stays e ≡ true))
+    ⊎ ((next ≡ from) × (dfuse_may_stay_at_event e ≡ true))
 
--- A run: a device begins at one place, moves by itself or not before each event, and ends at another.
+-- A run of a DfuSe device through the events, from place `from` to place `last`: before each event, and at the end, the device stays or
+-- moves by itself; and each event leads it on by an answer that it may give.
 abbrev pub DfuseRun : StandardState → List LogEvent → StandardState → Type 0
-DfuseRun from [] last = MayMoveDfuse from last
+DfuseRun from [] last = DfuseMayMove from last
 DfuseRun from (e ∷ events) last =
-    (here : StandardState) × (next : StandardState) × MayMoveDfuse from here × DfuseAnswer here e next × DfuseRun next events last
+    (here : StandardState) × (next : StandardState) × DfuseMayMove from here × DfuseMayAnswer here e next × DfuseRun next events last
 
--- A DfuSe device that began anywhere may be at this place after the events.
+-- A DfuSe device that began at some place may be at this place after the events.
 abbrev pub DfuseMayBeAt : List LogEvent → StandardState → Type 0
 DfuseMayBeAt events last = (from : StandardState) × DfuseRun from events last
 
--- Some DfuSe device may have answered the events.
+-- A DfuSe device may have given the answers of the events.
 abbrev pub DfuseCanAnswer : List LogEvent → Type 0
 DfuseCanAnswer events = (last : StandardState) × DfuseMayBeAt events last

@@ -10,18 +10,19 @@ const MAX_DEVICES: usize = 4096;
 /// The addresses that get requests of DFU in a capture.
 #[derive(Drop)]
 pub struct Devices {
+    // Each address once.
     all: Vec<Address>,
 }
 
 impl Devices {
-    /// Returns a set with no address.
+    /// Returns an empty set.
     pub(crate) fn new(alloc: Global) -> Devices {
         Devices {
             all: Vec::new(alloc),
         }
     }
 
-    /// Returns true if `address` is one of the set.
+    /// Returns true if `address` is in the set.
     pub(crate) fn has(&self, address: Address) -> bool {
         for one in &self.all {
             if *one == address {
@@ -35,7 +36,7 @@ impl Devices {
     ///
     /// # Errors
     ///
-    /// ManyDevices if there is no room for it.
+    /// ManyDevices if the set has 4,096 other addresses; NoMemory if an allocation failed.
     pub(crate) fn add(&mut self, address: Address) -> Result<(), CaptureFault> {
         if self.has(address) {
             return Ok(());

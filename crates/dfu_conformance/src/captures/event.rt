@@ -1,8 +1,8 @@
-//! Content of a packet about a control transfer.
+//! Content of a packet of a control transfer.
 
 use crate::captures::address::Address;
 
-/// The part of a transfer that one packet is.
+/// Role of a packet in a control transfer.
 #[derive(Clone, Copy)]
 pub enum PacketKind {
     /// The packet submits the transfer.
@@ -11,16 +11,16 @@ pub enum PacketKind {
     Carries,
     /// The packet completes the transfer, and has the bytes of the device, if there are any.
     Completes,
-    /// The packet completes the transfer, unless a packet with bytes of the device did so before; it has none itself.
+    /// The packet has no bytes, and completes the transfer unless a packet with bytes of the device did so before.
     Ends,
-    /// The packet is no part of a transfer.
+    /// The packet has no role in a transfer.
     Other,
 }
 
-/// The way in which a transfer ended.
+/// Result with which a transfer ended.
 #[derive(Clone, Copy)]
 pub enum Ending {
-    /// The transfer was done.
+    /// The transfer succeeded.
     Done,
     /// The device stalled the transfer.
     Stalled,
@@ -31,28 +31,28 @@ pub enum Ending {
 /// An event of a control transfer to endpoint 0.
 #[derive(Clone, Copy)]
 pub struct UsbEvent<'c> {
-    /// Part of the transfer.
+    /// Role of the packet in the transfer.
     pub kind: PacketKind,
-    /// Id of the transfer: no two transfers that are pending on a bus have the same, and the next transfer of any device may have it again.
+    /// Id of the transfer: pending transfers on a bus have different ids, and a later transfer of any device may reuse an id.
     pub id: [u8; 8],
     /// Address of the device.
     pub address: Address,
     /// True if the transfer's data goes to the host; None if the packets don't say the direction.
     pub is_in: Option<bool>,
-    /// The eight bytes that begin the request, of a submission.
+    /// The eight bytes that begin the request, if the packet has them.
     pub setup: Option<[u8; 8]>,
-    /// Ending of the transfer, if the packet completes it.
+    /// Ending of the transfer; it counts only if the packet completes the transfer.
     pub ending: Ending,
-    /// Number of bytes that were moved, if the packet says so.
+    /// Number of bytes that the transfer moved, if the packet has it.
     pub moved: Option<u32>,
     /// The bytes of the transfer that were captured.
     pub data: &'c [u8],
-    /// Not all bytes of the transfer were captured.
+    /// True if not all bytes of the transfer were captured.
     pub is_cut: bool,
 }
 
 impl UsbEvent<'_> {
-    /// Returns the event without its bytes of `data`.
+    /// Returns the event with empty `data`.
     pub(crate) fn head(&self) -> UsbEvent<'static> {
         UsbEvent {
             kind: self.kind,

@@ -2,11 +2,14 @@
 
 use crate::captures::address::Address;
 
-/// The answer that was seen.
+/// The answer of a device, as the capture shows it.
 #[derive(Clone, Copy)]
 pub(crate) enum Seen<'c> {
+    /// The device stalled the request.
     Stall,
+    /// No answer was seen.
     Nothing,
+    /// The bytes of the answer; none for an acknowledgement.
     Bytes(&'c [u8]),
 }
 
@@ -15,7 +18,7 @@ pub(crate) enum Seen<'c> {
 pub(crate) enum Body<'c> {
     /// The bytes themselves.
     Bytes(&'c [u8]),
-    /// The number of bytes, which were not kept because a judge asks for no more.
+    /// The number of bytes. The bytes themselves aren't kept, because a judge needs only their number.
     Count(usize),
 }
 
@@ -24,25 +27,29 @@ pub(crate) enum Body<'c> {
 pub(crate) struct Exchange<'c> {
     /// The number of the packet that completed the request, from 1 on.
     pub packet: usize,
+    /// Address of the device.
     pub address: Address,
+    /// The eight bytes that begin the request.
     pub setup: [u8; 8],
+    /// The bytes that the host sent, or their number.
     pub body: Body<'c>,
+    /// The answer that was seen.
     pub seen: Seen<'c>,
-    /// The address that the device gets by the request, if the request shows that the bus was reset.
+    /// The address that the request gives to the device, if the request shows that the bus was reset.
     pub given: Option<Address>,
-    /// Not all bytes of the request and its answer were captured.
+    /// True if not all bytes of the request and its answer were captured.
     pub is_cut: bool,
 }
 
 impl Exchange<'_> {
-    /// Returns whether the request is one of the class to an interface.
+    /// Returns true if the request is a class request to an interface.
     pub(crate) fn is_class(&self) -> bool {
         let [kind, ..] = self.setup;
         kind == 0x21 || kind == 0xa1
     }
 
-    /// Returns true if only a device of DFU gets the request, at `interface`: DETACH, GETSTATUS of 6 bytes, or GETSTATE of 1.
-    pub(crate) fn tells_dfu(&self, interface: u8) -> bool {
+    /// Returns true if only a device with DFU at `interface` gets the request: DETACH, GETSTATUS of 6 bytes, or GETSTATE of 1 byte.
+    pub(crate) fn shows_dfu(&self, interface: u8) -> bool {
         let [kind, request, _, _, low, high, length, length_high] = self.setup;
         low == interface
             && high == 0

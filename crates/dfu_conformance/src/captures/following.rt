@@ -4,17 +4,19 @@ use crate::captures::address::Address;
 use crate::captures::exchange::Exchange;
 use crate::captures::fault::CaptureFault;
 
-/// Device whose requests are logged: that of one address, or the only device that speaks DFU, whose address changes at a reset.
+/// Device whose requests are logged: the device at one address, or the only device that speaks DFU, whose address changes at a reset.
 #[derive(Drop)]
 pub(crate) struct Followed {
+    // The chosen address; None if the only device is followed.
     only: Option<Address>,
+    // Address of the last request; kept only if no address was chosen.
     last: Option<Address>,
-    // SET_ADDRESS gave this address after the last request.
+    // Last address that was given to the followed device at a reset.
     given: Option<Address>,
 }
 
 impl Followed {
-    /// Returns the device before the first exchange: the one at `only`, or if `only` is None the only one.
+    /// Returns the device at `only`, or the only device if `only` is None, before the first exchange.
     pub(crate) fn new(only: Option<Address>) -> Followed {
         Followed {
             only,
@@ -23,8 +25,8 @@ impl Followed {
         }
     }
 
-    /// Returns true if `address`, which a device gets, is one of the device.
-    fn gets(&mut self, address: Address) -> bool {
+    /// Takes `address`, which a device was given at a reset. Returns true if it belongs to the followed device, and notes it then.
+    fn note_given_address(&mut self, address: Address) -> bool {
         let is_it = match self.only {
             Some(only) => only == address,
             None => true,
@@ -35,12 +37,12 @@ impl Followed {
         is_it
     }
 
-    /// Returns true if a request to `address` is one to the device.
+    /// Returns true if a request to `address` goes to the followed device.
     ///
     /// # Errors
     ///
-    /// ManyDevices if no device was asked for, and the request goes to another device.
-    fn takes(&mut self, address: Address) -> Result<bool, CaptureFault> {
+    /// ManyDevices if no address was chosen, and the request goes to a second device.
+    fn takes_request(&mut self, address: Address) -> Result<bool, CaptureFault> {
         if let Some(only) = self.only {
             return Ok(only == address);
         }
@@ -55,16 +57,16 @@ impl Followed {
         Ok(true)
     }
 
-    /// Returns true if `exchange` has a line.
+    /// Returns true if `exchange` has a line in the log.
     ///
     /// # Errors
     ///
-    /// ManyDevices if the exchange is one of another device, CutPacket if not all of it was captured.
+    /// ManyDevices if the exchange is with a second device, CutPacket if not all of it was captured.
     pub(crate) fn shows(&mut self, exchange: &Exchange<'_>) -> Result<bool, CaptureFault> {
         if let Some(address) = exchange.given {
-            return Ok(self.gets(address));
+            return Ok(self.note_given_address(address));
         }
-        match self.takes(exchange.address) {
+        match self.takes_request(exchange.address) {
             Ok(true) if exchange.is_cut => Err(CaptureFault::CutPacket),
             answer => answer,
         }

@@ -1,4 +1,4 @@
-//! Joining of submissions and their completions.
+//! Joins submissions with their completions.
 
 ghost use Rattle.std.specs.Prelude.{◌≡◌, ◌≤◌, length, false, true, Err, OnOk};
 ghost use Rattle.dfu_conformance.specs.captures.Packets.{is_capture_front};
@@ -33,9 +33,9 @@ pub(crate) fn event_of<'c>(packet: &Packet<'c>) -> Result<Option<UsbEvent<'c>>, 
     }
 }
 
-/// Returns the address that a device gets by a request with `setup`: that of SET_ADDRESS, on the bus of `address`. USBPcap (`link`) shows
-/// no SET_ADDRESS. There SET_CONFIGURATION is taken for it, with `address`, because Windows sends one after each reset. None for every
-/// other request.
+/// Returns the address that a request with `setup` gives to a device: SET_ADDRESS gives the one that it contains, on the bus of `address`.
+/// USBPcap (`link`) shows no SET_ADDRESS, so SET_CONFIGURATION counts as giving `address`, because Windows sends one after each reset. None
+/// for every other request.
 fn given_by(setup: &[u8; 8], address: Address, link: u16) -> Option<Address> {
     match *setup {
         [0, 5, device, ..] => Some(Address {
@@ -47,7 +47,7 @@ fn given_by(setup: &[u8; 8], address: Address, link: u16) -> Option<Address> {
     }
 }
 
-/// Returns the answer that was seen to a transfer with `setup`, by `event`, its completion.
+/// Returns the answer to a transfer with `setup` that `event`, its completion, shows.
 fn seen_of<'c>(setup: &[u8; 8], event: &UsbEvent<'c>) -> Seen<'c> {
     let [kind, _, _, _, _, _, low, high] = *setup;
     let wanted = u16::from_le_bytes([low, high]) as u32;
@@ -62,9 +62,9 @@ fn seen_of<'c>(setup: &[u8; 8], event: &UsbEvent<'c>) -> Seen<'c> {
 /// The request of the class that reads the image (DFU 1.1, 6.2). Its answer may have no bytes.
 const UPLOAD: u8 = 2;
 
-/// Returns true if completion `event` may be that of the request with `setup`, as far as its bytes go. A completion that moved more than
-/// the setup asks for completes another request, whose submission is missing. If the status alone tells of a read that must have bytes,
-/// their packet is missing.
+/// Returns true if `event` may complete the request with `setup`, by its number of bytes. A completion that moved more than the setup asks
+/// for completes another request, whose submission is missing. If only a status packet ends a read that must have bytes, the packet with
+/// the bytes is missing.
 fn fits(setup: &[u8; 8], event: &UsbEvent<'_>) -> bool {
     let [kind, request, _, _, _, _, low, high] = *setup;
     let wanted = u16::from_le_bytes([low, high]);
@@ -77,8 +77,8 @@ fn fits(setup: &[u8; 8], event: &UsbEvent<'_>) -> bool {
     }
 }
 
-/// Returns the exchange that completion `event` in packet number `packet` makes of transfer `began`. None if the event completes another
-/// transfer, or if the transfer is of no use for a log.
+/// Returns the exchange of transfer `began`, which `event` completes in packet number `packet`. None if the event completes another
+/// transfer, or if a log has no line for the transfer.
 pub(crate) fn exchange_of<'c>(
     packet: usize,
     began: &Pending<'c>,
@@ -102,8 +102,8 @@ pub(crate) fn exchange_of<'c>(
     Some(exchange)
 }
 
-/// Returns the transfer that `event` submits with `setup`: with `body` if it goes to the device, and else with no bytes.
-pub(crate) fn submitted<'c>(event: &UsbEvent<'c>, setup: [u8; 8], body: Body<'c>) -> Pending<'c> {
+/// Returns the transfer that `event` submits with `setup`: with `body` if its data goes to the device, and else without bytes.
+pub(crate) fn new_pending<'c>(event: &UsbEvent<'c>, setup: [u8; 8], body: Body<'c>) -> Pending<'c> {
     let [kind, ..] = setup;
     Pending {
         submission: *event,
@@ -113,27 +113,29 @@ pub(crate) fn submitted<'c>(event: &UsbEvent<'c>, setup: [u8; 8], body: Body<'c>
     }
 }
 
-/// Transfers that are joined as their events come.
+/// The pending transfers of a capture, and the exchanges that were completed so far.
 #[derive(Drop)]
 struct Joining<'c> {
-    // Number of packets that came.
+    // Number of packets so far.
     count: usize,
+    // The pending transfers.
     pending: PendingTransfers<'c>,
+    // Exchanges that were completed so far.
     exchanges: Vec<Exchange<'c>>,
 }
 
 impl<'c> Joining<'c> {
-    /// Takes submission `event` with `setup`. A transfer that had the same id before is over, though its completion is missing.
+    /// Takes submission `event` with `setup`. An older transfer with the id is over, though its completion is missing.
     fn submit(&mut self, event: &UsbEvent<'c>, setup: [u8; 8]) -> Result<(), CaptureFault> {
         let _over = self.pending.take(event);
         self.pending
-            .put(submitted(event, setup, Body::Bytes(event.data)))
+            .put(new_pending(event, setup, Body::Bytes(event.data)))
     }
 
-    /// Takes the bytes of a transfer that was submitted without them. A transfer whose bytes come from the device has none, so that it is
-    /// over.
+    /// Adds bytes of the host to a transfer that was submitted without them. A transfer that reads from the device has none, so it is
+    /// dropped.
     fn carry(&mut self, event: &UsbEvent<'c>) -> Result<(), CaptureFault> {
-        let Some(mut began) = self.pending.take_same(event) else {
+        let Some(mut began) = self.pending.take_same_transfer(event) else {
             return Ok(());
         };
         let [kind, ..] = began.setup;
@@ -147,7 +149,7 @@ impl<'c> Joining<'c> {
 
     /// Takes completion `event`, in a packet of link type `link`.
     fn complete(&mut self, event: &UsbEvent<'c>, link: u16) -> Result<(), CaptureFault> {
-        let Some(began) = self.pending.take_same(event) else {
+        let Some(began) = self.pending.take_same_transfer(event) else {
             return Ok(());
         };
         let Some(exchange) = exchange_of(self.count, &began, event, link) else {
@@ -171,12 +173,12 @@ impl<'c> Joining<'c> {
 }
 
 /// Returns the requests of the class and the requests that show a reset, with their answers, in the order of the completions in `capture`.
-/// A completion without a submission of the same transfer is passed over, as at the start of a capture or after packets that are missing,
-/// and so is a submission without a completion.
+/// A completion without its submission is skipped, for example at the start of a capture or after missing packets, and so is a submission
+/// without a completion.
 ///
 /// # Errors
 ///
-/// NotUsbmon if the bytes are no capture, or a packet has another link type; NoMemory if an allocation was refused.
+/// NotUsbmon if the bytes are no capture, or a packet has another link type; NoMemory if an allocation failed.
 pub(crate) fn exchanges_of(alloc: Global, capture: &[u8]) -> Result<Vec<Exchange<'_>>, CaptureFault>
     ensures none { is_capture_front capture.now ≡ false → result ≡ Err CaptureFault.NotUsbmon }
     ensures some { OnOk result (is_capture_front capture.now ≡ true) }

@@ -13,25 +13,25 @@ use crate::captures::records::form_of;
 use crate::captures::text::Log;
 use std::alloc::Global;
 
-/// Returns true if `bytes` begin as a capture does: pcap of either order, or pcapng. Four bytes are enough.
+/// Returns true if `bytes` begin a capture: pcap in either byte order, or pcapng. The first four bytes decide.
 pub fn is_capture(bytes: &[u8]) -> bool
     ensures { result ≡ is_capture_front bytes.now }
 {
     form_of(bytes).is_some()
 }
 
-/// Returns true if `address` gets a request of DFU at `interface`, by `exchanges`.
+/// Returns true if one of `exchanges` is a request of DFU to `address`, at `interface`.
 fn is_dfu(exchanges: &[Exchange<'_>], interface: u8, address: Address) -> bool {
     for exchange in exchanges {
-        if exchange.address == address && exchange.tells_dfu(interface) {
+        if exchange.address == address && exchange.shows_dfu(interface) {
             return true;
         }
     }
     false
 }
 
-/// Adds the address of the device of an exchange, if it gets requests of DFU.
-fn log_one(
+/// Adds the line of `exchange` to `log`, if the exchange is with the followed device.
+fn log_exchange(
     log: &mut Log,
     exchange: &Exchange<'_>,
     followed: &mut Followed,
@@ -42,8 +42,8 @@ fn log_one(
     log.is_whole()
 }
 
-/// Adds to `log` the lines of those of `exchanges` whose device speaks DFU at `interface`.
-fn log_all(
+/// Adds to `log` the lines of the followed device, from those of `exchanges` whose device gets requests of DFU at `interface`.
+fn log_exchanges(
     log: &mut Log,
     exchanges: &[Exchange<'_>],
     interface: u8,
@@ -52,17 +52,17 @@ fn log_all(
     for exchange in exchanges {
         let address = exchange.given.unwrap_or(exchange.address);
         if is_dfu(exchanges, interface, address) {
-            log_one(log, exchange, followed)?;
+            log_exchange(log, exchange, followed)?;
         }
     }
     Ok(())
 }
 
-/// Returns the log of `exchanges`, at `interface`, of the device at `only` if it is given.
+/// Returns the log of the device at `only`, or of the only device with DFU at `interface` if `only` is None, from `exchanges`.
 ///
 /// # Errors
 ///
-/// As `log_of`, but for NotUsbmon.
+/// Those of `log_of`, except NotUsbmon.
 fn text_of(
     alloc: Global,
     exchanges: &[Exchange<'_>],
@@ -71,20 +71,20 @@ fn text_of(
 ) -> Result<Vec<u8>, CaptureFault> {
     let mut log = Log::new(alloc);
     let mut followed = Followed::new(only);
-    match log_all(&mut log, exchanges, interface, &mut followed) {
+    match log_exchanges(&mut log, exchanges, interface, &mut followed) {
         Ok(()) => log.whole(),
         Err(fault) => Err(fault),
     }
 }
 
-/// Returns the log of `capture`. Line N is that of packet N, counted from 1 as other programs do: a request of the class to the device, if
-/// the packet completes it; `reset`, if the packet shows that the bus was reset; and else it is empty. The device is the one at `only`, or
+/// Returns the log of `capture`. Line N is for packet N, counted from 1 as other programs do: a request of the class to the device, if the
+/// packet completes one; `reset`, if the packet shows that the bus was reset; and else an empty line. The device is the one at `only`, or
 /// if `only` is None the one that gets requests of DFU at `interface`.
 ///
 /// # Errors
 ///
-/// NotUsbmon if the bytes are no capture of usbmon or USBPcap; ManyDevices and CutPacket at the first request for which they are true;
-/// NoDevice if no device is found; NoMemory if an allocation was refused.
+/// NotUsbmon if the bytes are no capture of usbmon or USBPcap; ManyDevices at the first request to a second device, and CutPacket at the
+/// first that wasn't captured whole; NoDevice if no device is found; NoMemory if an allocation failed.
 pub fn log_of(
     alloc: Global,
     capture: &[u8],

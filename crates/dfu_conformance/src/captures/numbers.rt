@@ -1,7 +1,7 @@
-//! Numbers of a capture, in the order of bytes of the computer that made it.
+//! Numbers in the bytes of a capture, in either byte order.
 
 ghost use Rattle.std.specs.Prelude.{◌≡◌, drop, take, slice_index_or};
-ghost use Rattle.dfu_conformance.specs.captures.Packets.{number_of_two, number_of_four, first_eight_bytes};
+ghost use Rattle.dfu_conformance.specs.captures.Packets.{two_byte_number, four_byte_number, first_eight_bytes};
 
 /// Returns the byte of `bytes` at index `at`, or 0 after the end.
 pub(crate) fn byte_at(bytes: &[u8], at: usize) -> u8
@@ -25,7 +25,7 @@ pub(crate) fn from(bytes: &[u8], at: usize) -> &[u8]
 
 /// Returns the number in the first two bytes, the high byte first if `is_big`. A byte after the end counts as 0.
 pub(crate) fn two(bytes: &[u8], is_big: bool) -> u16
-    ensures { result ≡ number_of_two is_big bytes.now }
+    ensures { result ≡ two_byte_number is_big bytes.now }
 {
     let first = byte_at(bytes, 0) as u16;
     let second = byte_at(bytes, 1) as u16;
@@ -38,7 +38,7 @@ pub(crate) fn two(bytes: &[u8], is_big: bool) -> u16
 
 /// Returns the number in the first four bytes, the high byte first if `is_big`. A byte after the end counts as 0.
 pub(crate) fn four(bytes: &[u8], is_big: bool) -> u32
-    ensures { result ≡ number_of_four is_big bytes.now }
+    ensures { result ≡ four_byte_number is_big bytes.now }
 {
     let first = byte_at(bytes, 0) as u32;
     let second = byte_at(bytes, 1) as u32;

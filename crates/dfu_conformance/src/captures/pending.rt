@@ -1,4 +1,4 @@
-//! Transfers that were submitted and aren't completed, each with its id.
+//! Pending transfers: submitted, not yet completed, and found by their ids.
 
 ghost use Rattle.std.specs.Prelude.{◌≡◌, ◌↔◌, ◌++◌, [], ◌∷◌, IsTrue, IfNone, IfOk, IfSome};
 ghost use Rattle.dfu_conformance.specs.captures.Joining.{IsSameTransfer, HasSameId};
@@ -18,7 +18,7 @@ pub(crate) struct Pending<'c> {
     pub setup: [u8; 8],
     /// The bytes that the host sends with the request.
     pub body: Body<'c>,
-    /// Not all bytes that the host sends were captured.
+    /// True if not all bytes that the host sends were captured.
     pub is_cut: bool,
 }
 
@@ -37,14 +37,15 @@ fn is_same_transfer(one: &UsbEvent<'_>, other: &UsbEvent<'_>) -> bool
     one.id == other.id && one.address == other.address && one.is_in == other.is_in
 }
 
-/// The transfers that were submitted and aren't completed. No two of them have the same id on the same bus.
+/// The transfers that were submitted and aren't completed. All of them on a bus have different ids.
 #[derive(Drop)]
 pub(crate) struct PendingTransfers<'c> {
+    // The transfers, in no order.
     all: Vec<Pending<'c>>,
 }
 
 impl<'c> PendingTransfers<'c> {
-    /// Returns a list of no transfers.
+    /// Returns an empty list.
     pub(crate) fn new(alloc: Global) -> PendingTransfers<'c>
         ensures { result.all.items ≡ [] }
     {
@@ -58,14 +59,14 @@ impl<'c> PendingTransfers<'c> {
         self.all.len()
     }
 
-    /// Removes the transfer in the first place, if there is one.
+    /// Removes the first transfer of the list, if there is one.
     pub(crate) fn forget_first(&mut self) {
         if !self.all.is_empty() {
             let _first = self.all.swap_remove(0);
         }
     }
 
-    /// Adds the transfer `new`, once the transfer with its id was taken.
+    /// Adds the transfer `new`. The caller must have taken any transfer with its id.
     pub(crate) fn put(&mut self, new: Pending<'c>) -> Result<(), CaptureFault>
         ensures { IfOk result (λ done. self.new.all.items ≡ self.old.all.items ++ (new.entry ∷ [])) }
     {
@@ -75,8 +76,8 @@ impl<'c> PendingTransfers<'c> {
         }
     }
 
-    /// Takes the transfer that has the id of `event` on its bus, whatever its device, because an id is in use once at a time: an event of
-    /// another transfer shows that the transfer is over. None if there is no such transfer.
+    /// Takes the transfer with the id of `event` on its bus, even one of another device: only one transfer at a time uses an id, so an
+    /// event of another transfer shows that the older one is over. None if no transfer has the id.
     pub(crate) fn take(&mut self, event: &UsbEvent<'c>) -> Option<Pending<'c>>
         ensures some { IfSome result (λ p. HasSameId p.submission event.now × PendingWithout p self.old.all.items self.new.all.items) }
         ensures none { IfNone result (LacksId event.now self.old.all.items × (self.new.all.items ≡ self.old.all.items)) }
@@ -91,9 +92,9 @@ impl<'c> PendingTransfers<'c> {
         None
     }
 
-    /// Takes the transfer that the event carries on or completes; `None` if the transfer was submitted before the capture, or its
-    /// submission is missing.
-    pub(crate) fn take_same(&mut self, event: &UsbEvent<'c>) -> Option<Pending<'c>>
+    /// Takes the transfer that the event continues or completes; `None` if the transfer was submitted before the capture, or its submission
+    /// is missing.
+    pub(crate) fn take_same_transfer(&mut self, event: &UsbEvent<'c>) -> Option<Pending<'c>>
         ensures some { IfSome result (λ p. IsSameTransfer p.submission event.now × PendingWithout p self.old.all.items self.new.all.items) }
         ensures none { IfNone result (LacksSameTransfer event.now self.old.all.items self.new.all.items) }
     {

@@ -5,36 +5,45 @@ ghost use Rattle.dfu_conformance.specs.captures.Packets.{is_capture_front, captu
 
 use crate::captures::numbers::{byte_at, four, from, two};
 
-/// Largest number of interfaces of a capture that are known.
+/// Largest number of interfaces of a capture whose link types are kept.
 const LINKS: usize = 16;
 
-/// Form of a capture: pcap or pcapng, the order of its bytes, and the link type of each interface.
+/// Form of a capture: pcap or pcapng, the order of its bytes, and the link type of each interface, of at most 16.
 #[derive(Clone, Copy)]
 pub(crate) struct Form {
+    // True for pcapng.
     is_ng: bool,
+    // True if numbers have the high byte first.
     is_big: bool,
+    // Link types of the interfaces, by their numbers.
     links: [u16; LINKS],
+    // Number of interfaces so far, in the section.
     count: usize,
 }
 
-/// A packet: its link type, and its bytes; `is_big` gives the order of the bytes of its numbers.
+/// A packet: its link type, the order of the bytes of its numbers, and its bytes.
 #[derive(Clone, Copy)]
 pub(crate) struct Packet<'c> {
+    /// The link type.
     pub link: u16,
+    /// True if numbers in the packet have the high byte first.
     pub is_big: bool,
+    /// The bytes of the packet.
     pub bytes: &'c [u8],
 }
 
-/// A record: its packet, if any, whether it counts as a packet, as those do that other programs show, and the number of bytes that it
-/// takes.
+/// A record of a capture, with the packet in it, if any.
 #[derive(Clone, Copy)]
 pub(crate) struct Record<'c> {
+    /// True if other programs count the record as a packet.
     pub is_counted: bool,
+    /// The packet, if the record has one that is whole.
     pub packet: Option<Packet<'c>>,
+    /// Number of bytes of the record.
     pub size: usize,
 }
 
-/// Returns the form of a capture that begins with `bytes`; None if they are not the front of a capture.
+/// Returns the form of a capture that begins with `bytes`; None if `bytes` begin no capture.
 pub(crate) fn form_of(bytes: &[u8]) -> Option<Form>
     ensures { is_some result ≡ is_capture_front bytes.now }
 {
@@ -72,7 +81,7 @@ fn part(bytes: &[u8], at: usize, count: usize) -> Option<&[u8]>
 }
 
 impl Form {
-    /// Returns the link type of interface number `interface`; 0 if the interface isn't known.
+    /// Returns the link type of interface number `interface`; 0 if the number is over 15, or no interface had it so far.
     fn link(&self, interface: u32) -> u16 {
         match self.links.get(interface as usize) {
             Some(link) => *link,
@@ -111,7 +120,7 @@ impl Form {
         })
     }
 
-    /// Adds `link`, the link type of an interface that a block describes.
+    /// Adds `link`, the link type of the next interface, unless there are 16 already.
     fn add_link(&mut self, link: u16) {
         if let Some(slot) = self.links.get_mut(self.count) {
             *slot = link;
@@ -119,8 +128,8 @@ impl Form {
         }
     }
 
-    /// Reads the block of pcapng at the front of `bytes`; None if the block isn't whole. The head of a section gives the order of bytes,
-    /// and the interfaces before it are forgotten.
+    /// Reads the block of pcapng at the front of `bytes`; None if the block isn't whole, or its size is below 12. A section header sets the
+    /// byte order, and its interfaces are counted anew, from 0.
     fn block<'c>(&mut self, bytes: &'c [u8]) -> Option<Record<'c>>
         ensures { IfSome result (λ r. 0 < r.size) }
     {
@@ -150,7 +159,7 @@ impl Form {
         })
     }
 
-    /// Reads the record at the front of `bytes`; None at the end of the capture, and if the capture ends in the middle of the record.
+    /// Reads the record at the front of `bytes`; None if there are no bytes, or the record isn't whole, or its size is below 12.
     pub(crate) fn record<'c>(&mut self, bytes: &'c [u8]) -> Option<Record<'c>>
         ensures { IfSome result (λ r. 0 < r.size) }
     {

@@ -1,5 +1,5 @@
-//! A capture that comes in pieces. The capture is read three times: for the devices in it, for a fault, and for the log. No more is kept
-//! than a record, a line, the transfers that are pending, and the addresses of the devices.
+//! A capture that is read in pieces. A caller reads the capture three times: for the devices in it, for a fault, and for the log. Memory
+//! holds only one record, one line, the pending transfers and the addresses of the devices.
 
 use crate::captures::address::Address;
 use crate::captures::devices::Devices;
@@ -7,13 +7,13 @@ use crate::captures::fault::CaptureFault;
 use crate::captures::joining::event_of;
 use crate::captures::numbers::from;
 use crate::captures::records::{Form, form_of, head_of};
-use crate::captures::telling::Telling;
+use crate::captures::telling::CaptureResults;
 use crate::captures::transfers::Transfers;
 use crate::captures::window::Window;
 use std::alloc::Global;
 use std::io::{self, ErrorKind, Read};
 
-/// Number of bytes that show the form of a capture.
+/// Number of bytes at the front of a capture that show its form.
 const HEAD: usize = 24;
 
 /// Largest number of bytes of a record.
@@ -22,21 +22,26 @@ const MAX_RECORD: usize = 1_048_576;
 /// Largest number of records of a capture.
 const MAX_RECORDS: u64 = 1_099_511_627_776;
 
-/// A capture that comes in pieces. As a reader, the stream gives the log of a device.
+/// A capture that is read in pieces. Reading the stream returns the log of a device.
 #[derive(Drop)]
 pub struct CaptureStream<R> {
+    // The reader, and bytes that were read and not yet taken.
     window: Window<R>,
+    // Form of the capture; None before its head was read.
     form: Option<Form>,
+    // Number of packets so far.
     packets: usize,
+    // The pending transfers.
     transfers: Transfers,
-    telling: Telling,
-    // Number of bytes of the text that were given.
+    // Results from the exchanges so far.
+    telling: CaptureResults,
+    // Number of bytes of the text that `read` returned.
     given: usize,
 }
 
 impl<R> CaptureStream<R> {
     /// Returns the stream of a capture before the first byte is read from `reader`.
-    fn new(alloc: Global, reader: R, telling: Telling) -> CaptureStream<R> {
+    fn new(alloc: Global, reader: R, telling: CaptureResults) -> CaptureStream<R> {
         CaptureStream {
             window: Window::new(alloc, reader),
             form: None,
@@ -47,7 +52,7 @@ impl<R> CaptureStream<R> {
         }
     }
 
-    /// Takes the record at the front of the window.
+    /// Processes the record at the front of the window, if it is whole.
     fn come(&mut self) -> Result<(), CaptureFault> {
         let Some(form) = &mut self.form else {
             return Err(CaptureFault::NotUsbmon);
@@ -72,7 +77,7 @@ impl<R> CaptureStream<R> {
 }
 
 impl<R: Read> CaptureStream<R> {
-    /// Reads the head, and returns whether it is that of a capture.
+    /// Reads the head. Returns true if it begins a pcap or pcapng capture.
     fn begin(&mut self) -> io::Result<bool> {
         if self.form.is_some() {
             return Ok(true);
@@ -92,7 +97,8 @@ impl<R: Read> CaptureStream<R> {
         }
     }
 
-    /// Reads on until the window begins with a whole record, and returns its size; 0 at the end. NoMemory if the record has too many bytes.
+    /// Reads on until the window begins with a whole record, and returns its size; 0 at the end of the capture. NoMemory if the record is
+    /// too long.
     fn size(&mut self) -> io::Result<Result<usize, CaptureFault>> {
         for _piece in 0..MAX_RECORD {
             let Some(mut form) = self.form else {
@@ -111,7 +117,7 @@ impl<R: Read> CaptureStream<R> {
         Ok(Ok(0))
     }
 
-    /// Takes the next record of the capture, in place of the text of before. Returns false if there was none left.
+    /// Clears the text, and processes the next record of the capture. Returns false if no record was left.
     ///
     /// # Errors
     ///
@@ -139,7 +145,7 @@ impl<R: Read> CaptureStream<R> {
         Ok(Ok(true))
     }
 
-    /// Takes records until there is text to give. Returns false if the capture ends before.
+    /// Processes records until there is text to return. Returns false if the capture ends first.
     ///
     /// # Errors
     ///
@@ -158,7 +164,7 @@ impl<R: Read> CaptureStream<R> {
         Ok(false)
     }
 
-    /// Takes all records up to the end of the capture.
+    /// Processes all records up to the end of the capture.
     ///
     /// # Errors
     ///
@@ -176,20 +182,20 @@ impl<R: Read> CaptureStream<R> {
 }
 
 impl<R: Read + Drop> CaptureStream<R> {
-    /// Returns the stream of the log of a capture, before the first byte is read from `reader`: of one of `devices`, of the one at `only`
-    /// if `only` is given.
+    /// Returns a stream of the log of one of `devices`, before the first byte is read from `reader`: of the device at `only`, if `only` is
+    /// given.
     pub fn of_log(
         alloc: Global,
         reader: R,
         devices: Devices,
         only: Option<Address>,
     ) -> CaptureStream<R> {
-        CaptureStream::new(alloc, reader, Telling::of_log(alloc, devices, only))
+        CaptureStream::new(alloc, reader, CaptureResults::of_log(alloc, devices, only))
     }
 }
 
 impl<R: Read> Read for CaptureStream<R> {
-    /// Gives the log. At a fault of the capture the stream fails, which happens only if another reader of the same bytes finds one.
+    /// Reads the log into `buf`. Fails at a fault of the capture, which `checked` finds beforehand in the same bytes.
     fn read(&mut self, buf: &mut [u8]) -> io::Result<usize> {
         if !self.reach_text()? {
             return Ok(0);
@@ -215,24 +221,24 @@ fn devices_of<R: Read + Drop>(
     }
 }
 
-/// Returns the devices that get requests of DFU at `interface`, in the capture that `reader` gives, or the fault of the capture.
+/// Returns the devices that get requests of DFU at `interface`, in the capture read from `reader`, or the fault of the capture.
 pub fn devices_in<R: Read + Drop>(
     alloc: Global,
     reader: R,
     interface: u8,
 ) -> io::Result<Result<Devices, CaptureFault>> {
-    let telling = Telling::of_devices(alloc, interface);
+    let telling = CaptureResults::of_devices(alloc, interface);
     devices_of(CaptureStream::new(alloc, reader, telling))
 }
 
-/// Checks that the capture that `reader` gives has a log of one of `devices`, of the one at `only` if `only` is given. Returns `devices`,
-/// or the fault of the capture.
+/// Checks that the capture read from `reader` has a log of one of `devices`, of the one at `only` if `only` is given. Returns `devices`, or
+/// the fault of the capture.
 pub fn checked<R: Read + Drop>(
     alloc: Global,
     reader: R,
     devices: Devices,
     only: Option<Address>,
 ) -> io::Result<Result<Devices, CaptureFault>> {
-    let telling = Telling::of_log(alloc, devices, only);
+    let telling = CaptureResults::of_log(alloc, devices, only);
     devices_of(CaptureStream::new(alloc, reader, telling))
 }

@@ -1,4 +1,4 @@
-//! Exchanges of a capture that comes in pieces: the devices that get requests of DFU, or the log of one.
+//! Results from the exchanges of a capture that is read in pieces: its devices with requests of DFU, or the log of one.
 
 use crate::captures::address::Address;
 use crate::captures::devices::Devices;
@@ -8,21 +8,25 @@ use crate::captures::following::Followed;
 use crate::captures::text::Log;
 use std::alloc::Global;
 
-/// Devices or log that the exchanges gave so far.
+/// The devices, or the log of one device, from the exchanges so far.
 #[derive(Drop)]
-pub(crate) struct Telling {
-    // Interface at which requests of DFU are looked for; in a log, none.
+pub(crate) struct CaptureResults {
+    // Interface at which requests of DFU are searched for; None for a log.
     interface: Option<u8>,
+    // Devices that were found so far; for a log, those that may have lines in it.
     devices: Devices,
+    // Device of the log.
     followed: Followed,
+    // Lines since the last call of `forget_text`.
     log: Log,
+    // True if a line of the device was logged.
     has_line: bool,
 }
 
-impl Telling {
-    /// Returns a telling that looks for the devices that get requests of DFU at `interface`.
-    pub(crate) fn of_devices(alloc: Global, interface: u8) -> Telling {
-        Telling {
+impl CaptureResults {
+    /// Returns an empty result, for the devices that get requests of DFU at `interface`.
+    pub(crate) fn of_devices(alloc: Global, interface: u8) -> CaptureResults {
+        CaptureResults {
             interface: Some(interface),
             devices: Devices::new(alloc),
             followed: Followed::new(None),
@@ -31,9 +35,9 @@ impl Telling {
         }
     }
 
-    /// Returns a telling of the log, before its first line: of one of `devices`, of the one at `only` if `only` is given.
-    pub(crate) fn of_log(alloc: Global, devices: Devices, only: Option<Address>) -> Telling {
-        Telling {
+    /// Returns an empty result, for the log of one of `devices`, of the one at `only` if `only` is given.
+    pub(crate) fn of_log(alloc: Global, devices: Devices, only: Option<Address>) -> CaptureResults {
+        CaptureResults {
             interface: None,
             devices,
             followed: Followed::new(only),
@@ -44,14 +48,15 @@ impl Telling {
 
     /// Returns the devices that were found.
     pub(crate) fn devices(self) -> Devices {
-        let Telling { devices, .. } = self;
+        let CaptureResults { devices, .. } = self;
         devices
     }
 
-    /// Returns true if `exchange` has a line of the log.
+    /// Returns true if `exchange` has a line in the log. In a search for devices, adds the address of a request of DFU to the set, and
+    /// returns false.
     fn shows(&mut self, exchange: &Exchange<'_>) -> Result<bool, CaptureFault> {
         if let Some(interface) = self.interface {
-            if exchange.tells_dfu(interface) {
+            if exchange.shows_dfu(interface) {
                 self.devices.add(exchange.address)?;
             }
             return Ok(false);
@@ -62,7 +67,7 @@ impl Telling {
         self.followed.shows(exchange)
     }
 
-    /// Takes the next packet, which completes `exchange`, if it is given.
+    /// Takes the next packet, with the exchange that it completes, if any.
     pub(crate) fn come(&mut self, exchange: &Option<Exchange<'_>>) -> Result<(), CaptureFault> {
         match exchange {
             Some(exchange) if self.shows(exchange)? => {
@@ -84,7 +89,7 @@ impl Telling {
         self.log.clear();
     }
 
-    /// Takes the end of the capture. NoDevice if a log has no line of a device.
+    /// Checks the result at the end of the capture. NoDevice if a log has no line of a device.
     pub(crate) fn end(&self) -> Result<(), CaptureFault> {
         if self.interface.is_none() && !self.has_line {
             Err(CaptureFault::NoDevice)

@@ -13,17 +13,19 @@ fn digit(value: u8) -> u8 {
     }
 }
 
-/// A log with a line for each packet so far.
+/// The text of a log, with a line for each packet so far.
 #[derive(Drop)]
 pub(crate) struct Log {
+    // The text so far.
     text: Vec<u8>,
+    // Number of the packet of the last line that `push` added.
     lines: usize,
-    // Memory was refused for a part of the text.
+    // An allocation for a part of the text failed.
     is_torn: bool,
 }
 
 impl Log {
-    /// Returns a log of no line.
+    /// Returns a log without lines.
     pub(crate) fn new(alloc: Global) -> Log {
         Log {
             text: Vec::new(alloc),
@@ -46,7 +48,7 @@ impl Log {
         }
     }
 
-    /// Adds `body`, the bytes that the host sent.
+    /// Adds the field of `body`, the bytes that the host sent: `00` for each byte of which only the count is known, and `-` for no bytes.
     fn put_body(&mut self, body: Body<'_>) {
         match body {
             Body::Bytes([]) | Body::Count(0) => self.put(b"-"),
@@ -59,8 +61,8 @@ impl Log {
         }
     }
 
-    /// Adds the answer `seen`.
-    fn put_seen(&mut self, seen: Seen<'_>) {
+    /// Adds the field of the answer `seen`.
+    fn put_answer(&mut self, seen: Seen<'_>) {
         match seen {
             Seen::Stall => self.put(b"stall"),
             Seen::Nothing => self.put(b"nothing"),
@@ -75,11 +77,11 @@ impl Log {
         self.put(b" ");
         self.put_body(exchange.body);
         self.put(b" ");
-        self.put_seen(exchange.seen);
+        self.put_answer(exchange.seen);
         self.put(b"\n");
     }
 
-    /// Adds the line of a packet that gives `exchange`.
+    /// Adds the line of a packet that completes `exchange`.
     pub(crate) fn push_line(&mut self, exchange: &Exchange<'_>) {
         if exchange.given.is_some() {
             self.put(b"reset\n");
@@ -88,7 +90,7 @@ impl Log {
         }
     }
 
-    /// Adds the line of a packet that gives no exchange, which is empty.
+    /// Adds an empty line, for a packet that completes no exchange.
     pub(crate) fn push_empty(&mut self) {
         self.put(b"\n");
     }
@@ -112,11 +114,11 @@ impl Log {
         self.text.clear();
     }
 
-    /// Checks that memory was refused for no part of the text.
+    /// Checks that no part of the text is missing.
     ///
     /// # Errors
     ///
-    /// NoMemory if it was.
+    /// NoMemory if an allocation for the text failed.
     pub(crate) fn is_whole(&self) -> Result<(), CaptureFault> {
         if self.is_torn {
             Err(CaptureFault::NoMemory)
@@ -129,7 +131,7 @@ impl Log {
     ///
     /// # Errors
     ///
-    /// NoMemory if memory was refused for a part of the text; else NoDevice if the text is empty.
+    /// NoMemory if an allocation for the text failed; else NoDevice if the text is empty.
     pub(crate) fn whole(self) -> Result<Vec<u8>, CaptureFault> {
         let Log { text, is_torn, .. } = self;
         if is_torn {

@@ -1,31 +1,32 @@
-//! Joining of submissions and their completions, without the bytes of a transfer between them.
+//! Joins submissions with their completions, and keeps only the number of bytes of a transfer between them.
 
 use crate::captures::event::{PacketKind, UsbEvent};
 use crate::captures::exchange::{Body, Exchange};
 use crate::captures::fault::CaptureFault;
-use crate::captures::joining::{exchange_of, submitted};
+use crate::captures::joining::{exchange_of, new_pending};
 use crate::captures::pending::{Pending, PendingTransfers};
 use std::alloc::Global;
 
-/// The most transfers that are pending at once. Endpoint 0 of a device has one at a time, so that more are pending only if completions are
-/// missing; then one of them is forgotten.
+/// Largest number of transfers pending at once. Endpoint 0 of a device has one at a time, so more are pending only if completions are
+/// missing; then the first of the list is dropped.
 const MAX_PENDING: usize = 1024;
 
-/// Transfers that are joined as their events come.
+/// The pending transfers of a capture, each with only the number of its bytes.
 #[derive(Drop)]
 pub(crate) struct Transfers {
+    // The transfers, with the numbers of their bytes.
     pending: PendingTransfers<'static>,
 }
 
 impl Transfers {
-    /// Returns a value with no transfer under way.
+    /// Returns a value without pending transfers.
     pub(crate) fn new(alloc: Global) -> Transfers {
         Transfers {
             pending: PendingTransfers::new(alloc),
         }
     }
 
-    /// Adds the transfer `new`.
+    /// Adds the transfer `new`, and drops the first one if there are `MAX_PENDING`.
     fn put(&mut self, new: Pending<'static>) -> Result<(), CaptureFault> {
         if self.pending.count() >= MAX_PENDING {
             self.pending.forget_first();
@@ -33,8 +34,7 @@ impl Transfers {
         self.pending.put(new)
     }
 
-    /// Takes submission `head` with `setup` and `count` bytes. A transfer that had the same id before is over, though its completion is
-    /// missing.
+    /// Takes submission `head` with `setup` and `count` bytes. An older transfer with the id is over, though its completion is missing.
     fn submit(
         &mut self,
         head: &UsbEvent<'static>,
@@ -42,13 +42,13 @@ impl Transfers {
         count: usize,
     ) -> Result<(), CaptureFault> {
         let _over = self.pending.take(head);
-        self.put(submitted(head, setup, Body::Count(count)))
+        self.put(new_pending(head, setup, Body::Count(count)))
     }
 
-    /// Takes `count`, the number of bytes of the transfer `head` that was submitted without them. A transfer whose bytes come from the
-    /// device has none, so that it is over.
+    /// Takes `count`, the number of bytes of the host for a transfer that was submitted without them. A transfer that reads from the device
+    /// has none, so it is dropped.
     fn carry(&mut self, head: &UsbEvent<'static>, count: usize) -> Result<(), CaptureFault> {
-        let Some(mut began) = self.pending.take_same(head) else {
+        let Some(mut began) = self.pending.take_same_transfer(head) else {
             return Ok(());
         };
         let [kind, ..] = began.setup;
@@ -79,7 +79,7 @@ impl Transfers {
                 Ok(None)
             }
             (PacketKind::Completes | PacketKind::Ends, _) => {
-                let Some(began) = self.pending.take_same(&head) else {
+                let Some(began) = self.pending.take_same_transfer(&head) else {
                     return Ok(None);
                 };
                 Ok(exchange_of(packet, &began, event, link))

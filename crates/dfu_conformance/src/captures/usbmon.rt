@@ -1,13 +1,13 @@
 //! The packets of usbmon (link types 189 and 220).
 
 ghost use Rattle.std.specs.Prelude.{◌≡◌, drop, take, length, nat_le, nat_lt, not, is_none, Some, IfSome};
-ghost use Rattle.dfu_conformance.specs.captures.Packets.{byte_or_zero, number_of_two, number_of_four, first_eight_bytes, header_length_of, is_control, packet_kind_of, setup_in_packet, transfer_ending_of};
+ghost use Rattle.dfu_conformance.specs.captures.Packets.{byte_or_zero, two_byte_number, four_byte_number, first_eight_bytes, header_length_of, is_control, packet_kind_of, setup_in_packet, transfer_ending_of};
 
 use crate::captures::address::Address;
 use crate::captures::event::{Ending, PacketKind, UsbEvent};
 use crate::captures::numbers::{byte_at, eight, four, from, front, two};
 
-/// Returns the ending of the transfer of packet `bytes`, by the status in bytes 28 to 31: 0, or -32 of a stall.
+/// Returns the ending of the transfer of packet `bytes`, by the status in bytes 28 to 31: 0 for success, or -32 for a stall.
 fn ending_of(bytes: &[u8], is_big: bool) -> Ending
     ensures { result ≡ transfer_ending_of is_big bytes.now }
 {
@@ -18,7 +18,7 @@ fn ending_of(bytes: &[u8], is_big: bool) -> Ending
     }
 }
 
-/// Returns the number of bytes that precede the data, by the link type; `None` if it is not a link type of usbmon.
+/// Returns the number of bytes that precede the data, by the link type; `None` if `link` is no link type of usbmon.
 pub(crate) fn head_of(link: u16) -> Option<usize>
     ensures { result ≡ header_length_of link }
 {
@@ -29,7 +29,7 @@ pub(crate) fn head_of(link: u16) -> Option<usize>
     }
 }
 
-/// Returns whether an event submits a transfer or completes one.
+/// Returns the kind of packet `bytes`: byte 8 is 'S' for a submission and 'C' for a completion.
 fn kind_of(bytes: &[u8]) -> PacketKind
     ensures { result ≡ packet_kind_of bytes.now }
 {
@@ -58,14 +58,14 @@ pub fn packet_event(bytes: &[u8], head: usize, is_big: bool) -> Option<UsbEvent<
     ensures none { is_none result ≡ not (is_control head bytes.now) }
     ensures kind { IfSome result (λ e. e.kind ≡ packet_kind_of bytes.now) }
     ensures id { IfSome result (λ e. e.id ≡ first_eight_bytes (drop 0 bytes.now)) }
-    ensures address { IfSome result (λ e. (e.address.bus ≡ number_of_two is_big (drop 12 bytes.now))
+    ensures address { IfSome result (λ e. (e.address.bus ≡ two_byte_number is_big (drop 12 bytes.now))
         × (e.address.device ≡ byte_or_zero bytes.now 11)) }
     ensures direction { IfSome result (λ e. e.is_in ≡ Some (nat_le 128 (byte_or_zero bytes.now 10))) }
     ensures setup { IfSome result (λ e. e.setup ≡ setup_in_packet bytes.now) }
     ensures ending { IfSome result (λ e. e.ending ≡ transfer_ending_of is_big bytes.now) }
-    ensures moved { IfSome result (λ e. e.moved ≡ Some (number_of_four is_big (drop 32 bytes.now))) }
-    ensures data { IfSome result (λ e. e.data.now ≡ take (number_of_four is_big (drop 36 bytes.now)) (drop head bytes.now)) }
-    ensures cut { IfSome result (λ e. e.is_cut ≡ nat_lt (length e.data.now) (number_of_four is_big (drop 32 bytes.now))) }
+    ensures moved { IfSome result (λ e. e.moved ≡ Some (four_byte_number is_big (drop 32 bytes.now))) }
+    ensures data { IfSome result (λ e. e.data.now ≡ take (four_byte_number is_big (drop 36 bytes.now)) (drop head bytes.now)) }
+    ensures cut { IfSome result (λ e. e.is_cut ≡ nat_lt (length e.data.now) (four_byte_number is_big (drop 32 bytes.now))) }
 {
     if bytes.len() < head || byte_at(bytes, 9) != 2 || byte_at(bytes, 10) % 128 != 0 {
         return None;

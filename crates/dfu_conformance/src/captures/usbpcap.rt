@@ -1,18 +1,18 @@
-//! The packets of USBPcap, the recorder of Windows (link type 249). Its numbers have the low byte first.
+//! The packets of USBPcap, which records on Windows (link type 249). Its numbers have the low byte first.
 
 ghost use Rattle.std.specs.Prelude.{◌≡◌, drop, take, length, nat_lt, not, is_none, Some, None, IfSome};
-ghost use Rattle.dfu_conformance.specs.captures.Packets.{byte_or_zero, number_of_two, number_of_four, first_eight_bytes};
-ghost use Rattle.dfu_conformance.specs.captures.Usbpcap.{is_recorded_control, recorded_packet_kind, recorded_setup, recorded_ending, recorded_data_length, recorded_data_place};
+ghost use Rattle.dfu_conformance.specs.captures.Packets.{byte_or_zero, two_byte_number, four_byte_number, first_eight_bytes};
+ghost use Rattle.dfu_conformance.specs.captures.Usbpcap.{is_recorded_control, recorded_packet_kind, recorded_setup, recorded_ending, recorded_data_length, recorded_data_index};
 ghost use Rattle.std.specs.Prelude.{false};
 
 use crate::captures::address::Address;
 use crate::captures::event::{Ending, PacketKind, UsbEvent};
 use crate::captures::numbers::{byte_at, eight, four, from, front, two};
 
-/// Smallest number of bytes of the head of a control transfer.
+/// Smallest size of the head of a control transfer, in bytes.
 const HEAD: usize = 28;
 
-/// Returns the part of a transfer that packet `bytes` is, by its stage (byte 27) and its direction (bit 0 of byte 16).
+/// Returns the kind of packet `bytes`, by its stage (byte 27) and its direction (bit 0 of byte 16).
 fn kind_of(bytes: &[u8]) -> PacketKind
     ensures { result ≡ recorded_packet_kind bytes.now }
 {
@@ -27,7 +27,7 @@ fn kind_of(bytes: &[u8]) -> PacketKind
     }
 }
 
-/// Returns the ending of the transfer of packet `bytes`, by the status of Windows' USB stack.
+/// Returns the ending of the transfer of packet `bytes`, by the status in bytes 10 to 13: 0 for success, or C0000004h for a stall.
 fn ending_of(bytes: &[u8]) -> Ending
     ensures { result ≡ recorded_ending bytes.now }
 {
@@ -49,7 +49,8 @@ fn setup_of(bytes: &[u8], head: usize) -> Option<[u8; 8]>
     }
 }
 
-/// Returns the content of a packet; `None` if it is no control transfer to endpoint 0, or its head isn't whole.
+/// Returns the content of a packet; `None` if it is no control transfer to endpoint 0, its head isn't whole or has fewer than 28 bytes, or
+/// the number of its device is over 255.
 ///
 /// Bytes 0 and 1 are the length of the head, at least 28; 2 to 9 are the id, 10 to 13 the status, 16 the direction, 17 and 18 the bus, 19
 /// and 20 the device, 21 the endpoint, 22 the kind of transfer, 23 to 26 the number of bytes behind the head, and 27 the stage. The first
@@ -58,13 +59,13 @@ pub fn recorded_event(bytes: &[u8]) -> Option<UsbEvent<'_>>
     ensures none { is_none result ≡ not (is_recorded_control bytes.now) }
     ensures kind { IfSome result (λ e. e.kind ≡ recorded_packet_kind bytes.now) }
     ensures id { IfSome result (λ e. e.id ≡ first_eight_bytes (drop 2 bytes.now)) }
-    ensures address { IfSome result (λ e. (e.address.bus ≡ number_of_two false (drop 17 bytes.now))
+    ensures address { IfSome result (λ e. (e.address.bus ≡ two_byte_number false (drop 17 bytes.now))
         × (e.address.device ≡ byte_or_zero bytes.now 19)) }
     ensures direction { IfSome result (λ e. e.is_in ≡ None) }
-    ensures setup { IfSome result (λ e. e.setup ≡ recorded_setup (number_of_two false bytes.now) bytes.now) }
+    ensures setup { IfSome result (λ e. e.setup ≡ recorded_setup (two_byte_number false bytes.now) bytes.now) }
     ensures ending { IfSome result (λ e. e.ending ≡ recorded_ending bytes.now) }
     ensures moved { IfSome result (λ e. e.moved ≡ None) }
-    ensures data { IfSome result (λ e. e.data.now ≡ take (recorded_data_length bytes.now) (drop (recorded_data_place bytes.now) bytes.now)) }
+    ensures data { IfSome result (λ e. e.data.now ≡ take (recorded_data_length bytes.now) (drop (recorded_data_index bytes.now) bytes.now)) }
     ensures cut { IfSome result (λ e. e.is_cut ≡ nat_lt (length e.data.now) (recorded_data_length bytes.now)) }
 {
     let head = two(bytes, false) as usize;

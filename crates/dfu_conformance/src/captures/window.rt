@@ -1,18 +1,20 @@
-//! The bytes of a capture that were read and not yet taken.
+//! A buffer of the bytes of a capture that were read and not yet taken.
 
 use crate::captures::numbers::from;
 use std::alloc::Global;
 use std::io::{self, ErrorKind, Read};
 
-/// Number of bytes of a capture for which a reader is asked at a time.
+/// Largest number of bytes of a capture that are read at a time.
 const CAPTURE_READ_BYTES: usize = 65_536;
 
-/// A reader, and the bytes that were read of it and not taken.
+/// A reader, and the bytes that were read from it and not yet taken.
 #[derive(Drop)]
 pub(crate) struct Window<R> {
+    // The reader of the capture.
     reader: R,
+    // Bytes that were read and not yet removed.
     bytes: Vec<u8>,
-    // The bytes before this place were taken.
+    // The bytes before this index were taken.
     taken: usize,
 }
 
@@ -31,7 +33,7 @@ impl<R> Window<R> {
         from(&self.bytes, self.taken)
     }
 
-    /// Takes the first `count` bytes.
+    /// Marks the first `count` bytes as taken.
     pub(crate) fn take(&mut self, count: usize) {
         self.taken = self.taken.saturating_add(count);
     }
@@ -50,7 +52,7 @@ impl<R> Window<R> {
 }
 
 impl<R: Read> Window<R> {
-    /// Reads on, and returns whether there were more bytes.
+    /// Reads more bytes. Returns false if the reader has no more.
     pub(crate) fn read_on(&mut self) -> io::Result<bool> {
         self.forget_taken();
         let mut piece = [0u8; CAPTURE_READ_BYTES];

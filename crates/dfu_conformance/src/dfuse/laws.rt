@@ -1,8 +1,8 @@
-//! A law of the table. The law is the contract of a function with an empty body, which is proved and not to be called.
+//! A law of the DfuSe table: the contract of a function with an empty body, which is proved and is not meant to be called.
 
 ghost use Rattle.dfu_conformance.specs.dfuse.Laws.{StandardIsIncluded};
 
-/// A DfuSe device may answer all that a device of USB DFU 1.1 with its bmAttributes and habits may.
+/// A DfuSe device may give every answer that a device of USB DFU 1.1 with its bmAttributes and habits may give.
 pub fn standard_is_kept()
     ensures { StandardIsIncluded }
 {}

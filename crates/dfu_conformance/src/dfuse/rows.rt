@@ -9,7 +9,7 @@ use crate::StandardState::{
 };
 use crate::When::Always;
 
-// The rows of a device at a place: one for each request to which it gives this answer.
+// Expands each line, for one place and one answer, to a row for each kind of event.
 macro_rules! rows {
     ($($from:ident, $($asked:ident)|+ => $gives:ident, $next:ident, $source:ident;)+) => {
         [$($(Row {
@@ -23,18 +23,18 @@ macro_rules! rows {
     };
 }
 
-/// Answers that a DfuSe device may give beyond USB DFU 1.1: where the device is, what comes, what it answers, and where it is then. `Habit`
-/// marks what each such device does, `Open` what devices are known to do or may do.
+/// Answers that a DfuSe device may give beyond USB DFU 1.1. Each row has the place of the device, the event, the answer, and the place that
+/// it enters. `Habit` marks answers of every DfuSe device, `Open` answers that devices are known to give or may give.
 #[rattlefmt::skip]
 pub static DFUSE: [Row; 12] = rows!(
     // DNLOAD of no bytes asks the device to leave, also from dfuIDLE.
     DfuIdle, Close => Ack, ManifestSync, Habit;
-    // UPLOAD is answered by the number of its block, so that a short answer need not be the last.
+    // The answer to UPLOAD depends on the number of its block, so a short answer need not be the last.
     UploadIdle, Upload => Short, UploadIdle, Open;
-    // While an order is carried out, or the device leaves, GETSTATUS and GETSTATE may be stalled, and nothing changes.
+    // While a command is carried out, or the device leaves, GETSTATUS and GETSTATE may be stalled, and the device stays.
     DownloadBusy, GetStatus | GetState => Stall, DownloadBusy, Open;
     Manifest, GetStatus | GetState => Stall, Manifest, Open;
-    // A reset of the bus may change nothing.
+    // A reset of the bus may leave the device at its place.
     DownloadSync, Reset => Silent, DownloadSync, Open;
     DownloadBusy, Reset => Silent, DownloadBusy, Open;
     DownloadIdle, Reset => Silent, DownloadIdle, Open;

@@ -1,13 +1,13 @@
-//! Rows for a DfuSe device, and the events at which it may stay where it was.
+//! Rows that apply to a DfuSe device, and events at which it may stay at its place.
 
 ghost use Rattle.std.specs.Prelude.{◌≡◌, ◌==◌};
 ghost use Rattle.std.specs.Int.{bit_at};
 ghost use Rattle.dfu_conformance.specs.Candidates.{reading_bit};
-ghost use Rattle.dfu_conformance.specs.dfuse.Runs.{dfuse_habits, is_place_report, of_dfuse, dfuse_device_stays};
+ghost use Rattle.dfu_conformance.specs.dfuse.Runs.{dfuse_habits, must_be_answered, of_dfuse, dfuse_may_stay_at_event};
 
 use crate::{EventKind, LogEvent, Reading, Response, When};
 
-/// Returns true if a DfuSe device may have the habit `reading`: bit n of 0Fh is reading n.
+/// Returns true if a DfuSe device may have the habit `reading`: bit n of 0Fh is habit n.
 fn is_habit(reading: Reading) -> bool
     ensures { result ≡ (bit_at dfuse_habits (reading_bit reading) == 1) }
 {
@@ -21,7 +21,7 @@ fn is_habit(reading: Reading) -> bool
     }
 }
 
-/// Returns true if a row or a move with `when` is for a DfuSe device: one that can download and upload, isn't tolerant and detaches by
+/// Returns true if a row or a move with `when` applies to a DfuSe device: one that can download and upload, isn't tolerant and detaches by
 /// itself (bmAttributes 0Bh), with the habits bootloader, runtime-mute, self-reset and detach-at-once.
 pub fn is_of_dfuse(when: When) -> bool
     ensures { result ≡ of_dfuse when }
@@ -37,10 +37,10 @@ pub fn is_of_dfuse(when: When) -> bool
     }
 }
 
-/// Returns true if the request of `event` has to be answered: GETSTATUS or GETSTATE as section 3 of USB DFU 1.1 has it. Any other request
-/// may be stalled, and nothing changes.
+/// Returns true if a device must answer the request of `event`: GETSTATUS or GETSTATE, well-formed by section 3 of USB DFU 1.1. It may
+/// stall any other request, and stay.
 pub fn is_told(event: &LogEvent) -> bool
-    ensures { result ≡ is_place_report event.now }
+    ensures { result ≡ must_be_answered event.now }
 {
     match event.asked {
         EventKind::GetStatus => event.is_plain,
@@ -49,9 +49,9 @@ pub fn is_told(event: &LogEvent) -> bool
     }
 }
 
-/// Returns true if a device may stay where it was at `event`: no answer was seen, or a request was stalled that needs no answer.
-pub(crate) fn may_rest(event: &LogEvent) -> bool
-    ensures { result ≡ dfuse_device_stays event.now }
+/// Returns true if a device may stay at its place at `event`: no answer was seen, or it stalled a request that it need not answer.
+pub(crate) fn may_dfuse_stay(event: &LogEvent) -> bool
+    ensures { result ≡ dfuse_may_stay_at_event event.now }
 {
     match event.answer {
         Response::Nothing => true,

@@ -1,43 +1,43 @@
-//! Places at which a device may be.
+//! Places at which a DfuSe device may be.
 
 ghost use Rattle.std.specs.Prelude.{◌≡◌, ◌||◌, ◌&&◌, ◌==◌};
 ghost use Rattle.std.specs.List.{list_any};
 ghost use Rattle.dfu_conformance.specs.RowMatches.{place_number};
-ghost use Rattle.dfu_conformance.specs.dfuse.Runs.{of_dfuse, dfuse_device_stays};
-ghost use Rattle.dfu_conformance.specs.dfuse.Verdicts.{is_candidate};
+ghost use Rattle.dfu_conformance.specs.dfuse.Runs.{of_dfuse, dfuse_may_stay_at_event};
+ghost use Rattle.dfu_conformance.specs.dfuse.Verdicts.{has_place};
 ghost use Rattle.dfu_conformance.specs.inside.DfuseStep.{has_any_place, drift_leads_to, row_leads_to, may_be_at_after_event};
 
 use crate::dfuse::rows::DFUSE;
-use crate::dfuse::speaks::{is_of_dfuse, may_rest};
+use crate::dfuse::speaks::{is_of_dfuse, may_dfuse_stay};
 use crate::{
-    DRIFTS, Drift, HABITS, LogEvent, MARKS, Row, STANDARD, StandardState, When, speaks_of,
+    DRIFTS, Drift, HABITS, LogEvent, MARKS, Row, STANDARD, StandardState, When, row_fits_event,
 };
 
-/// For each place, by its number, true if a device may be there.
+/// For each place, by its number, true if a DfuSe device may be there.
 pub(crate) type Places = [bool; 12];
 
-/// Adds place `to` to `after`, if a device may be at `from` by `before` and `when` is true for a DfuSe device.
+/// Adds place `to` to `after`, if `before` has place `from`, and a row or a move with `when` applies to a DfuSe device.
 fn lead(before: &Places, from: StandardState, when: When, after: &mut Places, to: StandardState)
-    ensures { (n : StandardState) → is_candidate after.new n
-        ≡ (is_candidate after.old n || ((place_number to == place_number n) && (is_candidate before.now from && of_dfuse when))) }
+    ensures { (n : StandardState) → has_place after.new n
+        ≡ (has_place after.old n || ((place_number to == place_number n) && (has_place before.now from && of_dfuse when))) }
 {
     let to = to.number();
     after[to] = after[to] || before[from.number()] && is_of_dfuse(when);
 }
 
-/// Adds to `after` the place to which `row` leads from `before` by `event`.
+/// Adds to `after` the place to which `row` leads at `event` from a place of `before`.
 fn go(row: &Row, before: &Places, event: &LogEvent, after: &mut Places)
-    ensures { (n : StandardState) → is_candidate after.new n ≡ (is_candidate after.old n || row_leads_to before.now event.now n row.now) }
+    ensures { (n : StandardState) → has_place after.new n ≡ (has_place after.old n || row_leads_to before.now event.now n row.now) }
 {
-    if speaks_of(row, event) {
+    if row_fits_event(row, event) {
         lead(before, row.from, row.when, after, row.next);
     }
 }
 
-/// Adds to `after` the places to which `rows` lead from `before` by `event`.
+/// Adds to `after` the places to which `rows` lead at `event` from the places of `before`.
 fn pass(rows: &[Row], before: &Places, event: &LogEvent, after: &mut Places)
-    ensures { (n : StandardState) → is_candidate after.new n ≡
-        (is_candidate after.old n || list_any (row_leads_to before.now event.now n) rows.now) }
+    ensures { (n : StandardState) → has_place after.new n ≡
+        (has_place after.old n || list_any (row_leads_to before.now event.now n) rows.now) }
 {
     for row in rows {
         go(row, before, event, after);
@@ -46,8 +46,8 @@ fn pass(rows: &[Row], before: &Places, event: &LogEvent, after: &mut Places)
 
 /// Returns the places of `before`, and those to which `moves` lead from them.
 fn drift(moves: &[Drift], before: &Places) -> Places
-    ensures { (n : StandardState) → is_candidate result n ≡
-        (is_candidate before.now n || list_any (drift_leads_to before.now n) moves.now) }
+    ensures { (n : StandardState) → has_place result n ≡
+        (has_place before.now n || list_any (drift_leads_to before.now n) moves.now) }
 {
     let mut after = *before;
     for one in moves {
@@ -56,20 +56,20 @@ fn drift(moves: &[Drift], before: &Places) -> Places
     after
 }
 
-/// Returns the places of `before` where a device may have stayed at `event`.
+/// Returns the places of `before` where a DfuSe device may have stayed at `event`: all of them, or none.
 fn rest(before: &Places, event: &LogEvent) -> Places
-    ensures { (n : StandardState) → is_candidate result n ≡ (dfuse_device_stays event.now && is_candidate before.now n) }
+    ensures { (n : StandardState) → has_place result n ≡ (dfuse_may_stay_at_event event.now && has_place before.now n) }
 {
-    if may_rest(event) {
+    if may_dfuse_stay(event) {
         *before
     } else {
         [false; 12]
     }
 }
 
-/// Returns the places where a device may be after `event`, if it was at one of those of `before`.
+/// Returns the places where a DfuSe device may be after `event`, if those of `before` are its places before it.
 pub(crate) fn step(before: &Places, event: &LogEvent) -> Places
-    ensures { (n : StandardState) → is_candidate result n ≡ may_be_at_after_event before.now event.now n }
+    ensures { (n : StandardState) → has_place result n ≡ may_be_at_after_event before.now event.now n }
 {
     let mut after = rest(before, event);
     pass(&STANDARD, before, event, &mut after);
@@ -79,7 +79,7 @@ pub(crate) fn step(before: &Places, event: &LogEvent) -> Places
     drift(&DRIFTS, &after)
 }
 
-/// Returns true if a device may be at any place, by `at`.
+/// Returns true if `at` has any place.
 pub(crate) fn is_anywhere(at: &Places) -> bool
     ensures { result ≡ has_any_place at.now }
 {

@@ -1,4 +1,4 @@
--- An answer before its bytes are in a buffer.
+-- Answers whose bytes are not in a buffer yet.
 use Rattle.std.specs.Prelude.{ℕ, List, take, drop}
 use Rattle.dfu_slots.specs.StoreView.{image_of}
 use Rattle.dfu_device.specs.declared.answer.Answer.{Answer}
@@ -18,7 +18,7 @@ pending_answer_of asked reply.Status = pending_answer.Status asked
 pending_answer_of asked reply.State = pending_answer.State asked
 pending_answer_of asked reply.Stall = pending_answer.Stall
 
--- The reply of a pending answer, by the device after the row.
+-- The reply of a pending answer, with the status, the state or the bytes of the device after the row.
 abbrev pub reply_of_pending : PendingAnswer → DeviceView → Reply
 reply_of_pending pending_answer.Ack w = Ack
 reply_of_pending (pending_answer.Status asked) w = status_of (profile w) w.stage
@@ -26,13 +26,13 @@ reply_of_pending (pending_answer.State asked) w = StateOf (state_of w.stage)
 reply_of_pending (pending_answer.Piece place asked) w = Data (take asked (drop place (image_of w.slots)))
 reply_of_pending pending_answer.Stall w = Stall
 
--- Bytes of a status or a state for which a pending answer was asked.
+-- Number of bytes of a status or a state that the request of a pending answer asked for; 0 for any other pending answer.
 abbrev pub asked_of : PendingAnswer → ℕ
 asked_of (pending_answer.Status asked) = asked
 asked_of (pending_answer.State asked) = asked
 asked_of d = 0
 
--- An answer in bytes says what the pending answer says.
+-- The answer and its bytes are those of the pending answer.
 abbrev pub AnswersPending : PendingAnswer → DeviceView → Answer → List ℕ → Type 0
 AnswersPending d w a out = ReplyAnswer (asked_of d) (reply_of_pending d w) a out
 

@@ -6,9 +6,9 @@ use Rattle.dfu_suffix.specs.declared.fault.SuffixFault.{SuffixFault}
 use Rattle.dfu_suffix.specs.declared.fault.SuffixFault.TheVariants as suffix
 use Rattle.dfu_formats.specs.declared.dfuse.raw.RawFault.{RawFault}
 use Rattle.dfu_formats.specs.declared.dfuse.raw.RawFault.TheVariants.{TooLarge, BadLength, BadCrc, HasAddresses, Empty, AddressPastTheEnd}
-use Rattle.dfu_formats.specs.dfuse.Reading.{is_prefixed}
+use Rattle.dfu_formats.specs.dfuse.Reading.{begins_with_dfuse}
 
--- Refusal of a file for which dfu_suffix finds this fault; for some faults there is none.
+-- Refusal of a raw file in which dfu_suffix finds this fault; None if the file is not refused for it.
 abbrev pub raw_refusal : SuffixFault → Option RawFault
 raw_refusal suffix.TooLarge = Some TooLarge
 raw_refusal suffix.BadLength = Some BadLength
@@ -16,22 +16,22 @@ raw_refusal suffix.BadCrc = Some BadCrc
 raw_refusal suffix.DfuSe = Some HasAddresses
 raw_refusal other = None
 
--- The whole file, unless it is refused.
+-- The whole file, or the refusal if there is one.
 abbrev pub whole_file_or : List ℕ → Option RawFault → Result (List ℕ) RawFault
 whole_file_or bytes None = Ok bytes
 whole_file_or bytes (Some fault) = Err fault
 
 -- Bytes before a suffix, by the first fault of dfu_suffix. A file without a suffix, because it is too short for one or isn't signed, is
--- taken whole.
-unfoldable pub payload_by : Option SuffixFault → List ℕ → Result (List ℕ) RawFault
-payload_by None bytes = Ok (take (length bytes - slice_index (tail_of bytes) 11) bytes)
-payload_by (Some fault) bytes = whole_file_or bytes (raw_refusal fault)
+-- taken whole; a file with another fault is refused.
+unfoldable pub payload_by_fault : Option SuffixFault → List ℕ → Result (List ℕ) RawFault
+payload_by_fault None bytes = Ok (take (length bytes - slice_index (tail_of bytes) 11) bytes)
+payload_by_fault (Some fault) bytes = whole_file_or bytes (raw_refusal fault)
 
--- A file begins with the letters DfuSe.
+-- The bytes, five or more, begin with the letters DfuSe.
 abbrev pub has_prefix : List ℕ → Bool
-has_prefix bytes = nat_le 5 (length bytes) && is_prefixed bytes
+has_prefix bytes = nat_le 5 (length bytes) && begins_with_dfuse bytes
 
--- Bytes at an address, if they don't begin as a DfuSe file.
+-- Element of bytes at an address, or the first fault: bytes that begin with DfuSe, no bytes, or an end past the last address of 32 bits.
 unfoldable pub placed_at : (address : ℕ) → List ℕ → Result Piece RawFault
 placed_at address bytes =
     if has_prefix bytes then Err HasAddresses
@@ -39,11 +39,11 @@ placed_at address bytes =
     else if nat_lt (2 ^ 32) (address + length bytes) then Err AddressPastTheEnd
     else Ok (record { address = address; bytes = bytes })
 
--- An element of the bytes that were read, at an address.
-abbrev pub raw_element_by : (address : ℕ) → Result (List ℕ) RawFault → Result Piece RawFault
-raw_element_by address (Err fault) = Err fault
-raw_element_by address (Ok bytes) = placed_at address bytes
+-- Element of a payload at an address, or the fault for which there is no payload.
+abbrev pub raw_element_of_payload : (address : ℕ) → Result (List ℕ) RawFault → Result Piece RawFault
+raw_element_of_payload address (Err fault) = Err fault
+raw_element_of_payload address (Ok bytes) = placed_at address bytes
 
--- A file at an address, or its first fault.
+-- Element of a raw file at an address, or the first fault of the file.
 abbrev pub raw_element_at : (address : ℕ) → List ℕ → Result Piece RawFault
-raw_element_at address bytes = raw_element_by address (payload_by (find (has_fault bytes) fault_order) bytes)
+raw_element_at address bytes = raw_element_of_payload address (payload_by_fault (find (has_fault bytes) fault_order) bytes)

@@ -10,13 +10,13 @@ use Rattle.dfu_suffix.specs.declared.fault.SuffixFault.TheVariants as suffix
 use Rattle.dfu_formats.specs.declared.dfuse.fault.FileFault.{FileFault}
 use Rattle.dfu_formats.specs.declared.dfuse.fault.FileFault.TheVariants.{TooLarge, TooShort, NoSignature, BadLength, NotDfuSe, BadCrc, NoPrefix, BadVersion, BadImageSize, NoTargets, NoTarget, BadTargetSize, ElementPastTheTarget, EmptyElement, AddressPastTheEnd, Trailing}
 
--- One step of reading after another: the first fault is the answer.
+-- Continues reading with the value of a step, or keeps the fault of the step.
 infixl 10 ◌>>=◌
 abbrev pub ◌>>=◌ : {A B : Type 0} → Result A FileFault → (A → Result B FileFault) → Result B FileFault
 (Err fault) >>= f = Err fault
 (Ok x) >>= f = f x
 
--- The number in the four bytes from a place on, the low one first.
+-- The 32-bit number at index `place`, the low byte first.
 abbrev pub number_at : (place : ℕ) → List ℕ → ℕ
 number_at place bytes = from_le_bytes w32 (take 4 (drop place bytes))
 
@@ -27,7 +27,8 @@ pub record SplitElement : Type 0 where
   pub element : Piece
   pub rest : List ℕ
 
--- An element at the front of bytes: its address, its size, and its bytes.
+-- Splits an element off the front of bytes: its address, its size, and its bytes. It must have all its bytes, at least one, and end within
+-- the addresses of 32 bits.
 unfoldable pub front_element : List ℕ → Result SplitElement FileFault
 front_element bytes =
     if nat_lt (length bytes) 8 then Err ElementPastTheTarget
@@ -39,11 +40,11 @@ front_element bytes =
       rest = drop (number_at 4 bytes) (drop 8 bytes);
     })
 
--- An element before others.
+-- Puts an element in front of the elements that were read after it, or keeps their fault.
 abbrev pub element_before_others : Piece → Result (List Piece) FileFault → Result (List Piece) FileFault
 element_before_others element more = more >>= λ elements. Ok (element ∷ elements)
 
--- `count` elements, and nothing after them.
+-- Reads `count` elements, or returns the first fault; bytes after them are one.
 unfoldable pub elements_at : (count : ℕ) → List ℕ → Result (List Piece) FileFault
 elements_at zero [] = Ok []
 elements_at zero (b ∷ bytes) = Err BadTargetSize
@@ -58,7 +59,7 @@ pub record Target : Type 0 where
   pub name : List ℕ
   pub elements : List Piece
 
--- The letters Target, at the front.
+-- The bytes begin with the letters Target.
 abbrev pub is_target : List ℕ → Bool
 is_target b = (slice_index b 0 == 84) && ((slice_index b 1 == 97) && ((slice_index b 2 == 114) && ((slice_index b 3 == 103)
     && ((slice_index b 4 == 101) && (slice_index b 5 == 116)))))
@@ -72,7 +73,8 @@ pub record Heading : Type 0 where
   pub content : List ℕ
   pub rest : List ℕ
 
--- The 274 bytes at the front of a target: the letters, the setting, the name, the size of its elements, and their number.
+-- Splits a target off the front of bytes: 274 bytes of letters, setting, name, size of its elements and their number, and then the
+-- elements.
 unfoldable pub heading_at : List ℕ → Result Heading FileFault
 heading_at bytes =
     if nat_lt (length bytes) 274 then Err NoTarget
@@ -87,15 +89,15 @@ heading_at bytes =
       rest = drop (number_at 266 bytes) (drop 274 bytes);
     })
 
--- A target of a heading and its elements.
+-- Target with the fields of a heading, and with these elements.
 abbrev pub target_with_elements : Heading → List Piece → Target
 target_with_elements h elements = record { setting = h.setting; named = h.named; name = h.name; elements = elements }
 
--- A target before others.
+-- Puts a target in front of the targets that were read after it, or keeps their fault.
 abbrev pub target_before_others : Target → Result (List Target) FileFault → Result (List Target) FileFault
 target_before_others target more = more >>= λ targets. Ok (target ∷ targets)
 
--- `count` targets, each with its elements, and nothing after them.
+-- Reads `count` targets, each with its elements, or returns the first fault; bytes after them are one.
 unfoldable pub targets_at : (count : ℕ) → List ℕ → Result (List Target) FileFault
 targets_at zero [] = Ok []
 targets_at zero (b ∷ bytes) = Err Trailing
@@ -106,17 +108,17 @@ targets_at (suc n) bytes =
 
 -- ---- the prefix
 
--- The letters DfuSe, at the front.
-abbrev pub is_prefixed : List ℕ → Bool
-is_prefixed b = (slice_index b 0 == 68) && ((slice_index b 1 == 102) && ((slice_index b 2 == 117) && ((slice_index b 3 == 83)
+-- The bytes begin with the letters DfuSe.
+abbrev pub begins_with_dfuse : List ℕ → Bool
+begins_with_dfuse b = (slice_index b 0 == 68) && ((slice_index b 1 == 102) && ((slice_index b 2 == 117) && ((slice_index b 3 == 83)
     && (slice_index b 4 == 101))))
 
--- The targets of the bytes before the suffix: after the letters, the version, the size and the number of targets. ST's tools give the size
--- without the suffix, and dfu-util's with it.
+-- Reads the bytes before the suffix: the letters DfuSe, the version, the size, the number of targets, and the targets. ST's tools write the
+-- size without the suffix, and dfu-util's with it.
 unfoldable pub body_at : (whole : ℕ) → List ℕ → Result (List Target) FileFault
 body_at whole bytes =
     if nat_lt (length bytes) 11 then Err NoPrefix
-    else if not (is_prefixed bytes) then Err NoPrefix
+    else if not (begins_with_dfuse bytes) then Err NoPrefix
     else if not (slice_index bytes 5 == 1) then Err BadVersion
     else if not ((number_at 6 bytes == length bytes) || (number_at 6 bytes == whole)) then Err BadImageSize
     else if slice_index bytes 10 == 0 then Err NoTargets
@@ -125,13 +127,13 @@ body_at whole bytes =
 -- ---- the suffix
 
 -- The bytes before the suffix, and the identifiers in it.
-pub record Suffixed : Type 0 where
+pub record PayloadAndIds : Type 0 where
   pub payload : List ℕ
   pub ids : Ids
 
--- Fields of the last 16 bytes of bytes that have no fault.
-abbrev pub suffixed_by : List ℕ → Suffixed
-suffixed_by bytes = record {
+-- Payload and identifiers of a file, by the fields of its last 16 bytes.
+abbrev pub payload_and_ids_of : List ℕ → PayloadAndIds
+payload_and_ids_of bytes = record {
   payload = take (length bytes - slice_index (tail_of bytes) 11) bytes;
   ids = record {
     device = little_number 2 (drop 0 (tail_of bytes));
@@ -140,12 +142,12 @@ suffixed_by bytes = record {
   };
 }
 
--- The fault of dfu_suffix that a DfuSe file has.
+-- The fault is `DfuSe`, which dfu_suffix finds in a DfuSe file.
 abbrev pub is_dfuse : SuffixFault → Bool
 is_dfuse suffix.DfuSe = true
 is_dfuse other = false
 
--- Refusal of a file with another fault than `DfuSe`; a wrong CRC says that the file is of another version.
+-- Refusal of a file with another fault than `DfuSe`. A wrong CRC becomes NotDfuSe, because dfu_suffix checks the version before it.
 abbrev pub suffix_refusal : SuffixFault → FileFault
 suffix_refusal suffix.TooLarge = TooLarge
 suffix_refusal suffix.TooShort = TooShort
@@ -153,26 +155,27 @@ suffix_refusal suffix.NoSignature = NoSignature
 suffix_refusal suffix.BadLength = BadLength
 suffix_refusal other = NotDfuSe
 
--- A suffix with bcdDFU 011Ah, whose CRC is looked at.
-abbrev pub suffix_with_checked_crc : List ℕ → Result Suffixed FileFault
-suffix_with_checked_crc bytes = if has_fault bytes suffix.BadCrc then Err BadCrc else Ok (suffixed_by bytes)
+-- Payload and identifiers of a file with bcdDFU 011Ah, or BadCrc if its CRC is wrong.
+abbrev pub suffix_with_checked_crc : List ℕ → Result PayloadAndIds FileFault
+suffix_with_checked_crc bytes = if has_fault bytes suffix.BadCrc then Err BadCrc else Ok (payload_and_ids_of bytes)
 
--- The suffix, by the first fault of dfu_suffix.
-unfoldable pub suffix_by : Option SuffixFault → List ℕ → Result Suffixed FileFault
-suffix_by None bytes = Err NotDfuSe
-suffix_by (Some fault) bytes = if is_dfuse fault then suffix_with_checked_crc bytes else Err (suffix_refusal fault)
+-- Reads the suffix, by the first fault that dfu_suffix finds, which is `DfuSe` in a DfuSe file.
+unfoldable pub suffix_by_fault : Option SuffixFault → List ℕ → Result PayloadAndIds FileFault
+suffix_by_fault None bytes = Err NotDfuSe
+suffix_by_fault (Some fault) bytes = if is_dfuse fault then suffix_with_checked_crc bytes else Err (suffix_refusal fault)
 
-abbrev pub suffix_at : List ℕ → Result Suffixed FileFault
-suffix_at bytes = suffix_by (find (has_fault bytes) fault_order) bytes
+-- Payload and identifiers of a DfuSe file, or the first fault of its suffix.
+abbrev pub suffix_at : List ℕ → Result PayloadAndIds FileFault
+suffix_at bytes = suffix_by_fault (find (has_fault bytes) fault_order) bytes
 
 -- ---- the file
 
--- A file: the device that it is for, and targets.
+-- Content of a DfuSe file: the identifiers of its device, and its targets.
 pub record DfuseContent : Type 0 where
   pub ids : Ids
   pub targets : List Target
 
--- A file of targets, or their fault.
+-- Content of these identifiers and targets, or the fault of the targets.
 abbrev pub file_of_targets : Ids → Result (List Target) FileFault → Result DfuseContent FileFault
 file_of_targets ids targets = targets >>= λ ts. Ok (record { ids = ids; targets = ts })
 

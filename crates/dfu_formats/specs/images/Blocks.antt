@@ -5,11 +5,11 @@ use Rattle.dfu_formats.specs.declared.images.fault.ImageFault.TheVariants.{BadSi
 use Rattle.dfu_formats.specs.images.Numbers.{le32}
 use Rattle.dfu_formats.specs.images.Elements.{Piece, Gathering, bytes_added, elements_by_part}
 
--- The three marks of a block.
+-- The block has the three marks of UF2.
 abbrev pub is_uf2_block : List ℕ → Bool
 is_uf2_block block = (le32 block 0 == 0x0A324655) && ((le32 block 4 == 0x9E5D5157) && (le32 block 508 == 0x0AB16F30))
 
--- A flag of a block, by its value.
+-- The block has flag `flag`, which is the value of one bit.
 abbrev pub has_flag : List ℕ → ℕ → Bool
 has_flag block flag = le32 block 8 / flag % 2 == 1
 
@@ -17,7 +17,8 @@ has_flag block flag = le32 block 8 / flag % 2 == 1
 abbrev pub family_of : List ℕ → ℕ
 family_of block = if has_flag block 0x2000 then le32 block 28 else 0
 
--- The data of a block goes to its address; a block that isn't for the main flash says nothing.
+-- Adds the data of a block at its address. A block that isn't for the main flash is skipped; one for a file of the device, for another
+-- family, or with data past the last address is a fault.
 unfoldable pub block_gathered : (family index : ℕ) → Gathering → List ℕ → Result Gathering ImageFault
 block_gathered family index g block =
     if has_flag block 1 then Ok g
@@ -26,7 +27,7 @@ block_gathered family index g block =
     else if nat_lt (2 ^ 32) (le32 block 12 + le32 block 16) then Err (PastTheEnd index)
     else bytes_added index g (record { address = le32 block 12; bytes = take (le32 block 16) (drop 32 block) })
 
--- A block has its marks, up to 476 bytes of data, its number, and the count of all.
+-- Reads a block, which must have the marks, up to 476 bytes of data, its own number, and the count of all blocks.
 unfoldable pub block_read : (total family index : ℕ) → Gathering → List ℕ → Result Gathering ImageFault
 block_read total family index g block =
     if not (is_uf2_block block) then Err (BadMagic index)
@@ -34,7 +35,7 @@ block_read total family index g block =
     else if not ((le32 block 20 == index) && (le32 block 24 == total)) then Err (BadNumber index)
     else block_gathered family index g block
 
--- The elements of a UF2 file, or its first fault. The file is for the family that its first block names.
+-- The elements of a UF2 file, or its first fault. The file has one or more blocks of 512 bytes, for the family of the first.
 unfoldable pub uf2_elements_of : List ℕ → Result (List Piece) ImageFault
 uf2_elements_of file =
     if (length file == 0) || not (length file % 512 == 0) then Err BadSize

@@ -1,10 +1,10 @@
--- Bytes in two hexadecimal digits each.
+-- Bytes that are spelled in two hexadecimal digits each.
 use Rattle.std.specs.Prelude.{ℕ, ◌+◌, ◌-◌, ◌*◌, ◌&&◌, nat_lt, nat_le, if◌then◌else◌, List, [], ◌∷◌, length, Option, Some, None, Result, Err}
 use Rattle.dfu_formats.specs.declared.images.fault.ImageFault.{ImageFault}
 use Rattle.dfu_formats.specs.declared.images.fault.ImageFault.TheVariants.{BadDigit, BadLength}
-use Rattle.dfu_formats.specs.images.Reading.{image_value_or}
+use Rattle.dfu_formats.specs.images.Reading.{value_or_image_fault}
 
--- The value of a digit of either case; 16 for a byte that is not a digit.
+-- Value of a hexadecimal digit of either case; 16 for any other byte.
 abbrev pub hex_value : ℕ → ℕ
 hex_value b =
     if nat_le 48 b && nat_le b 57 then b - 48
@@ -12,12 +12,12 @@ hex_value b =
     else if nat_le 65 b && nat_le b 70 then b - 55
     else 16
 
--- A byte before the bytes of the other pairs, if those spell bytes.
+-- Puts a byte in front of the bytes that the other pairs spell, if they spell any.
 abbrev pub byte_before_pairs : ℕ → Option (List ℕ) → Option (List ℕ)
 byte_before_pairs b None = None
 byte_before_pairs b (Some bs) = Some (b ∷ bs)
 
--- The bytes that digits spell, two digits for each, the high one first.
+-- Bytes that hexadecimal digits spell, two digits for each, the high digit first; none for an odd number of digits, or any other byte.
 unfoldable pub bytes_of_pairs : List ℕ → Option (List ℕ)
 bytes_of_pairs [] = Some []
 bytes_of_pairs (a ∷ []) = None
@@ -25,6 +25,6 @@ bytes_of_pairs (a ∷ b ∷ bs) =
     if nat_lt (hex_value a) 16 && nat_lt (hex_value b) 16 then byte_before_pairs (16 * hex_value a + hex_value b) (bytes_of_pairs bs) else
     None
 
--- The bytes of a record, at most 260.
+-- Bytes of the record on line `at`, at most 260, from its digits; or BadLength for over 520 digits, or BadDigit.
 unfoldable pub bytes_at : (at : ℕ) → List ℕ → Result (List ℕ) ImageFault
-bytes_at at digits = if nat_lt 520 (length digits) then Err (BadLength at) else image_value_or (BadDigit at) (bytes_of_pairs digits)
+bytes_at at digits = if nat_lt 520 (length digits) then Err (BadLength at) else value_or_image_fault (BadDigit at) (bytes_of_pairs digits)

@@ -4,47 +4,47 @@ use Rattle.dfu_formats.specs.declared.images.fault.ImageFault.{ImageFault}
 use Rattle.dfu_formats.specs.declared.images.fault.ImageFault.TheVariants.{TooLarge, TooManyElements, Overlaps}
 use Rattle.std.specs.List.{insert}
 use Rattle.std.specs.declared.alloc.Global.{Global}
-use Rattle.dfu_formats.specs.images.Reading.{◌>>=◌, parts_read, FailsToRead}
+use Rattle.dfu_formats.specs.images.Reading.{◌>>=◌, parts_read, IsReadFault}
 
--- Bytes, and the address of the first.
+-- An element: bytes, and the address of the first.
 pub record Piece : Type 0 where
   pub address : ℕ
   pub bytes : List ℕ
 
--- The address after the last byte.
+-- The address after the last byte of an element.
 abbrev pub end_of_piece : Piece → ℕ
 end_of_piece p = p.address + length p.bytes
 
--- Elements that are complete, by address; the element that still grows, which has no byte at first; and the number of bytes of all.
+-- Complete elements, sorted by address; the element that still grows, which has no bytes at first; and the total number of bytes.
 pub record Gathering : Type 0 where
   pub complete : List Piece
   pub growing : Piece
   pub total : ℕ
 
--- Nothing is gathered yet.
+-- Gathering before the first record: no elements, and no bytes.
 abbrev pub empty_gathering : Gathering
 empty_gathering = record { complete = []; growing = record { address = 0; bytes = [] }; total = 0 }
 
--- Number of elements, counted from the front, that begin at the address or before it.
+-- Number of elements at the front of the list that begin at the address or before it.
 unfoldable pub element_place : (address : ℕ) → List Piece → ℕ
 element_place address [] = 0
 element_place address (q ∷ qs) = if nat_lt address q.address then 0 else suc (element_place address qs)
 
--- An element among others by its address.
+-- Inserts an element into others by its address, after those that begin there or before.
 abbrev pub elements_with_inserted : Piece → List Piece → List Piece
 elements_with_inserted p qs = insert qs (element_place p.address qs) p
 
--- The elements once the growing one is complete.
+-- Elements with the growing one inserted, unless that has no bytes.
 unfoldable pub completed_elements : List Piece → (growing : Piece) → List Piece
 completed_elements complete p = if length p.bytes == 0 then complete else elements_with_inserted p complete
 
--- Bytes begin an element; there may be 1,024 elements.
+-- Begins an element with bytes, unless 1,024 or more are complete.
 unfoldable pub element_begun : (at total : ℕ) → (complete : List Piece) → Piece → Result Gathering ImageFault
 element_begun at total complete p =
     if nat_le 1024 (length complete) then Err (TooManyElements at)
     else Ok (record { complete = complete; growing = p; total = total })
 
--- Bytes that begin where the last ones end join their element, and others begin one.
+-- Appends bytes to the growing element if they begin at its end; otherwise completes it, and begins another.
 unfoldable pub element_grown : (at : ℕ) → Gathering → Piece → Result Gathering ImageFault
 element_grown at g p =
     if end_of_piece g.growing == p.address then Ok (record {
@@ -54,24 +54,24 @@ element_grown at g p =
     })
     else element_begun at (g.total + length p.bytes) (completed_elements g.complete g.growing) p
 
--- Bytes are added at an address; all together may have 16,777,216. No bytes change nothing.
+-- Adds bytes at an address, if there are any. All elements together may have at most 16,777,216 bytes.
 unfoldable pub bytes_added : (at : ℕ) → Gathering → Piece → Result Gathering ImageFault
 bytes_added at g p =
     if length p.bytes == 0 then Ok g
     else if nat_lt 16777216 (g.total + length p.bytes) then Err (TooLarge at)
     else element_grown at g p
 
--- The first address that lies before the end of the element before it.
+-- The first address of an element that is below the end of the element in front of it.
 unfoldable pub shared_address : (end : ℕ) → List Piece → Option ℕ
 shared_address end [] = None
 shared_address end (p ∷ ps) = if nat_lt p.address end then Some p.address else shared_address (end_of_piece p) ps
 
--- Elements that share no address.
+-- The elements if none share an address, and otherwise Overlaps.
 abbrev pub elements_unless_shared : List Piece → Option ℕ → Result (List Piece) ImageFault
 elements_unless_shared all None = Ok all
 elements_unless_shared all (Some address) = Err (Overlaps address)
 
--- The elements of what was gathered, of which no two share an address.
+-- Elements of a gathering, or Overlaps if two of them share an address.
 unfoldable pub gathered_elements : Gathering → Result (List Piece) ImageFault
 gathered_elements g = let all = completed_elements g.complete g.growing in elements_unless_shared all (shared_address 0 all)
 
@@ -80,12 +80,12 @@ abbrev pub elements_by_part : (size : ℕ) → (read : ℕ → Gathering → Lis
     Result (List Piece) ImageFault
 elements_by_part size read total bytes = parts_read size read total 0 empty_gathering bytes >>= gathered_elements
 
--- Each element begins at `from` or later, and at the end of the one before it or later.
+-- Each element begins at or after `from`, and at or after the end of the element in front of it.
 unfoldable pub AreApart : (from : ℕ) → List Piece → Type 0
 AreApart from [] = Unit {0}
 AreApart from (p ∷ ps) = (from ≤ p.address) × AreApart (end_of_piece p) ps
 
--- A call gives the elements or their fault, unless memory ran out.
-abbrev pub GivesElements : Result (Vec Piece Global) ImageFault → Result (List Piece) ImageFault → Type 0
-GivesElements (Ok elements) read = read ≡ Ok elements.items
-GivesElements (Err fault) read = FailsToRead fault read
+-- A call returned the elements or the fault of `read`, unless memory ran out.
+abbrev pub IsElementResult : Result (Vec Piece Global) ImageFault → Result (List Piece) ImageFault → Type 0
+IsElementResult (Ok elements) read = read ≡ Ok elements.items
+IsElementResult (Err fault) read = IsReadFault fault read

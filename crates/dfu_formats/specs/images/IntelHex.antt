@@ -7,21 +7,21 @@ use Rattle.dfu_formats.specs.images.Digits.{bytes_at}
 use Rattle.dfu_formats.specs.images.Lines.{State, elements_by_line}
 use Rattle.dfu_formats.specs.images.Elements.{Piece, bytes_added}
 
--- The bytes of a record: `:`, and two digits for each.
-unfoldable pub hex_spelled : (at : ℕ) → List ℕ → Result (List ℕ) ImageFault
-hex_spelled at [] = Err (NoMark at)
-hex_spelled at (b ∷ digits) = if b == 58 then bytes_at at digits else Err (NoMark at)
+-- Bytes of the record on a line: `:`, and two digits for each byte.
+unfoldable pub hex_bytes_of_line : (at : ℕ) → List ℕ → Result (List ℕ) ImageFault
+hex_bytes_of_line at [] = Err (NoMark at)
+hex_bytes_of_line at (b ∷ digits) = if b == 58 then bytes_at at digits else Err (NoMark at)
 
--- A record: where its data goes, counted from the base, its type, and its data.
+-- A record: the offset of its data from the base, its type, and its data.
 pub record HexRecord : Type 0 where
   pub offset : ℕ
   pub kind : ℕ
   pub content : List ℕ
 
--- A record of a count, an offset of two bytes, a type, as many bytes of data as the count says, and a checksum by which all bytes
--- together make 0.
-unfoldable pub hex_framed : (at : ℕ) → List ℕ → Result HexRecord ImageFault
-hex_framed at bytes =
+-- Splits a record: a count, an offset of two bytes, a type, `count` bytes of data, and a checksum that makes the sum of all bytes 0 modulo
+-- 256.
+unfoldable pub hex_record_of_bytes : (at : ℕ) → List ℕ → Result HexRecord ImageFault
+hex_record_of_bytes at bytes =
     if not (length bytes == slice_index bytes 0 + 5) then Err (BadLength at)
     else if not (sum bytes % 256 == 0) then Err (BadChecksum at)
     else Ok (record {
@@ -30,17 +30,17 @@ hex_framed at bytes =
       content = take (slice_index bytes 0) (drop 4 bytes);
     })
 
--- The data of a record goes past the end of its segment of 65,536 bytes. A base that is no segment has no end.
+-- The data of a record goes past the end of its segment of 65,536 bytes. A linear base has no such end.
 abbrev pub leaves_segment : State → HexRecord → Bool
 leaves_segment s r = s.is_segment && nat_lt 65536 (r.offset + length r.content)
 
--- Data at an offset from the base, which ends by the end of its segment, if it has one, and by the last address of 32 bits.
+-- Adds data at an offset from the base. It must end within its segment, if it has one, and within the addresses of 32 bits.
 unfoldable pub hex_data_at : (at : ℕ) → State → HexRecord → Result State ImageFault
 hex_data_at at s r =
     if leaves_segment s r || nat_lt (2 ^ 32) (s.base + r.offset + length r.content) then Err (PastSegment at)
     else bytes_added at s.gathering (record { address = s.base + r.offset; bytes = r.content }) >>= λ g. Ok (record s { gathering = g })
 
--- A record sets a new base: two bytes, in units of `unit` addresses. In units of 16 the base is a segment.
+-- Sets the base to the two bytes of a record, times `unit`; other than two bytes are a fault. A base in units of 16 is a segment.
 unfoldable pub state_with_base : (at unit : ℕ) → State → HexRecord → Result State ImageFault
 state_with_base at unit s r =
     if length r.content == 2 then Ok (record s {
@@ -49,9 +49,10 @@ state_with_base at unit s r =
     })
     else Err (BadLength at)
 
--- Meaning of a record: 0 data, 1 the end, 2 a segment in paragraphs of 16, 4 the upper half of addresses, 3 and 5 where a program begins.
-unfoldable pub hex_meant : (at : ℕ) → State → HexRecord → Result State ImageFault
-hex_meant at s r =
+-- Carries out a record by its type: 0 data, 1 the end, 2 a segment in units of 16, 4 the upper half of addresses, 3 and 5 the start of a
+-- program, which is ignored. Another type, or length than that of the type, is a fault.
+unfoldable pub hex_record_applied : (at : ℕ) → State → HexRecord → Result State ImageFault
+hex_record_applied at s r =
     if r.kind == 0 then hex_data_at at s r
     else if r.kind == 1 then
     if length r.content == 0 then Ok (record s { is_whole = true; is_ended = true }) else Err (BadLength at)
@@ -60,9 +61,9 @@ hex_meant at s r =
     else if (r.kind == 3) || (r.kind == 5) then if length r.content == 4 then Ok s else Err (BadLength at)
     else Err (BadType at)
 
--- The record on a line.
+-- Reads the record on line `at`, and carries it out.
 unfoldable pub hex_record_read : (at : ℕ) → State → List ℕ → Result State ImageFault
-hex_record_read at s line = hex_spelled at line >>= hex_framed at >>= hex_meant at s
+hex_record_read at s line = hex_bytes_of_line at line >>= hex_record_of_bytes at >>= hex_record_applied at s
 
 -- The elements of an Intel HEX file, or its first fault.
 unfoldable pub hex_elements_of : List ℕ → Result (List Piece) ImageFault

@@ -7,17 +7,17 @@ use Rattle.dfu_formats.specs.images.Reading.{◌>>=◌}
 use Rattle.dfu_formats.specs.images.Text.{is_blank_byte, without_leading_blanks, without_order_mark}
 use Rattle.dfu_formats.specs.images.Elements.{Piece, Gathering, empty_gathering, gathered_elements}
 
--- A byte at the front of the first line.
+-- Puts a byte at the front of the first line, or in a line of its own if there is none.
 abbrev pub byte_before_lines : ℕ → List (List ℕ) → List (List ℕ)
 byte_before_lines b [] = (b ∷ []) ∷ []
 byte_before_lines b (line ∷ lines) = (b ∷ line) ∷ lines
 
--- Texts between line feeds, which may be empty.
+-- Lines of a text, without their line feeds. A line may be empty.
 unfoldable pub lines : List ℕ → List (List ℕ)
 lines [] = [] ∷ []
 lines (b ∷ bs) = if b == 10 then [] ∷ lines bs else byte_before_lines b (lines bs)
 
--- A line feed.
+-- The byte is a line feed.
 abbrev pub is_line_feed : ℕ → Bool
 is_line_feed b = b == 10
 
@@ -29,8 +29,8 @@ without_trailing_blanks bytes = take (length bytes - suffix_len is_blank_byte by
 unfoldable pub bare_line : List ℕ → List ℕ
 bare_line line = without_trailing_blanks (without_leading_blanks line)
 
--- State of the reading up to a line: the elements, what Intel HEX counts offsets from, whether that is a segment of 65,536 bytes, how many
--- S-records of data there were, whether the text may end here, and whether it ended.
+-- State of reading a text up to a line: the elements, the base of Intel HEX, whether the base is that of a segment of 65,536 bytes, the
+-- number of S-records of data, whether the text may end here, and whether an end record was read.
 pub record State : Type 0 where
   pub gathering : Gathering
   pub base : ℕ
@@ -50,7 +50,7 @@ state_before_first_line = record {
   is_ended = false;
 }
 
--- A line is a record, or blanks alone, or empty. After the end no record may follow.
+-- Reads a line: a record, blanks alone, or nothing. A record after the end record is a fault.
 unfoldable pub line_read : (record_read : ℕ → State → List ℕ → Result State ImageFault) → (at : ℕ) → State → List ℕ →
     Result State ImageFault
 line_read record_read at s line =
@@ -58,13 +58,13 @@ line_read record_read at s line =
     else if s.is_ended then Err (Trailing at)
     else record_read at s line
 
--- Lines are read one after the other, the first of which has the number `at`; behind the last one the text must be whole.
+-- Reads lines one after the other, the first of which has number `at`. The text must be whole after the last line.
 unfoldable pub lines_read : (read : ℕ → State → List ℕ → Result State ImageFault) → (at : ℕ) → State → List (List ℕ) →
     Result State ImageFault
 lines_read read at s [] = if s.is_whole then Ok s else Err NoEnd
 lines_read read at s (line ∷ more) = read at s (bare_line line) >>= λ t. lines_read read (at + 1) t more
 
--- The elements of a text, behind its byte order mark, or its first fault.
+-- The elements of a text, without its byte order mark, or its first fault.
 abbrev pub elements_by_line : (record_read : ℕ → State → List ℕ → Result State ImageFault) → List ℕ → Result (List Piece) ImageFault
 elements_by_line record_read text =
     lines_read (line_read record_read) 1 state_before_first_line (lines (without_order_mark text)) >>= λ s. gathered_elements s.gathering

@@ -7,8 +7,8 @@ use Rattle.dfu_formats.specs.declared.images.making.Image.{Image}
 use Rattle.dfu_formats.specs.declared.images.making.ImageFileFault.{ImageFileFault}
 use Rattle.dfu_formats.specs.declared.images.making.ImageFileFault.TheVariants.{Unread, NoData, Unlaid}
 use Rattle.dfu_formats.specs.images.Elements.{Piece}
-use Rattle.dfu_formats.specs.images.Laying.{FailsToLay, laid_bytes, lowest_address}
-use Rattle.dfu_formats.specs.images.Reading.{FailsToRead}
+use Rattle.dfu_formats.specs.images.Laying.{IsLayFault, laid_bytes, lowest_address}
+use Rattle.dfu_formats.specs.images.Reading.{IsReadFault}
 use Rattle.dfu_formats.specs.images.IntelHex as hex
 use Rattle.dfu_formats.specs.images.SRecord as srec
 use Rattle.dfu_formats.specs.images.Blocks as uf2
@@ -21,16 +21,16 @@ elements_in format.SRecord file = srec.srec_elements_of file
 elements_in format.Uf2 file = uf2.uf2_elements_of file
 elements_in format.Elf file = elf.elf_elements_of file
 
--- Elements, at least one, make an image with these bytes from the lowest address on.
+-- At least one element was read, and `image` has the bytes of all, from the lowest address on, with gaps filled by `fill`, if it is given.
 abbrev pub ElementsMakeImage : Option ℕ → Result (List Piece) ImageFault → Image → Type 0
 ElementsMakeImage fill read image = (ps : List Piece) × (read ≡ Ok ps) × (0 < length ps) × (image.address ≡ lowest_address ps)
     × (laid_bytes fill 0 (lowest_address ps) ps ≡ Ok image.bytes.items)
 
--- Result for the elements that were read of a file: its fault; or that it has no bytes; or its elements as one piece; or the fault for
--- which they make no piece.
-abbrev pub MakesImage : Option ℕ → Result (List Piece) ImageFault → Result Image ImageFileFault → Type 0
-MakesImage fill read (Ok image) = ElementsMakeImage fill read image
-MakesImage fill read (Err (Unread fault)) = FailsToRead fault read
-MakesImage fill read (Err NoData) = read ≡ Ok []
-MakesImage fill read (Err (Unlaid fault)) = (ps : List Piece) × (read ≡ Ok ps) × (0 < length ps) ×
-    FailsToLay fault (laid_bytes fill 0 (lowest_address ps) ps)
+-- Result of making an image from the reading of a file: its elements as one piece; or the fault of the reading; or NoData without elements;
+-- or the fault for which the elements make no piece.
+abbrev pub MakeImageResult : Option ℕ → Result (List Piece) ImageFault → Result Image ImageFileFault → Type 0
+MakeImageResult fill read (Ok image) = ElementsMakeImage fill read image
+MakeImageResult fill read (Err (Unread fault)) = IsReadFault fault read
+MakeImageResult fill read (Err NoData) = read ≡ Ok []
+MakeImageResult fill read (Err (Unlaid fault)) = (ps : List Piece) × (read ≡ Ok ps) × (0 < length ps) ×
+    IsLayFault fault (laid_bytes fill 0 (lowest_address ps) ps)

@@ -1,4 +1,4 @@
--- The first byte of a text of records that no record has at its place.
+-- Search of a text for the first byte that no record may have at its place.
 use Rattle.std.specs.Prelude.{ℕ, ◌+◌, ◌==◌, nat_lt, if◌then◌else◌, List, [], ◌∷◌, Option, Some, None}
 use Rattle.dfu_formats.specs.images.Digits.{hex_value}
 use Rattle.dfu_formats.specs.images.Text.{is_blank_byte, without_order_mark}
@@ -8,18 +8,18 @@ use Rattle.dfu_formats.specs.declared.images.places.Part.{Part}
 use Rattle.dfu_formats.specs.declared.images.places.Part.TheVariants.{Front, Digits, Back}
 use Rattle.dfu_formats.specs.declared.images.places.Place.{Place}
 
--- Part of a line after a byte, if a record has such a byte in the part. A line is blanks, the mark, digits, and blanks.
+-- Part of a line after a byte; None if no record may have the byte in this part. A line is blanks, the mark, digits, and blanks.
 abbrev pub part_after_byte : (mark : ℕ) → Part → ℕ → Option Part
 part_after_byte mark Front b = if is_blank_byte b then Some Front else if b == mark then Some Digits else None
 part_after_byte mark Digits b = if nat_lt (hex_value b) 16 then Some Digits else if is_blank_byte b then Some Back else None
 part_after_byte mark Back b = if is_blank_byte b then Some Back else None
 
--- The place of a byte that no record has there; behind any other byte the search goes on, in the part after it.
+-- The place of a byte that no record may have there; after any other byte the search continues with the next part.
 abbrev pub place_or_search : Place → (part : Option Part) → (more : Part → Option Place) → Option Place
 place_or_search place None more = Some place
 place_or_search place (Some part) more = more part
 
--- The first byte that no record has at its place, in bytes that begin at this line and column. A line feed ends a line.
+-- Place of the first byte that no record may have there, in bytes that begin at this line and column, in part `part` of a line.
 unfoldable pub bad_from : (mark : ℕ) → Part → (line column : ℕ) → List ℕ → Option Place
 bad_from mark part line column [] = None
 bad_from mark part line column (b ∷ bs) =
@@ -27,7 +27,8 @@ bad_from mark part line column (b ∷ bs) =
     else place_or_search (record { line = line; column = column }) (part_after_byte mark part b)
     (λ next. bad_from mark next line (column + 1) bs)
 
--- The first byte that no record has at its place, in a file of a format of text. Lines and columns count from 1, behind a byte order mark.
+-- Place of the first byte that no record may have there, in a file of a text format. Lines and columns count from 1, after a byte order
+-- mark.
 abbrev pub bad_place : Format → List ℕ → Option Place
 bad_place IntelHex file = bad_from 58 Front 1 1 (without_order_mark file)
 bad_place SRecord file = bad_from 83 Front 1 1 (without_order_mark file)

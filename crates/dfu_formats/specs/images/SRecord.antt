@@ -13,21 +13,21 @@ pub record TypedBytes : Type 0 where
   pub bytes : List ℕ
 
 -- A record's type and bytes: `S`, a digit, and two digits for each byte.
-unfoldable pub srec_spelled : (at : ℕ) → List ℕ → Result TypedBytes ImageFault
-srec_spelled at [] = Err (NoMark at)
-srec_spelled at (b ∷ []) = Err (NoMark at)
-srec_spelled at (b ∷ kind ∷ digits) =
+unfoldable pub srec_bytes_of_line : (at : ℕ) → List ℕ → Result TypedBytes ImageFault
+srec_bytes_of_line at [] = Err (NoMark at)
+srec_bytes_of_line at (b ∷ []) = Err (NoMark at)
+srec_bytes_of_line at (b ∷ kind ∷ digits) =
     if (b == 83) && (nat_le 48 kind && nat_le kind 57) then (bytes_at at digits >>= λ bytes. Ok (record { kind = kind - 48; bytes = bytes }))
     else Err (NoMark at)
 
--- Number of bytes of the address: four of types 3 and 7, three of 2, 6 and 8, and else two.
+-- Number of bytes of an address: four for types 3 and 7, three for 2, 6 and 8, and two for the others.
 abbrev pub address_width : (kind : ℕ) → ℕ
 address_width kind =
     if (kind == 3) || (kind == 7) then 4
     else if (kind == 2) || ((kind == 6) || (kind == 8)) then 3
     else 2
 
--- The number in bytes, the highest first.
+-- The number in bytes, the high byte first.
 abbrev pub number_of_bytes : List ℕ → ℕ
 number_of_bytes bytes = fold (λ n b. 256 * n + b) 0 bytes
 
@@ -37,9 +37,9 @@ pub record SRecordLine : Type 0 where
   pub address : ℕ
   pub content : List ℕ
 
--- A record of a count, an address, data, and a checksum by which all bytes together make 255; the count is of all bytes after it.
-unfoldable pub srec_framed : (at : ℕ) → TypedBytes → Result SRecordLine ImageFault
-srec_framed at t =
+-- Splits a record: a count of the bytes after it, an address, data, and a checksum that makes the sum of all bytes 255 modulo 256.
+unfoldable pub srec_record_of_bytes : (at : ℕ) → TypedBytes → Result SRecordLine ImageFault
+srec_record_of_bytes at t =
     if not (length t.bytes == slice_index t.bytes 0 + 1) || nat_lt (length t.bytes) (address_width t.kind + 2) then Err (BadLength at)
     else if not (sum t.bytes % 256 == 255) then Err (BadChecksum at)
     else Ok (record {
@@ -48,32 +48,32 @@ srec_framed at t =
       content = take (length t.bytes - (address_width t.kind + 2)) (drop (address_width t.kind + 1) t.bytes);
     })
 
--- Data, which ends by the last address of 32 bits.
+-- Adds the data of a record, which must end within the addresses of 32 bits, and counts the record.
 unfoldable pub srec_data_at : (at : ℕ) → State → SRecordLine → Result State ImageFault
 srec_data_at at s r =
     if nat_lt (2 ^ 32) (r.address + length r.content) then Err (PastSegment at)
     else bytes_added at s.gathering (record { address = r.address; bytes = r.content })
     >>= λ g. Ok (record s { gathering = g; count = s.count + 1; is_whole = false })
 
--- The count of the records of data so far, or the end, each of which has no data.
-unfoldable pub srec_closed : (at : ℕ) → State → SRecordLine → Result State ImageFault
-srec_closed at s r =
+-- Reads a count, which must be that of the data records so far, or an end record. Neither may have data.
+unfoldable pub srec_count_or_end : (at : ℕ) → State → SRecordLine → Result State ImageFault
+srec_count_or_end at s r =
     if not (length r.content == 0) then Err (BadLength at)
     else if nat_le 7 r.kind then Ok (record s { is_whole = true; is_ended = true })
     else if r.address == s.count then Ok (record s { is_whole = true })
     else Err (BadCount at)
 
--- Meaning of a record: 0 a title, 1 to 3 data, 5 and 6 a count, 7 to 9 the end.
-unfoldable pub srec_meant : (at : ℕ) → State → SRecordLine → Result State ImageFault
-srec_meant at s r =
+-- Carries out a record by its type: 0 a title, which is ignored, 1 to 3 data, 5 and 6 a count, 7 to 9 the end. Type 4 is a fault.
+unfoldable pub srec_record_applied : (at : ℕ) → State → SRecordLine → Result State ImageFault
+srec_record_applied at s r =
     if r.kind == 0 then Ok s
     else if nat_le r.kind 3 then srec_data_at at s r
     else if r.kind == 4 then Err (BadType at)
-    else srec_closed at s r
+    else srec_count_or_end at s r
 
--- The record on a line.
+-- Reads the record on line `at`, and carries it out.
 unfoldable pub srec_record_read : (at : ℕ) → State → List ℕ → Result State ImageFault
-srec_record_read at s line = srec_spelled at line >>= srec_framed at >>= srec_meant at s
+srec_record_read at s line = srec_bytes_of_line at line >>= srec_record_of_bytes at >>= srec_record_applied at s
 
 -- The elements of a file of S-records, or its first fault.
 unfoldable pub srec_elements_of : List ℕ → Result (List Piece) ImageFault

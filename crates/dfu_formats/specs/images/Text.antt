@@ -17,22 +17,22 @@ unfoldable pub without_leading_blanks : List ℕ → List ℕ
 without_leading_blanks [] = []
 without_leading_blanks (b ∷ bs) = if is_blank_byte b || (b == 10) then without_leading_blanks bs else b ∷ bs
 
--- A byte of text: no control character but tab, line feed, form feed and carriage return.
+-- A byte of text: no ASCII control character but tab, line feed, form feed and carriage return.
 abbrev pub is_text_byte : ℕ → Bool
 is_text_byte b = (nat_le 32 b && not (b == 127)) || ((b == 9) || ((b == 10) || ((b == 12) || (b == 13))))
 
--- No byte of a character is awaited.
+-- State between two characters: no byte is awaited.
 abbrev pub nothing_awaited : Awaited
 nothing_awaited = record { left = 0; low = 0x80; high = 0xBF }
 
--- Number of bytes of a character in UTF-8 that follow its first one, which is none of ASCII.
+-- Number of bytes that follow the first byte of a UTF-8 character, which isn't ASCII.
 abbrev pub continuation_byte_count : ℕ → ℕ
 continuation_byte_count b = if nat_lt b 0xE0 then 1 else if nat_lt b 0xF0 then 2 else 3
 
--- Bytes that are awaited behind the first byte of a character, if a character can begin with it: ASCII, or C2h to F4h. The first byte
--- bounds the second.
-abbrev pub awaited_behind_first : ℕ → Option Awaited
-awaited_behind_first b =
+-- Bytes awaited after the first byte of a character: none after ASCII text, one to three after C2h to F4h. Any other byte is refused. The
+-- first byte bounds the second.
+abbrev pub awaited_after_first_byte : ℕ → Option Awaited
+awaited_after_first_byte b =
     if nat_lt b 128 then (if is_text_byte b then Some nothing_awaited else None)
     else if nat_le 0xC2 b && nat_le b 0xF4 then Some (record {
       left = continuation_byte_count b;
@@ -42,23 +42,24 @@ awaited_behind_first b =
     })
     else None
 
--- Bytes that are awaited behind a byte, if it may stand there. Each byte after the second of a character is 80h to BFh.
-abbrev pub awaited_behind : Awaited → ℕ → Option Awaited
-awaited_behind a b =
-    if a.left == 0 then awaited_behind_first b
+-- Bytes awaited after a byte; None if the byte is not allowed here. Each byte after the second of a character is 80h to BFh.
+abbrev pub awaited_after_byte : Awaited → ℕ → Option Awaited
+awaited_after_byte a b =
+    if a.left == 0 then awaited_after_first_byte b
     else if nat_le a.low b && nat_le b a.high then Some (record { left = a.left - 1; low = 0x80; high = 0xBF })
     else None
 
--- Text goes on behind a byte that may stand there.
-abbrev pub awaited_text_follows : Option Awaited → (more : Awaited → Bool) → Bool
-awaited_text_follows None more = false
-awaited_text_follows (Some a) more = more a
+-- False after a byte that is not allowed; otherwise the test of the bytes after it.
+abbrev pub text_continues_after : Option Awaited → (more : Awaited → Bool) → Bool
+text_continues_after None more = false
+text_continues_after (Some a) more = more a
 
--- The bytes are text in UTF-8 (Unicode, table 3-7), of whose first character the awaited bytes are still to come; each character is whole.
-unfoldable pub text_from : Awaited → List ℕ → Bool
-text_from a [] = a.left == 0
-text_from a (b ∷ bs) = awaited_text_follows (awaited_behind a b) (λ next. text_from next bs)
+-- The bytes are UTF-8 text (Unicode, table 3-7) that begins with the awaited bytes of a character, and no character is cut off.
+unfoldable pub is_text_from : Awaited → List ℕ → Bool
+is_text_from a [] = a.left == 0
+is_text_from a (b ∷ bs) = text_continues_after (awaited_after_byte a b) (λ next. is_text_from next bs)
 
--- The file is text alone: it is not empty, is UTF-8, and has no control character but those of text. A byte order mark is UTF-8 too.
+-- The file is text alone: not empty, UTF-8, and without ASCII control characters but tab, line feed, form feed and carriage return. A byte
+-- order mark is UTF-8 too.
 abbrev pub is_text : List ℕ → Bool
-is_text file = not (length file == 0) && text_from nothing_awaited file
+is_text file = not (length file == 0) && is_text_from nothing_awaited file

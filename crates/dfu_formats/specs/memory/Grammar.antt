@@ -11,20 +11,21 @@ unfoldable pub AreDigits : (base : ℕ) → List ℕ → Type 0
 AreDigits base [] = Unit {0}
 AreDigits base (b ∷ bs) = (digit_value b < base) × AreDigits base bs
 
--- `n` is the number in the digits of a base: at least one digit, and at most `most`.
+-- `digits` spell `n` in base `base`: at least one digit, and at most `most`.
 pub record IsNumber (base most n : ℕ) (digits : List ℕ) : Type 0 where
   pub are_digits : AreDigits base digits
   pub some : 1 ≤ length digits
   pub few : length digits ≤ most
   pub digits_make_number : n ≡ digits_number base 0 digits
 
--- Bytes that a unit stands for: K 1,024, M 1,048,576, and B, the space or no unit 1.
+-- `times` is the number of bytes of a unit: 1,024 for K, 1,048,576 for M, and 1 for B, a space or no unit.
 abbrev pub IsUnit : (times : ℕ) → List ℕ → Type 0
 IsUnit times [] = times ≡ 1
 IsUnit times (b ∷ []) = (times ≡ unit_bytes b) × (unit_bytes b ≢ 0)
 IsUnit times (a ∷ b ∷ bs) = ⊥
 
--- A group of pages that begins at `start`: a count, `*`, a size and its unit, and the letter that says the access.
+-- A group of pages that begins at `start`, and ends within the addresses of 32 bits: a count, `*`, a page size and its unit, and the letter
+-- for the access. Count and size aren't 0.
 pub record IsGroup (start : ℕ) (p : Pages) (text : List ℕ) : Type 0 where
   pub count_digits : List ℕ
   pub size_digits : List ℕ
@@ -50,7 +51,7 @@ IsPrefix (a ∷ []) = ⊥
 IsPrefix (a ∷ b ∷ []) = (a ≡ 48) × ((b ≡ 120) ⊎ (b ≡ 88))
 IsPrefix (a ∷ b ∷ c ∷ cs) = ⊥
 
--- An address in one to eight hexadecimal digits.
+-- An address in one to eight hexadecimal digits, with or without a prefix.
 pub record IsAddress (address : ℕ) (text : List ℕ) : Type 0 where
   pub prefix : List ℕ
   pub digits : List ℕ
@@ -58,8 +59,8 @@ pub record IsAddress (address : ℕ) (text : List ℕ) : Type 0 where
   pub prefix_is : IsPrefix prefix
   pub number_is : IsNumber 16 8 address digits
 
--- Ranges, of which the first begins at `start`. After `,` a range begins where the one before it ends; after `/` its address and `/`
--- follow.
+-- Text of ranges, the first of which begins at `start`. After `,` a range begins at the end of the range in front of it; after `/` come its
+-- address and `/`.
 pub data AreRanges : (start : ℕ) → List Pages → List ℕ → Type 0 where
   last : {start : ℕ} {p : Pages} {text : List ℕ} → IsGroup start p text → AreRanges start (p ∷ []) text
   following : {start : ℕ} {p : Pages} {ps : List Pages} {group more : List ℕ} →
@@ -68,31 +69,32 @@ pub data AreRanges : (start : ℕ) → List Pages → List ℕ → Type 0 where
       IsGroup start p group → IsAddress place address → AreRanges place ps more →
       AreRanges start (p ∷ ps) (group ++ 47 ∷ (address ++ 47 ∷ more))
 
--- No byte is `/`.
-unfoldable pub HasNoStroke : List ℕ → Type 0
-HasNoStroke [] = Unit {0}
-HasNoStroke (b ∷ bs) = (b ≢ 47) × HasNoStroke bs
+-- The text has no `/`.
+unfoldable pub HasNoSlash : List ℕ → Type 0
+HasNoSlash [] = Unit {0}
+HasNoSlash (b ∷ bs) = (b ≢ 47) × HasNoSlash bs
 
--- The last byte is not a space, or there is none.
-unfoldable pub NoTrailingSpace : List ℕ → Type 0
-NoTrailingSpace [] = Unit {0}
-NoTrailingSpace (b ∷ []) = b ≢ 32
-NoTrailingSpace (a ∷ b ∷ bs) = NoTrailingSpace (b ∷ bs)
+-- The bytes are empty, or their last is not a space.
+unfoldable pub HasNoTrailingSpace : List ℕ → Type 0
+HasNoTrailingSpace [] = Unit {0}
+HasNoTrailingSpace (b ∷ []) = b ≢ 32
+HasNoTrailingSpace (a ∷ b ∷ bs) = HasNoTrailingSpace (b ∷ bs)
 
--- A string is a map: `@`, a name, spaces, and between strokes an address, and up to 32 ranges from there on that share no address.
+-- `text` is a map: `@`, a name without `/` and without a space at its end, spaces, an address between two `/`, and up to 32 ranges, the
+-- first at that address, that share no address.
 pub record IsMap (m : MapContent) (text : List ℕ) : Type 0 where
   pub spaces : ℕ
   pub place : ℕ
   pub address : List ℕ
   pub list : List ℕ
   pub spelled : text ≡ 64 ∷ (m.name ++ (replicate spaces 32 ++ 47 ∷ (address ++ 47 ∷ list)))
-  pub no_stroke : HasNoStroke m.name
-  pub no_space : NoTrailingSpace m.name
+  pub no_slash : HasNoSlash m.name
+  pub no_space : HasNoTrailingSpace m.name
   pub address_is : IsAddress place address
   pub list_is : AreRanges place m.ranges list
   pub few : length m.ranges ≤ 32
   pub apart : are_apart m.ranges ≡ true
 
--- First fault of a string that is not a map.
+-- `fault` is the first fault of the string, read as a map.
 abbrev pub FirstMapFault : MapFault → List ℕ → Type 0
 FirstMapFault fault text = map_at text ≡ Err fault

@@ -1,4 +1,4 @@
--- Facts of an address by a map: its range, its page, and its access.
+-- Look-ups of an address in a map: its range, its page, and its access.
 use Rattle.std.specs.Prelude.{◌≡◌, ℕ, ◌+◌, ◌-◌, ◌*◌, ◌/◌, ◌<◌, ◌≤◌, ◌&&◌, ◌||◌, not, nat_lt, nat_le, Bool, true, List, [], ◌∷◌, Option, Some, None, if◌then◌else◌}
 use Rattle.std.specs.Option.{option_map}
 use Rattle.dfu_formats.specs.declared.memory.pages.Access.{Access}
@@ -11,7 +11,7 @@ use Rattle.dfu_formats.specs.memory.Ranges.{IsRange, end_of_range, are_apart}
 abbrev pub range_has : ℕ → Pages → Bool
 range_has address p = nat_le p.start address && nat_lt address (end_of_range p)
 
--- The range that has the address: the first, and in a map the only one.
+-- The range that has the address, if one has: the first, and in a map the only one.
 unfoldable pub range_at : ℕ → List Pages → Option Pages
 range_at address [] = None
 range_at address (p ∷ ps) = if range_has address p then Some p else range_at address ps
@@ -24,7 +24,7 @@ page_in address p = record {
   access = p.access;
 }
 
--- The page of the ranges that has the address.
+-- The page of the ranges that has the address, if one has.
 abbrev pub page_at : ℕ → List Pages → Option Page
 page_at address ranges = option_map (page_in address) (range_at address ranges)
 
@@ -32,13 +32,13 @@ page_at address ranges = option_map (page_in address) (range_at address ranges)
 abbrev pub end_of_page : Page → ℕ
 end_of_page p = p.start + p.size
 
--- The granted access has each access that is wanted.
+-- The granted access includes the wanted access.
 abbrev pub access_grants : (granted wanted : Access) → Bool
 access_grants granted wanted =
     (granted.is_readable || not wanted.is_readable)
     && ((granted.is_erasable || not wanted.is_erasable) && (granted.is_writable || not wanted.is_writable))
 
--- The range is there, and grants the wanted access.
+-- There is a range, and it grants the wanted access.
 abbrev pub IsGranted : Access → Option Pages → Type 0
 IsGranted wanted None = ⊥
 IsGranted wanted (Some p) = access_grants p.access wanted ≡ true
@@ -47,7 +47,7 @@ IsGranted wanted (Some p) = access_grants p.access wanted ≡ true
 abbrev pub AllGranted : Access → (start end : ℕ) → List Pages → Type 0
 AllGranted wanted start end ranges = (a : ℕ) → start ≤ a → a < end → IsGranted wanted (range_at a ranges)
 
--- Each address of a page has that page as its own.
+-- In sound ranges that share no address, `page_at` returns the same page for all addresses of a page that it returns.
 abbrev pub AddressOnOnePage : Type 0
 AddressOnOnePage =
     (ranges : List Pages) (a b : ℕ) (page : Page) → All IsRange ranges → are_apart ranges ≡ true → page_at a ranges ≡ Some page →

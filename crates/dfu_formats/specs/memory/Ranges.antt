@@ -6,7 +6,7 @@ use Rattle.dfu_formats.specs.declared.memory.pages.Pages.{Pages}
 abbrev pub end_of_range : Pages → ℕ
 end_of_range p = p.start + p.count * p.size
 
--- A range has at least one page, each page at least one byte, and the last byte an address of 32 bits.
+-- The range has at least one page, each page has at least one byte, and the last byte has an address of 32 bits.
 pub record IsRange (p : Pages) : Type 0 where
   pub some_pages : 1 ≤ p.count
   pub some_bytes : 1 ≤ p.size

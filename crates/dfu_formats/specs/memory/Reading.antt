@@ -7,23 +7,23 @@ use Rattle.dfu_formats.specs.declared.memory.pages.Pages.{Pages}
 use Rattle.dfu_formats.specs.declared.memory.fault.MapFault.{MapFault}
 use Rattle.dfu_formats.specs.declared.memory.fault.MapFault.TheVariants.{NoMap, BadAddress, BadCount, BadSize, BadType, PastTheEnd, TooManyRanges, Trailing, Overlaps}
 
--- One step of reading after another: the first fault is the answer.
+-- Continues reading with the value of a step, or keeps the fault of the step.
 infixl 10 ◌>>=◌
 abbrev pub ◌>>=◌ : {A B : Type 0} → Result A MapFault → (A → Result B MapFault) → Result B MapFault
 (Err fault) >>= f = Err fault
 (Ok x) >>= f = f x
 
--- The value if there is one, or else this fault.
-abbrev pub map_value_or : {A : Type 0} → MapFault → Option A → Result A MapFault
-map_value_or fault None = Err fault
-map_value_or fault (Some x) = Ok x
+-- The value if there is one, or else `fault`.
+abbrev pub value_or_map_fault : {A : Type 0} → MapFault → Option A → Result A MapFault
+value_or_map_fault fault None = Err fault
+value_or_map_fault fault (Some x) = Ok x
 
 -- A number, and the text after it.
 pub record NumberRead : Type 0 where
   pub value : ℕ
   pub rest : List ℕ
 
--- The value of a digit of either case; 16 for a byte that is not a digit.
+-- Value of a hexadecimal digit of either case; 16 for any other byte.
 abbrev pub digit_value : ℕ → ℕ
 digit_value b =
     if nat_le 48 b && nat_le b 57 then b - 48
@@ -31,58 +31,57 @@ digit_value b =
     else if nat_le 65 b && nat_le b 70 then b - 55
     else 16
 
--- Number of digits of a base at the front.
+-- Number of digits of base `base` at the front of a text.
 unfoldable pub digits_in : (base : ℕ) → List ℕ → ℕ
 digits_in base [] = 0
 digits_in base (b ∷ bs) = if nat_lt (digit_value b) base then suc (digits_in base bs) else 0
 
--- The number that digits make after those that make `n`.
+-- Appends digits of base `base` to the number `n`.
 unfoldable pub digits_number : (base n : ℕ) → List ℕ → ℕ
 digits_number base n [] = n
 digits_number base n (b ∷ bs) = digits_number base (base * n + digit_value b) bs
 
--- The number at the front, of all digits that stand there: at least one, and at most `most`.
+-- Reads the number at the front, from all digits there: at least one, and at most `most`.
 unfoldable pub map_number_at : (base most : ℕ) → List ℕ → Option NumberRead
 map_number_at base most text =
     if digits_in base text == 0 || nat_lt most (digits_in base text) then None
     else Some (record { value = digits_number base 0 (take (digits_in base text) text); rest = drop (digits_in base text) text })
 
--- Text behind the byte, if the text begins with it.
+-- Text after its first byte, if that is `byte`.
 unfoldable pub text_after_byte : ℕ → List ℕ → Option (List ℕ)
 text_after_byte byte [] = None
 text_after_byte byte (b ∷ bs) = if b == byte then Some bs else None
 
--- A number other than 0, or the fault.
+-- The number that was read, or `fault` if it is 0.
 abbrev pub nonzero_count : MapFault → NumberRead → Result NumberRead MapFault
 nonzero_count fault n = if n.value == 0 then Err fault else Ok n
 
--- A count of pages, and `*`.
+-- Reads a count of pages, which isn't 0, and `*`.
 unfoldable pub count_at : List ℕ → Result NumberRead MapFault
 count_at text =
-    map_value_or BadCount (map_number_at 10 5 text) >>= nonzero_count BadCount
-    >>= λ n. map_value_or BadCount (text_after_byte 42 n.rest) >>= λ rest. Ok (record { value = n.value; rest = rest })
+    value_or_map_fault BadCount (map_number_at 10 5 text) >>= nonzero_count BadCount
+    >>= λ n. value_or_map_fault BadCount (text_after_byte 42 n.rest) >>= λ rest. Ok (record { value = n.value; rest = rest })
 
--- Bytes that a unit stands for: K, M, B and the space; 0 for any other byte.
+-- Number of bytes of a unit: K, M, B or the space; 0 for any other byte.
 abbrev pub unit_bytes : ℕ → ℕ
 unit_bytes b = if b == 75 then 1024 else if b == 77 then 1048576 else if b == 66 || b == 32 then 1 else 0
 
--- A size in the unit at the front; in bytes, if there is no unit.
+-- Multiplies a size by the unit at the front of a text; without a unit it is in bytes.
 unfoldable pub unit_at : ℕ → List ℕ → NumberRead
 unit_at value [] = record { value = value; rest = [] }
 unit_at value (b ∷ bs) = if unit_bytes b == 0 then record { value = value; rest = b ∷ bs } else record
     { value = unit_bytes b * value; rest = bs }
 
--- The size of a page, with its unit.
+-- Reads the size of a page, which isn't 0, with its unit.
 unfoldable pub size_at : List ℕ → Result NumberRead MapFault
-size_at text = map_value_or BadSize (map_number_at 10 5 text) >>= nonzero_count BadSize >>= λ n. Ok (unit_at n.value n.rest)
+size_at text = value_or_map_fault BadSize (map_number_at 10 5 text) >>= nonzero_count BadSize >>= λ n. Ok (unit_at n.value n.rest)
 
--- Access to pages, and the text after the letter that says it.
+-- Access to pages, and the text after its letter.
 pub record LetterRead : Type 0 where
   pub access : Access
   pub rest : List ℕ
 
--- Access by a letter: a to g are the numbers 1 to 7, whose bit 0 says that pages can be read, bit 1 that they can be erased, and bit 2
--- that they can be written.
+-- Access by a letter: a to g are the numbers 1 to 7, of which bit 0 means readable, bit 1 erasable, and bit 2 writable.
 abbrev pub access_of : ℕ → Access
 access_of letter = record {
   is_readable = (letter - 96) % 2 == 1;
@@ -90,39 +89,39 @@ access_of letter = record {
   is_writable = (letter - 96) / 4 == 1;
 }
 
--- The letter that says what may be done with pages.
+-- Reads the letter for the access to pages.
 unfoldable pub access_at : List ℕ → Result LetterRead MapFault
 access_at [] = Err BadType
 access_at (b ∷ bs) = if nat_le 97 b && nat_le b 103 then Ok (record { access = access_of b; rest = bs }) else Err BadType
 
 -- A range, and the text after it.
-pub record Grouped : Type 0 where
+pub record RangeRead : Type 0 where
   pub pages : Pages
   pub rest : List ℕ
 
--- A range of `count` pages of `size` bytes, if it ends by the last address.
-abbrev pub range_of_pages : (start count size : ℕ) → LetterRead → Result Grouped MapFault
+-- A range of `count` pages of `size` bytes, or PastTheEnd if it ends past the last address of 32 bits.
+abbrev pub range_of_pages : (start count size : ℕ) → LetterRead → Result RangeRead MapFault
 range_of_pages start count size a =
     if nat_lt (2 ^ 32) (start + count * size) then Err PastTheEnd
     else Ok (record { pages = record { start = start; size = size; count = count; access = a.access }; rest = a.rest })
 
--- A group of pages that begins at `start`.
-unfoldable pub group_at : (start : ℕ) → List ℕ → Result Grouped MapFault
+-- Reads a group of pages that begins at `start`.
+unfoldable pub group_at : (start : ℕ) → List ℕ → Result RangeRead MapFault
 group_at start text = count_at text >>= λ c. size_at c.rest >>= λ s. access_at s.rest >>= range_of_pages start c.value s.value
 
 -- The text after `0x` or `0X`, which may be missing.
-unfoldable pub behind_prefix : List ℕ → List ℕ
-behind_prefix [] = []
-behind_prefix (a ∷ []) = a ∷ []
-behind_prefix (a ∷ b ∷ bs) = if (a == 48) && ((b == 120) || (b == 88)) then bs else a ∷ b ∷ bs
+unfoldable pub text_after_prefix : List ℕ → List ℕ
+text_after_prefix [] = []
+text_after_prefix (a ∷ []) = a ∷ []
+text_after_prefix (a ∷ b ∷ bs) = if (a == 48) && ((b == 120) || (b == 88)) then bs else a ∷ b ∷ bs
 
--- The address at which ranges begin, and `/`.
+-- Reads the address at which ranges begin, and the `/` after it.
 unfoldable pub address_at : List ℕ → Result NumberRead MapFault
 address_at text =
-    map_value_or BadAddress (map_number_at 16 8 (behind_prefix text))
-    >>= λ n. map_value_or BadAddress (text_after_byte 47 n.rest) >>= λ rest. Ok (record { value = n.value; rest = rest })
+    value_or_map_fault BadAddress (map_number_at 16 8 (text_after_prefix text))
+    >>= λ n. value_or_map_fault BadAddress (text_after_byte 47 n.rest) >>= λ rest. Ok (record { value = n.value; rest = rest })
 
--- The place that was read, as an option.
+-- Wraps a place that was read in `Some`.
 abbrev pub place_as_option : Result NumberRead MapFault → Result (Option NumberRead) MapFault
 place_as_option place = place >>= λ p. Ok (Some p)
 
@@ -135,12 +134,12 @@ next_range_place end (b ∷ bs) =
     else if b == 47 then place_as_option (address_at bs)
     else Err Trailing
 
--- A range, and the ranges that are read from the next place, if there is one.
+-- Puts a range in front of the ranges that are read from the next place, or returns it alone without a next place.
 abbrev pub ranges_continued : Pages → Option NumberRead → (NumberRead → Result (List Pages) MapFault) → Result (List Pages) MapFault
 ranges_continued pages None more = Ok (pages ∷ [])
 ranges_continued pages (Some place) more = more place >>= λ ranges. Ok (pages ∷ ranges)
 
--- The ranges from `start` on, at most `most`.
+-- Reads at most `most` ranges up to the end of a text; the first begins at `start`.
 unfoldable pub ranges_at : (most start : ℕ) → List ℕ → Result (List Pages) MapFault
 ranges_at zero start text = group_at start text >>= λ g. Err TooManyRanges
 ranges_at (suc n) start text =
@@ -158,27 +157,27 @@ unfoldable pub trimmed_name : List ℕ → List ℕ
 trimmed_name [] = []
 trimmed_name (b ∷ bs) = if (b == 32) && (length (trimmed_name bs) == 0) then [] else b ∷ trimmed_name bs
 
--- A byte is `/`.
-abbrev pub is_stroke : ℕ → Bool
-is_stroke b = b == 47
+-- The byte is `/`.
+abbrev pub is_slash : ℕ → Bool
+is_slash b = b == 47
 
--- The name, which `/` ends.
-abbrev pub name_up_to_stroke : List ℕ → Option ℕ → Option Named
-name_up_to_stroke text None = None
-name_up_to_stroke text (Some n) = Some (record { name = trimmed_name (take n text); rest = drop (n + 1) text })
+-- The trimmed name before the `/` at an index, and the text after it; None without a `/`.
+abbrev pub name_up_to_slash : List ℕ → Option ℕ → Option Named
+name_up_to_slash text None = None
+name_up_to_slash text (Some n) = Some (record { name = trimmed_name (take n text); rest = drop (n + 1) text })
 
--- The name after `@`.
+-- Reads the name between `@` and the first `/`.
 unfoldable pub map_name_at : List ℕ → Result Named MapFault
 map_name_at text =
-    map_value_or NoMap (text_after_byte 64 text) >>= λ text_after_byte. map_value_or NoMap
-    (name_up_to_stroke text_after_byte (position is_stroke text_after_byte))
+    value_or_map_fault NoMap (text_after_byte 64 text) >>= λ text_after_byte. value_or_map_fault NoMap
+    (name_up_to_slash text_after_byte (position is_slash text_after_byte))
 
 -- Content of a map: a name, and ranges.
 pub record MapContent : Type 0 where
   pub name : List ℕ
   pub ranges : List Pages
 
--- A map whose ranges share no address.
+-- A map of these ranges, or Overlaps if two of them share an address.
 abbrev pub map_if_apart : (name : List ℕ) → List Pages → Result MapContent MapFault
 map_if_apart name ranges = if are_apart ranges then Ok (record { name = name; ranges = ranges }) else Err Overlaps
 

@@ -1,6 +1,6 @@
-//! A part of an image.
+//! Elements of an image.
 
-/// Bytes, and the address at which they are to be stored. A program in C lends its image as a list of them.
+/// Bytes, and the address at which they are to be stored. A program in C passes its image as a list of elements.
 #[derive(Clone, Copy)]
 #[repr(C)]
 pub struct Element<'f> {

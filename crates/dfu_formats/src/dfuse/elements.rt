@@ -11,12 +11,12 @@ use std::marker::Model;
 
 /// An element, and the bytes after it.
 #[derive(Drop)]
-struct Split<'f> {
+struct ElementAndRest<'f> {
     element: Element<'f>,
     rest: &'f [u8],
 }
 
-impl<'f> Model for Split<'f> {
+impl<'f> Model for ElementAndRest<'f> {
     ghost use Rattle.dfu_formats.specs.dfuse.Reading as reading;
     ghost use Rattle.dfu_formats.specs.dfuse.Found.{piece_of};
 
@@ -25,9 +25,9 @@ impl<'f> Model for Split<'f> {
     ghost view = { λ s. record { element = piece_of s.element; rest = s.rest.now } };
 }
 
-/// Takes an element off the front of `bytes`. Returns the element and the bytes after it.
+/// Takes an element off the front of `bytes`. Returns the element and the bytes after it, or its fault.
 #[tactic(auto, using(std::proofs::lemmas::Bool::Decides::nat_tests), unfolding(crate::specs::dfuse::Reading::front_element))]
-fn take_element(bytes: &[u8]) -> Result<Split<'_>, FileFault>
+fn take_element(bytes: &[u8]) -> Result<ElementAndRest<'_>, FileFault>
     ensures { result ≡ front_element bytes.now }
 {
     if bytes.len() < 8 {
@@ -46,7 +46,7 @@ fn take_element(bytes: &[u8]) -> Result<Split<'_>, FileFault>
         return Err(FileFault::AddressPastTheEnd);
     }
     let (content, rest) = behind.split_at(size as usize);
-    Ok(Split {
+    Ok(ElementAndRest {
         element: Element {
             address,
             bytes: content,
@@ -66,7 +66,7 @@ pub(crate) fn check_end(rest: &[u8], fault: FileFault) -> Result<(), FileFault>
     if rest.is_empty() { Ok(()) } else { Err(fault) }
 }
 
-/// Checks that the bytes are `count` elements, and nothing else.
+/// Checks that `bytes` are `count` elements, and nothing else.
 pub(crate) fn check_elements(count: u32, bytes: &[u8]) -> Result<(), FileFault>
     ensures { result ≡ fault_of_result (elements_at count bytes.now) }
 {
@@ -91,34 +91,34 @@ impl<'f> Model for Elements<'f> {
     ghost use Rattle.std.specs.Prelude.{◌≡◌, List, Ok};
     ghost use Rattle.dfu_formats.specs.images.Elements.{Piece};
     ghost use Rattle.dfu_formats.specs.dfuse.Reading.{elements_at};
-    ghost use Rattle.dfu_formats.specs.dfuse.Found.{found_list};
+    ghost use Rattle.dfu_formats.specs.dfuse.Found.{list_or_empty};
 
     ghost Value = { List Piece };
 
-    ghost view = { λ e. found_list (elements_at e.left e.rest.now) };
+    ghost view = { λ e. list_or_empty (elements_at e.left e.rest.now) };
 
-    ghost invariant = { λ e. elements_at e.left e.rest.now ≡ Ok (found_list (elements_at e.left e.rest.now)) };
+    ghost invariant = { λ e. elements_at e.left e.rest.now ≡ Ok (list_or_empty (elements_at e.left e.rest.now)) };
 }
 
 impl<'f> Elements<'f> {
-    ghost use Rattle.dfu_formats.specs.dfuse.Found.{found_list};
+    ghost use Rattle.dfu_formats.specs.dfuse.Found.{list_or_empty};
 
     /// Returns the `left` elements at the front of `rest`, which must have been checked.
     pub(crate) fn new(left: u32, rest: &'f [u8]) -> Elements<'f>
-        requires { elements_at left rest.now ≡ Ok (found_list (elements_at left rest.now)) }
-        ensures { result ≡ found_list (elements_at left rest.now) }
+        requires { elements_at left rest.now ≡ Ok (list_or_empty (elements_at left rest.now)) }
+        ensures { result ≡ list_or_empty (elements_at left rest.now) }
     {
         Elements { left, rest }
     }
 
-    /// Returns the number of elements.
+    /// Returns the number of elements that are left.
     pub fn len(&self) -> u32
         ensures { result ≡ length self.now }
     {
         self.left
     }
 
-    /// Takes the first element off. If no element is left, nothing changes.
+    /// Takes the first element off, and returns it. If no element is left, nothing changes, and None is returned.
     pub fn next_element(&mut self) -> Option<Element<'f>>
         ensures { MatchOption result ((self.old ≡ []) × (self.new ≡ [])) (λ e. self.old ≡ piece_of e ∷ self.new) }
     {

@@ -3,8 +3,8 @@
 use std::fmt;
 use thiserror::Error;
 
-/// A fault of bytes that aren't a DfuSe file: the first of these that holds. Up to BadCrc the suffix is looked at, from the end of the
-/// file; then the other bytes from their front, target by target.
+/// A fault of bytes that aren't a DfuSe file: the first of these that holds. Faults up to BadCrc are found first, from the end of the file;
+/// the later ones in the bytes before the suffix, read from their front, target by target.
 #[derive(Clone, Copy, Error)]
 pub enum FileFault {
     /// The file has over 16,777,216 bytes.
@@ -23,15 +23,15 @@ pub enum FileFault {
     NoPrefix,
     /// The version isn't 1.
     BadVersion,
-    /// The size in the prefix is not that of the file, with or without the suffix.
+    /// The size in the prefix is not the size of the file, with or without the suffix.
     BadImageSize,
     /// The number of targets is 0.
     NoTargets,
     /// There are under 274 bytes for a target, or they don't begin with the letters Target.
     NoTarget,
-    /// A target says a larger size than there are bytes, or than its elements have.
+    /// The size of a target is larger than the bytes after it, or than its elements.
     BadTargetSize,
-    /// An element has fewer bytes than it says, or is missing.
+    /// An element has fewer bytes than its size says, or is missing.
     ElementPastTheTarget,
     /// The size of an element is 0.
     EmptyElement,
@@ -53,7 +53,7 @@ impl fmt::Debug for FileFault {
     }
 }
 
-/// The texts, in the order of the enum.
+/// Text of each fault, in the order of the enum.
 static TEXTS: [&str; 16] = [
     "the file has over 16777216 bytes",
     "the file has under 16 bytes, too few for a suffix",

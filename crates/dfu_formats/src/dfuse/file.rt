@@ -7,7 +7,7 @@ ghost use Rattle.dfu_formats.specs.dfuse.Grammar.{IsDfuSe, FirstFileFault};
 ghost use Rattle.dfu_formats.specs.dfuse.Images.{one_setting};
 
 use crate::dfuse::fault::FileFault;
-use crate::dfuse::marks::is_prefixed;
+use crate::dfuse::marks::begins_with_dfuse;
 use crate::dfuse::numbers::number_at;
 use crate::dfuse::suffix::read_suffix;
 use crate::dfuse::targets::{Targets, check_targets};
@@ -25,20 +25,20 @@ pub struct File<'f> {
 impl<'f> Model for File<'f> {
     ghost use Rattle.std.specs.Prelude.{◌≡◌, Ok};
     ghost use Rattle.dfu_formats.specs.dfuse.Reading.{DfuseContent, targets_at};
-    ghost use Rattle.dfu_formats.specs.dfuse.Found.{found_list};
+    ghost use Rattle.dfu_formats.specs.dfuse.Found.{list_or_empty};
 
     ghost Value = { DfuseContent };
 
-    ghost view = { λ f. record { ids = f.ids; targets = found_list (targets_at f.count f.targets.now) } };
+    ghost view = { λ f. record { ids = f.ids; targets = list_or_empty (targets_at f.count f.targets.now) } };
 
-    ghost invariant = { λ f. targets_at f.count f.targets.now ≡ Ok (found_list (targets_at f.count f.targets.now)) };
+    ghost invariant = { λ f. targets_at f.count f.targets.now ≡ Ok (list_or_empty (targets_at f.count f.targets.now)) };
 }
 
 /// Reads the file of `whole` bytes with body `bytes`, and with `ids` in its suffix.
 ///
 /// # Errors
 ///
-/// The first fault of the body, as `read` has them.
+/// The first fault of the body, in the order of [`FileFault`].
 #[tactic(auto, using(std::proofs::lemmas::Bool::Decides::nat_tests), unfolding(crate::specs::dfuse::Reading::body_at))]
 fn read_body(ids: Ids, whole: usize, bytes: &[u8]) -> Result<File<'_>, FileFault>
     ensures { result ≡ file_of_targets ids (body_at whole bytes.now) }
@@ -46,7 +46,7 @@ fn read_body(ids: Ids, whole: usize, bytes: &[u8]) -> Result<File<'_>, FileFault
     if bytes.len() < 11 {
         return Err(FileFault::NoPrefix);
     }
-    if !is_prefixed(bytes) {
+    if !begins_with_dfuse(bytes) {
         return Err(FileFault::NoPrefix);
     }
     if bytes[5] != 1 {
@@ -71,11 +71,11 @@ fn read_body(ids: Ids, whole: usize, bytes: &[u8]) -> Result<File<'_>, FileFault
     }
 }
 
-/// Reads the fields of `bytes`.
+/// Reads the DfuSe file `bytes`.
 ///
 /// # Errors
 ///
-/// Their first fault.
+/// The first fault, in the order of [`FileFault`].
 #[tactic(auto, unfolding(crate::specs::dfuse::Reading::file_at))]
 fn read_file(bytes: &[u8]) -> Result<File<'_>, FileFault>
     ensures { result ≡ file_at bytes.now }
@@ -86,8 +86,8 @@ fn read_file(bytes: &[u8]) -> Result<File<'_>, FileFault>
     }
 }
 
-/// Reads a DfuSe file. The size in its prefix may count the suffix, as dfu-util's tools have it, or not, as ST's. A file with a wrong dwCRC
-/// is refused for the CRC, whatever else is wrong.
+/// Reads a DfuSe file. The size in its prefix may include the suffix, as dfu-util's tools write it, or not, as ST's do. A file with a wrong
+/// dwCRC is refused for the CRC, whatever is wrong in the bytes before its suffix.
 ///
 /// # Errors
 ///
@@ -97,7 +97,7 @@ pub fn read(bytes: &[u8]) -> Result<File<'_>, FileFault>
     ensures found { IfOk result (λ f. IsDfuSe f bytes.now) }
     // Each file of the grammar is read.
     ensures only { (f : DfuseContent) → IsDfuSe f bytes.now → result ≡ Ok f }
-    // Any other bytes have a first fault, which is the answer.
+    // Any other bytes have a first fault, which is returned.
     ensures fault { (fault : FileFault) → (result ≡ Err fault) ↔ FirstFileFault fault bytes.now }
 {
     read_file(bytes)

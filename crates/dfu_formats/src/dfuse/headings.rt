@@ -34,7 +34,7 @@ impl<'f> Model for Heading<'f> {
     } };
 }
 
-/// Takes the 274 bytes at the front of a target off the front of `bytes`.
+/// Takes the first target off `bytes`: its 274 bytes of fields, and the bytes of its elements. Returns it, or its fault.
 #[tactic(auto, using(std::proofs::lemmas::Bool::Decides::nat_tests), unfolding(crate::specs::dfuse::Reading::heading_at))]
 pub(crate) fn take_heading(bytes: &[u8]) -> Result<Heading<'_>, FileFault>
     ensures { result ≡ heading_at bytes.now }

@@ -1,4 +1,4 @@
-//! Elements of a session, from those of files.
+//! Lists of elements for a session, from the elements of files.
 
 ghost use Rattle.std.specs.Prelude.{◌≡◌, ◌+◌, ◌<◌, ◌≤◌, ◌++◌, length, take, map, MatchOption};
 ghost use Rattle.dfu_formats.specs.dfuse.Found.{piece_of};
@@ -7,7 +7,7 @@ ghost use Rattle.dfu_formats.specs.dfuse.Images.{ElementsListedBehind};
 use crate::dfuse::element::Element;
 use crate::dfuse::elements::Elements;
 
-/// Puts elements into `room` after the first `from`, and returns how many elements it has then, or None if they don't fit.
+/// Writes elements to `room` after its first `from`. Returns the number of elements that `room` then has, or None if they don't fit.
 pub(crate) fn put<'f>(
     elements: Elements<'f>,
     from: usize,
@@ -29,8 +29,8 @@ pub(crate) fn put<'f>(
     Some(count)
 }
 
-/// Puts elements that a reader of `dfu_formats::images` gave into the front of `room`, in their order, and returns their number, or None if
-/// they don't fit. Elements of one file are by their addresses, as a session wants them.
+/// Writes elements that a reader of `dfu_formats::images` returned to the front of `room`, in their order. Returns their number, or None if
+/// they don't fit. Elements of one file are sorted by address, as a session needs them.
 pub fn list<'p>(pieces: &'p [crate::images::Element], room: &mut [Element<'p>]) -> Option<usize>
     ensures size { length room.new ≡ length room.old }
     ensures listed { ElementsListedBehind 0 pieces.now room.old result room.new }

@@ -1,7 +1,7 @@
 //! The letters that mark the parts of a file.
 
 ghost use Rattle.std.specs.Prelude.{◌≡◌, ◌≤◌, length};
-ghost use Rattle.dfu_formats.specs.dfuse.Reading.{is_target, is_prefixed};
+ghost use Rattle.dfu_formats.specs.dfuse.Reading.{is_target, begins_with_dfuse};
 
 /// Returns true if the first six of `bytes` are the letters Target.
 pub(crate) fn is_target(bytes: &[u8]) -> bool
@@ -17,9 +17,9 @@ pub(crate) fn is_target(bytes: &[u8]) -> bool
 }
 
 /// Returns true if the first five of `bytes` are the letters DfuSe.
-pub(crate) fn is_prefixed(bytes: &[u8]) -> bool
+pub(crate) fn begins_with_dfuse(bytes: &[u8]) -> bool
     requires { 5 ≤ length bytes.now }
-    ensures { result ≡ is_prefixed bytes.now }
+    ensures { result ≡ begins_with_dfuse bytes.now }
 {
     bytes[0] == b'D' && bytes[1] == b'f' && bytes[2] == b'u' && bytes[3] == b'S' && bytes[4] == b'e'
 }

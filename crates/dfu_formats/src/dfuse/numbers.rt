@@ -1,4 +1,4 @@
-//! Numbers in bytes.
+//! Numbers in bytes, the low byte first.
 
 ghost use Rattle.std.specs.Prelude.{◌≡◌, ◌+◌, ◌≤◌, ◌<◌, ◌^◌, length};
 ghost use Rattle.dfu_formats.specs.dfuse.Reading.{number_at};

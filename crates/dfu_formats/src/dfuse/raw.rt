@@ -3,10 +3,10 @@
 ghost use Rattle.std.specs.Prelude.{◌≡◌, MatchResult, Ok, Err, find};
 ghost use Rattle.dfu_suffix.specs.Grammar.{has_fault, fault_order};
 ghost use Rattle.dfu_formats.specs.dfuse.Found.{piece_of};
-ghost use Rattle.dfu_formats.specs.dfuse.Raw.{raw_refusal, payload_by, has_prefix, placed_at, raw_element_at};
+ghost use Rattle.dfu_formats.specs.dfuse.Raw.{raw_refusal, payload_by_fault, has_prefix, placed_at, raw_element_at};
 
 use crate::dfuse::element::Element;
-use crate::dfuse::marks::is_prefixed;
+use crate::dfuse::marks::begins_with_dfuse;
 use dfu_suffix::SuffixFault;
 use std::fmt;
 use thiserror::Error;
@@ -18,17 +18,17 @@ pub enum RawFault {
     TooLarge,
     /// The file has a signature, and bLength is under 16 or over the file's length.
     BadLength,
-    /// The file has a signature and isn't a DfuSe file, and dwCRC isn't the register over the bytes before it.
+    /// The file has a signature, bcdDFU isn't 011Ah, and dwCRC isn't the register over the bytes before it.
     BadCrc,
     /// bcdDFU is 011Ah, or the file begins with the letters DfuSe.
     HasAddresses,
     /// The file is empty, or empty before its suffix.
     Empty,
-    /// The last byte would get an address past FFFFFFFFh.
+    /// The last byte would have an address past FFFFFFFFh.
     AddressPastTheEnd,
 }
 
-/// The texts, in the order of the enum.
+/// Text of each fault, in the order of the enum.
 static TEXTS: [&str; 6] = [
     "the file has over 16777216 bytes",
     "the suffix's length is under 16 or over the file's",
@@ -44,7 +44,7 @@ impl fmt::Display for RawFault {
     }
 }
 
-/// Returns the refusal of a file in which dfu_suffix finds `fault`; None if the file is not refused.
+/// Returns the refusal of a file in which dfu_suffix finds `fault`; None if the file is not refused for it.
 fn refusal(fault: SuffixFault) -> Option<RawFault>
     ensures { result ≡ raw_refusal fault }
 {
@@ -57,10 +57,10 @@ fn refusal(fault: SuffixFault) -> Option<RawFault>
     }
 }
 
-/// Returns the bytes of a file before a suffix, or all of `bytes` if the file has none.
+/// Returns the bytes of a file before a suffix, all of `bytes` if the file has none, or the refusal of the file.
 fn payload_of(bytes: &[u8]) -> Result<&[u8], RawFault>
-    ensures { MatchResult result (λ payload. payload_by (find (has_fault bytes.now) fault_order) bytes.now ≡ Ok payload.now)
-        (λ fault. payload_by (find (has_fault bytes.now) fault_order) bytes.now ≡ Err fault) }
+    ensures { MatchResult result (λ payload. payload_by_fault (find (has_fault bytes.now) fault_order) bytes.now ≡ Ok payload.now)
+        (λ fault. payload_by_fault (find (has_fault bytes.now) fault_order) bytes.now ≡ Err fault) }
 {
     match dfu_suffix::read(bytes) {
         Ok(file) => Ok(file.payload()),
@@ -76,10 +76,10 @@ fn payload_of(bytes: &[u8]) -> Result<&[u8], RawFault>
 fn has_prefix(bytes: &[u8]) -> bool
     ensures { result ≡ has_prefix bytes.now }
 {
-    bytes.len() >= 5 && is_prefixed(bytes)
+    bytes.len() >= 5 && begins_with_dfuse(bytes)
 }
 
-/// Returns the element of `bytes` at `address`.
+/// Returns the element of `bytes` at `address`, or its first fault.
 #[tactic(auto, using(std::proofs::lemmas::Bool::Decides::nat_tests), unfolding(crate::specs::dfuse::Raw::placed_at))]
 fn placed_at(address: u32, bytes: &[u8]) -> Result<Element<'_>, RawFault>
     ensures { MatchResult result (λ e. placed_at address bytes.now ≡ Ok (piece_of e)) (λ fault. placed_at address bytes.now ≡ Err fault) }

@@ -4,7 +4,7 @@ ghost use Rattle.std.specs.Prelude.{◌≡◌, ◌+◌, ◌≤◌, length, drop}
 ghost use Rattle.dfu_suffix.specs.Grammar.{tail_of, has_fault};
 ghost use Rattle.dfu_suffix.specs.declared.fault.SuffixFault.TheVariants as suffix;
 ghost use Rattle.byteorder.specs.Endian.{little_number};
-ghost use Rattle.dfu_formats.specs.dfuse.Reading.{suffix_at, suffixed_by, is_dfuse, suffix_with_checked_crc, suffix_refusal};
+ghost use Rattle.dfu_formats.specs.dfuse.Reading.{suffix_at, payload_and_ids_of, is_dfuse, suffix_with_checked_crc, suffix_refusal};
 
 use crate::dfuse::fault::FileFault;
 use byteorder::{ByteOrder, LittleEndian};
@@ -14,15 +14,15 @@ use std::marker::Model;
 
 /// The bytes before the suffix, and the identifiers in it.
 #[derive(Drop)]
-pub(crate) struct Suffixed<'f> {
+pub(crate) struct PayloadAndIds<'f> {
     pub payload: &'f [u8],
     pub ids: Ids,
 }
 
-impl<'f> Model for Suffixed<'f> {
+impl<'f> Model for PayloadAndIds<'f> {
     ghost use Rattle.dfu_formats.specs.dfuse.Reading as reading;
 
-    ghost Value = { reading.Suffixed };
+    ghost Value = { reading.PayloadAndIds };
 
     ghost view = { λ s. record { payload = s.payload.now; ids = s.ids } };
 }
@@ -58,14 +58,14 @@ fn has_bad_crc(bytes: &[u8]) -> bool
     LittleEndian::read_u32(crc) != over.value()
 }
 
-/// Returns the fields of the last 16 bytes.
-fn suffixed_by(bytes: &[u8]) -> Suffixed<'_>
+/// Returns the payload and the identifiers, by the fields of the last 16 bytes.
+fn payload_and_ids_of(bytes: &[u8]) -> PayloadAndIds<'_>
     requires long { 16 ≤ length bytes.now }
-    ensures { result ≡ suffixed_by bytes.now }
+    ensures { result ≡ payload_and_ids_of bytes.now }
 {
     let tail = tail(bytes);
     let (payload, _) = bytes.split_at(bytes.len().saturating_sub(tail[11] as usize));
-    Suffixed {
+    PayloadAndIds {
         payload,
         ids: Ids {
             device: field(0, tail),
@@ -75,7 +75,7 @@ fn suffixed_by(bytes: &[u8]) -> Suffixed<'_>
     }
 }
 
-/// Returns true if `fault` is the one that a DfuSe file has.
+/// Returns true if `fault` is `DfuSe`, which dfu_suffix finds in a DfuSe file.
 fn is_dfuse(fault: SuffixFault) -> bool
     ensures { result ≡ is_dfuse fault }
 {
@@ -98,20 +98,21 @@ fn refusal(fault: SuffixFault) -> FileFault
     }
 }
 
-/// Returns the bytes before a suffix with bcdDFU 011Ah.
-fn read_signed(bytes: &[u8]) -> Result<Suffixed<'_>, FileFault>
+/// Returns the payload and the identifiers of a file with bcdDFU 011Ah, or BadCrc if its CRC is wrong.
+fn read_signed(bytes: &[u8]) -> Result<PayloadAndIds<'_>, FileFault>
     requires { 16 ≤ length bytes.now }
     ensures { result ≡ suffix_with_checked_crc bytes.now }
 {
     if has_bad_crc(bytes) {
         Err(FileFault::BadCrc)
     } else {
-        Ok(suffixed_by(bytes))
+        Ok(payload_and_ids_of(bytes))
     }
 }
 
-/// Reads the suffix, by the small table, because a file is read once, and a library for C has no large tables.
-pub(crate) fn read_suffix(bytes: &[u8]) -> Result<Suffixed<'_>, FileFault>
+/// Reads the suffix, or returns its first fault. Its CRC is checked with the small table, because a file is read once, and a library for C
+/// has no large tables.
+pub(crate) fn read_suffix(bytes: &[u8]) -> Result<PayloadAndIds<'_>, FileFault>
     ensures { result ≡ suffix_at bytes.now }
 {
     let fault = match dfu_suffix::read_small(bytes) {

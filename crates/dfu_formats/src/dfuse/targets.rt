@@ -10,7 +10,7 @@ use crate::dfuse::fault::FileFault;
 use crate::dfuse::headings::take_heading;
 use std::marker::Model;
 
-/// Elements for the memory of an alternate setting.
+/// A target: elements for the memory of an alternate setting.
 #[derive(Drop)]
 pub struct Target<'f> {
     /// The alternate setting.
@@ -23,7 +23,7 @@ pub struct Target<'f> {
     pub elements: Elements<'f>,
 }
 
-/// Checks that the bytes are `count` targets, each with as many elements as it says, and nothing else.
+/// Checks that `bytes` are `count` targets, each with as many elements as it says, and nothing else.
 pub(crate) fn check_targets(count: u8, bytes: &[u8]) -> Result<(), FileFault>
     ensures { result ≡ fault_of_result (targets_at count bytes.now) }
 {
@@ -50,35 +50,35 @@ pub struct Targets<'f> {
 impl<'f> Model for Targets<'f> {
     ghost use Rattle.std.specs.Prelude.{◌≡◌, List, Ok};
     ghost use Rattle.dfu_formats.specs.dfuse.Reading as reading;
-    ghost use Rattle.dfu_formats.specs.dfuse.Found.{found_list};
+    ghost use Rattle.dfu_formats.specs.dfuse.Found.{list_or_empty};
 
     ghost Value = { List reading.Target };
 
-    ghost view = { λ t. found_list (reading.targets_at t.left t.rest.now) };
+    ghost view = { λ t. list_or_empty (reading.targets_at t.left t.rest.now) };
 
-    ghost invariant = { λ t. reading.targets_at t.left t.rest.now ≡ Ok (found_list (reading.targets_at t.left t.rest.now)) };
+    ghost invariant = { λ t. reading.targets_at t.left t.rest.now ≡ Ok (list_or_empty (reading.targets_at t.left t.rest.now)) };
 }
 
 impl<'f> Targets<'f> {
     ghost use Rattle.std.specs.Prelude.{Ok};
-    ghost use Rattle.dfu_formats.specs.dfuse.Found.{found_list};
+    ghost use Rattle.dfu_formats.specs.dfuse.Found.{list_or_empty};
 
     /// Returns the `left` targets at the front of `rest`, which must have been checked.
     pub(crate) fn new(left: u8, rest: &'f [u8]) -> Targets<'f>
-        requires { targets_at left rest.now ≡ Ok (found_list (targets_at left rest.now)) }
-        ensures { result ≡ found_list (targets_at left rest.now) }
+        requires { targets_at left rest.now ≡ Ok (list_or_empty (targets_at left rest.now)) }
+        ensures { result ≡ list_or_empty (targets_at left rest.now) }
     {
         Targets { left, rest }
     }
 
-    /// Returns the number of targets.
+    /// Returns the number of targets that are left.
     pub fn len(&self) -> u8
         ensures { result ≡ length self.now }
     {
         self.left
     }
 
-    /// Takes the first target off. If no target is left, nothing changes.
+    /// Takes the first target off, and returns it. If no target is left, nothing changes, and None is returned.
     #[inline(always)]
     pub fn next_target(&mut self) -> Option<Target<'f>>
         ensures { MatchOption result ((self.old ≡ []) × (self.new ≡ [])) (λ t. self.old ≡ handed_out_target t ∷ self.new) }

@@ -1,4 +1,4 @@
-//! Bytes in two hexadecimal digits each.
+//! Bytes that are spelled in two hexadecimal digits each.
 
 ghost use Rattle.std.specs.Prelude.{◌≡◌, ◌*◌, ◌≤◌, length, sum, MatchOption, MatchResult, None, Some, Ok, Err};
 ghost use Rattle.dfu_formats.specs.images.Digits.{hex_value, bytes_of_pairs, bytes_at};
@@ -20,7 +20,7 @@ pub fn hex_digit(byte: u8) -> u8
     }
 }
 
-/// Returns the bytes that the hexadecimal `digits` spell, two digits for each; None if they spell none.
+/// Returns the bytes that the hexadecimal `digits` spell, two digits for each; None if `digits` aren't pairs of digits.
 fn pairs(digits: &[u8]) -> Option<ArrayVec<u8, MAX_RECORD>>
     requires { length digits.now ≤ 520 }
     ensures { MatchOption result (bytes_of_pairs digits.now ≡ None) (λ bytes. bytes_of_pairs digits.now ≡ Some bytes.items) }

@@ -1,11 +1,11 @@
-//! A part of an image.
+//! Elements of an image.
 
 ghost use Rattle.std.specs.Prelude.{◌≡◌, ◌+◌, ◌≤◌, ◌^◌, length};
 ghost use Rattle.dfu_formats.specs.images.Elements.{end_of_piece};
 
 use std::marker::Model;
 
-/// Bytes that follow one another, and the address of the first. There is at least one byte, and the last has an address of 32 bits.
+/// Consecutive bytes, and the address of the first. There is at least one byte, and the last has an address of 32 bits.
 #[derive(Drop)]
 pub struct Element {
     address: u32,
@@ -24,7 +24,7 @@ impl Model for Element {
 }
 
 impl Element {
-    /// Returns the element of `bytes`, 1 or more, at `address`. It must end at 2^32 or before.
+    /// Returns the element of `bytes`, 1 or more, at `address`. The element must end at 2^32 or before.
     pub(crate) fn new(address: u64, bytes: Vec<u8>) -> Element
         requires some { 1 ≤ length bytes.items }
         requires ends { address + length bytes.items ≤ 2 ^ 32 }

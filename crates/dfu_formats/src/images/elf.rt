@@ -1,8 +1,8 @@
-//! ELF files of 32 bits, little endian: what their segments load.
+//! ELF files of 32 bits, little endian: the bytes that their segments load.
 
 ghost use Rattle.std.specs.Prelude.{◌≡◌, ◌+◌, ◌*◌, ◌≤◌, ◌<◌, length, IfOk, true, Ok, Err};
-ghost use Rattle.dfu_formats.specs.images.Reading.{GivesReading, FailsToRead};
-ghost use Rattle.dfu_formats.specs.images.Elements.{AreApart, GivesElements};
+ghost use Rattle.dfu_formats.specs.images.Reading.{IsReadResult, IsReadFault};
+ghost use Rattle.dfu_formats.specs.images.Elements.{AreApart, IsElementResult};
 ghost use Rattle.dfu_formats.specs.images.Elf.{is_elf, has_program_headers, segment_read, elf_elements_of};
 
 use crate::images::element::Element;
@@ -21,7 +21,7 @@ fn is_elf(file: &[u8]) -> bool
     file.len() >= 52 && le32(file, 0) == 0x464c_457f && file[4] == 1 && file[5] == 1 && file[6] == 1
 }
 
-/// File that has the segments.
+/// An ELF file, read segment by segment.
 #[derive(Drop)]
 struct Segments<'t> {
     file: &'t [u8],
@@ -63,8 +63,8 @@ impl ByPart for Segments<'_> {
 #[tactic(auto, using(std::proofs::lemmas::Bool::Decides::nat_tests), unfolding(crate::specs::images::Elf::elf_elements_of))]
 pub fn read(alloc: Global, file: &[u8]) -> Result<Vec<Element>, ImageFault>
     // The result is the list of the file's elements, or its first fault.
-    ensures value { GivesElements result (elf_elements_of file.now) }
-    // The elements are by address, and no two share an address.
+    ensures value { IsElementResult result (elf_elements_of file.now) }
+    // The elements are sorted by address, and no two share an address.
     ensures apart { IfOk result (λ v. AreApart 0 v.items) }
 {
     if !is_elf(file) {

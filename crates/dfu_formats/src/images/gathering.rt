@@ -1,8 +1,8 @@
 //! Elements that grow and are completed as records are read.
 
 ghost use Rattle.std.specs.Prelude.{◌≡◌, ◌+◌, ◌≤◌, ◌<◌, ◌^◌, length, IfOk, Ok, Err};
-ghost use Rattle.dfu_formats.specs.images.Reading.{GivesReading};
-ghost use Rattle.dfu_formats.specs.images.Elements.{empty_gathering, element_place, elements_with_inserted, completed_elements, element_begun, element_grown, bytes_added, shared_address, gathered_elements, AreApart, GivesElements};
+ghost use Rattle.dfu_formats.specs.images.Reading.{IsReadResult};
+ghost use Rattle.dfu_formats.specs.images.Elements.{empty_gathering, element_place, elements_with_inserted, completed_elements, element_begun, element_grown, bytes_added, shared_address, gathered_elements, AreApart, IsElementResult};
 
 use crate::images::element::Element;
 use crate::images::fault::ImageFault;
@@ -10,7 +10,7 @@ use crate::images::limits::{MAX_ELEMENTS, MAX_IMAGE};
 use std::alloc::Global;
 use std::marker::Model;
 
-/// Elements that are complete, by address, and the one that still grows.
+/// Complete elements, sorted by address, and the element that still grows.
 #[derive(Drop)]
 pub(crate) struct Gathering {
     complete: Vec<Element>,
@@ -49,9 +49,9 @@ fn place_of(address: u32, elements: &[Element]) -> usize
     count
 }
 
-/// Puts `element` among `elements` by its address, and returns all.
-fn placed(mut elements: Vec<Element>, element: Element) -> Result<Vec<Element>, ImageFault>
-    ensures { GivesElements result (Ok (elements_with_inserted element elements.items)) }
+/// Inserts `element` into `elements` by its address, after those with the same one.
+fn insert_element(mut elements: Vec<Element>, element: Element) -> Result<Vec<Element>, ImageFault>
+    ensures { IsElementResult result (Ok (elements_with_inserted element elements.items)) }
 {
     let place = place_of(element.address(), &elements);
     match elements.insert(place, element) {
@@ -60,25 +60,25 @@ fn placed(mut elements: Vec<Element>, element: Element) -> Result<Vec<Element>, 
     }
 }
 
-/// Adds the element of `bytes` at `address` to `elements`, unless it has no byte, and returns all.
+/// Returns `elements` with the element of `bytes` at `address` inserted, unless `bytes` is empty.
 #[tactic(auto, using(std::proofs::lemmas::Bool::Decides::nat_tests), unfolding(crate::specs::images::Elements::completed_elements))]
-fn completed(
+fn insert_grown(
     elements: Vec<Element>,
     address: u64,
     bytes: Vec<u8>,
 ) -> Result<Vec<Element>, ImageFault>
     requires { address + length bytes.items ≤ 2 ^ 32 }
-    ensures { GivesElements result (Ok (completed_elements elements.items (record { address = address; bytes = bytes.items }))) }
+    ensures { IsElementResult result (Ok (completed_elements elements.items (record { address = address; bytes = bytes.items }))) }
 {
     if bytes.len() == 0 {
         return Ok(elements);
     }
-    placed(elements, Element::new(address, bytes))
+    insert_element(elements, Element::new(address, bytes))
 }
 
-/// Begins an element with `bytes` at `address`, after the `complete` elements.
+/// Begins an element with `bytes` at `address` beside the `complete` elements, unless these are at least 1,024.
 #[tactic(auto, using(std::proofs::lemmas::Bool::Decides::nat_tests), unfolding(crate::specs::images::Elements::element_begun))]
-fn begun(
+fn begin_element(
     alloc: Global,
     at: usize,
     total: usize,
@@ -88,7 +88,7 @@ fn begun(
 ) -> Result<Gathering, ImageFault>
     requires ends { address + length bytes.now ≤ 2 ^ 32 }
     requires few { total ≤ 16777216 }
-    ensures { GivesReading result (element_begun at total complete.items (record { address = address; bytes = bytes.now })) }
+    ensures { IsReadResult result (element_begun at total complete.items (record { address = address; bytes = bytes.now })) }
 {
     if complete.len() >= MAX_ELEMENTS {
         return Err(ImageFault::TooManyElements(at));
@@ -120,7 +120,7 @@ fn shared(elements: &[Element]) -> Option<u32>
 }
 
 impl Gathering {
-    /// Returns a gathering of no element.
+    /// Returns a gathering without elements.
     pub(crate) fn new(alloc: Global) -> Gathering
         ensures { result ≡ empty_gathering }
     {
@@ -132,7 +132,7 @@ impl Gathering {
         }
     }
 
-    /// Adds `bytes` at `address`: they go on where the last ones end, or begin an element.
+    /// Adds `bytes` at `address`: to the growing element if they begin at its end, and otherwise as a new element.
     #[tactic(auto, using(std::proofs::lemmas::Bool::Decides::nat_tests), unfolding(crate::specs::images::Elements::element_grown))]
     fn grow(
         self,
@@ -143,7 +143,7 @@ impl Gathering {
     ) -> Result<Gathering, ImageFault>
         requires ends { address + length bytes.now ≤ 2 ^ 32 }
         requires few { self.total + length bytes.now ≤ 16777216 }
-        ensures { GivesReading result (element_grown at self (record { address = address; bytes = bytes.now })) }
+        ensures { IsReadResult result (element_grown at self (record { address = address; bytes = bytes.now })) }
     {
         let Gathering {
             complete,
@@ -163,13 +163,13 @@ impl Gathering {
                 Err(_) => Err(ImageFault::NoMemory),
             };
         }
-        match completed(complete, from, growing) {
-            Ok(complete) => begun(alloc, at, total, complete, address, bytes),
+        match insert_grown(complete, from, growing) {
+            Ok(complete) => begin_element(alloc, at, total, complete, address, bytes),
             Err(fault) => Err(fault),
         }
     }
 
-    /// Adds `bytes` at `address`, of line, block or segment number `at`.
+    /// Adds `bytes`, if there are any, at `address`; they are of line, block or segment number `at`, which a fault names.
     #[tactic(auto, using(std::proofs::lemmas::Bool::Decides::nat_tests), unfolding(crate::specs::images::Elements::bytes_added))]
     pub(crate) fn add(
         self,
@@ -179,7 +179,7 @@ impl Gathering {
         bytes: &[u8],
     ) -> Result<Gathering, ImageFault>
         requires { address + length bytes.now ≤ 2 ^ 32 }
-        ensures { GivesReading result (bytes_added at self (record { address = address; bytes = bytes.now })) }
+        ensures { IsReadResult result (bytes_added at self (record { address = address; bytes = bytes.now })) }
     {
         if bytes.len() == 0 {
             return Ok(self);
@@ -190,14 +190,14 @@ impl Gathering {
         self.grow(alloc, at, address, bytes)
     }
 
-    /// Returns the elements of all that was gathered.
+    /// Completes the growing element, and returns all elements.
     ///
     /// # Errors
     ///
     /// Overlaps with the first address at which an element begins before the end of the one in front of it.
     #[tactic(auto, using(std::proofs::lemmas::Bool::Decides::nat_tests), unfolding(crate::specs::images::Elements::gathered_elements))]
     pub(crate) fn finish(self) -> Result<Vec<Element>, ImageFault>
-        ensures value { GivesElements result (gathered_elements self) }
+        ensures value { IsElementResult result (gathered_elements self) }
         ensures apart { IfOk result (λ v. AreApart 0 v.items) }
     {
         let Gathering {
@@ -206,7 +206,7 @@ impl Gathering {
             bytes,
             ..
         } = self;
-        let elements = match completed(complete, address, bytes) {
+        let elements = match insert_grown(complete, address, bytes) {
             Ok(elements) => elements,
             Err(fault) => return Err(fault),
         };

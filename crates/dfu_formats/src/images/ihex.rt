@@ -1,14 +1,14 @@
 //! Intel HEX, records 00 to 05.
 //!
 //! A line ends with a line feed, and the last one needs none. A byte order mark, blank lines and the blanks at either end of a line, such
-//! as a carriage return, are passed over. Digits have either case. There is one end record, and only blank lines follow it. The data of a
-//! record may go on past the 65,536 bytes of a linear base (type 04, or none), but not past those of a segment (type 02). The address at
-//! which a program begins says nothing of the image.
+//! as a carriage return, are ignored. Digits have either case. There is one end record, and only blank lines follow it. The data of a
+//! record may continue past the 65,536 bytes of a linear base (type 04, or none), but not past those of a segment (type 02). The start
+//! address of a program is ignored.
 
 ghost use Rattle.std.specs.Prelude.{◌≡◌, ◌+◌, ◌≤◌, ◌<◌, ◌^◌, length, IfOk, MatchResult, Ok, Err};
-ghost use Rattle.dfu_formats.specs.images.Reading.{GivesReading, FailsToRead};
-ghost use Rattle.dfu_formats.specs.images.Elements.{AreApart, GivesElements};
-ghost use Rattle.dfu_formats.specs.images.IntelHex.{hex_spelled, hex_framed, hex_data_at, leaves_segment, state_with_base, hex_meant, hex_record_read, hex_elements_of};
+ghost use Rattle.dfu_formats.specs.images.Reading.{IsReadResult, IsReadFault};
+ghost use Rattle.dfu_formats.specs.images.Elements.{AreApart, IsElementResult};
+ghost use Rattle.dfu_formats.specs.images.IntelHex.{hex_bytes_of_line, hex_record_of_bytes, hex_data_at, leaves_segment, state_with_base, hex_record_applied, hex_record_read, hex_elements_of};
 
 use crate::images::digits::{bytes_at, sum_of};
 use crate::images::element::Element;
@@ -19,10 +19,11 @@ use arrayvec::ArrayVec;
 use std::alloc::Global;
 use std::marker::Model;
 
-/// Returns the bytes of the record in `line`, which has number `at`: the bytes that the digits behind `:` spell.
-#[tactic(auto, using(std::proofs::lemmas::Bool::Decides::nat_tests), unfolding(crate::specs::images::IntelHex::hex_spelled))]
+/// Returns the bytes of the record in `line`, which has number `at`: the bytes that the digits after `:` spell.
+#[tactic(auto, using(std::proofs::lemmas::Bool::Decides::nat_tests), unfolding(crate::specs::images::IntelHex::hex_bytes_of_line))]
 fn spelled(at: usize, line: &[u8]) -> Result<ArrayVec<u8, MAX_RECORD>, ImageFault>
-    ensures { MatchResult result (λ bytes. hex_spelled at line.now ≡ Ok bytes.items) (λ fault. hex_spelled at line.now ≡ Err fault) }
+    ensures { MatchResult result (λ bytes. hex_bytes_of_line at line.now ≡ Ok bytes.items)
+        (λ fault. hex_bytes_of_line at line.now ≡ Err fault) }
 {
     match line {
         [b':', digits @ ..] => bytes_at(at, digits),
@@ -46,11 +47,11 @@ impl<'t> Model for Record<'t> {
     ghost view = { λ r. record { offset = r.offset; kind = r.kind; content = r.content.now } };
 }
 
-/// Returns the record that `bytes` are, in line number `at`.
-#[tactic(auto, using(std::proofs::lemmas::Bool::Decides::nat_tests), unfolding(crate::specs::images::IntelHex::hex_framed))]
-fn framed(at: usize, bytes: &[u8]) -> Result<Record<'_>, ImageFault>
+/// Splits `bytes`, the record in line number `at`, into its fields, or returns its fault of length or checksum.
+#[tactic(auto, using(std::proofs::lemmas::Bool::Decides::nat_tests), unfolding(crate::specs::images::IntelHex::hex_record_of_bytes))]
+fn split_record(at: usize, bytes: &[u8]) -> Result<Record<'_>, ImageFault>
     requires { length bytes.now ≤ 260 }
-    ensures value { result ≡ hex_framed at bytes.now }
+    ensures value { result ≡ hex_record_of_bytes at bytes.now }
     ensures small { IfOk result (λ r. r.offset < 65536) }
 {
     if bytes.len() == 0 {
@@ -72,7 +73,7 @@ fn framed(at: usize, bytes: &[u8]) -> Result<Record<'_>, ImageFault>
     })
 }
 
-/// Returns whether the data of a record goes past the end of its segment, if it has one.
+/// Returns true if the base of `state` is a segment, and the data of record `said` goes past its end.
 fn leaves_segment(state: &State, said: &Record<'_>) -> bool
     requires { said.now.offset < 65536 }
     ensures { result ≡ leaves_segment state.now said.now }
@@ -80,11 +81,11 @@ fn leaves_segment(state: &State, said: &Record<'_>) -> bool
     state.is_segment && said.offset as usize + said.content.len() > 65_536
 }
 
-/// Takes the data of record `said`, in line number `at`, at its offset from the base of `state`.
+/// Adds the data of record `said`, in line number `at`, at its offset from the base of `state`.
 #[tactic(auto, using(std::proofs::lemmas::Bool::Decides::nat_tests), unfolding(crate::specs::images::IntelHex::hex_data_at))]
-fn data_at(alloc: Global, at: usize, state: State, said: &Record<'_>) -> Result<State, ImageFault>
+fn add_data(alloc: Global, at: usize, state: State, said: &Record<'_>) -> Result<State, ImageFault>
     requires { said.now.offset < 65536 }
-    ensures value { GivesReading result (hex_data_at at state said.now) }
+    ensures value { IsReadResult result (hex_data_at at state said.now) }
     ensures counted { IfOk result (λ s. s.count ≡ state.count) }
 {
     let address = state.base + said.offset as u64;
@@ -97,9 +98,9 @@ fn data_at(alloc: Global, at: usize, state: State, said: &Record<'_>) -> Result<
     }
 }
 
-/// Sets a new base, in units of `unit` addresses.
+/// Sets the base to the two bytes of record `said`, in units of `unit` addresses. Other than two bytes are BadLength.
 #[tactic(auto, using(std::proofs::lemmas::Bool::Decides::nat_tests), unfolding(crate::specs::images::IntelHex::state_with_base))]
-fn based(at: usize, unit: u64, state: State, said: &Record<'_>) -> Result<State, ImageFault>
+fn with_base(at: usize, unit: u64, state: State, said: &Record<'_>) -> Result<State, ImageFault>
     requires { unit ≤ 65536 }
     ensures value { result ≡ state_with_base at unit state said.now }
     ensures counted { IfOk result (λ s. s.count ≡ state.count) }
@@ -114,29 +115,29 @@ fn based(at: usize, unit: u64, state: State, said: &Record<'_>) -> Result<State,
     }
 }
 
-/// Returns the state after record `said` in line number `at`.
-#[tactic(auto, using(std::proofs::lemmas::Bool::Decides::nat_tests), unfolding(crate::specs::images::IntelHex::hex_meant))]
-fn meant(alloc: Global, at: usize, state: State, said: &Record<'_>) -> Result<State, ImageFault>
+/// Carries out record `said`, in line number `at`, by its type. Returns the state after it, or its fault.
+#[tactic(auto, using(std::proofs::lemmas::Bool::Decides::nat_tests), unfolding(crate::specs::images::IntelHex::hex_record_applied))]
+fn do_record(alloc: Global, at: usize, state: State, said: &Record<'_>) -> Result<State, ImageFault>
     requires { said.now.offset < 65536 }
-    ensures value { GivesReading result (hex_meant at state said.now) }
+    ensures value { IsReadResult result (hex_record_applied at state said.now) }
     ensures counted { IfOk result (λ s. s.count ≡ state.count) }
 {
     match said.kind {
-        0 => data_at(alloc, at, state, said),
+        0 => add_data(alloc, at, state, said),
         1 if said.content.len() == 0 => Ok(State {
             is_whole: true,
             is_ended: true,
             ..state
         }),
-        2 => based(at, 16, state, said),
-        4 => based(at, 65_536, state, said),
+        2 => with_base(at, 16, state, said),
+        4 => with_base(at, 65_536, state, said),
         3 | 5 if said.content.len() == 4 => Ok(state),
         1 | 3 | 5 => Err(ImageFault::BadLength(at)),
         _ => Err(ImageFault::BadType(at)),
     }
 }
 
-/// The format.
+/// Intel HEX, as a format that is read line by line.
 struct IntelHex;
 
 impl TextFormat for IntelHex {
@@ -148,11 +149,11 @@ impl TextFormat for IntelHex {
             Ok(bytes) => bytes,
             Err(fault) => return Err(fault),
         };
-        let said = match framed(at, &bytes) {
+        let said = match split_record(at, &bytes) {
             Ok(said) => said,
             Err(fault) => return Err(fault),
         };
-        meant(alloc, at, state, &said)
+        do_record(alloc, at, state, &said)
     }
 }
 
@@ -160,8 +161,8 @@ impl TextFormat for IntelHex {
 #[tactic(auto, using(std::proofs::lemmas::Bool::Decides::nat_tests), unfolding(crate::specs::images::IntelHex::hex_elements_of))]
 pub fn read(alloc: Global, text: &[u8]) -> Result<Vec<Element>, ImageFault>
     // The result is the list of the file's elements, or its first fault.
-    ensures value { GivesElements result (hex_elements_of text.now) }
-    // The elements are by address, and no two share an address.
+    ensures value { IsElementResult result (hex_elements_of text.now) }
+    // The elements are sorted by address, and no two share an address.
     ensures apart { IfOk result (λ v. AreApart 0 v.items) }
 {
     elements_by_line::<IntelHex>(alloc, text)

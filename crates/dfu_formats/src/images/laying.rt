@@ -2,7 +2,7 @@
 
 ghost use Rattle.std.specs.Prelude.{◌≡◌, ◌+◌, ◌-◌, ◌≤◌, ◌<◌, ◌++◌, length, IfOk, Ok, Err};
 ghost use Rattle.dfu_formats.specs.images.Elements.{AreApart};
-ghost use Rattle.dfu_formats.specs.images.Laying.{filled_part, bytes_in_front, laid_bytes, lowest_address, GivesLaidBytes};
+ghost use Rattle.dfu_formats.specs.images.Laying.{filled_part, bytes_in_front, laid_bytes, lowest_address, IsLaidResult};
 
 use crate::images::element::Element;
 use crate::images::limits::MAX_IMAGE;
@@ -10,12 +10,12 @@ use std::alloc::Global;
 use std::fmt;
 use thiserror::Error;
 
-/// A fault of elements that do not make an image.
+/// A fault of elements that don't make one piece.
 #[derive(Clone, Copy, Debug, Error)]
 pub enum LayFault {
     /// An allocation was refused.
     NoMemory,
-    /// Nothing has the addresses from the first up to before the second, and no filling is given.
+    /// No element has the addresses from the first up to before the second, and no filling is given.
     Gap(u64, u32),
     /// With the filling of the gaps, the image has over 16,777,216 bytes.
     TooLarge,
@@ -36,7 +36,7 @@ impl fmt::Display for LayFault {
     }
 }
 
-/// Puts an element after bytes that end at the address `end`.
+/// Appends an element to bytes that end at address `end`, after those that fill the gap; or returns the fault.
 #[tactic(auto, using(std::proofs::lemmas::Bool::Decides::nat_tests), unfolding(crate::specs::images::Laying::filled_part))]
 fn with_part(
     mut bytes: Vec<u8>,
@@ -46,7 +46,7 @@ fn with_part(
 ) -> Result<Vec<u8>, LayFault>
     requires ahead { end ≤ element.now.address }
     requires few { length bytes.items ≤ 16777216 }
-    ensures value { GivesLaidBytes result (bytes_in_front bytes.items (filled_part fill (length bytes.items) end element.now)) }
+    ensures value { IsLaidResult result (bytes_in_front bytes.items (filled_part fill (length bytes.items) end element.now)) }
     ensures few { IfOk result (λ v. length v.items ≤ 16777216) }
 {
     let gap = (element.address() as u64 - end) as usize;
@@ -66,7 +66,7 @@ fn with_part(
     }
 }
 
-/// Returns the lowest address of `elements`, or 0 if there are none.
+/// Returns the lowest address of `elements`, which are sorted by address; 0 if there are none.
 pub fn lowest(elements: &[Element]) -> u32
     ensures { result ≡ lowest_address elements.now }
 {
@@ -80,10 +80,10 @@ pub fn lowest(elements: &[Element]) -> u32
 ///
 /// # Errors
 ///
-/// The first from the front: Gap if no filling is given, or TooLarge. NoMemory if an allocation was refused.
+/// The first fault from the front: Gap if no filling is given, or TooLarge. NoMemory if an allocation was refused.
 pub fn lay(alloc: Global, elements: &[Element], fill: Option<u8>) -> Result<Vec<u8>, LayFault>
     requires { AreApart 0 elements.now }
-    ensures value { GivesLaidBytes result (laid_bytes fill 0 (lowest_address elements.now) elements.now) }
+    ensures value { IsLaidResult result (laid_bytes fill 0 (lowest_address elements.now) elements.now) }
     ensures few { IfOk result (λ v. length v.items ≤ 16777216) }
 {
     let mut bytes = Vec::new(alloc);

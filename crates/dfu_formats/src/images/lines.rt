@@ -3,8 +3,8 @@
 ghost use Rattle.std.specs.Prelude.{◌≡◌, ◌+◌, ◌≤◌, ◌<◌, ℕ, List, Result, [], ◌∷◌, length, IfOk, IfSome, MatchOption};
 ghost use Rattle.std.specs.List.{list_all, position};
 ghost use Rattle.dfu_formats.specs.declared.images.fault.ImageFault as declared;
-ghost use Rattle.dfu_formats.specs.images.Reading.{GivesReading, FailsToRead};
-ghost use Rattle.dfu_formats.specs.images.Elements.{AreApart, GivesElements};
+ghost use Rattle.dfu_formats.specs.images.Reading.{IsReadResult, IsReadFault};
+ghost use Rattle.dfu_formats.specs.images.Elements.{AreApart, IsElementResult};
 ghost use Rattle.dfu_formats.specs.images.Text.{is_blank_byte};
 ghost use Rattle.dfu_formats.specs.images.Lines.{lines, is_line_feed, bare_line, state_before_first_line, line_read, lines_read, elements_by_line};
 
@@ -85,12 +85,12 @@ impl Model for State {
 pub(crate) trait TextFormat {
     ghost use Rattle.dfu_formats.specs.images.Lines as lines;
 
-    /// Result of the record on a line, by the number of the line.
+    /// Result of reading the record on line number `at`.
     ghost step: { (at : ℕ) → lines.State → List ℕ → Result lines.State declared.ImageFault };
 
     fn step(alloc: Global, at: usize, state: State, line: &[u8]) -> Result<State, ImageFault>
         requires { state.count < at }
-        ensures value { GivesReading result (step at state line.now) }
+        ensures value { IsReadResult result (step at state line.now) }
         ensures counted { IfOk result (λ s. s.count ≤ state.count + 1) };
 }
 
@@ -110,7 +110,7 @@ fn line_read<F: TextFormat>(
     line: &[u8],
 ) -> Result<State, ImageFault>
     requires { state.count < at }
-    ensures value { GivesReading result (line_read F.step at state line.now) }
+    ensures value { IsReadResult result (line_read F.step at state line.now) }
     ensures counted { IfOk result (λ s. s.count ≤ state.count + 1) }
 {
     if is_blank_line(line) {
@@ -122,9 +122,9 @@ fn line_read<F: TextFormat>(
     F::step(alloc, at, state, line)
 }
 
-/// Reads all lines of `text`. Returns the state after them.
+/// Reads all lines of `text`. Returns the state after them, or the first fault; NoEnd is one.
 fn lines_read<F: TextFormat>(alloc: Global, text: &[u8]) -> Result<State, ImageFault>
-    ensures { GivesReading result (lines_read (line_read F.step) 1 state_before_first_line (lines text.now)) }
+    ensures { IsReadResult result (lines_read (line_read F.step) 1 state_before_first_line (lines text.now)) }
 {
     let mut state = State {
         gathering: Gathering::new(alloc),
@@ -151,14 +151,14 @@ fn lines_read<F: TextFormat>(alloc: Global, text: &[u8]) -> Result<State, ImageF
     }
 }
 
-/// Reads the elements of `text`, behind its byte order mark, line by line.
+/// Reads the elements of `text` line by line, without its byte order mark.
 pub(crate) fn elements_by_line<F: TextFormat>(
     alloc: Global,
     text: &[u8],
 ) -> Result<Vec<Element>, ImageFault>
     // The result is the list of the text's elements, or its first fault.
-    ensures value { GivesElements result (elements_by_line F.step text.now) }
-    // The elements are by address, and no two share an address.
+    ensures value { IsElementResult result (elements_by_line F.step text.now) }
+    // The elements are sorted by address, and no two share an address.
     ensures apart { IfOk result (λ v. AreApart 0 v.items) }
 {
     match lines_read::<F>(alloc, unmarked(text)) {

@@ -1,8 +1,8 @@
 //! The image of a file of any format, as one piece.
 
 ghost use Rattle.std.specs.Prelude.{IfOk, length, ◌≤◌};
-ghost use Rattle.dfu_formats.specs.images.Elements.{AreApart, GivesElements};
-ghost use Rattle.dfu_formats.specs.images.Making.{MakesImage, elements_in};
+ghost use Rattle.dfu_formats.specs.images.Elements.{AreApart, IsElementResult};
+ghost use Rattle.dfu_formats.specs.images.Making.{MakeImageResult, elements_in};
 
 use crate::images::element::Element;
 use crate::images::fault::ImageFault;
@@ -22,7 +22,7 @@ pub struct Image {
     pub bytes: Vec<u8>,
 }
 
-/// A fault for which there is no image of a file.
+/// A fault for which a file has no image.
 #[derive(Clone, Copy, Debug, Error)]
 pub enum ImageFileFault {
     /// The file can't be read.
@@ -45,7 +45,7 @@ impl fmt::Display for ImageFileFault {
 
 /// Reads the elements of `file`, a file of `format`.
 fn elements_in(alloc: Global, format: Format, file: &[u8]) -> Result<Vec<Element>, ImageFault>
-    ensures value { GivesElements result (elements_in format file.now) }
+    ensures value { IsElementResult result (elements_in format file.now) }
     ensures apart { IfOk result (λ v. AreApart 0 v.items) }
 {
     match format {
@@ -56,7 +56,7 @@ fn elements_in(alloc: Global, format: Format, file: &[u8]) -> Result<Vec<Element
     }
 }
 
-/// Returns the image that `file`, a file of `format`, has, with gaps filled by the byte `fill`, if it is given.
+/// Returns the image of `file`, a file of `format`, with gaps filled by the byte `fill`, if it is given.
 ///
 /// # Errors
 ///
@@ -67,7 +67,7 @@ pub fn image_of(
     fill: Option<u8>,
     file: &[u8],
 ) -> Result<Image, ImageFileFault>
-    ensures value { MakesImage fill (elements_in format file.now) result }
+    ensures value { MakeImageResult fill (elements_in format file.now) result }
     ensures few { IfOk result (λ i. length i.bytes.items ≤ 16777216) }
 {
     let elements = match elements_in(alloc, format, file) {

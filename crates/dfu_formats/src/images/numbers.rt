@@ -1,4 +1,4 @@
-//! Numbers in bytes, the lowest first.
+//! Numbers in bytes, the low byte first.
 
 ghost use Rattle.std.specs.Prelude.{◌≡◌, ◌+◌, ◌≤◌, ◌<◌, ◌^◌, length};
 ghost use Rattle.dfu_formats.specs.images.Numbers.{le16, le32};

@@ -2,21 +2,21 @@
 
 ghost use Rattle.std.specs.Prelude.{◌≡◌, ◌+◌, ◌*◌, ◌≤◌, ℕ, List, Result, length, IfOk};
 ghost use Rattle.dfu_formats.specs.declared.images.fault.ImageFault as declared;
-ghost use Rattle.dfu_formats.specs.images.Reading.{parts_read, GivesReading, FailsToRead};
+ghost use Rattle.dfu_formats.specs.images.Reading.{parts_read, IsReadResult, IsReadFault};
 ghost use Rattle.dfu_formats.specs.images.Elements as elements;
-ghost use Rattle.dfu_formats.specs.images.Elements.{AreApart, GivesElements, empty_gathering, elements_by_part};
+ghost use Rattle.dfu_formats.specs.images.Elements.{AreApart, IsElementResult, empty_gathering, elements_by_part};
 
 use crate::images::element::Element;
 use crate::images::fault::ImageFault;
 use crate::images::gathering::Gathering;
 use std::alloc::Global;
 
-/// Facts of a file, in a format that is read part by part, before its parts are read.
+/// A file of a format that is read part by part, with the facts of the whole file that each part needs.
 pub(crate) trait ByPart {
     /// Number of bytes of a part.
     ghost size: { Self → ℕ };
 
-    /// Result of a part, by its index.
+    /// Result of reading a part, by its index.
     ghost part_read: { Self → (index : ℕ) → elements.Gathering → List ℕ → Result elements.Gathering declared.ImageFault };
 
     fn part_read(
@@ -27,10 +27,10 @@ pub(crate) trait ByPart {
         part: &[u8],
     ) -> Result<Gathering, ImageFault>
         requires { length part.now ≡ size self.now }
-        ensures { GivesReading result (part_read self.now index gathering part.now) };
+        ensures { IsReadResult result (part_read self.now index gathering part.now) };
 }
 
-/// Parses the first `total` parts.
+/// Reads the first `total` parts, each of `size` bytes. Returns the gathering after them, or the first fault.
 fn parts_read<F: ByPart>(
     alloc: Global,
     file: &F,
@@ -40,7 +40,7 @@ fn parts_read<F: ByPart>(
 ) -> Result<Gathering, ImageFault>
     requires sized { size ≡ F.size file.now }
     requires whole { total * size ≤ length parts.now }
-    ensures { GivesReading result (parts_read size (F.part_read file.now) total 0 empty_gathering parts.now) }
+    ensures { IsReadResult result (parts_read size (F.part_read file.now) total 0 empty_gathering parts.now) }
 {
     let mut gathering = Gathering::new(alloc);
     let mut rest = parts;
@@ -68,8 +68,8 @@ pub(crate) fn elements_by_part<F: ByPart>(
     requires sized { size ≡ F.size file.now }
     requires whole { total * size ≤ length parts.now }
     // The result is the list of the parts' elements, or the first fault.
-    ensures value { GivesElements result (elements_by_part size (F.part_read file.now) total parts.now) }
-    // The elements are by address, and no two share an address.
+    ensures value { IsElementResult result (elements_by_part size (F.part_read file.now) total parts.now) }
+    // The elements are sorted by address, and no two share an address.
     ensures apart { IfOk result (λ v. AreApart 0 v.items) }
 {
     match parts_read(alloc, file, size, total, parts) {

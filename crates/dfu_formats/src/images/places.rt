@@ -1,4 +1,4 @@
-//! The first byte of a text of records that no record has at its place.
+//! Search of a text for the first byte that no record may have at its place.
 
 ghost use Rattle.std.specs.Prelude.{◌≡◌};
 ghost use Rattle.dfu_formats.specs.images.Places.{bad_from, bad_place, part_after_byte};
@@ -10,13 +10,13 @@ use crate::images::text::{is_blank_byte, unmarked};
 /// A place in a text. Both numbers count from 1, and columns count bytes.
 #[derive(Clone, Copy)]
 pub struct Place {
-    /// Line of the place.
+    /// Number of the line.
     pub line: u64,
-    /// Byte within the line.
+    /// Number of the byte within the line.
     pub column: u64,
 }
 
-/// A part of a line: before the mark of a record, behind the mark, and behind the digits.
+/// A part of a line: before the mark of a record, from the mark to the last digit, or after the digits.
 #[derive(Clone, Copy)]
 enum Part {
     Front,
@@ -24,9 +24,9 @@ enum Part {
     Back,
 }
 
-/// Returns the part of a line after `byte` in `part`; None if no record with `mark` has such a byte in `part`.
+/// Returns the part of a line after `byte` in `part`; None if no record with `mark` may have the byte in `part`.
 #[tactic(auto, using(std::proofs::lemmas::Bool::Decides::nat_tests))]
-fn led_to(mark: u8, part: Part, byte: u8) -> Option<Part>
+fn next_line_part(mark: u8, part: Part, byte: u8) -> Option<Part>
     ensures { result ≡ part_after_byte mark part byte }
 {
     match part {
@@ -38,8 +38,8 @@ fn led_to(mark: u8, part: Part, byte: u8) -> Option<Part>
     }
 }
 
-/// Returns the place of the first byte of `text`, a text without its byte order mark, that no record with `mark` has there; None if there
-/// is none.
+/// Returns the place of the first byte of `text`, a text without its byte order mark, that no record with `mark` may have there; None if
+/// there is no such byte.
 #[tactic(auto, using(std::proofs::lemmas::Bool::Decides::nat_tests), unfolding(crate::specs::images::Places::bad_from))]
 fn bad_from(mark: u8, text: &[u8]) -> Option<Place>
     ensures { result ≡ bad_from mark Part.Front 1 1 text.now }
@@ -54,7 +54,7 @@ fn bad_from(mark: u8, text: &[u8]) -> Option<Place>
             column = 1;
             continue;
         }
-        match led_to(mark, part, *byte) {
+        match next_line_part(mark, part, *byte) {
             Some(next) => part = next,
             None => return Some(Place { line, column }),
         }
@@ -63,10 +63,10 @@ fn bad_from(mark: u8, text: &[u8]) -> Option<Place>
     None
 }
 
-/// Returns the place of the first byte of `file` that no record has there, if `format` is a format of text. None if there is no such byte,
-/// or for a format of bytes.
+/// Returns the place of the first byte of `file` that no record may have there, if `format` is a text format. None if there is no such
+/// byte, and for a binary format.
 ///
-/// A line is blanks, the mark of a record, hexadecimal digits, and blanks. Lines are counted behind a byte order mark.
+/// A line is blanks, the mark of a record, hexadecimal digits, and blanks. Lines are counted after a byte order mark.
 pub fn bad_place(format: Format, file: &[u8]) -> Option<Place>
     ensures { result ≡ bad_place format file.now }
 {

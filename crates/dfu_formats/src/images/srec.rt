@@ -1,24 +1,24 @@
 //! S-records, types 0 to 3 and 5 to 9.
 //!
 //! Lines and digits are as in Intel HEX. After all data comes an end record, of any of its types, or a count, because some tools write no
-//! end record. A count is of the records of data before it. Titles are passed over.
+//! end record. A count must equal the number of data records before it. Titles are ignored.
 
 ghost use Rattle.std.specs.Prelude.{◌≡◌, ◌+◌, ◌≤◌, ◌<◌, ◌^◌, length, IfOk, MatchResult, Ok, Err};
-ghost use Rattle.dfu_formats.specs.images.Reading.{GivesReading, FailsToRead};
-ghost use Rattle.dfu_formats.specs.images.Elements.{AreApart, GivesElements};
-ghost use Rattle.dfu_formats.specs.images.SRecord.{srec_data_at, srec_closed, srec_record_read, srec_elements_of};
+ghost use Rattle.dfu_formats.specs.images.Reading.{IsReadResult, IsReadFault};
+ghost use Rattle.dfu_formats.specs.images.Elements.{AreApart, IsElementResult};
+ghost use Rattle.dfu_formats.specs.images.SRecord.{srec_data_at, srec_count_or_end, srec_record_read, srec_elements_of};
 
 use crate::images::element::Element;
 use crate::images::fault::ImageFault;
 use crate::images::lines::{State, TextFormat, elements_by_line};
-use crate::images::srec_line::{Record, framed, spelled};
+use crate::images::srec_line::{Record, spelled, split_record};
 use std::alloc::Global;
 
-/// Takes the data of record `said`, in line number `at`, at its address.
+/// Adds the data of record `said`, in line number `at`, at its address.
 #[tactic(auto, using(std::proofs::lemmas::Bool::Decides::nat_tests), unfolding(crate::specs::images::SRecord::srec_data_at))]
-fn data_at(alloc: Global, at: usize, state: State, said: &Record<'_>) -> Result<State, ImageFault>
+fn add_data(alloc: Global, at: usize, state: State, said: &Record<'_>) -> Result<State, ImageFault>
     requires { state.count < at }
-    ensures value { GivesReading result (srec_data_at at state said.now) }
+    ensures value { IsReadResult result (srec_data_at at state said.now) }
     ensures counted { IfOk result (λ s. s.count ≤ state.count + 1) }
 {
     if said.address + said.content.len() as u64 > 0x1_0000_0000 {
@@ -35,10 +35,10 @@ fn data_at(alloc: Global, at: usize, state: State, said: &Record<'_>) -> Result<
     }
 }
 
-/// Reads a count of the records of data, or the end.
-#[tactic(auto, using(std::proofs::lemmas::Bool::Decides::nat_tests), unfolding(crate::specs::images::SRecord::srec_closed))]
-fn closed(at: usize, state: State, said: &Record<'_>) -> Result<State, ImageFault>
-    ensures value { result ≡ srec_closed at state said.now }
+/// Reads a count, which must be that of the data records so far, or an end record. Neither may have data.
+#[tactic(auto, using(std::proofs::lemmas::Bool::Decides::nat_tests), unfolding(crate::specs::images::SRecord::srec_count_or_end))]
+fn count_or_end(at: usize, state: State, said: &Record<'_>) -> Result<State, ImageFault>
+    ensures value { result ≡ srec_count_or_end at state said.now }
     ensures counted { IfOk result (λ s. s.count ≤ state.count + 1) }
 {
     if said.content.len() != 0 {
@@ -60,27 +60,27 @@ fn closed(at: usize, state: State, said: &Record<'_>) -> Result<State, ImageFaul
     })
 }
 
-/// The format.
+/// S-records, as a format that is read line by line.
 struct SRecord;
 
 impl TextFormat for SRecord {
     ghost step = { srec_record_read };
 
-    #[tactic(auto, using(std::proofs::lemmas::Bool::Decides::nat_tests), unfolding(crate::specs::images::SRecord::srec_record_read, crate::specs::images::SRecord::srec_meant))]
+    #[tactic(auto, using(std::proofs::lemmas::Bool::Decides::nat_tests), unfolding(crate::specs::images::SRecord::srec_record_read, crate::specs::images::SRecord::srec_record_applied))]
     fn step(alloc: Global, at: usize, state: State, line: &[u8]) -> Result<State, ImageFault> {
         let typed = match spelled(at, line) {
             Ok(typed) => typed,
             Err(fault) => return Err(fault),
         };
-        let said = match framed(at, &typed) {
+        let said = match split_record(at, &typed) {
             Ok(said) => said,
             Err(fault) => return Err(fault),
         };
         match said.kind {
             0 => Ok(state),
-            1..=3 => data_at(alloc, at, state, &said),
+            1..=3 => add_data(alloc, at, state, &said),
             4 => Err(ImageFault::BadType(at)),
-            _ => closed(at, state, &said),
+            _ => count_or_end(at, state, &said),
         }
     }
 }
@@ -89,8 +89,8 @@ impl TextFormat for SRecord {
 #[tactic(auto, using(std::proofs::lemmas::Bool::Decides::nat_tests), unfolding(crate::specs::images::SRecord::srec_elements_of))]
 pub fn read(alloc: Global, text: &[u8]) -> Result<Vec<Element>, ImageFault>
     // The result is the list of the file's elements, or its first fault.
-    ensures value { GivesElements result (srec_elements_of text.now) }
-    // The elements are by address, and no two share an address.
+    ensures value { IsElementResult result (srec_elements_of text.now) }
+    // The elements are sorted by address, and no two share an address.
     ensures apart { IfOk result (λ v. AreApart 0 v.items) }
 {
     elements_by_line::<SRecord>(alloc, text)

@@ -1,7 +1,7 @@
 //! One S-record: its type, its address and its data, from the text of its line.
 
 ghost use Rattle.std.specs.Prelude.{◌≡◌, ◌+◌, ◌≤◌, ◌<◌, ◌^◌, length, Ok, Err};
-ghost use Rattle.dfu_formats.specs.images.SRecord.{srec_spelled, address_width, number_of_bytes, srec_framed};
+ghost use Rattle.dfu_formats.specs.images.SRecord.{srec_bytes_of_line, address_width, number_of_bytes, srec_record_of_bytes};
 
 use crate::images::digits::{bytes_at, sum_of};
 use crate::images::fault::ImageFault;
@@ -11,12 +11,12 @@ use std::marker::Model;
 
 /// The type of a record, and its bytes.
 #[derive(Drop)]
-pub(crate) struct Typed {
+pub(crate) struct TypedRecord {
     kind: u8,
     bytes: ArrayVec<u8, MAX_RECORD>,
 }
 
-impl Model for Typed {
+impl Model for TypedRecord {
     ghost use Rattle.std.specs.Prelude.{◌≤◌};
     ghost use Rattle.dfu_formats.specs.images.SRecord as srec;
 
@@ -28,13 +28,13 @@ impl Model for Typed {
 }
 
 /// Returns the type and the bytes of the record in `line`, which has number `at`.
-#[tactic(auto, using(std::proofs::lemmas::Bool::Decides::nat_tests), unfolding(crate::specs::images::SRecord::srec_spelled))]
-pub(crate) fn spelled(at: usize, line: &[u8]) -> Result<Typed, ImageFault>
-    ensures { result ≡ srec_spelled at line.now }
+#[tactic(auto, using(std::proofs::lemmas::Bool::Decides::nat_tests), unfolding(crate::specs::images::SRecord::srec_bytes_of_line))]
+pub(crate) fn spelled(at: usize, line: &[u8]) -> Result<TypedRecord, ImageFault>
+    ensures { result ≡ srec_bytes_of_line at line.now }
 {
     match line {
         [b'S', kind, digits @ ..] if *kind >= b'0' && *kind <= b'9' => match bytes_at(at, digits) {
-            Ok(bytes) => Ok(Typed {
+            Ok(bytes) => Ok(TypedRecord {
                 kind: *kind - b'0',
                 bytes,
             }),
@@ -88,10 +88,10 @@ impl<'t> Model for Record<'t> {
     ghost invariant = { λ r. r.address < 2 ^ 32 };
 }
 
-/// Returns the record that `typed`, its type and bytes, is, in line number `at`.
-#[tactic(auto, using(std::proofs::lemmas::Bool::Decides::nat_tests), unfolding(crate::specs::images::SRecord::srec_framed))]
-pub(crate) fn framed(at: usize, typed: &Typed) -> Result<Record<'_>, ImageFault>
-    ensures { result ≡ srec_framed at typed.now }
+/// Splits `typed`, the type and bytes of the record in line number `at`, into its fields.
+#[tactic(auto, using(std::proofs::lemmas::Bool::Decides::nat_tests), unfolding(crate::specs::images::SRecord::srec_record_of_bytes))]
+pub(crate) fn split_record(at: usize, typed: &TypedRecord) -> Result<Record<'_>, ImageFault>
+    ensures { result ≡ srec_record_of_bytes at typed.now }
 {
     let bytes = typed.bytes.as_slice();
     let width = width(typed.kind);

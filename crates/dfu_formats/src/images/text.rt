@@ -1,7 +1,7 @@
 //! The text of a file: its byte order mark, its blanks, and whether it is text alone.
 
 ghost use Rattle.std.specs.Prelude.{◌≡◌};
-ghost use Rattle.dfu_formats.specs.images.Text.{awaited_behind, awaited_behind_first, is_blank_byte, is_text_byte, is_text, nothing_awaited, text_from, without_leading_blanks, without_order_mark};
+ghost use Rattle.dfu_formats.specs.images.Text.{awaited_after_byte, awaited_after_first_byte, is_blank_byte, is_text_byte, is_text, nothing_awaited, is_text_from, without_leading_blanks, without_order_mark};
 
 /// Returns `text` without the byte order mark of UTF-8, if it begins with one.
 pub(crate) fn unmarked(text: &[u8]) -> &[u8]
@@ -35,7 +35,7 @@ pub(crate) fn unblanked(text: &[u8]) -> &[u8]
     rest
 }
 
-/// Returns true if `byte` is no control character but a tab, line feed, form feed or carriage return.
+/// Returns true if `byte` is a tab, line feed, form feed or carriage return, or no ASCII control character.
 #[tactic(auto, using(std::proofs::lemmas::Bool::Decides::nat_tests))]
 fn is_text_byte(byte: u8) -> bool
     ensures { result ≡ is_text_byte byte }
@@ -54,17 +54,17 @@ struct Awaited {
     high: u8,
 }
 
-/// Nothing is awaited: a character begins.
+/// State between two characters: no byte is awaited.
 const NOTHING: Awaited = Awaited {
     left: 0,
     low: 0x80,
     high: 0xbf,
 };
 
-/// Returns the bytes that are awaited behind the first byte of a character.
+/// Returns the bytes awaited after `byte`, the first of a character; None if no character of text begins with it.
 #[tactic(auto, using(std::proofs::lemmas::Bool::Decides::nat_tests))]
-fn awaited_behind_first(byte: u8) -> Option<Awaited>
-    ensures { result ≡ awaited_behind_first byte }
+fn awaited_after_first_byte(byte: u8) -> Option<Awaited>
+    ensures { result ≡ awaited_after_first_byte byte }
 {
     let (left, low, high) = match byte {
         0..=0x7f => return if is_text_byte(byte) {
@@ -84,13 +84,13 @@ fn awaited_behind_first(byte: u8) -> Option<Awaited>
     Some(Awaited { left, low, high })
 }
 
-/// Returns the bytes that are awaited behind a byte.
+/// Returns the bytes awaited after `byte`; None if it is not allowed here.
 #[tactic(auto, using(std::proofs::lemmas::Bool::Decides::nat_tests))]
-fn awaited_behind(awaited: Awaited, byte: u8) -> Option<Awaited>
-    ensures { result ≡ awaited_behind awaited byte }
+fn awaited_after_byte(awaited: Awaited, byte: u8) -> Option<Awaited>
+    ensures { result ≡ awaited_after_byte awaited byte }
 {
     if awaited.left == 0 {
-        return awaited_behind_first(byte);
+        return awaited_after_first_byte(byte);
     }
     if awaited.low <= byte && byte <= awaited.high {
         return Some(Awaited {
@@ -101,14 +101,14 @@ fn awaited_behind(awaited: Awaited, byte: u8) -> Option<Awaited>
     None
 }
 
-/// Returns true if `bytes` are characters of UTF-8, without control characters but those of text.
-#[tactic(auto, using(std::proofs::lemmas::Bool::Decides::nat_tests), unfolding(crate::specs::images::Text::text_from))]
+/// Returns true if `bytes` are UTF-8, without ASCII control characters but tab, line feed, form feed and carriage return.
+#[tactic(auto, using(std::proofs::lemmas::Bool::Decides::nat_tests), unfolding(crate::specs::images::Text::is_text_from))]
 fn are_characters(bytes: &[u8]) -> bool
-    ensures { result ≡ text_from nothing_awaited bytes.now }
+    ensures { result ≡ is_text_from nothing_awaited bytes.now }
 {
     let mut awaited = NOTHING;
     for byte in bytes {
-        match awaited_behind(awaited, *byte) {
+        match awaited_after_byte(awaited, *byte) {
             Some(next) => awaited = next,
             None => return false,
         }
@@ -116,7 +116,8 @@ fn are_characters(bytes: &[u8]) -> bool
     awaited.left == 0
 }
 
-/// Returns true if `file` is text alone: UTF-8, without control characters but those of text.
+/// Returns true if `file` is text alone: not empty, UTF-8, and without ASCII control characters but tab, line feed, form feed and carriage
+/// return.
 #[tactic(auto, using(std::proofs::lemmas::Bool::Decides::nat_tests))]
 pub(crate) fn is_text(file: &[u8]) -> bool
     ensures { result ≡ is_text file.now }

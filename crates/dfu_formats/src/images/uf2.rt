@@ -1,9 +1,9 @@
 //! UF2 files.
 
 ghost use Rattle.std.specs.Prelude.{◌≡◌, ◌+◌, ◌*◌, ◌≤◌, ◌<◌, length, IfOk, Ok, Err};
-ghost use Rattle.dfu_formats.specs.images.Reading.{GivesReading, FailsToRead};
+ghost use Rattle.dfu_formats.specs.images.Reading.{IsReadResult, IsReadFault};
 ghost use Rattle.dfu_formats.specs.images.Numbers as numbers;
-ghost use Rattle.dfu_formats.specs.images.Elements.{AreApart, GivesElements};
+ghost use Rattle.dfu_formats.specs.images.Elements.{AreApart, IsElementResult};
 ghost use Rattle.dfu_formats.specs.images.Blocks.{is_uf2_block, has_flag, family_of, block_gathered, block_read, uf2_elements_of};
 
 use crate::images::element::Element;
@@ -14,7 +14,7 @@ use crate::images::parts::{ByPart, elements_by_part};
 use std::alloc::Global;
 
 /// Returns true if `block` has its three marks.
-fn is_block(block: &[u8]) -> bool
+fn has_block_marks(block: &[u8]) -> bool
     requires { length block.now ≡ 512 }
     ensures { result ≡ is_uf2_block block.now }
 {
@@ -32,7 +32,7 @@ fn has_flag(block: &[u8], flag: u32) -> bool
     le32(block, 8) / flag % 2 == 1
 }
 
-/// Returns the family of boards that `block` is for, or 0 if it says none.
+/// Returns the family of boards that `block` is for, or 0 if it names none.
 fn family_of(block: &[u8]) -> u32
     requires { length block.now ≡ 512 }
     ensures { result ≡ family_of block.now }
@@ -44,9 +44,10 @@ fn family_of(block: &[u8]) -> u32
     }
 }
 
-/// Adds the data of a block to the elements.
+/// Adds the data of `block` to the elements, if it is for the main flash. It must not be for a file or another family, or end past the last
+/// address.
 #[tactic(auto, using(std::proofs::lemmas::Bool::Decides::nat_tests), unfolding(crate::specs::images::Blocks::block_gathered))]
-fn flashed(
+fn add_block(
     alloc: Global,
     index: usize,
     family: u32,
@@ -55,7 +56,7 @@ fn flashed(
 ) -> Result<Gathering, ImageFault>
     requires size { length block.now ≡ 512 }
     requires few { numbers.le32 block.now 16 ≤ 476 }
-    ensures { GivesReading result (block_gathered family index gathering block.now) }
+    ensures { IsReadResult result (block_gathered family index gathering block.now) }
 {
     if has_flag(block, 1) {
         return Ok(gathering);
@@ -76,7 +77,7 @@ fn flashed(
     gathering.add(alloc, index, address, content)
 }
 
-/// Facts that each block has to name: the number of blocks, and the family of the first.
+/// A UF2 file, read block by block: the number of its blocks, and the family of the first.
 #[derive(Drop)]
 struct Blocks {
     total: usize,
@@ -96,7 +97,7 @@ impl ByPart for Blocks {
         gathering: Gathering,
         block: &[u8],
     ) -> Result<Gathering, ImageFault> {
-        if !is_block(block) {
+        if !has_block_marks(block) {
             return Err(ImageFault::BadMagic(index));
         }
         if le32(block, 16) > 476 {
@@ -105,7 +106,7 @@ impl ByPart for Blocks {
         if le32(block, 20) as usize != index || le32(block, 24) as usize != self.total {
             return Err(ImageFault::BadNumber(index));
         }
-        flashed(alloc, index, self.family, gathering, block)
+        add_block(alloc, index, self.family, gathering, block)
     }
 }
 
@@ -113,8 +114,8 @@ impl ByPart for Blocks {
 #[tactic(auto, using(std::proofs::lemmas::Bool::Decides::nat_tests), unfolding(crate::specs::images::Blocks::uf2_elements_of))]
 pub fn read(alloc: Global, file: &[u8]) -> Result<Vec<Element>, ImageFault>
     // The result is the list of the file's elements, or its first fault.
-    ensures value { GivesElements result (uf2_elements_of file.now) }
-    // The elements are by address, and no two share an address.
+    ensures value { IsElementResult result (uf2_elements_of file.now) }
+    // The elements are sorted by address, and no two share an address.
     ensures apart { IfOk result (λ v. AreApart 0 v.items) }
 {
     if file.len() == 0 || file.len() % 512 != 0 {

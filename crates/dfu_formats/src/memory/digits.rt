@@ -1,4 +1,4 @@
-//! Numbers in digits.
+//! Numbers that are spelled in digits.
 
 ghost use Rattle.std.specs.Prelude.{◌≡◌, ◌^◌, ◌≤◌, ◌<◌, length, IfSome};
 ghost use Rattle.dfu_formats.specs.memory.Reading.{digit_value, digits_in, digits_number, map_number_at};
@@ -47,7 +47,7 @@ fn said(base: u64, digits: &[u8]) -> u64
     value
 }
 
-/// Takes the number at the front, in the base and in at most `most` digits. All digits at the front belong to it.
+/// Takes the number in base `base` off the front of `text`; all digits there belong to it. None without a digit, or with over `most`.
 #[tactic(auto, unfolding(crate::specs::memory::Reading::map_number_at))]
 pub(crate) fn take_number(base: u64, most: usize, text: &[u8]) -> Option<Number<'_>>
     requires base { base ≤ 16 }

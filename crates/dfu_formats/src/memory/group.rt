@@ -11,14 +11,14 @@ use crate::memory::pages::{Access, Pages};
 use crate::memory::text::{Number, behind, front};
 use std::marker::Model;
 
-/// Access to pages, and the text after the letter that says it.
+/// Access to pages, and the text after its letter.
 #[derive(Drop)]
-struct Allowed<'t> {
+struct AccessAndRest<'t> {
     access: Access,
     rest: &'t [u8],
 }
 
-impl<'t> Model for Allowed<'t> {
+impl<'t> Model for AccessAndRest<'t> {
     ghost use Rattle.dfu_formats.specs.memory.Ranges.{IsRange};
     ghost use Rattle.dfu_formats.specs.memory.Reading.{LetterRead};
 
@@ -36,14 +36,14 @@ pub(crate) struct Group<'t> {
 
 impl<'t> Model for Group<'t> {
     ghost use Rattle.dfu_formats.specs.memory.Ranges.{IsRange};
-    ghost use Rattle.dfu_formats.specs.memory.Reading.{Grouped};
+    ghost use Rattle.dfu_formats.specs.memory.Reading.{RangeRead};
 
-    ghost Value = { Grouped };
+    ghost Value = { RangeRead };
 
     ghost view = { λ g. record { pages = g.pages; rest = g.rest.now } };
 }
 
-/// Returns the number of bytes of the unit that letter `byte` says, or 0 if it says none.
+/// Returns the number of bytes of unit `byte`, or 0 if it is no unit.
 fn unit_of(byte: u8) -> u64
     ensures value { result ≡ unit_bytes byte }
     ensures small { result ≤ 2 ^ 20 }
@@ -104,7 +104,7 @@ fn take_size(text: &[u8]) -> Result<Number<'_>, MapFault>
     }
 }
 
-/// Returns the access that the bits of a letter say: `a` has only the lowest bit.
+/// Returns the access by the bits of a letter: `a` is 1, and bit 0 means readable, bit 1 erasable, bit 2 writable.
 fn access_of(letter: u8) -> Access
     requires { 97 ≤ letter }
     ensures { result ≡ access_of letter }
@@ -117,13 +117,13 @@ fn access_of(letter: u8) -> Access
     }
 }
 
-/// Takes the letter that says the access to the pages.
+/// Takes the letter for the access to the pages.
 #[tactic(auto, using(std::proofs::lemmas::Bool::Decides::nat_tests), unfolding(crate::specs::memory::Reading::access_at))]
-fn take_access(text: &[u8]) -> Result<Allowed<'_>, MapFault>
+fn take_access(text: &[u8]) -> Result<AccessAndRest<'_>, MapFault>
     ensures { result ≡ access_at text.now }
 {
     match front(text) {
-        Some((letter, rest)) if letter >= b'a' && letter <= b'g' => Ok(Allowed {
+        Some((letter, rest)) if letter >= b'a' && letter <= b'g' => Ok(AccessAndRest {
             access: access_of(letter),
             rest,
         }),
@@ -131,7 +131,7 @@ fn take_access(text: &[u8]) -> Result<Allowed<'_>, MapFault>
     }
 }
 
-/// Takes a range that begins at `start`.
+/// Takes a range that begins at `start`, or returns its first fault.
 #[tactic(auto, using(std::proofs::lemmas::Bool::Decides::nat_tests), unfolding(crate::specs::memory::Reading::group_at))]
 pub(crate) fn take_group(start: u64, text: &[u8]) -> Result<Group<'_>, MapFault>
     requires { start < 2 ^ 33 }

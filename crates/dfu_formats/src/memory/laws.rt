@@ -2,7 +2,7 @@
 
 ghost use Rattle.dfu_formats.specs.memory.Lookups.{AddressOnOnePage};
 
-/// Each address of a page has that page as its own.
+/// In sound ranges that share no address, `page_at` returns the same page for all addresses of a page that it returns.
 pub fn one_page()
     ensures { AddressOnOnePage }
 {}

@@ -43,7 +43,7 @@ impl<'t> Model for Map<'t> {
 ///
 /// # Errors
 ///
-/// Its first fault.
+/// The first fault of `text`.
 #[tactic(auto, using(std::proofs::lemmas::Bool::Decides::nat_tests), unfolding(crate::specs::memory::Reading::map_at))]
 fn read_map(text: &[u8]) -> Result<Map<'_>, MapFault>
     ensures { result ≡ map_at text.now }
@@ -76,11 +76,11 @@ impl<'t> Map<'t> {
     ///
     /// The fault of the first place at which the string is not a map, or Overlaps.
     pub fn read(text: &'t [u8]) -> Result<Map<'t>, MapFault>
-        // The result is a map.
+        // The result is a map that `text` spells.
         ensures found { IfOk result (λ m. IsMap m text.now) }
-        // Each map is read.
+        // Each map that `text` spells is read.
         ensures only { (m : MapContent) → IsMap m text.now → result ≡ Ok m }
-        // Any other string has a first fault, which is the answer.
+        // Any other string has a first fault, which is returned.
         ensures fault { (fault : MapFault) → (result ≡ Err fault) ↔ FirstMapFault fault text.now }
     {
         read_map(text)

@@ -2,7 +2,7 @@
 
 ghost use Rattle.std.specs.Prelude.{◌≡◌, ◌<◌, length, IfSome};
 ghost use Rattle.std.specs.List.{position};
-ghost use Rattle.dfu_formats.specs.memory.Reading.{is_stroke, trimmed_name, map_name_at};
+ghost use Rattle.dfu_formats.specs.memory.Reading.{is_slash, trimmed_name, map_name_at};
 
 use crate::memory::fault::MapFault;
 use crate::memory::text::behind;
@@ -39,15 +39,15 @@ fn trimmed(bytes: &[u8]) -> &[u8]
     kept
 }
 
-/// Returns the place of the first `/`.
-fn stroke_in(text: &[u8]) -> Option<usize>
-    ensures value { result ≡ position is_stroke text.now }
+/// Returns the index of the first `/` of `text`; None if there is none.
+fn slash_in(text: &[u8]) -> Option<usize>
+    ensures value { result ≡ position is_slash text.now }
     ensures within { IfSome result (λ at. at < length text.now) }
 {
     text.iter().position(|byte| *byte == b'/')
 }
 
-/// Takes the name between `@` and `/`.
+/// Takes the name between `@` and the first `/`, without the spaces at its end.
 #[tactic(auto, using(std::proofs::lemmas::Bool::Decides::nat_tests), unfolding(crate::specs::memory::Reading::map_name_at))]
 pub(crate) fn take_name(text: &[u8]) -> Result<Named<'_>, MapFault>
     ensures { result ≡ map_name_at text.now }
@@ -55,7 +55,7 @@ pub(crate) fn take_name(text: &[u8]) -> Result<Named<'_>, MapFault>
     let Some(name) = behind(b'@', text) else {
         return Err(MapFault::NoMap);
     };
-    let Some(end) = stroke_in(name) else {
+    let Some(end) = slash_in(name) else {
         return Err(MapFault::NoMap);
     };
     let (front, _) = name.split_at(end);

@@ -3,7 +3,7 @@
 ghost use Rattle.std.specs.Prelude.{◌≡◌};
 ghost use Rattle.dfu_formats.specs.memory.Lookups.{access_grants};
 
-/// Access to a page.
+/// Access to a page: any of reading, erasing and writing.
 #[derive(Clone, Copy, Default)]
 pub struct Access {
     pub is_readable: bool,
@@ -12,7 +12,7 @@ pub struct Access {
 }
 
 impl Access {
-    /// Returns true if the access has each access of `wanted`.
+    /// Returns true if the access includes each access of `wanted`.
     pub fn grants(self, wanted: Access) -> bool
         ensures { result ≡ access_grants self wanted }
     {
@@ -22,7 +22,7 @@ impl Access {
     }
 }
 
-/// Pages of one size, one after the other.
+/// Pages of one size and one access, one after the other.
 #[derive(Clone, Copy, Default)]
 pub struct Pages {
     /// The address of the first byte.
@@ -35,7 +35,7 @@ pub struct Pages {
     pub access: Access,
 }
 
-/// A page.
+/// A page: its place, its size, and the access to it.
 #[derive(Clone, Copy)]
 pub struct Page {
     /// The address of the first byte.

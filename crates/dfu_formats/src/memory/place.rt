@@ -1,16 +1,16 @@
 //! Starts of ranges: at an address of their own, or where the range before ends.
 
 ghost use Rattle.std.specs.Prelude.{◌≡◌, ◌<◌, ◌^◌, IfOk, IfSome};
-ghost use Rattle.dfu_formats.specs.memory.Reading.{behind_prefix, address_at, next_range_place};
+ghost use Rattle.dfu_formats.specs.memory.Reading.{text_after_prefix, address_at, next_range_place};
 
 use crate::memory::digits::take_number;
 use crate::memory::fault::MapFault;
 use crate::memory::text::{Number, behind, front};
 
-/// Returns the text behind `0x` or `0X`, or all of `text` if it begins with neither.
-#[tactic(auto, using(std::proofs::lemmas::Bool::Decides::nat_tests), unfolding(crate::specs::memory::Reading::behind_prefix))]
-fn behind_prefix(text: &[u8]) -> &[u8]
-    ensures { result.now ≡ behind_prefix text.now }
+/// Returns the text after `0x` or `0X`, or all of `text` if it begins with neither.
+#[tactic(auto, using(std::proofs::lemmas::Bool::Decides::nat_tests), unfolding(crate::specs::memory::Reading::text_after_prefix))]
+fn text_after_prefix(text: &[u8]) -> &[u8]
+    ensures { result.now ≡ text_after_prefix text.now }
 {
     match front(text) {
         Some((b'0', digits)) => match front(digits) {
@@ -21,13 +21,13 @@ fn behind_prefix(text: &[u8]) -> &[u8]
     }
 }
 
-/// Takes an address, and the `/` behind it.
+/// Takes an address, and the `/` after it.
 #[tactic(auto, using(std::proofs::lemmas::Bool::Decides::nat_tests), unfolding(crate::specs::memory::Reading::address_at))]
 pub(crate) fn take_address(text: &[u8]) -> Result<Number<'_>, MapFault>
     ensures value { result ≡ address_at text.now }
     ensures small { IfOk result (λ n. n.value < 2 ^ 33) }
 {
-    match take_number(16, 8, behind_prefix(text)) {
+    match take_number(16, 8, text_after_prefix(text)) {
         Some(number) => match behind(b'/', number.rest) {
             Some(rest) => Ok(Number {
                 value: number.value,
@@ -39,7 +39,7 @@ pub(crate) fn take_address(text: &[u8]) -> Result<Number<'_>, MapFault>
     }
 }
 
-/// Takes what leads to the next range, behind a range that ends at `end`.
+/// Takes the start of the next range, after a range that ends at `end`; None at the end of the text.
 #[tactic(auto, using(std::proofs::lemmas::Bool::Decides::nat_tests), unfolding(crate::specs::memory::Reading::next_range_place))]
 pub(crate) fn take_next(end: u64, text: &[u8]) -> Result<Option<Number<'_>>, MapFault>
     requires { end < 2 ^ 33 }

@@ -4,7 +4,7 @@ ghost use Rattle.std.specs.Prelude.{◌≡◌, ◌<◌, ◌≤◌, ◌^◌, IfOk
 ghost use Rattle.std.specs.List.{All};
 ghost use Rattle.dfu_formats.specs.memory.Ranges.{IsRange, end_of_range, ranges_are_apart, is_apart_from, are_apart};
 ghost use Rattle.dfu_formats.specs.memory.Reading.{ranges_at};
-ghost use Rattle.dfu_formats.specs.inside.Listing.{ListsRanges};
+ghost use Rattle.dfu_formats.specs.inside.Listing.{IsRangeResult};
 
 use crate::memory::fault::MapFault;
 use crate::memory::group::take_group;
@@ -22,10 +22,10 @@ pub(crate) fn end_of(pages: &Pages) -> u64
     pages.start as u64 + pages.count as u64 * pages.size
 }
 
-/// Takes ranges up to the end of the text; the first begins at `start`.
+/// Takes ranges, at most 32, up to the end of the text; the first begins at `start`. Returns them, or the first fault.
 pub(crate) fn take_ranges(start: u64, text: &[u8]) -> Result<ArrayVec<Pages, MOST_RANGES>, MapFault>
     requires { start < 2 ^ 33 }
-    ensures value { ListsRanges result (ranges_at 32 start text.now) }
+    ensures value { IsRangeResult result (ranges_at 32 start text.now) }
     ensures sound { IfOk result (λ ranges. All IsRange ranges.items) }
 {
     let mut ranges = ArrayVec::new();

@@ -33,7 +33,7 @@ pub(crate) fn front(text: &[u8]) -> Option<(u8, &[u8])>
     Some((byte, rest))
 }
 
-/// Returns the text behind `byte`, if `text` begins with it; else None.
+/// Returns the text after `byte`, if `text` begins with it; else None.
 #[tactic(auto, using(std::proofs::lemmas::Bool::Decides::nat_tests), unfolding(crate::specs::memory::Reading::text_after_byte))]
 pub(crate) fn behind(byte: u8, text: &[u8]) -> Option<&[u8]>
     ensures { MatchOption result (text_after_byte byte text.now ≡ None) (λ rest. text_after_byte byte text.now ≡ Some rest.now) }

@@ -2,15 +2,15 @@
 
 ghost use Rattle.std.specs.Prelude.{◌≡◌, ◌++◌, OnOk};
 ghost use Rattle.std.specs.List.{flat_map};
-ghost use Rattle.dfu_fs.specs.Quoted.{array_of_words, parted_byte};
+ghost use Rattle.dfu_fs.specs.Quoted.{array_of_words, array_word_byte};
 
 use crate::json::quoting::push_escaped;
 use std::alloc::AllocError;
 
-/// Adds `byte` of words to `out`: a space ends a string, and begins the next one.
-#[tactic(auto, unfolding(crate::specs::Quoted::parted_byte))]
-fn push_parted(out: &mut Vec<u8>, byte: u8) -> Result<(), AllocError>
-    ensures { OnOk result (out.new.items ≡ out.old.items ++ parted_byte byte) }
+/// Adds `byte`, one of words in an array, to `out`: a space ends a string, and begins the next one.
+#[tactic(auto, unfolding(crate::specs::Quoted::array_word_byte))]
+fn push_array_byte(out: &mut Vec<u8>, byte: u8) -> Result<(), AllocError>
+    ensures { OnOk result (out.new.items ≡ out.old.items ++ array_word_byte byte) }
 {
     if byte == b' ' {
         return out.extend_from_slice(b"\",\"");
@@ -18,17 +18,17 @@ fn push_parted(out: &mut Vec<u8>, byte: u8) -> Result<(), AllocError>
     push_escaped(out, byte)
 }
 
-/// Adds the bytes of words.
-fn push_all_parted(out: &mut Vec<u8>, words: &[u8]) -> Result<(), AllocError>
-    ensures { OnOk result (out.new.items ≡ out.old.items ++ flat_map parted_byte words.now) }
+/// Adds the bytes of `words`, which are strings of an array between the outer quotes, to `out`.
+fn push_array_bytes(out: &mut Vec<u8>, words: &[u8]) -> Result<(), AllocError>
+    ensures { OnOk result (out.new.items ≡ out.old.items ++ flat_map array_word_byte words.now) }
 {
     for byte in words {
-        push_parted(out, *byte)?;
+        push_array_byte(out, *byte)?;
     }
     Ok(())
 }
 
-/// Adds the array of `words`, which have a space between two of them, to `out`.
+/// Adds the array of `words`, which are separated by single spaces, to `out`; an empty array if there are none.
 #[inline(never)]
 #[tactic(auto, unfolding(crate::specs::Quoted::array_of_words))]
 pub(crate) fn push_array(out: &mut Vec<u8>, words: &[u8]) -> Result<(), AllocError>
@@ -38,6 +38,6 @@ pub(crate) fn push_array(out: &mut Vec<u8>, words: &[u8]) -> Result<(), AllocErr
         return out.extend_from_slice(b"[]");
     }
     out.extend_from_slice(b"[\"")?;
-    push_all_parted(out, words)?;
+    push_array_bytes(out, words)?;
     out.extend_from_slice(b"\"]")
 }

@@ -1,16 +1,16 @@
-//! The forms of a line, tried one after the other.
+//! Forms, tried on a line one by one.
 
 ghost use Rattle.std.specs.Prelude.{◌≡◌, [], IfOk, MatchOption, None, Some};
-ghost use Rattle.dfu_fs.specs.Objects.{first_fitted, fitted_members};
+ghost use Rattle.dfu_fs.specs.Objects.{members_of_first_form, members_by_form};
 
 use crate::json::part::LinePart;
 use crate::json::taking::take_part;
 use std::alloc::{AllocError, Global};
 
-/// Returns the members of the object that `line` makes by `form`; None if the line has another form.
+/// Returns the members that `form` makes of `line`; None if the line doesn't have the form.
 fn fit(alloc: Global, form: &[LinePart], line: &[u8]) -> Result<Option<Vec<u8>>, AllocError>
-    ensures { IfOk result (λ r. MatchOption r (fitted_members form.now [] line.now ≡ None)
-        (λ out. fitted_members form.now [] line.now ≡ Some out.items)) }
+    ensures { IfOk result (λ r. MatchOption r (members_by_form form.now [] line.now ≡ None)
+        (λ out. members_by_form form.now [] line.now ≡ Some out.items)) }
 {
     let mut out = Vec::new(alloc);
     let mut rest = line;
@@ -26,14 +26,14 @@ fn fit(alloc: Global, form: &[LinePart], line: &[u8]) -> Result<Option<Vec<u8>>,
     Ok(None)
 }
 
-/// Returns the members of the object that `line` makes by the first of `forms` that it has; None if it has none of them.
+/// Returns the members that the first fitting of `forms` makes of `line`; None if the line has none of the forms.
 pub(crate) fn first_fit(
     alloc: Global,
     forms: &[[LinePart; 8]],
     line: &[u8],
 ) -> Result<Option<Vec<u8>>, AllocError>
-    ensures { IfOk result (λ r. MatchOption r (first_fitted forms.now line.now ≡ None)
-        (λ out. first_fitted forms.now line.now ≡ Some out.items)) }
+    ensures { IfOk result (λ r. MatchOption r (members_of_first_form forms.now line.now ≡ None)
+        (λ out. members_of_first_form forms.now line.now ≡ Some out.items)) }
 {
     for form in forms {
         match fit(alloc, form, line)? {

@@ -1,21 +1,21 @@
-//! The forms of the lines.
+//! Forms of the printed lines.
 
 use crate::json::name::Name;
 use crate::json::part::LinePart;
 use crate::json::part::LinePart::{Blank, List, Pair, Rest, Says, Value, Without};
 use crate::json::part::WordKind::{Flag, Inner, Number, Word};
 
-/// The forms of the lines, in the order in which they are tried.
+/// Forms of the printed lines, in the order in which they are tried.
 #[rattlefmt::skip]
 pub(crate) static FORMS: [[LinePart; 8]; 15] = [
-    // dfu check
+    // Line of `dfu check`.
     [Says(Name::Verdict, Name::Ok), Pair(Name::Payload, Number), Pair(Name::Suffix, Number), Pair(Name::Device, Word),
         Pair(Name::Product, Word), Pair(Name::Vendor, Word), Pair(Name::Dfu, Word), Pair(Name::Crc, Word)],
-    // any of the three
+    // Lines of all three commands.
     [Says(Name::Verdict, Name::Refused), Value(Name::Why, Word), Blank, Blank, Blank, Blank, Blank, Blank],
     [Says(Name::Verdict, Name::Refused), Value(Name::Why, Word), Value(Name::Line, Number), Blank, Blank, Blank, Blank, Blank],
     [Says(Name::Verdict, Name::Fault), Value(Name::Why, Word), Blank, Blank, Blank, Blank, Blank, Blank],
-    // dfu show
+    // Lines of `dfu show`.
     [Says(Name::Show, Name::Functional), Pair(Name::Download, Flag), Pair(Name::Upload, Flag), Pair(Name::Tolerant, Flag),
         Pair(Name::WillDetach, Flag), Pair(Name::Detach, Number), Pair(Name::Transfer, Number), Pair(Name::Version, Word)],
     [Says(Name::Show, Name::Status), Value(Name::Status, Word), Pair(Name::Poll, Number), Pair(Name::State, Word),
@@ -26,7 +26,7 @@ pub(crate) static FORMS: [[LinePart; 8]; 15] = [
     [Says(Name::Show, Name::Configuration), Value(Name::Value, Number), Blank, Blank, Blank, Blank, Blank, Blank],
     [Says(Name::Show, Name::Interface), Value(Name::Number, Number), Pair(Name::Alternate, Number), Pair(Name::Mode, Word),
         Pair(Name::String, Number), Blank, Blank, Blank],
-    // dfu judge
+    // Lines of `dfu judge`.
     [Pair(Name::Departs, Number), Value(Name::Request, Word), List(Name::In, Name::States), Blank, Blank, Blank, Blank, Blank],
     [Pair(Name::Allowed, Inner(Name::State)), Value(Name::Request, Word), Value(Name::Answer, Word), Value(Name::Next, Word),
         Value(Name::Source, Word), Rest(Name::For), Blank, Blank],

@@ -1,4 +1,4 @@
-//! An output whose lines are objects.
+//! Output that writes each line as a JSON object.
 
 ghost use Rattle.std.specs.Prelude.{◌≤◌, length, IfOk};
 
@@ -6,7 +6,7 @@ use crate::json::objects::object;
 use std::alloc::Global;
 use std::io::{self, ErrorKind, Write};
 
-/// An output to which the object of each line is written in the line's place, or each line as it is. A line is written once its end comes.
+/// Output that writes each line as a JSON object, or unchanged. An object is written once its line ends.
 #[derive(Drop)]
 pub struct JsonLines<'t, W> {
     alloc: Global,
@@ -17,8 +17,8 @@ pub struct JsonLines<'t, W> {
 }
 
 impl<'t, W> JsonLines<'t, W> {
-    /// Returns an output before its first line, about `file`, if it is given. Each line is written as an object to `out` if `is_on` is
-    /// set, and else unchanged.
+    /// Returns a new output in front of `out`, about `file`, if it is given. Each line is written as an object if `is_on` is set, and
+    /// unchanged otherwise.
     pub fn new(alloc: Global, is_on: bool, file: Option<&'t str>, out: W) -> JsonLines<'t, W> {
         JsonLines {
             alloc,
@@ -29,7 +29,7 @@ impl<'t, W> JsonLines<'t, W> {
         }
     }
 
-    /// Keeps more bytes of a line.
+    /// Stores more bytes of the open line.
     fn keep(&mut self, bytes: &[u8]) -> io::Result<()> {
         match self.line.extend_from_slice(bytes) {
             Ok(()) => Ok(()),
@@ -39,7 +39,7 @@ impl<'t, W> JsonLines<'t, W> {
 }
 
 impl<W: Write> JsonLines<'_, W> {
-    /// Writes the object of the line that ended.
+    /// Writes the object of the line that ended, and a line feed.
     fn end_line(&mut self) -> io::Result<()> {
         let Ok(mut text) = object(self.alloc, self.file, &self.line) else {
             return Err(io::Error::from(ErrorKind::OutOfMemory));
@@ -53,11 +53,11 @@ impl<W: Write> JsonLines<'_, W> {
 }
 
 impl<W: Write> Write for JsonLines<'_, W> {
-    /// Takes bytes up to the end of a line.
+    /// Takes bytes up to the end of a line; or, if lines stay unchanged, the bytes that the output takes.
     ///
     /// # Errors
     ///
-    /// Memory ran out for the line or its object, which is `OutOfMemory`; or the output fails.
+    /// `OutOfMemory` if memory ran out for the line or its object; or the error of the output.
     fn write(&mut self, buf: &[u8]) -> io::Result<usize> {
         if !self.is_on {
             return self.out.write(buf);

@@ -1,4 +1,4 @@
-//! The words that each line of a form has, and the keys of the objects.
+//! Words of the printed lines, and keys of the objects.
 
 ghost use Rattle.std.specs.Prelude.{◌≡◌};
 ghost use Rattle.dfu_fs.specs.Names.{name_text};
@@ -59,7 +59,7 @@ pub(crate) enum Name {
     WillDetach,
 }
 
-/// The texts, in the order of the enum.
+/// Texts of the names, in the order of the enum.
 #[rattlefmt::skip]
 static TEXTS: [&str; 51] = [
     "allowed", "alternate", "answer", "by", "configuration", "crc", "departs", "detach", "device", "dfu",

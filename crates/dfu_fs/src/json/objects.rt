@@ -1,7 +1,7 @@
-//! The object of a line.
+//! JSON object of a printed line.
 
 ghost use Rattle.std.specs.Prelude.{◌≡◌, ◌++◌, IfOk, OnOk};
-ghost use Rattle.dfu_fs.specs.Objects.{file_member, name_in, first_fitted, json_object, members_or_text};
+ghost use Rattle.dfu_fs.specs.Objects.{file_member, name_in, members_of_first_form, json_object, members_or_text};
 ghost use Rattle.dfu_fs.specs.declared.json.forms.TheConstants.{FORMS};
 
 use crate::json::filling::first_fit;
@@ -9,7 +9,7 @@ use crate::json::forms::FORMS;
 use crate::json::quoting::push_quoted;
 use std::alloc::{AllocError, Global};
 
-/// Adds the member with the name `file`, if it is given, to `out`.
+/// Adds the member `file` with the name of the file, if it is given, to `out`.
 fn push_file(out: &mut Vec<u8>, file: Option<&str>) -> Result<(), AllocError>
     ensures { OnOk result (out.new.items ≡ out.old.items ++ file_member (name_in file.entry)) }
 {
@@ -24,7 +24,7 @@ fn push_file(out: &mut Vec<u8>, file: Option<&str>) -> Result<(), AllocError>
 
 /// Adds the members of `line` to `out`.
 fn push_members(alloc: Global, out: &mut Vec<u8>, line: &[u8]) -> Result<(), AllocError>
-    ensures { OnOk result (out.new.items ≡ out.old.items ++ members_or_text (first_fitted FORMS line.now) line.now) }
+    ensures { OnOk result (out.new.items ≡ out.old.items ++ members_or_text (members_of_first_form FORMS line.now) line.now) }
 {
     match first_fit(alloc, &FORMS, line)? {
         Some(members) => out.extend_from_slice(&members),
@@ -41,7 +41,7 @@ fn push_members(alloc: Global, out: &mut Vec<u8>, line: &[u8]) -> Result<(), All
 ///
 /// # Errors
 ///
-/// Memory ran out for the object.
+/// AllocError if there is no memory for the object.
 #[tactic(auto, unfolding(crate::specs::Objects::json_object))]
 pub fn object(alloc: Global, file: Option<&str>, line: &[u8]) -> Result<Vec<u8>, AllocError>
     ensures { IfOk result (λ out. out.items ≡ json_object (name_in file.entry) line.now) }

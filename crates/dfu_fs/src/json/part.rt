@@ -1,34 +1,34 @@
-//! The parts of a line.
+//! Parts of the form of a line.
 
 use crate::json::name::Name;
 
-/// Kind of a word of a line in an object.
+/// Kind of a word, and of its value in an object.
 #[derive(Clone, Copy)]
 pub(crate) enum WordKind {
-    /// A decimal number: a number.
+    /// A decimal number, whose value is a number.
     Number,
-    /// `yes` or `no`: `true` or `false`.
+    /// `yes` or `no`, whose value is `true` or `false`.
     Flag,
-    /// Any word: a string.
+    /// Any word, whose value is a string.
     Word,
-    /// Any word: an object, whose member of this name has the word as its string. A later part ends the object.
+    /// Any word, whose value is an object: its member of this name has the word as its string. A later part ends the object.
     Inner(Name),
 }
 
-/// A part of a line, by which the object gets a member.
+/// Part of a form: the words that it takes off a line, and the member that they give the object.
 #[derive(Clone, Copy)]
 pub(crate) enum LinePart {
-    /// The second name: the member of the first name has it as its string.
+    /// The second name, which is the string of the member of the first name.
     Says(Name, Name),
-    /// A word: the member of this name has it as its value.
+    /// A word, which is the value of the member of this name.
     Value(Name, WordKind),
-    /// The name and a word: the member of this name has the word as its value.
+    /// The name and a word, which is the value of the member of this name.
     Pair(Name, WordKind),
-    /// The first name and words, up to ` events ` or to the end: the member of the second name has them as its array.
+    /// The first name and words, up to ` events ` or to the end, which are the array of the member of the second name.
     List(Name, Name),
-    /// All words that are left: the member of this name has them as its array, and the inner object ends.
+    /// All words that are left, which are the array of the member of this name; the inner object ends.
     Rest(Name),
-    /// No word: the member of this name has an empty array.
+    /// No word; the member of this name has an empty array.
     Without(Name),
     /// No word, and no member.
     Blank,

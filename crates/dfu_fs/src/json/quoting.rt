@@ -2,14 +2,14 @@
 
 ghost use Rattle.std.specs.Prelude.{◌≡◌, ◌<◌, ◌++◌, OnOk};
 ghost use Rattle.std.specs.List.{flat_map};
-ghost use Rattle.dfu_fs.specs.Quoted.{digit, escaped_byte, quoted_string};
+ghost use Rattle.dfu_fs.specs.Quoted.{lower_hex_digit, escaped_byte, quoted_string};
 
 use std::alloc::AllocError;
 
 /// Returns the lower-case hexadecimal digit of `number`, 0 to 15.
-fn digit(number: u8) -> u8
+fn lower_hex_digit(number: u8) -> u8
     requires { number < 16 }
-    ensures { result ≡ digit number }
+    ensures { result ≡ lower_hex_digit number }
 {
     if number < 10 {
         b'0' + number
@@ -18,7 +18,7 @@ fn digit(number: u8) -> u8
     }
 }
 
-/// Adds `byte` of a string to `out`.
+/// Adds `byte`, one of a string, to `out`, escaped if a string can't have it as it is.
 #[tactic(auto, unfolding(crate::specs::Quoted::escaped_byte))]
 pub(crate) fn push_escaped(out: &mut Vec<u8>, byte: u8) -> Result<(), AllocError>
     ensures { OnOk result (out.new.items ≡ out.old.items ++ escaped_byte byte) }
@@ -32,15 +32,15 @@ pub(crate) fn push_escaped(out: &mut Vec<u8>, byte: u8) -> Result<(), AllocError
             b'u',
             b'0',
             b'0',
-            digit(byte / 16),
-            digit(byte % 16),
+            lower_hex_digit(byte / 16),
+            lower_hex_digit(byte % 16),
         ]);
     }
     out.extend_from_slice(&[byte])
 }
 
-/// Adds the bytes `text` of a string to `out`.
-fn push_inner(out: &mut Vec<u8>, text: &[u8]) -> Result<(), AllocError>
+/// Adds the bytes of `text`, each escaped if a string can't have it as it is, to `out`.
+fn push_string_bytes(out: &mut Vec<u8>, text: &[u8]) -> Result<(), AllocError>
     ensures { OnOk result (out.new.items ≡ out.old.items ++ flat_map escaped_byte text.now) }
 {
     for byte in text {
@@ -49,13 +49,13 @@ fn push_inner(out: &mut Vec<u8>, text: &[u8]) -> Result<(), AllocError>
     Ok(())
 }
 
-/// Adds the string `text` to `out`.
+/// Adds the string `text`, between quotes, to `out`.
 #[tactic(auto, unfolding(crate::specs::Quoted::quoted_string))]
 #[inline(never)]
 pub(crate) fn push_quoted(out: &mut Vec<u8>, text: &[u8]) -> Result<(), AllocError>
     ensures { OnOk result (out.new.items ≡ out.old.items ++ quoted_string text.now) }
 {
     out.extend_from_slice(b"\"")?;
-    push_inner(out, text)?;
+    push_string_bytes(out, text)?;
     out.extend_from_slice(b"\"")
 }

@@ -1,9 +1,9 @@
-//! The parts of a line, taken one after the other.
+//! Parts of a form, taken off a line one by one.
 
 ghost use Rattle.std.specs.Prelude.{◌≡◌, IfOk, MatchBool, MatchOption, OnOk, None, Some};
 ghost use Rattle.std.specs.Char.{is_ascii_digit};
 ghost use Rattle.std.specs.List.{list_all};
-ghost use Rattle.dfu_fs.specs.Parts.{is_number, with_key, with_list, with_part, with_key_and_value, with_value};
+ghost use Rattle.dfu_fs.specs.Parts.{is_json_number, with_key, with_list, with_part, with_key_and_value, with_value};
 
 use crate::json::arrays::push_array;
 use crate::json::name::Name;
@@ -13,20 +13,20 @@ use crate::json::words::{list_length, rest_after, word_in};
 use std::alloc::AllocError;
 
 /// Returns true if each byte of `word` is a digit.
-fn is_digits(word: &[u8]) -> bool
+fn has_only_digits(word: &[u8]) -> bool
     ensures { result ≡ list_all is_ascii_digit word.now }
 {
     word.iter().all(|byte| byte.is_ascii_digit())
 }
 
-/// Returns true if `word` is a number of JSON.
-fn is_number(word: &[u8]) -> bool
-    ensures { result ≡ is_number word.now }
+/// Returns true if `word` is a number of JSON, or empty: only digits, without a 0 in front of others.
+fn is_json_number(word: &[u8]) -> bool
+    ensures { result ≡ is_json_number word.now }
 {
-    is_digits(word) && (word.len() <= 1 || word[0] != b'0')
+    has_only_digits(word) && (word.len() <= 1 || word[0] != b'0')
 }
 
-/// Adds `key`, the key of a member, to `out`.
+/// Adds `key`, the key of a member, and a colon to `out`, after a comma if `out` has members already.
 #[inline(never)]
 #[tactic(auto, unfolding(crate::specs::Parts::with_key))]
 fn push_key(out: &mut Vec<u8>, key: Name) -> Result<(), AllocError>
@@ -39,7 +39,7 @@ fn push_key(out: &mut Vec<u8>, key: Name) -> Result<(), AllocError>
     out.extend_from_slice(b":")
 }
 
-/// Adds the value of `word` to `out`, and returns true if the word is of `kind`.
+/// Adds the value of `word` to `out` and returns true, if the word is of `kind`; else returns false.
 #[tactic(auto, unfolding(crate::specs::Parts::with_value))]
 fn push_value(out: &mut Vec<u8>, kind: WordKind, word: &[u8]) -> Result<bool, AllocError>
     ensures { IfOk result (λ fits. MatchBool fits (with_value kind out.old.items word.now ≡ Some out.new.items)
@@ -47,7 +47,7 @@ fn push_value(out: &mut Vec<u8>, kind: WordKind, word: &[u8]) -> Result<bool, Al
 {
     match kind {
         WordKind::Number => {
-            if !is_number(word) {
+            if !is_json_number(word) {
                 return Ok(false);
             }
             out.extend_from_slice(word)?;
@@ -78,7 +78,7 @@ fn push_value(out: &mut Vec<u8>, kind: WordKind, word: &[u8]) -> Result<bool, Al
     }
 }
 
-/// Takes the first word of `line`, the value of `key`, and returns the words behind it; None if there is no word, or if it is not of
+/// Takes the first word of `line` as the value of `key`, and returns the words after it; None if there is no word, or if it is not of
 /// `kind`.
 fn take_value<'l>(
     out: &mut Vec<u8>,
@@ -99,7 +99,7 @@ fn take_value<'l>(
     Ok(None)
 }
 
-/// Takes a list, the value of a key.
+/// Takes the list at the front of `line` as the value of `key`, and returns the words after it.
 fn take_list<'l>(out: &mut Vec<u8>, key: Name, line: &'l [u8]) -> Result<&'l [u8], AllocError>
     ensures { IfOk result (λ rest. with_list key out.old.items line.now ≡ Some (out.new.items, rest.now)) }
 {
@@ -114,8 +114,8 @@ fn take_list<'l>(out: &mut Vec<u8>, key: Name, line: &'l [u8]) -> Result<&'l [u8
     Ok(rest)
 }
 
-/// Takes `part` off the front of `line`: adds its member to `out`, and returns the words behind it. None if the words are not those of the
-/// part.
+/// Takes `part` off the front of `line`: adds its member to `out`, and returns the words after it. None if the words at the front are not
+/// those of the part.
 #[tactic(auto, unfolding(crate::specs::Parts::with_part))]
 pub(crate) fn take_part<'l>(
     out: &mut Vec<u8>,

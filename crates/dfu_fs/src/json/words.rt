@@ -1,4 +1,4 @@
-//! Words of a line: one space stands between two of them, and none before the first or after the last.
+//! Words of a line, which has one space between two of them, and none before the first or after the last.
 
 ghost use Rattle.std.specs.Prelude.{◌≡◌, ◌≤◌, codes, length, nat_eq, None, Some, MatchOption};
 ghost use Rattle.std.specs.List.{position, position_or_len, starts_with};
@@ -41,7 +41,7 @@ pub(crate) fn word_in(line: &[u8]) -> Option<(&[u8], &[u8])>
     Some((word, rest))
 }
 
-/// Returns the words of `line` behind `text`; None if the line does not begin with `text`, or no word ends there.
+/// Returns the words of `line` after `text`; None if the line does not begin with `text`, or no word ends there.
 #[tactic(auto, unfolding(crate::specs::Parts::after_word))]
 pub(crate) fn rest_after<'l>(line: &'l [u8], text: &str) -> Option<&'l [u8]>
     ensures { MatchOption result (rest_after line.now text.now ≡ None) (λ r. rest_after line.now text.now ≡ Some r.now) }
@@ -59,7 +59,7 @@ pub(crate) fn rest_after<'l>(line: &'l [u8], text: &str) -> Option<&'l [u8]>
     Some(&behind[1..])
 }
 
-/// Returns the length of a list: up to ` events `, or to the end.
+/// Returns the length of the list at the front of `line`, up to ` events ` or to the end, in bytes.
 pub(crate) fn list_length(line: &[u8]) -> usize
     ensures value { result ≡ list_length line.now }
     ensures within { result ≤ length line.now }

@@ -1,4 +1,4 @@
--- Parts of an upload that a room refuses, and their meanings.
+-- Parts of an upload that a room refuses, and their meanings for the host.
 use Rattle.std.specs.Prelude.{◌≡◌, ℕ, Bool, if◌then◌else◌, List, length}
 use Rattle.dfu_host.specs.declared.phase.Phase.{Phase}
 use Rattle.dfu_host.specs.declared.phase.Phase.TheVariants as phase
@@ -6,15 +6,16 @@ use Rattle.dfu_host.specs.declared.heard.Heard.{Heard}
 use Rattle.dfu_host.specs.declared.heard.Heard.TheVariants as heard
 use Rattle.dfu_host.specs.declared.seen.Seen.{Seen}
 use Rattle.dfu_host.specs.declared.seen.Seen.TheVariants as seen
-use Rattle.dfu_host.specs.InParts.{buffered_at}
+use Rattle.dfu_host.specs.InParts.{bytes_kept_for_part}
 use Rattle.dfu_host.specs.Rooms.{part_overflows}
 
 -- Refusal of bytes in a phase by a room of `room` bytes: a part that the phase asked for is refused exactly if it overflows the room.
 abbrev pub RefusesBytesByRoom : (room t : ℕ) → Phase → (memory bytes : List ℕ) → (refused : Bool) → Type 0
-RefusesBytesByRoom room t (phase.Fetch k) memory bytes refused = refused ≡ part_overflows room t k (buffered_at k memory) bytes
+RefusesBytesByRoom room t (phase.Fetch k) memory bytes refused = refused ≡ part_overflows room t k (bytes_kept_for_part k memory) bytes
 RefusesBytesByRoom room t other memory bytes refused = Unit {0}
 
--- Refusal of an answer in a phase by a room of `room` bytes.
+-- Refusal of an answer in a phase by a room of `room` bytes: bytes are refused as `RefusesBytesByRoom` says, and other answers are not
+-- constrained here.
 abbrev pub RefusesAnswerByRoom : (room t : ℕ) → Phase → (memory : List ℕ) → Seen → (refused : Bool) → Type 0
 RefusesAnswerByRoom room t phase memory (seen.Bytes bytes) refused = RefusesBytesByRoom room t phase memory bytes.now refused
 RefusesAnswerByRoom room t phase memory seen.Ack refused = Unit {0}
@@ -25,12 +26,12 @@ RefusesAnswerByRoom room t phase memory seen.WasReset refused = Unit {0}
 RefusesAnswerByRoom room t phase memory seen.Restarted refused = Unit {0}
 RefusesAnswerByRoom room t phase memory seen.Left refused = Unit {0}
 
--- Meaning of `size` bytes that come in a phase: a part that was asked for and refused means NoRoom, any other the part.
+-- Meaning of `size` bytes in a phase: a part that was asked for means NoRoom if it was refused, else the part.
 abbrev pub BytesMeaningIn : Phase → (size : ℕ) → (refused : Bool) → Heard → Type 0
 BytesMeaningIn (phase.Fetch k) size refused word = word ≡ (if refused then heard.NoRoom else heard.Part size)
 BytesMeaningIn other size refused word = Unit {0}
 
--- Meaning of an answer in a phase, by its refusal.
+-- Meaning of an answer in a phase, if its part was refused or not; answers without bytes are not constrained here.
 abbrev pub SeenMeaningIn : Phase → Seen → (refused : Bool) → Heard → Type 0
 SeenMeaningIn phase (seen.Bytes bytes) refused word = BytesMeaningIn phase (length bytes.now) refused word
 SeenMeaningIn phase seen.Ack refused word = Unit {0}

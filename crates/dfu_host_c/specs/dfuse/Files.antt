@@ -8,12 +8,12 @@ use Rattle.dfu_host_c.specs.Refusals.{IsRefusedFor}
 use Rattle.dfu_host_c.specs.declared.refusals.Refusal.TheVariants as refusal
 use Rattle.dfu_host_c.specs.declared.dfuse.file.DfuseFile.{DfuseFile}
 
--- The number of the alternate setting of all targets; 256 if the targets have several.
+-- Number of the one alternate setting of all targets; 256 if there is no such setting.
 abbrev pub setting_number : Option ℕ → ℕ
 setting_number (Some setting) = setting
 setting_number None = 256
 
--- The record of a DfuSe file: the number of its targets, their setting, and the identifiers of its suffix.
+-- Record of a DfuSe file: the number of its targets, their setting, and the identifiers in its suffix.
 abbrev pub file_record : DfuseContent → DfuseFile
 file_record f = record {
   targets = length f.targets;
@@ -27,20 +27,19 @@ file_record f = record {
 abbrev pub IsNoDfuSe : (bytes : List ℕ) → (result : ℤ) → Type 0
 IsNoDfuSe bytes result = IsRefusedFor refusal.DfuseFile (λ fault. FirstFileFault fault bytes) result
 
--- The bytes are a DfuSe file, and the record is the file's.
+-- The bytes are a DfuSe file with this record.
 pub record HasFileRecord (bytes : List ℕ) (r : DfuseFile) : Type 0 where
   pub file : DfuseContent
   pub is_file : IsDfuSe file bytes
   pub says : r ≡ file_record file
 
--- The bytes are a DfuSe file. The first places have all elements of its image for the setting, in the order of the file, and `count` is
--- their number.
+-- The bytes are a DfuSe file, and the first `count` places have all elements of its image for the setting, in the order of the file.
 pub record HasFileElements (bytes : List ℕ) (setting : ℕ) (old new : List Element) (count : ℕ) : Type 0 where
   pub file : DfuseContent
   pub is_file : IsDfuSe file bytes
   pub listed : ElementsListedBehind 0 (elements_for setting file.targets) old (Some count) new
 
--- The bytes are a DfuSe file, and `result` is the number of the fault for which the image of the setting was not listed in that many
+-- The bytes are a DfuSe file, and `result` is the number of the fault for which its image for the setting can't be listed in so many
 -- places.
 pub record HasNoElements (bytes : List ℕ) (setting : ℕ) (places : ℕ) (result : ℤ) : Type 0 where
   pub file : DfuseContent

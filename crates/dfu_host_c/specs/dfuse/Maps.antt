@@ -11,15 +11,15 @@ use Rattle.dfu_host_c.specs.declared.refusals.Refusal.TheVariants as refusal
 use Rattle.dfu_host_c.specs.declared.dfuse.map.DfuseMap.{DfuseMap}
 use Rattle.dfu_host_c.specs.declared.dfuse.map.DfuseRange.{DfuseRange}
 
--- The record of a map: the length of its name, and the number of its ranges.
+-- Record of a map: the length of its name, and the number of its ranges.
 abbrev pub map_record : MapContent → DfuseMap
 map_record m = record { name = length m.name; ranges = length m.ranges }
 
--- Access to pages as a number: bit 0 for reading, bit 1 for erasing, bit 2 for writing.
+-- Access to pages as a number: bit 0 to read, bit 1 to erase, bit 2 to write.
 abbrev pub access_number : Access → ℕ
 access_number a = number_of_bit a.is_readable + 2 * number_of_bit a.is_erasable + 4 * number_of_bit a.is_writable
 
--- The record of a range.
+-- Record of a range of pages: its address, the size and the count of its pages, and the number of the access to them.
 abbrev pub range_record : Pages → DfuseRange
 range_record p = record { start = p.start; size = p.size; count = p.count; access = access_number p.access }
 
@@ -27,13 +27,13 @@ range_record p = record { start = p.start; size = p.size; count = p.count; acces
 abbrev pub IsNoMap : (text : List ℕ) → (result : ℤ) → Type 0
 IsNoMap text result = IsRefusedFor refusal.Map (λ fault. FirstMapFault fault text) result
 
--- The string is a map, and the record is the map's.
+-- The string is a map with this record.
 pub record HasMapRecord (text : List ℕ) (r : DfuseMap) : Type 0 where
   pub map : MapContent
   pub is_map : IsMap map text
   pub says : r ≡ map_record map
 
--- The string is a map, and the record is that of its range `number`.
+-- The string is a map, whose range `number` has this record.
 pub record HasRangeRecord (text : List ℕ) (number : ℕ) (r : DfuseRange) : Type 0 where
   pub map : MapContent
   pub pages : Pages
@@ -41,7 +41,7 @@ pub record HasRangeRecord (text : List ℕ) (number : ℕ) (r : DfuseRange) : Ty
   pub found : slice_get map.ranges number ≡ Some pages
   pub says : r ≡ range_record pages
 
--- The string is a map without a range `number`.
+-- The string is a map that has no range `number`.
 pub record HasNoRange (text : List ℕ) (number : ℕ) : Type 0 where
   pub map : MapContent
   pub is_map : IsMap map text

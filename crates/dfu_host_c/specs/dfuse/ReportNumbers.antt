@@ -1,4 +1,4 @@
--- Reports of DfuSe as numbers.
+-- Reports of DfuSe sessions as numbers.
 use Rattle.std.specs.Prelude.{ℕ, List, [], ◌∷◌, Option, Some, None, option_map, slice_index_or}
 use Rattle.std.specs.List.{slice_get}
 use Rattle.dfu_wire.specs.Code.{code_byte}
@@ -8,27 +8,28 @@ use Rattle.dfuse_host.specs.declared.report.Leaving.{Leaving}
 use Rattle.dfuse_host.specs.declared.report.Leaving.TheVariants as leaving
 use Rattle.dfu_host_core.specs.ReportNumbers.{code_at}
 
--- Way in which a device left, by its number; None over 2.
+-- The leaving with this number; None for a number over 2.
 abbrev pub leaving_at : ℕ → Option Leaving
 leaving_at number = slice_get (leaving.Stayed ∷ leaving.Left ∷ leaving.Unknown ∷ []) number
 
--- The reports in the order of their numbers, 1 to 7. `more` is the number of a way to leave for Verified, and the code for Refused.
+-- Reports in the order of their numbers, 1 to 7, after None for 0. `more` is the number of the leaving for Verified, and of the code for
+-- Refused.
 abbrev dfuse_reports : (more : ℕ) → List (Option Report)
 dfuse_reports more =
     None ∷ option_map report.Verified (leaving_at more) ∷ Some report.Different ∷ option_map report.Refused (code_at more) ∷
     Some report.ReadProtected ∷ Some report.GaveUp ∷ Some report.RestartsSpent ∷ Some report.NotDfu ∷ []
 
--- The report with that number; None if no report has it, or if `more` is no code or no way to leave.
+-- The report with this number; None if no report has it, or if `more` is no leaving for Verified or no code for Refused.
 abbrev pub dfuse_report_at : (number more : ℕ) → Option Report
 dfuse_report_at number more = slice_index_or (dfuse_reports more) number None
 
--- The number of the way in which a device left, as `leaving_at` reads it.
+-- Number of a leaving, as `leaving_at` reads it.
 abbrev pub leaving_number : Leaving → ℕ
 leaving_number leaving.Stayed = 0
 leaving_number leaving.Left = 1
 leaving_number leaving.Unknown = 2
 
--- The number of a report, as `dfuse_report_at` reads it, and its detail: the way in which the device left, or a code; 0 for other reports.
+-- Numbers of a report, as `dfuse_report_at` reads them: its number, and its detail, which is a leaving or a code, or 0 for other reports.
 abbrev pub dfuse_report_numbers : Report → ℕ × ℕ
 dfuse_report_numbers (report.Verified l) = (1, leaving_number l)
 dfuse_report_numbers report.Different = (2, 0)

@@ -1,4 +1,4 @@
--- The DfuSe session of a record.
+-- The DfuSe session that a record holds.
 use Rattle.std.specs.Prelude.{◌≡◌, ℕ, Bool, true, false, ◌==◌, not, if◌then◌else◌, List, Option, Some, None, option_map}
 use Rattle.std.specs.Borrow.{Bor}
 use Rattle.dfu_formats.specs.memory.Reading.{MapContent}
@@ -14,7 +14,7 @@ use Rattle.dfu_host_c.specs.declared.dfuse.phases.EncodedDfusePhase.{EncodedDfus
 use Rattle.dfu_host_c.specs.declared.dfuse.plan.DfusePlan.{DfusePlan}
 use Rattle.dfu_host_c.specs.declared.dfuse.session.DfuseSession.{DfuseSession}
 
--- The numbers of a record's phase.
+-- The numbers that a record has for its phase.
 abbrev pub numbers_of : DfuseSession → EncodedDfusePhase
 numbers_of r = record {
   work = r.work;
@@ -27,11 +27,11 @@ numbers_of r = record {
   report = r.report;
 }
 
--- The phase of a record; None for another version, or if its numbers are those of no phase.
+-- Phase of a record; None for another version, or if no phase has its numbers.
 abbrev pub phase_in : DfuseSession → Option Phase
 phase_in r = if r.version == version then dfuse_phase_at (numbers_of r) else None
 
--- The plan of a record, over a map and an image.
+-- Plan with the fields of a record, a map and an image.
 abbrev pub dfuse_plan_of : DfusePlan → (map : Bor MapContent) → (image : Bor (List Element)) → Plan
 dfuse_plan_of r map image = record {
   map = map;
@@ -42,7 +42,7 @@ dfuse_plan_of r map image = record {
   start = r.start;
 }
 
--- The session of a record, over a map and an image, in a phase.
+-- Session with the plan, the actions and the restarts of a record, a map and an image, in a phase.
 abbrev pub dfuse_session_in_phase : DfuseSession → (map : Bor MapContent) → (image : Bor (List Element)) → Phase → Session
 dfuse_session_in_phase r map image phase = record {
   plan = dfuse_plan_of r.plan map image;
@@ -51,11 +51,11 @@ dfuse_session_in_phase r map image phase = record {
   restarts = r.plan.restarts;
 }
 
--- The session of a record, over a map and an image; None for another version, or if the record has no phase.
+-- Session of a record, with a map and an image; None for another version, or if no phase has the record's numbers.
 abbrev pub session_in : DfuseSession → (map : Bor MapContent) → (image : Bor (List Element)) → Option Session
 session_in r map image = option_map (dfuse_session_in_phase r map image) (phase_in r)
 
--- A bit as a number.
+-- The number of a bit: 1 if it is true, else 0.
 abbrev pub number_of_bit : Bool → ℕ
 number_of_bit true = 1
 number_of_bit false = 0
@@ -82,12 +82,12 @@ dfuse_record_of s = record {
   };
 }
 
--- The record belongs to the session s, over the map of a string and over an image.
+-- The record holds the session s, with the map in a string and with an image.
 pub record IsDfuseRecordOf (r : DfuseSession) (text : List ℕ) (image : Bor (List Element)) (s : Session) : Type 0 where
   pub map : Bor MapContent
   pub is_map : IsMap map.now text
   pub says : session_in r map image ≡ Some s
 
--- The limits of a record.
+-- The limits of a record: the actions and the restarts of its plan.
 abbrev pub dfuse_limits_of : DfusePlan → Limits
 dfuse_limits_of r = record { actions = r.actions; restarts = r.restarts }

@@ -1,11 +1,11 @@
-//! The next action, as a record for C.
+//! The next action of a DfuSe session, as a record for C.
 
 ghost use Rattle.std.specs.Prelude.{◌≡◌, ◌⊎◌, ℕ, List, pos};
 ghost use Rattle.dfuse_host.specs.Deeds.{DfuseDeed, Send};
 ghost use Rattle.dfuse_host.specs.Wire.{IsDfuseSetupOf, DfuseSpells};
 ghost use Rattle.dfu_wire.specs.declared.requests.Request.{Request};
-ghost use Rattle.dfu_host_c.specs.dfuse.Actions.{BodyHasNoRoom, DfuseIsOther, DfuseActionRecord};
-ghost use Rattle.dfu_host_c.specs.dfuse.Calls.{DfuseIsNext, BodyFindsNoRoom, NoSession};
+ghost use Rattle.dfu_host_c.specs.dfuse.Actions.{BodyHasNoRoom, DfuseNoRequestRecord, DfuseActionRecord};
+ghost use Rattle.dfu_host_c.specs.dfuse.Calls.{IsNextDfuseAction, BodyFindsNoRoom, HoldsNoDfuseSession};
 ghost use Rattle.dfu_host_c.specs.Refusals.{no_room};
 ghost use Rattle.dfu_host_core.specs.Numbers.{no_session};
 
@@ -19,19 +19,19 @@ use dfuse_host::{Action, Element};
 #[repr(C)]
 #[derive(Drop)]
 pub struct DfuseAction {
-    /// Length in bytes of the body, which is at the front of the buffer.
+    /// Length in bytes of the body, which is at the beginning of the buffer.
     pub length: u64,
     /// 0 to send, 1 to wait, 3 if the session is over.
     pub what: u32,
     /// The milliseconds of a wait, or the number of a report.
     pub value: u32,
-    /// Detail of the report: the way in which the device left, or a code.
+    /// Detail of the report: the leaving, or a code.
     pub more: u32,
-    /// The setup that is sent.
+    /// Setup of the request to send.
     pub setup: [u8; 8],
 }
 
-/// Writes a request that is sent, with its body.
+/// Writes a request to send, with its body. Returns 0 or `DFUSE_NO_ROOM`.
 fn send(setup: [u8; 8], sent: &[u8], body: &mut [u8], action: &mut DfuseAction) -> i32
     ensures outcome { (request : Request) → IsDfuseSetupOf request setup
         → ((result ≡ pos 0) × DfuseActionRecord (Send request sent.now) action.new body.old body.new)
@@ -51,9 +51,9 @@ fn send(setup: [u8; 8], sent: &[u8], body: &mut [u8], action: &mut DfuseAction) 
     0
 }
 
-/// Returns an action that has no request.
+/// Returns the record of an action without a request, with zeros for the setup and the body.
 fn other(what: u32, value: u32, more: u32) -> DfuseAction
-    ensures { (bytes : List ℕ) → DfuseIsOther what value more result bytes bytes }
+    ensures { (bytes : List ℕ) → DfuseNoRequestRecord what value more result bytes bytes }
 {
     DfuseAction {
         length: 0,
@@ -64,7 +64,7 @@ fn other(what: u32, value: u32, more: u32) -> DfuseAction
     }
 }
 
-/// Writes an action, with its body.
+/// Writes an action to its record, and the body of a request to the buffer. Returns 0, or `DFUSE_NO_ROOM` if the body is too long.
 fn tell(given: Action<'_>, body: &mut [u8], action: &mut DfuseAction) -> i32
     ensures outcome { (deed : DfuseDeed) → DfuseSpells deed given.entry
         → ((result ≡ pos 0) × DfuseActionRecord deed action.new body.old body.new)
@@ -94,9 +94,9 @@ pub extern "C" fn dfuse_next(
     body: &mut [u8],
     action: &mut DfuseAction,
 ) -> i32
-    ensures outcome { ((result ≡ pos 0) × DfuseIsNext session.now map.now image.entry action.new body.old body.new)
+    ensures outcome { ((result ≡ pos 0) × IsNextDfuseAction session.now map.now image.entry action.new body.old body.new)
         ⊎ ((result ≡ no_room) × BodyFindsNoRoom session.now map.now image.entry body.old × (action.new ≡ action.old) × (body.new ≡ body.old))
-        ⊎ ((result ≡ no_session) × NoSession session.now map.now × (action.new ≡ action.old) × (body.new ≡ body.old)) }
+        ⊎ ((result ≡ no_session) × HoldsNoDfuseSession session.now map.now × (action.new ≡ action.old) × (body.new ≡ body.old)) }
 {
     let Some(map) = map_of(map) else {
         return NO_SESSION;

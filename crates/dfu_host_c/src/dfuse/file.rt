@@ -14,15 +14,15 @@ pub struct DfuseFile {
     pub targets: u32,
     /// Alternate setting of all targets, 0 to 255; 256 if the targets have several.
     pub setting: u32,
-    /// bcdDevice.
+    /// bcdDevice: release of the device.
     pub device: u16,
-    /// idProduct.
+    /// idProduct: product of the device.
     pub product: u16,
-    /// idVendor.
+    /// idVendor: vendor of the device.
     pub vendor: u16,
 }
 
-/// Returns the number of a setting; 256 if there are several.
+/// Returns the number of the one setting of all targets; 256 if there is none.
 fn setting_number(setting: Option<u8>) -> u32
     ensures { result ≡ setting_number setting }
 {

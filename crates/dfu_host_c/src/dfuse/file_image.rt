@@ -7,8 +7,8 @@ use crate::refusals::Refusal;
 use dfu_formats::dfuse::read;
 use dfuse_host::Element;
 
-/// Writes the elements of DfuSe file `file` for alternate setting `setting`, in the order of the file, to the front of `places`. Returns
-/// 0, or the number of the file's first fault, or of why it has no such image.
+/// Writes the elements of DfuSe file `file` for alternate setting `setting`, in the order of the file, to the beginning of `places`.
+/// Returns 0, or the number of the file's first fault, or of the reason why it has no such image.
 #[unsafe(no_mangle)]
 pub extern "C" fn dfuse_file_image<'f>(
     file: &'f [u8],

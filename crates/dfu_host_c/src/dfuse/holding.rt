@@ -12,7 +12,7 @@ use crate::version::VERSION;
 use dfu_formats::memory::Map;
 use dfuse_host::{Element, Phase, Session};
 
-/// Returns the numbers of a record's phase.
+/// Returns the numbers of the phase in a record.
 fn numbers_in(given: &DfuseSession) -> EncodedDfusePhase
     ensures { result ≡ numbers_of given.now }
 {
@@ -28,7 +28,7 @@ fn numbers_in(given: &DfuseSession) -> EncodedDfusePhase
     }
 }
 
-/// Returns the phase of a record; None for another version, or if its numbers are those of no phase.
+/// Returns the phase of a record; None for another version, or if no phase has its numbers.
 fn phase_in(given: &DfuseSession) -> Option<Phase>
     ensures { result ≡ phase_in given.now }
 {
@@ -49,8 +49,7 @@ pub(crate) fn map_of(text: &[u8]) -> Option<Map<'_>>
     }
 }
 
-/// Returns the session of a record over a map and an image; None for another version, or if the record has no
-/// phase.
+/// Returns the session of a record with a map and an image; None for another version, or if the record has no phase.
 pub(crate) fn session_of<'f>(
     given: &DfuseSession,
     map: &'f Map<'f>,

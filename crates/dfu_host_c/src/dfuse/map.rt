@@ -11,7 +11,7 @@ use dfu_formats::memory::{Access, Map, Pages};
 #[repr(C)]
 #[derive(Drop)]
 pub struct DfuseMap {
-    /// Length of the name in bytes, which follows the `@`.
+    /// Length in bytes of the name, which follows the `@`.
     pub name: u64,
     /// Number of ranges, 1 to 32.
     pub ranges: u64,
@@ -21,13 +21,13 @@ pub struct DfuseMap {
 #[repr(C)]
 #[derive(Drop)]
 pub struct DfuseRange {
-    /// The address of the first byte.
+    /// Address of the first byte.
     pub start: u64,
     /// Number of bytes of each page.
     pub size: u64,
     /// Number of pages.
     pub count: u32,
-    /// Access to each page: bit 0 to read, bit 1 to erase, bit 2 to write it.
+    /// Access to each page: bit 0 to read, bit 1 to erase, bit 2 to write.
     pub access: u32,
 }
 
@@ -41,7 +41,7 @@ fn map_record(map: &Map<'_>) -> DfuseMap
     }
 }
 
-/// Returns the access to pages as a number.
+/// Returns the access to pages as a number: bit 0 to read, bit 1 to erase, bit 2 to write.
 fn access_number(access: Access) -> u32
     ensures { result ≡ access_number access }
 {
@@ -76,8 +76,8 @@ pub extern "C" fn dfuse_read_map(text: &[u8], out: &mut DfuseMap) -> i32
     }
 }
 
-/// Reads range number `number` of the map `text` into `out`. Returns 0, or the number of the string's first fault, or of why the map has
-/// no such range.
+/// Reads range number `number` of the map `text` into `out`. Returns 0, or the number of the string's first fault, or the number for a map
+/// without this range.
 #[unsafe(no_mangle)]
 pub extern "C" fn dfuse_read_range(text: &[u8], number: u32, out: &mut DfuseRange) -> i32
     ensures outcome { ((result ≡ pos 0) × HasRangeRecord text.now number out.new)

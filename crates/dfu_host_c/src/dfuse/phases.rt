@@ -1,4 +1,4 @@
-//! Phases as numbers, both ways.
+//! Phases of DfuSe sessions as numbers, both ways.
 
 ghost use Rattle.std.specs.Prelude.{◌≡◌, ◌≢◌, Some};
 ghost use Rattle.dfuse_host.specs.declared.phase.Phase.TheVariants.{On};
@@ -8,7 +8,7 @@ use crate::dfuse::reports::{report_at, report_numbers};
 use crate::tables::numbers;
 use dfuse_host::{Phase, Place, Standing, Step, Work};
 
-/// A phase as numbers.
+/// Numbers of a DfuSe phase.
 #[derive(Clone, Copy)]
 pub(crate) struct EncodedDfusePhase {
     pub(crate) work: u32,
@@ -31,7 +31,7 @@ macro_rules! steps {
     };
 }
 
-/// Returns the work with those numbers; None if no work has them.
+/// Returns the work with these numbers; None if no work has them.
 fn work_at(number: u32, at: u64, end: u64) -> Option<Work>
     ensures { result ≡ work_at number at end }
 {
@@ -47,7 +47,7 @@ fn work_at(number: u32, at: u64, end: u64) -> Option<Work>
     }
 }
 
-/// Returns the knowledge of the pointer, by its number and address; None if the number has no such knowledge.
+/// Returns the knowledge of the pointer, by its number and an address; None for a number over 2.
 fn place_at(number: u32, pointer: u64) -> Option<Place>
     ensures { result ≡ place_at number pointer }
 {
@@ -59,14 +59,14 @@ fn place_at(number: u32, pointer: u64) -> Option<Place>
     }
 }
 
-/// Returns the step with that number and its time; None if no step has the number.
+/// Returns the step with this number, and with its time; None for a number over 14.
 fn step_at(number: u32, ms: u32) -> Option<Step>
     ensures { result ≡ step_at number ms }
 {
     steps!(read number, ms)
 }
 
-/// Returns the phase with those numbers; None if no phase has them.
+/// Returns the phase with these numbers; None if no phase has them.
 pub(crate) fn phase_at(n: EncodedDfusePhase) -> Option<Phase>
     ensures { result ≡ dfuse_phase_at n }
 {
@@ -88,7 +88,7 @@ pub(crate) fn phase_at(n: EncodedDfusePhase) -> Option<Phase>
     Some(Phase::On(Standing { work, place, step }))
 }
 
-/// Returns the number of a work, with the address that it has reached and the address at which it ends.
+/// Returns the number of a work, the address that it has reached, and the address at which it ends; 0 for an address that it does not have.
 fn work_numbers(work: Work) -> (u32, u64, u64)
     ensures work { work_at result.0 result.1 result.2 ≡ Some work }
     ensures on { result.0 ≢ 7 }
@@ -105,7 +105,7 @@ fn work_numbers(work: Work) -> (u32, u64, u64)
     }
 }
 
-/// Returns the number of the pointer's knowledge, and its address.
+/// Returns the number of the knowledge of the pointer, and the pointer's address; 0 if that isn't known.
 fn place_numbers(place: Place) -> (u32, u64)
     ensures place { place_at result.0 result.1 ≡ Some place }
     ensures numbers { result ≡ place_numbers place }
@@ -117,7 +117,7 @@ fn place_numbers(place: Place) -> (u32, u64)
     }
 }
 
-/// Returns the number of a step, and its time.
+/// Returns the number of a step, and its time; 0 for a step without a time.
 fn step_numbers(step: Step) -> (u32, u32)
     ensures step { step_at result.0 result.1 ≡ Some step }
     ensures numbers { result ≡ step_numbers step }
@@ -131,7 +131,7 @@ pub(crate) fn numbers_of(phase: Phase) -> EncodedDfusePhase
     ensures numbers { result ≡ dfuse_numbers_in phase }
 {
     match phase {
-        Phase::On(standing) => numbers_on(standing),
+        Phase::On(standing) => numbers_of_standing(standing),
         Phase::Over(report) => {
             let (report, more) = report_numbers(report);
             EncodedDfusePhase {
@@ -148,8 +148,8 @@ pub(crate) fn numbers_of(phase: Phase) -> EncodedDfusePhase
     }
 }
 
-/// Returns the numbers of a session that goes on.
-fn numbers_on(standing: Standing) -> EncodedDfusePhase
+/// Returns the numbers of the phase of a session that goes on.
+fn numbers_of_standing(standing: Standing) -> EncodedDfusePhase
     ensures phase { dfuse_phase_at result ≡ Some (On standing) }
     ensures numbers { result ≡ dfuse_numbers_in (On standing) }
 {

@@ -6,7 +6,7 @@ ghost use Rattle.dfu_host_c.specs.dfuse.Sessions.{dfuse_plan_of};
 use dfu_formats::memory::Map;
 use dfuse_host::{Element, Plan};
 
-/// `struct dfuse_plan`: the plan of a session beside its map and its image. The header says what each number means.
+/// `struct dfuse_plan`: the plan of a session, except its map and its image. The header says what each number means.
 #[repr(C)]
 #[derive(Drop)]
 pub struct DfusePlan {
@@ -25,7 +25,7 @@ pub struct DfusePlan {
 }
 
 impl DfusePlan {
-    /// Returns the plan over a map and an image.
+    /// Returns the plan with a map and an image.
     pub(crate) fn over<'f>(&self, map: &'f Map<'f>, image: &'f [Element<'f>]) -> Plan<'f>
         ensures { result ≡ dfuse_plan_of self.now map.entry image.entry }
     {

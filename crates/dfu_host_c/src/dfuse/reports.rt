@@ -1,4 +1,4 @@
-//! Reports as numbers, both ways.
+//! Reports of DfuSe sessions as numbers, both ways.
 
 ghost use Rattle.std.specs.Prelude.{◌≡◌, Some};
 ghost use Rattle.dfu_host_c.specs.dfuse.ReportNumbers.{leaving_at, leaving_number, dfuse_report_at, dfuse_report_numbers};
@@ -17,7 +17,7 @@ macro_rules! reports {
     };
 }
 
-/// Returns the way in which a device left, by its number; None over 2.
+/// Returns the leaving with this number; None for a number over 2.
 fn leaving_at(number: u32) -> Option<Leaving>
     ensures { result ≡ leaving_at number }
 {
@@ -29,14 +29,14 @@ fn leaving_at(number: u32) -> Option<Leaving>
     }
 }
 
-/// Returns the report with that number; None for 0, over 7, or if `more` is no code or no way to leave.
+/// Returns the report with this number; None for 0 or over 7, or if `more` is no leaving for Verified or no code for Refused.
 pub(crate) fn report_at(number: u32, more: u32) -> Option<Report>
     ensures { result ≡ dfuse_report_at number more }
 {
     reports!(read number, more)
 }
 
-/// Returns the number of the way in which a device left.
+/// Returns the number of a leaving.
 fn leaving_number(leaving: Leaving) -> u32
     ensures leaving { leaving_at result ≡ Some leaving }
     ensures number { result ≡ leaving_number leaving }
@@ -48,7 +48,7 @@ fn leaving_number(leaving: Leaving) -> u32
     }
 }
 
-/// Returns the number of a report, and its detail: the way in which the device left, or a code, else 0.
+/// Returns the number of a report, and its detail: a leaving or a code, or 0 for other reports.
 pub(crate) fn report_numbers(report: Report) -> (u32, u32)
     ensures report { dfuse_report_at result.0 result.1 ≡ Some report }
     ensures numbers { result ≡ dfuse_report_numbers report }

@@ -2,7 +2,7 @@
 
 ghost use Rattle.std.specs.Prelude.{◌≡◌, ◌⊎◌, None, pos};
 ghost use Rattle.dfu_host_core.specs.Numbers.{no_seen, no_session};
-ghost use Rattle.dfu_host_c.specs.dfuse.Calls.{DfuseBeginResult, DfuseIsRefused, DfuseTakeResult, NoSession};
+ghost use Rattle.dfu_host_c.specs.dfuse.Calls.{DfuseBeginResult, HostRefusesDfusePlan, DfuseTakeResult, HoldsNoDfuseSession};
 ghost use Rattle.dfu_host_c.specs.dfuse.Maps.{IsNoMap};
 ghost use Rattle.dfu_host_c.specs.dfuse.SeenNumbers.{dfuse_seen_at};
 
@@ -14,8 +14,7 @@ use crate::seen::dfuse_seen_at;
 use dfu_formats::memory::Map;
 use dfuse_host::{Element, Limits, Session};
 
-/// Begins a session that writes an image and reads it back. Returns 0, or the number of the string's fault, or of the
-/// plan's.
+/// Begins a session that writes an image and reads it back. Returns 0, or the number of the string's fault, or else of the plan's.
 #[unsafe(no_mangle)]
 pub extern "C" fn dfuse_begin(
     session: &mut DfuseSession,
@@ -25,7 +24,7 @@ pub extern "C" fn dfuse_begin(
 ) -> i32
     ensures outcome { ((result ≡ pos 0) × DfuseBeginResult map.now image.entry plan.now session.new)
         ⊎ (IsNoMap map.now result × (session.new ≡ session.old))
-        ⊎ (DfuseIsRefused map.now image.entry plan.now result × (session.new ≡ session.old)) }
+        ⊎ (HostRefusesDfusePlan map.now image.entry plan.now result × (session.new ≡ session.old)) }
 {
     let map = match Map::read(map) {
         Ok(map) => map,
@@ -54,7 +53,7 @@ pub extern "C" fn dfuse_take(
     bytes: &[u8],
 ) -> i32
     ensures outcome { ((result ≡ pos 0) × DfuseTakeResult session.old session.new map.now image.entry seen bytes.entry)
-        ⊎ ((result ≡ no_session) × NoSession session.old map.now × (session.new ≡ session.old))
+        ⊎ ((result ≡ no_session) × HoldsNoDfuseSession session.old map.now × (session.new ≡ session.old))
         ⊎ ((result ≡ no_seen) × (dfuse_seen_at seen bytes.entry ≡ None) × (session.new ≡ session.old)) }
 {
     let Some(map) = map_of(map) else {

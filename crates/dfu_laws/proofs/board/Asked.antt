@@ -1,4 +1,4 @@
--- Bounds of the number of times that a board asks: each time its series of writes is shorter by a piece.
+-- A bound of the number of times that a board asks: each time its series of writes gets shorter by a piece.
 use Rattle.std.specs.Prelude.{◌≡◌, ◌==◌, nat_lt, nat_le, not, ◌&&◌, ℕ, ◌+◌, ◌%◌, ◌≤◌, ◌<◌, Bool, true, false, IsTrue, List, [], length, take, Option, if◌then◌else◌}
 use Rattle.std.proofs.Common.{sym, ap, ◌∙◌, subst, arith}
 use Rattle.std.proofs.Math.Nat.{mod-lt}
@@ -40,60 +40,61 @@ due_steps_of_stage s (InManifestSync taken) j = job_steps j s.medium.grain (leng
 due_steps_of_stage s (InManifest taken passed) j = job_steps j s.medium.grain (length taken) s.held []
 due_steps_of_stage s stage j = []
 
-abbrev pub device_series : DeviceView → SlotWrite → List Step
-device_series d j = due_steps_of_stage d.slots d.stage j
+-- The steps of the row that is due on a device, if its stage has this job.
+abbrev pub device_due_steps : DeviceView → SlotWrite → List Step
+device_due_steps d j = due_steps_of_stage d.slots d.stage j
 
 module _ (s : SlotsState) where
-  spare_size : is_shaped s ≡ true → length (spare_of s) ≡ room_of s
-  spare_size shape = eqb-true _ _ (and_parts (length (spare_of s) == room_of s) _ shape).0
+  shaped_spare_has_room_size : is_shaped s ≡ true → length (spare_of s) ≡ room_of s
+  shaped_spare_has_room_size shape = eqb-true _ _ (and_parts (length (spare_of s) == room_of s) _ shape).0
 
-  block_room : (n b : ℕ) (p : Bool) → IsTrue (is_shaped s && (nat_lt 0 b && (nat_le (n + b) (room_of s) && p))) → n ≤ length (spare_of s)
-  block_room n b p sound =
+  block_fits : (n b : ℕ) (p : Bool) → IsTrue (is_shaped s && (nat_lt 0 b && (nat_le (n + b) (room_of s) && p))) → n ≤ length (spare_of s)
+  block_fits n b p sound =
       let shape : is_shaped s ≡ true = grind (arith, common_steps) in
       let room : n + b ≤ room_of s = grind (arith, common_steps) in
-      omega (arith, spare_size shape, room)
+      omega (arith, shaped_spare_has_room_size shape, room)
 
-  commit_room : (n : ℕ) (p : Bool) → IsTrue (is_shaped s && (nat_lt 0 n && (nat_le n (room_of s) && p))) → n ≤ length (spare_of s)
-  commit_room n p sound =
+  commit_fits_spare : (n : ℕ) (p : Bool) → IsTrue (is_shaped s && (nat_lt 0 n && (nat_le n (room_of s) && p))) → n ≤ length (spare_of s)
+  commit_fits_spare n p sound =
       let shape : is_shaped s ≡ true = grind (arith, common_steps) in
       let room : n ≤ room_of s = grind (arith, common_steps) in
-      omega (arith, spare_size shape, room)
+      omega (arith, shaped_spare_has_room_size shape, room)
 
-  -- If the spare slot has at least n bytes, its first n bytes are n bytes.
-  taken_length : (n : ℕ) → n ≤ length (spare_of s) → length (take n (spare_of s)) ≡ n
-  taken_length n fits = omega (arith, length-take n (spare_of s), fits)
+  -- The first n bytes of a spare slot of at least n bytes have the length n.
+  taken_bytes_have_length : (n : ℕ) → n ≤ length (spare_of s) → length (take n (spare_of s)) ≡ n
+  taken_bytes_have_length n fits = omega (arith, length-take n (spare_of s), fits)
 
   block_job_steps_same : (n : ℕ) (j : SlotWrite) (w : Grain) (end : ℕ) (held block : List ℕ) → s.medium.grain ≡ w → n ≤ length (spare_of s)
       → IsBlockJob n s j end held → let k = length (take n (spare_of s)) in
       job_steps j w end held block ≡ job_steps j s.medium.grain k (held_before_block s k) block
   block_job_steps_same n j w end held block grain fits is =
       (λ i. job_steps j (sym grain i) (is.end_is i) (is.held_is i) block)
-      ∙ ap (λ (k : ℕ). job_steps j s.medium.grain k (held_before_block s k) block) (sym (taken_length n fits))
+      ∙ ap (λ (k : ℕ). job_steps j s.medium.grain k (held_before_block s k) block) (sym (taken_bytes_have_length n fits))
 
   commit_job_steps_same : (n : ℕ) (j : SlotWrite) (w : Grain) (end : ℕ) (held block : List ℕ) → s.medium.grain ≡ w → n ≤ length (spare_of s)
       → IsCommitJob n s j end held → job_steps j w end held block ≡ job_steps j s.medium.grain (length (take n (spare_of s))) s.held []
   commit_job_steps_same n j w end held block grain fits is =
       (λ i. job_steps j (sym grain i) (is.end_is i) (is.held_is i) block)
       ∙ (λ i. job_steps (is.job_is i) s.medium.grain n s.held block) ∙ (λ i. job_steps (sym is.job_is i) s.medium.grain n s.held [])
-      ∙ ap (λ (k : ℕ). job_steps j s.medium.grain k s.held []) (sym (taken_length n fits))
+      ∙ ap (λ (k : ℕ). job_steps j s.medium.grain k s.held []) (sym (taken_bytes_have_length n fits))
 
   -- The steps of the job that is due are the steps of its stage.
   due_job_steps_same : (m : DeviceState) (asked : Option ℕ) (len : ℕ) (j : SlotWrite) (w : Grain) (end : ℕ) (held block : List ℕ)
       → s.medium.grain ≡ w → IsTrue (are_device_parts m (length block) s) → IsDueJobOfMode m asked len s j end held
       → job_steps j w end held block ≡ due_steps_of_stage s (stage_of m (spare_of s) block) j
   due_job_steps_same (device_state.DownloadSync n number) asked len j w end held block grain sound due =
-      block_job_steps_same n j w end held block grain (block_room n (length block) _ sound) due.1
+      block_job_steps_same n j w end held block grain (block_fits n (length block) _ sound) due.1
   due_job_steps_same (device_state.DownloadBusy n number passed) asked len j w end held block grain sound due =
-      block_job_steps_same n j w end held block grain (block_room n (length block) _ sound) due.1
+      block_job_steps_same n j w end held block grain (block_fits n (length block) _ sound) due.1
   due_job_steps_same (device_state.ManifestSync n) asked len j w end held block grain sound due =
-      commit_job_steps_same n j w end held block grain (commit_room n _ sound) due.1
+      commit_job_steps_same n j w end held block grain (commit_fits_spare n _ sound) due.1
   due_job_steps_same (device_state.Manifest n passed) asked len j w end held block grain sound due =
-      commit_job_steps_same n j w end held block grain (commit_room n _ sound) due.1
+      commit_job_steps_same n j w end held block grain (commit_fits_spare n _ sound) due.1
   due_job_steps_same m asked len j w end held block grain sound due = elim due [ ]
 
--- The steps of the work of a board at work are the steps of the device for which it stands.
+-- The steps of the work of a board at work are the steps of the device that the board represents.
 pub work_steps_are_device_steps : (b : Board) (cause : Cause) (d : DeviceView) (k : IsBoardAtWork b cause d)
-    → steps_in (lent_on b) k.asks.work ≡ device_series d k.asks.work.job
+    → steps_in (lent_on b) k.asks.work ≡ device_due_steps d k.asks.work.job
 work_steps_are_device_steps b cause d k =
     let a = lent_on b in
     let w = k.asks.work in
@@ -101,7 +102,7 @@ work_steps_are_device_steps b cause d k =
     due_job_steps_same k.s a.mode w.asked k.len w.job (grain_in a) a.put_end a.held a.block (ap (λ (m : MediumState). m.grain) on.medium)
     on.sound
     on.due
-    ∙ ap (λ (x : DeviceView). device_series x w.job) k.device
+    ∙ ap (λ (x : DeviceView). device_due_steps x w.job) k.device
 
 -- Bounds of the pieces of a series.
 
@@ -117,6 +118,7 @@ module _ (s : SlotsState) (store : IsStore s) (u : WriteUnit) (sector : ℕ) (gr
         (subst (λ (x : ℕ). x < unit_size s.medium.grain.unit) (sym store.puts.part) (mod-lt s.put_end (unit_has_a_byte
         s.medium.grain.unit)))
 
+    -- A sector has at least 256 bytes.
     wide : 0 < sector → 256 ≤ sector
     wide some =
         let whole = subst (λ (g : Grain). g.sector % 256 ≡ 0) grain store.has_image.active.sized.whole.pages in
@@ -162,7 +164,7 @@ module _ (s : SlotsState) (store : IsStore s) (u : WriteUnit) (sector : ℕ) (gr
 
 -- The series of a board at work has at most as many pieces as `operation_bound` says.
 pub work_pieces_bounded : (b : Board) (cause : Cause) (d : DeviceView) (k : IsBoardAtWork b cause d)
-    → piece_count (device_series d k.asks.work.job) ≤ operation_bound k.asks.work.job (length (lent_on b).block) b.asking.sector.size
+    → piece_count (device_due_steps d k.asks.work.job) ≤ operation_bound k.asks.work.job (length (lent_on b).block) b.asking.sector.size
 work_pieces_bounded b cause d k =
     let a = lent_on b in
     let w = k.asks.work in

@@ -1,4 +1,4 @@
--- The laws of a board: what each row keeps of the device for which the board stands is kept on the flash.
+-- The laws of a board: the facts of a device that each row keeps hold on the board's flash.
 use Rattle.std.specs.Prelude.{◌≡◌, ◌⊎◌, ℕ, Bool, true, false, List, [], Option, Some, None}
 use Rattle.std.proofs.Common.{inl, inr, refl, sym, ap, ◌∙◌, subst}
 use Rattle.std.proofs.lemmas.List.{append-nil}
@@ -32,7 +32,9 @@ ActiveImageIsOneClause = (s : SlotsState) (image : List ℕ) → Active s.medium
 
 -- The flash of a board has an active image: that of its device, or while writes are due the image that waits.
 record HasImageOfDevice (b : Board) (due : Option Cause) (d : DeviceView) : Type 0 where
+  -- The flash has an active image.
   has : HasImage (medium_on b)
+  -- An active image is that of the device, or the image that waits while writes are due.
   is : (image : List ℕ) → Active (medium_on b) image → (image ≡ image_of d.slots) ⊎ ((due ≡ None → ⊥) × IsPending d.stage image)
 
 some_due_is_not_none : (cause : Cause) → ◌≡◌ {A = Option Cause} (Some cause) None → ⊥
@@ -60,12 +62,12 @@ module _ (laws : WriteLaws) (only : ActiveImageIsOneClause) where
 
 -- Laws of a run.
 
--- No image waits in a board that just got power.
+-- No image waits in a board that was just powered on.
 no_image_waits_at_start : (begins : Bool) → is_manifesting (state_of (start_stage begins)) ≡ false
 no_image_waits_at_start true = refl
 no_image_waits_at_start false = refl
 
--- An image waits only in these states.
+-- An image waits only in a state of manifestation.
 pending_image_means_manifesting : (st : Stage) (t : List ℕ) → IsPending st t → is_manifesting (state_of st) ≡ true
 pending_image_means_manifesting (InManifestSync taken) t m = refl
 pending_image_means_manifesting (InManifest taken passed) t m = refl
@@ -78,6 +80,7 @@ no_pending_unless_manifesting (InManifest taken passed) t off m = absurd (cc)
 no_pending_unless_manifesting st t off m = m
 
 module _ (laws : WriteLaws) (takes : RowAcceptsBody) (only : ActiveImageIsOneClause) where
+  -- A board that was just powered on has the facts of `DeviceBytesFromSteps`.
   begun : (b : Board) → IsPoweredOn b → DeviceBytesFromSteps (image_of (device_on b).slots) [] [] (device_on b)
   begun b on = record {
     taken = subst (λ (x : DeviceView). [] ≡ accepted_of (situation x)) (sym on.device)
@@ -121,10 +124,11 @@ module _ (laws : WriteLaws) (takes : RowAcceptsBody) (only : ActiveImageIsOneCla
   pub runs_refine_device_table : RunsRefineDeviceTable
   runs_refine_device_table b b' steps on run = idle_runs_refine_table b b' (device_on b) steps (powered_board_is_idle b on) run
 
-  -- A fact that is kept of a device is kept on the flash of the board.
-  kept_on : (image : List ℕ) (old steps : List BoardStep) (b : Board) (due : Option Cause) (d : DeviceView) → RepresentsDevice b due d
+  -- If a device has the facts of `DeviceBytesFromSteps`, the image on the board's flash was kept or closed.
+  device_image_kept_on_board : (image : List ℕ) (old steps : List BoardStep) (b : Board) (due : Option Cause) (d : DeviceView)
+      → RepresentsDevice b due d
       → DeviceBytesFromSteps image old steps d → ImageKeptOrClosed image old steps b
-  kept_on image old steps b due d k kept =
+  device_image_kept_on_board image old steps b due d k kept =
       let i = board_has_device_image laws only b due d k in
       record {
         now = i.has.image;
@@ -138,7 +142,7 @@ module _ (laws : WriteLaws) (takes : RowAcceptsBody) (only : ActiveImageIsOneCla
         ];
       }
 
-  -- From a time at which no image waits on, its image stays until another download is closed.
+  -- From a time at which no image waits, the active image stays until another download is closed.
   pub image_stays_in_run : ImageStaysInRun
   image_stays_in_run b mid b' old steps image on before off active run =
       let r = ran b mid old on before in
@@ -156,7 +160,7 @@ module _ (laws : WriteLaws) (takes : RowAcceptsBody) (only : ActiveImageIsOneCla
         waits = λ t m. absurd (no_pending_unless_manifesting r.device.stage t still m);
         whence = inl here;
       }) run in
-      kept_on image old steps b' r'.due' r'.device r'.stands r'.kept
+      device_image_kept_on_board image old steps b' r'.due' r'.device r'.stands r'.kept
 
   -- From power on, the image stays until a download is closed.
   pub runs_keep_image : RunsKeepImage

@@ -11,9 +11,9 @@ use Rattle.dfu_asks.specs.declared.pending_writes.SlotWrite.TheVariants as slot_
 use Rattle.dfu_asks.specs.Steps.{write_some_steps, write_anew_steps, put_steps, open_steps, close_step}
 use Rattle.dfu_asks.specs.Jobs.{held_bytes_place, job_steps}
 use Rattle.dfu_laws.specs.board.Counts.{block_erases, block_programs, commit_erases, commit_programs}
-use Rattle.dfu_laws.proofs.board.Counting.{part_count, piece_count, count_append, erases_for_write, write_anew_count_bound, write_some_count_bound, erases_of_joined_ranges, bytes_of_sectors, sectors_that_fit, sector_erases_bound}
+use Rattle.dfu_laws.proofs.board.Counting.{part_count, piece_count, piece_count_of_append, erases_for_write, write_anew_count_bound, write_some_count_bound, erases_of_joined_ranges, bytes_of_sectors, sectors_that_fit, sector_erases_bound}
 
--- A unit has at most 256 bytes, and a gate unit too.
+-- A unit has at most 256 bytes.
 unit_at_most_256 : (u : WriteUnit) → unit_size u ≤ 256
 unit_at_most_256 Byte = omega arith
 unit_at_most_256 _ = omega arith
@@ -41,7 +41,7 @@ filled_held_at_most_256 u held low =
     let n = fill_size u (length held) in
     omega (arith, length-append held (replicate n 0), length-replicate {A = ℕ} n 0, filled_up_at_most_256 u (length held) low)
 
--- Two parts of a put.
+-- The two parts of a put.
 
 -- Sizes of the two parts of a put: the first has at most a unit, and no byte if none was held back; the second has at most the bytes of the
 -- block.
@@ -61,9 +61,9 @@ module _ (u : WriteUnit) (held block : List ℕ) (low : length held < unit_size 
   abbrev head : ℕ
   head = head_write_size u held block
 
-  head_le : (b : Bool) → (if b then 0 else min (unit_size u) whole) ≤ whole
-  head_le true = omega arith
-  head_le false = omega arith
+  head_at_most_whole : (b : Bool) → (if b then 0 else min (unit_size u) whole) ≤ whole
+  head_at_most_whole true = omega arith
+  head_at_most_whole false = omega arith
 
   sizes : (b : Bool) → (length held == 0) ≡ b → (b ≡ true → length held ≡ 0) → (b ≡ false → length held ≢ 0)
       → let n : ℕ = if b then 0 else min (unit_size u) whole in ArePutParts (length held) (length block) n (whole - n)
@@ -97,13 +97,13 @@ module _ (u : WriteUnit) (held block : List ℕ) (low : length held < unit_size 
       let h = head in
       let one : List ℕ = take h all in
       let two : List ℕ = drop h (take whole all) in
-      let within : h ≤ whole = head_le (length held == 0) in
+      let within : h ≤ whole = head_at_most_whole (length held == 0) in
       let le : whole ≤ length all = omega arith in
       let size : length one ≡ h = omega (arith, length-take h all, within, le) in
       let more : length two ≡ whole - h = omega (arith, length-drop h (take whole all), length-take whole all, within, le) in
       omega (
         arith,
-        count_append (write_some_steps sector at one) (write_some_steps sector (at + h) two),
+        piece_count_of_append (write_some_steps sector at one) (write_some_steps sector (at + h) two),
         write_some_count_bound sector at one,
         write_some_count_bound sector (at + h) two,
         ap (λ (x : ℕ). length (erases_for_write sector at x)) size,
@@ -121,7 +121,7 @@ gate_close_is_one_piece u (suc k) spare =
     let closed : Bool → List ℕ = λ b. if b then gate_unit (gate_size u) 0 else replicate (suc k) 255 in
     subst (λ (b : Bool). part_count (if b then false else true) (length (closed b)) + 0 ≤ 1) (sym some) (omega arith)
 
--- 1 for true, and 0 for false.
+-- Number of a flag: 1 for true, and 0 for false.
 abbrev pub number_of_flag : Bool → ℕ
 number_of_flag true = 1
 number_of_flag false = 0
@@ -148,13 +148,13 @@ block_program_parts_bound : (close : Bool) (h b one two : ℕ) → ArePutParts h
 block_program_parts_bound true h b one two p none = omega (arith, p.block, p.none (none refl))
 block_program_parts_bound false h b one two p none = omega (arith, p.block, p.few)
 
--- If there are sectors, the branch for sectors is taken.
-pub false_takes_else : (b : Bool) → b ≡ false → (x : ℕ) → ◌≡◌ {A = ℕ} (if b then 0 else x) x
-false_takes_else true e x = absurd (true≢false e)
-false_takes_else false e x = refl
+-- If a medium has sectors, the test for none is false, and the branch for sectors is taken.
+pub choice_takes_second : (b : Bool) → b ≡ false → (x : ℕ) → ◌≡◌ {A = ℕ} (if b then 0 else x) x
+choice_takes_second true e x = absurd (true≢false e)
+choice_takes_second false e x = refl
 
-pub erased_with_sectors : (s at n : ℕ) → (s == 0) ≡ false → length (erases_for_write s at n) ≡ length (sector_erases s at n)
-erased_with_sectors s at n e = ap (λ (b : Bool). length (if b then [] else sector_erases s at n)) e
+pub write_erases_its_sectors : (s at n : ℕ) → (s == 0) ≡ false → length (erases_for_write s at n) ≡ length (sector_erases s at n)
+write_erases_its_sectors s at n e = ap (λ (b : Bool). length (if b then [] else sector_erases s at n)) e
 
 -- The pieces of a block are at most `block_erases` plus `block_programs`.
 pub block_pieces_bound : (u : WriteUnit) (sector spare : ℕ) (close : Bool) (end : ℕ) (held block : List ℕ) → length held < unit_size u
@@ -167,7 +167,7 @@ block_pieces_bound u zero spare close end held block low none wide =
     let p = put_has_two_parts u held block low in
     omega (
       arith,
-      count_append (if close then close_step g spare ∷ [] else []) (put_steps g at held block),
+      piece_count_of_append (if close then close_step g spare ∷ [] else []) (put_steps g at held block),
       optional_close_piece_bound u 0 spare close,
       put_pieces_bound u held block low 0 at,
       block_program_parts_bound close (length held) (length block) (head u held block low) (whole u held block low - head u held block low)
@@ -193,14 +193,14 @@ block_pieces_bound u (suc k) spare close end held block low none wide =
     ) in
     omega (
       arith,
-      count_append (if close then close_step g spare ∷ [] else []) (put_steps g at held block),
+      piece_count_of_append (if close then close_step g spare ∷ [] else []) (put_steps g at held block),
       optional_close_piece_bound u s spare close,
       put_pieces_bound u held block low s at,
-      erased_with_sectors s at h on,
-      erased_with_sectors s (at + h) rest on,
+      write_erases_its_sectors s at h on,
+      write_erases_its_sectors s (at + h) rest on,
       block_sector_erases_bound close (length held) (length block) s (one + two) (wide some) few none spanned,
       block_program_parts_bound false (length held) (length block) h rest p (λ e. absurd (true≢false (sym e))),
-      false_takes_else (s == 0) on (1 + (length block + s - 1) / s),
+      choice_takes_second (s == 0) on (1 + (length block + s - 1) / s),
     )
 
 -- A range of at most 256 bytes has the beginning of at most one sector.
@@ -223,7 +223,7 @@ unit_write_pieces_bound (suc k) at n wide few =
     omega (
       arith,
       few,
-      erased_with_sectors s at n on,
+      write_erases_its_sectors s at n on,
       range_of_256_spans_one_sector s c n (wide some) few le,
       ap (λ (b : Bool).
           number_of_flag (not b)) on,
@@ -235,7 +235,7 @@ commit_pieces_sum_bound : (s : ℕ) → (number_of_flag (not (s == 0)) + 1) + ((
 commit_pieces_sum_bound zero = omega arith
 commit_pieces_sum_bound (suc k) =
     let on : (suc k == 0) ≡ false = ne_eqb (suc k) 0 (omega arith) in
-    omega (arith, false_takes_else (suc k == 0) on 3, ap (λ (b : Bool). number_of_flag (not b)) on)
+    omega (arith, choice_takes_second (suc k == 0) on 3, ap (λ (b : Bool). number_of_flag (not b)) on)
 
 pub commit_pieces_bound : (u : WriteUnit) (sector spare gen crc end : ℕ) (held block : List ℕ) → length held < unit_size u
     → (0 < sector → 256 ≤ sector)
@@ -249,8 +249,8 @@ commit_pieces_bound u sector spare gen crc end held block low wide =
     let gate = gate_unit (gate_size u) OPEN in
     omega (
       arith,
-      count_append (write_some_steps sector at last) (open_steps g spare gen end crc),
-      count_append (write_anew_steps sector (spare + gate_room g) head) (write_anew_steps sector spare gate),
+      piece_count_of_append (write_some_steps sector at last) (open_steps g spare gen end crc),
+      piece_count_of_append (write_anew_steps sector (spare + gate_room g) head) (write_anew_steps sector spare gate),
       write_some_count_bound sector at last,
       write_anew_count_bound sector (spare + gate_room g) head,
       write_anew_count_bound sector spare gate,

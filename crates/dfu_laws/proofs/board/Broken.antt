@@ -18,7 +18,7 @@ use Rattle.dfu_asks.specs.Series.{block_series, BlockBroken, CommitBroken}
 use Rattle.dfu_asks.specs.Jobs.{job_writes}
 use Rattle.dfu_asks.specs.Due.{DueRowFails}
 use Rattle.dfu_asks.specs.Asks.{IsBlockJob, IsCommitJob, IsDueJobOfMode, failed_mode, IsRowEndAnswer}
-use Rattle.dfu_asks.proofs.Working.{NextBlockFits, IsAll, block_in_device, commit_in_device, block_job_is_series, commit_job_is_series}
+use Rattle.dfu_asks.proofs.Working.{NextBlockFits, IsAll, unwritten_block_may_be_written, due_commit_commits_all_puts, block_job_is_series, commit_job_is_series}
 
 -- The clause `block_broken` of the law `writes_are_the_calls`.
 abbrev pub BrokenBlockFailsCall : Type 0
@@ -36,34 +36,38 @@ module _ (blocks : BrokenBlockFailsCall) (commits : BrokenCommitFailsCall) (c : 
     SlotWrite)
     (s : SlotsState)
     (m flash : List ℕ) (medium : s.medium ≡ mapped_medium w m) (store : IsStore s) (fault : WriteFault) where
+  -- Store on the flash as it is.
   abbrev left : SlotsState
   left = store_on (mapped_medium w flash)
 
+  -- The units and sectors stay.
   grain : s.medium.grain ≡ w
   grain = ap (λ (x : MediumState). x.grain) medium
 
+  -- The count of failures rose.
   rose : CountRose s.medium.failures left.medium.failures
   rose = omega (arith, ap (λ (x : MediumState). x.failures) medium)
 
+  -- The writes of the job were broken off.
   broken : (ws : List Write) → BrokenWrites fault (mapped_medium w m) (job_writes j w end held b) (mapped_medium w flash)
       → job_writes j w end held b ≡ ws → BrokenWrites fault s.medium ws (mapped_medium w flash)
   broken ws all same = subst (λ (x : MediumState). BrokenWrites fault x ws (mapped_medium w flash)) (sym medium)
       (subst (λ (x : List Write). BrokenWrites fault (mapped_medium w m) x (mapped_medium w flash)) same all)
 
-  block_off : (n : ℕ) → NextBlockFits s n (length b) → IsBlockJob n s j end held
+  broken_block_fails_row : (n : ℕ) → NextBlockFits s n (length b) → IsBlockJob n s j end held
       → BrokenWrites fault (mapped_medium w m) (job_writes j w end held b) (mapped_medium w flash)
       → FailedBlock fault (take n (spare_of s)) b c s (view_of_parts c left (device_state.Error (write_code fault)) b) × IsStore left
-  block_off n next is all =
+  broken_block_fails_row n next is all =
       let got = blocks fault s n b (mapped_medium w flash) store next.shape next.before next.room
       (broken (block_series s n b) all (block_job_is_series s n j w end held b grain is)) in (
         record { config_is = refl; room = got.room; stage_is = refl; calls = got.calls; image = got.image; failed = rose },
         got.store,
       )
 
-  commit_off : (n : ℕ) → IsAll s n → IsCommitJob n s j end held
+  broken_commit_fails_row : (n : ℕ) → IsAll s n → IsCommitJob n s j end held
       → BrokenWrites fault (mapped_medium w m) (job_writes j w end held b) (mapped_medium w flash)
       → FailedCommit fault (take n (spare_of s)) c s (view_of_parts c left (device_state.Error (commit_code fault)) b) × IsStore left
-  commit_off n whole is all =
+  broken_commit_fails_row n whole is all =
       let got = commits fault s n (mapped_medium w flash) store whole.shape whole.put whole.room
       (broken (writes_of s (Commit n)) all (commit_job_is_series s n j w end held b grain whole.put is)) in (
         record { config_is = refl; room = got.room; stage_is = refl; calls = got.calls; image = got.image; failed = rose },
@@ -77,18 +81,18 @@ module _ (blocks : BrokenBlockFailsCall) (commits : BrokenCommitFailsCall) (c : 
       → IsRowEndAnswer c (failed_mode fault d) asked a out
       → DueRowFails fault len (view_of_parts c s d b) a out (view_of_parts c left (failed_mode fault d) b) × IsStore left
   fails (device_state.DownloadSync n number) asked len sound due all a out says =
-      let got = block_off n (block_in_device n (length b) s sound) due.1 all in
+      let got = broken_block_fails_row n (unwritten_block_may_be_written n (length b) s sound) due.1 all in
       (((subst (λ (x : Option ℕ). IsRowEndAnswer c (device_state.Error (write_code fault)) x a out) due.0 says).1 0 [] [] tt, got.0), got.1)
   fails (device_state.DownloadBusy n number passed) asked len sound due all a out says =
-      let got = block_off n (block_in_device n (length b) s sound) due.1 all in
+      let got = broken_block_fails_row n (unwritten_block_may_be_written n (length b) s sound) due.1 all in
       (((subst (λ (x : Option ℕ). IsRowEndAnswer c (device_state.Error (write_code fault)) x a out) due.0 says).1 0 [] [] tt, got.0), got.1)
   fails (device_state.ManifestSync n) asked len sound due all a out says =
-      let got = commit_off n (commit_in_device n s sound) due.1 all in (
+      let got = broken_commit_fails_row n (due_commit_commits_all_puts n s sound) due.1 all in (
         ((subst (λ (x : Option ℕ). IsRowEndAnswer c (device_state.Error (commit_code fault)) x a out) due.0 says).1 0 [] [] tt, got.0),
         got.1,
       )
   fails (device_state.Manifest n passed) asked len sound due all a out says =
-      let got = commit_off n (commit_in_device n s sound) due.1 all in (
+      let got = broken_commit_fails_row n (due_commit_commits_all_puts n s sound) due.1 all in (
         ((subst (λ (x : Option ℕ). IsRowEndAnswer c (device_state.Error (commit_code fault)) x a out) due.0 says).1 0 [] [] tt, got.0),
         got.1,
       )

@@ -14,8 +14,8 @@ use Rattle.dfu_device.specs.History.{HistoryStep as TableRow}
 use Rattle.dfu_device.specs.AcceptedBytes.{accepted_of, accepted_in_state, acknowledged_bytes, is_dnload}
 use Rattle.dfu_device.specs.AcceptedHistory.{RowAcceptsBody}
 use Rattle.dfu_asks.specs.declared.reply.Reply.{Reply}
-use Rattle.dfu_asks.specs.Due.{IsDueRow}
-use Rattle.dfu_asks.specs.Lent.{SameSetup}
+use Rattle.dfu_asks.specs.Due.{HoldsOfDueRow}
+use Rattle.dfu_asks.specs.Lent.{SameConfig}
 use Rattle.dfu_asks.specs.Mapped.{grain_of, mapped_medium}
 use Rattle.dfu_asks.specs.Asks.{flash_store, device_in}
 use Rattle.dfu_asks.specs.Calls.{IsRowOnEveryMedium, DeviceCalled, call_answered, call_asks}
@@ -74,13 +74,13 @@ module _ (takes : RowAcceptsBody) where
       }
 
   -- The medium is that of the device if the flash and the setup stay.
-  same_medium : (b b' : Board) (d : DeviceView) → IsIdleBoard b d → SameSetup b.asking b'.asking → b'.flash ≡ b.flash
+  idle_board_keeps_medium : (b b' : Board) (d : DeviceView) → IsIdleBoard b d → SameConfig b.asking b'.asking → b'.flash ≡ b.flash
       → medium_on b' ≡ d.slots.medium
-  same_medium b b' d k alike flash = (λ i. mapped_medium (grain_of (alike.unit i) (alike.sector i)) (flash i))
+  idle_board_keeps_medium b b' d k alike flash = (λ i. mapped_medium (grain_of (alike.unit i) (alike.sector i)) (flash i))
       ∙ ap (λ (x : DeviceView). x.slots.medium) k.device
 
-  -- `handle` and `elapse`.
-  pub served : (b b' : Board) (d : DeviceView) (cause : Cause) (says : BoardReply) → IsIdleBoard b d → SameSetup b.asking b'.asking
+  -- `handle` and `elapse` make rows of the device.
+  pub served : (b b' : Board) (d : DeviceView) (cause : Cause) (says : BoardReply) → IsIdleBoard b d → SameConfig b.asking b'.asking
       → IsServedBy b cause says b' → CallMakesRowsOfDevice b' None d cause says
   served b b' d cause says k alike h =
       let o = h.outcome (record { fits = h.fits; is = k.is }) in
@@ -98,7 +98,7 @@ module _ (takes : RowAcceptsBody) where
           unseen_of_mapped)))
           (board_is_idle_after_row b' b.flash x count out out' (IsRowOnEveryMedium (lent_on b) b.flash rows (lent_on b')) h.flash e)
           (answered_bytes_of_row says b.flash x count out out' (lent_on b') (IsRowOnEveryMedium (lent_on b) b.flash rows (lent_on b')) e is)
-          (same_medium b b' d k alike h.flash)
+          (idle_board_keeps_medium b b' d k alike h.flash)
       from out out' _ (call_asks len asks same due out_is) is = record {
         rows = [];
         due' = Some cause;
@@ -112,7 +112,7 @@ module _ (takes : RowAcceptsBody) where
           stood = b.flash;
           asks = asks;
           device = same ∙ k.device;
-          row = subst (λ (z : DeviceView). IsDueRow len z (λ x sent d'. Row z cause x sent d')) k.device (due unseen_of_mapped);
+          row = subst (λ (z : DeviceView). HoldsOfDueRow len z (λ x sent d'. Row z cause x sent d')) k.device (due unseen_of_mapped);
           torn = λ p piece. no_change_keeps_all p.write.at (p.write.at + length p.write.bytes) b.flash b'.flash h.flash;
         };
         taken = sym (ap (λ (y : BoardReply). accepted_in_state (state_of d.stage) (accepted_of (situation d)
@@ -125,22 +125,22 @@ module _ (takes : RowAcceptsBody) where
         slots = inl refl;
       }
 
-  -- `usb_reset`.
-  pub bus_reset_makes_row : (b b' : Board) (d : DeviceView) (says : BoardReply) → IsIdleBoard b d → SameSetup b.asking b'.asking
+  -- `usb_reset` makes the row of a reset.
+  pub bus_reset_makes_row : (b b' : Board) (d : DeviceView) (says : BoardReply) → IsIdleBoard b d → SameConfig b.asking b'.asking
       → ResetServed b says b'
       → CallMakesRowsOfDevice b' None d BusReset says
   bus_reset_makes_row b b' d says k alike h = answered_call_makes_row b' d BusReset says answer.Ack []
       (subst (λ (z : DeviceView). Row z BusReset answer.Ack [] (device_on b')) k.device (refl, refl, h.row))
       (record { work = h.work; is = (h.is (record { fits = h.fits; is = k.is })).is; device = refl }) h.says_is
-      (same_medium b b' d k alike h.flash)
+      (idle_board_keeps_medium b b' d k alike h.flash)
 
-  -- `refuse_close` and `refuse`.
+  -- `refuse_close` and `refuse` make the row of the refusal.
   pub objected : (b b' : Board) (d : DeviceView) (cause : Cause) (a : Answer) (says : BoardReply) → IsIdleBoard b d
-      → SameSetup b.asking b'.asking → ObjectionServed b cause a says b' → CallMakesRowsOfDevice b' None d cause says
+      → SameConfig b.asking b'.asking → ObjectionServed b cause a says b' → CallMakesRowsOfDevice b' None d cause says
   objected b b' d cause a says k alike h =
       let both = h.row k.is in
       answered_call_makes_row b' d cause says a [] (subst (λ (z : DeviceView). Row z cause a [] (device_on b')) k.device both.1)
-      (record { work = h.work; is = both.0; device = refl }) h.says_is (same_medium b b' d k alike h.flash)
+      (record { work = h.work; is = both.0; device = refl }) h.says_is (idle_board_keeps_medium b b' d k alike h.flash)
 
 -- The rows of a call are those of its event, because both take the same block and close the same download.
 pub call_rows_are_event_rows : (b' : Board) (due : Option Cause) (d : DeviceView) (e : Event) (cause : Cause) (says : BoardReply)
@@ -166,7 +166,7 @@ call_rows_are_event_rows b' due d e cause says tells block closes c = record {
   slots = c.slots;
 }
 
--- Calls as events of a board.
+-- The rows of a call of `handle` are those of its event.
 pub handle_makes_event_rows : (b' : Board) (d : DeviceView) (setup body : List ℕ) (says : BoardReply) →
     CallMakesRowsOfDevice b' None d (Transfer setup body) says
     → StepMakesRows b' None d (Handle setup body) says

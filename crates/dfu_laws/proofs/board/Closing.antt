@@ -5,25 +5,25 @@ use Rattle.dfu_wire.specs.declared.setups.Setup.{Setup}
 use Rattle.dfu_wire.specs.declared.requests.Request.{Request as Asked}
 use Rattle.dfu_wire.specs.declared.requests.Request.TheVariants as asked
 use Rattle.dfu_wire.specs.Setup.{IsSetup}
-use Rattle.dfu_wire.specs.Request.{SetupRequest}
+use Rattle.dfu_wire.specs.Request.{SetupAsksFor}
 use Rattle.dfu_slots.specs.StoreView.{SlotsState, store_on, image_of}
 use Rattle.dfu_device.specs.Pace.{block_ms, image_ms}
 use Rattle.dfu_device.specs.declared.answer.Answer.{Answer}
 use Rattle.dfu_device.specs.declared.objection.Objection.{Objection}
 use Rattle.dfu_device.specs.declared.answer.Answer.TheVariants as answer
 use Rattle.dfu_device.specs.Stage.{Request, Dnload, Upload, GetStatus, GetState, OtherRequest, Reply, Ack, Profile, Stage, InAppDetach, InDfuIdle, InDownloadSync, InDownloadBusy, InDownloadIdle, InManifestSync, InManifestSyncComplete, InManifest, InManifestWaitReset, InUploadIdle, InError}
-use Rattle.dfu_device.specs.Table.{Plan, Sure, Writes, Commits, has_no_bytes, block_plan, further_plan, upload_plan, plan, time_plan, reset_stage, refuse_stage, commit_code}
+use Rattle.dfu_device.specs.Table.{Plan, Sure, Writes, Commits, has_no_bytes, block_plan, next_dnload_plan, upload_plan, plan, time_plan, reset_stage, refuse_stage, commit_code}
 use Rattle.dfu_device.specs.DeviceView.{DeviceView, profile, situation}
 use Rattle.dfu_device.specs.Rows.{request_for_table, asked_length, ReplyAnswer, Done, is_served, setup_plan, handled_by_reading, Cause, Transfer, Passing, BusReset, RefusingClose, Refusing, PowerOn, Row}
 use Rattle.dfu_device.specs.AcceptedBytes.{accepted_in, accepted_of, is_dnload}
-use Rattle.dfu_device.specs.Cases.{either_way}
+use Rattle.dfu_device.specs.Cases.{holds_in_both_branches}
 use Rattle.dfu_slots.specs.declared.fault.WriteFault.{WriteFault}
 use Rattle.dfu_slots.specs.declared.fault.WriteFault.TheVariants.{Failed, NotVerified}
-use Rattle.dfu_laws.specs.board.Accepts.{IsPending, ImageAbandoned}
+use Rattle.dfu_laws.specs.board.Accepts.{IsPending, IsAbandonedStage}
 
 -- In the stage an image is in place, or its commit broke off: no image waits, and none was given up.
 abbrev pub IsPlaced : Stage → Type 0
-IsPlaced st = ((t : List ℕ) → IsPending st t → ⊥) × (ImageAbandoned st → ⊥)
+IsPlaced st = ((t : List ℕ) → IsPending st t → ⊥) × (IsAbandonedStage st → ⊥)
 
 failed_commit_settles_image : (fault : WriteFault) → IsPlaced (InError (commit_code fault))
 failed_commit_settles_image Failed = (λ t m. m, λ g. g)
@@ -52,14 +52,15 @@ block_plan_pending_if_closed : (c : Profile) (image : List ℕ) (st : Stage) (be
     → IsPendingOnlyIfClosed image st (Dnload number body) (block_plan c before expected number body)
 block_plan_pending_if_closed c image st before expected number body =
     let P : Plan → Type 0 = IsPendingOnlyIfClosed image st (Dnload number body) in
-    either_way P (nat_lt c.transfer (length body)) _ _ (λ t m. absurd m)
-    (either_way P (not (number == expected)) _ _ (λ t m. absurd m)
-    (either_way P (nat_lt c.capacity (length before + length body)) _ _ (λ t m. absurd m) (λ t m. absurd m)))
+    holds_in_both_branches P (nat_lt c.transfer (length body)) _ _ (λ t m. absurd m)
+    (holds_in_both_branches P (not (number == expected)) _ _ (λ t m. absurd m)
+    (holds_in_both_branches P (nat_lt c.capacity (length before + length body)) _ _ (λ t m. absurd m) (λ t m. absurd m)))
 
 further_plan_pending_if_closed : (c : Profile) (image taken : List ℕ) (expected number : ℕ) (body : List ℕ)
-    → IsPendingOnlyIfClosed image (InDownloadIdle taken expected) (Dnload number body) (further_plan c taken expected number body)
+    → IsPendingOnlyIfClosed image (InDownloadIdle taken expected) (Dnload number body) (next_dnload_plan c taken expected number body)
 further_plan_pending_if_closed c image taken expected number [] =
-    either_way (IsPendingOnlyIfClosed image (InDownloadIdle taken expected) (Dnload number [])) (nat_le c.least (length taken)) _ _
+    holds_in_both_branches (IsPendingOnlyIfClosed image (InDownloadIdle taken expected) (Dnload number []))
+    (nat_le c.least (length taken)) _ _
     (λ t m. inr ((refl, number, refl), sym m)) (λ t m. absurd m)
 further_plan_pending_if_closed c image taken expected number (b ∷ bs) =
     block_plan_pending_if_closed c image (InDownloadIdle taken expected) taken expected number (b ∷ bs)
@@ -68,28 +69,31 @@ upload_plan_leaves_no_new_image_pending : (c : Profile) (image : List ℕ) (st :
     → IsPendingOnlyIfClosed image st (Upload number size) (upload_plan c image place expected number size)
 upload_plan_leaves_no_new_image_pending c image st place expected number size =
     let P : Plan → Type 0 = IsPendingOnlyIfClosed image st (Upload number size) in
-    either_way P (size == 0) _ _ (λ t m. absurd m)
-    (either_way P (nat_lt c.transfer size) _ _ (λ t m. absurd m)
-    (either_way P (not (number == expected)) _ _ (λ t m. absurd m)
-    (either_way P (nat_lt (length (take size (drop place image))) size) _ _ (λ t m. absurd m) (λ t m. absurd m))))
+    holds_in_both_branches P (size == 0) _ _ (λ t m. absurd m)
+    (holds_in_both_branches P (nat_lt c.transfer size) _ _ (λ t m. absurd m)
+    (holds_in_both_branches P (not (number == expected)) _ _ (λ t m. absurd m)
+    (holds_in_both_branches P (nat_lt (length (take size (drop place image))) size) _ _ (λ t m. absurd m) (λ t m. absurd m))))
 
 -- The plan of each request makes an image pending only by closing its download.
 request_plan_pending_if_closed : (c : Profile) (image : List ℕ) (st : Stage) (r : Request) →
     IsPendingOnlyIfClosed image st r (plan c image st r)
 request_plan_pending_if_closed c image InDfuIdle (Dnload number body) =
     let P : Plan → Type 0 = IsPendingOnlyIfClosed image InDfuIdle (Dnload number body) in
-    either_way P (not c.can_download) _ _ (λ t m. absurd m)
-    (either_way P (has_no_bytes body) _ _ (λ t m. absurd m) (block_plan_pending_if_closed c image InDfuIdle [] 0 number body))
-request_plan_pending_if_closed c image InDfuIdle (Upload number size) = either_way (IsPendingOnlyIfClosed image InDfuIdle (Upload number
+    holds_in_both_branches P (not c.can_download) _ _ (λ t m. absurd m)
+    (holds_in_both_branches P (has_no_bytes body) _ _ (λ t m. absurd m) (block_plan_pending_if_closed c image InDfuIdle [] 0 number body))
+request_plan_pending_if_closed c image InDfuIdle (Upload number size) =
+    holds_in_both_branches (IsPendingOnlyIfClosed image InDfuIdle (Upload number
     size)) c.can_upload _ _
     (upload_plan_leaves_no_new_image_pending c image InDfuIdle 0 0 number size) (λ t m. absurd m)
 request_plan_pending_if_closed c image (InDownloadSync before block number) GetStatus =
-    either_way (IsPendingOnlyIfClosed image (InDownloadSync before block number) GetStatus) (c.busy == 0) _ _ (λ t m. absurd m) (λ t m.
+    holds_in_both_branches (IsPendingOnlyIfClosed image (InDownloadSync before block number) GetStatus) (c.busy == 0) _ _ (λ t m. absurd m)
+    (λ t m.
     absurd m)
 request_plan_pending_if_closed c image (InDownloadIdle taken number) (Dnload k body) = further_plan_pending_if_closed c image taken number
     k body
 request_plan_pending_if_closed c image (InManifestSync taken) GetStatus =
-    either_way (IsPendingOnlyIfClosed image (InManifestSync taken) GetStatus) (c.manifest == 0) _ _ (refl, (λ t m. m, λ g. g)) (λ t m. inl
+    holds_in_both_branches (IsPendingOnlyIfClosed image (InManifestSync taken) GetStatus) (c.manifest == 0) _ _ (refl, (λ t m. m, λ g. g))
+    (λ t m. inl
     m)
 request_plan_pending_if_closed c image (InManifestSync taken) GetState = λ t m. inl m
 request_plan_pending_if_closed c image (InUploadIdle place number) (Upload k size) = upload_plan_leaves_no_new_image_pending c image
@@ -102,18 +106,20 @@ time_plan_pending_if_closed : (c : Profile) (image : List ℕ) (st : Stage) (ms 
     IsPendingOnlyIfClosed image st OtherRequest (time_plan c st ms)
 time_plan_pending_if_closed c image (InAppDetach timer passed) ms =
     let P : Plan → Type 0 = IsPendingOnlyIfClosed image (InAppDetach timer passed) OtherRequest in
-    either_way P (ms == 0) _ _ (λ t m. absurd m)
-    (either_way P c.will_detach _ _ (λ t m. absurd m)
-    (either_way P (nat_le (max 1 timer) (passed + ms)) _ _ (λ t m. absurd m) (λ t m. absurd m)))
+    holds_in_both_branches P (ms == 0) _ _ (λ t m. absurd m)
+    (holds_in_both_branches P c.will_detach _ _ (λ t m. absurd m)
+    (holds_in_both_branches P (nat_le (max 1 timer) (passed + ms)) _ _ (λ t m. absurd m) (λ t m. absurd m)))
 time_plan_pending_if_closed c image (InDownloadBusy before block number passed) ms =
     let P : Plan → Type 0 = IsPendingOnlyIfClosed image (InDownloadBusy before block number passed) OtherRequest in
-    either_way P (ms == 0) _ _ (λ t m. absurd m)
-    (either_way P (nat_le (block_ms c.pace c.busy (length before) (length block)) (passed + ms)) _ _ (λ t m. absurd m) (λ t m. absurd m))
+    holds_in_both_branches P (ms == 0) _ _ (λ t m. absurd m)
+    (holds_in_both_branches P (nat_le (block_ms c.pace c.busy (length before) (length block)) (passed + ms)) _ _ (λ t m. absurd m)
+    (λ t m. absurd m))
 time_plan_pending_if_closed c image (InManifest taken passed) ms =
     let P : Plan → Type 0 = IsPendingOnlyIfClosed image (InManifest taken passed) OtherRequest in
-    either_way P (ms == 0) _ _ (λ t m. inl m)
-    (either_way P (nat_le (image_ms c.pace c.manifest (length taken)) (passed + ms)) _ _
-    (either_way (λ (next : Stage). P (Commits taken Ack next (λ fault. Ack))) c.tolerant InManifestSyncComplete InManifestWaitReset
+    holds_in_both_branches P (ms == 0) _ _ (λ t m. inl m)
+    (holds_in_both_branches P (nat_le (image_ms c.pace c.manifest (length taken)) (passed + ms)) _ _
+    (holds_in_both_branches
+    (λ (next : Stage). P (Commits taken Ack next (λ fault. Ack))) c.tolerant InManifestSyncComplete InManifestWaitReset
     (refl, (λ t m. m, λ g. g)) (refl, (λ t m. m, λ g. g)))
     (λ t m. inl m))
 time_plan_pending_if_closed c image (InManifestSync taken) ms = λ t m. inl m
@@ -146,7 +152,7 @@ empty_dnload_has_no_body asked.Abort body number e = absurd (cc)
 empty_dnload_has_no_body asked.OtherClass body number e = absurd (cc)
 empty_dnload_has_no_body asked.NotDfu body number e = absurd (cc)
 
-dnload_request_is_dnload_setup : (p : Setup) (block len : ℕ) (setup : List ℕ) → IsSetup p setup → SetupRequest p (asked.Dnload block len)
+dnload_request_is_dnload_setup : (p : Setup) (block len : ℕ) (setup : List ℕ) → IsSetup p setup → SetupAsksFor p (asked.Dnload block len)
     → is_dnload setup ≡ true
 dnload_request_is_dnload_setup p block len setup reads asks =
     let first : slice_index setup 0 ≡ 0x21 = sym reads.kind ∙ asks.0.kind in
@@ -195,7 +201,8 @@ done_plan_leads_image (Commits taken reply stage bad) r cause len w a out w' clo
 
 setup_plan_pending_if_closed : (w : DeviceView) (p : Setup) (q : Asked) (body : List ℕ)
     → IsPendingOnlyIfClosed (image_of w.slots) w.stage (request_for_table q body) (setup_plan w p q body)
-setup_plan_pending_if_closed w p q body = either_way (IsPendingOnlyIfClosed (image_of w.slots) w.stage (request_for_table q body))
+setup_plan_pending_if_closed w p q body =
+    holds_in_both_branches (IsPendingOnlyIfClosed (image_of w.slots) w.stage (request_for_table q body))
     (is_served p q body) _ _
     (request_plan_pending_if_closed (profile w) (image_of w.slots) w.stage (request_for_table q body)) (λ t m. inl m)
 
@@ -223,7 +230,7 @@ row_has_image_outcome w (Transfer setup body) a out w' (handled_by_reading p q r
     let is = empty_dnload_has_no_body q body number e in (
       setup,
       ap (λ (l : List ℕ). Transfer setup l) is.3,
-      dnload_request_is_dnload_setup p is.0 is.1 setup reads (subst (λ (x : Asked). SetupRequest p x) is.2 asks),
+      dnload_request_is_dnload_setup p is.0 is.1 setup reads (subst (λ (x : Asked). SetupAsksFor p x) is.2 asks),
       acks.0,
       acks.1,
     ))

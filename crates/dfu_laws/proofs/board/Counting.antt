@@ -6,7 +6,7 @@ use Rattle.dfu_slots.specs.Medium.{Write}
 use Rattle.dfu_slots.specs.Writes.{erase_write, sector_erases}
 use Rattle.dfu_asks.specs.Steps.{Step, steps_of_writes, program_step, write_anew_steps, write_some_steps}
 use Rattle.dfu_asks.specs.Carried.{IsStepPiece}
-use Rattle.dfu_laws.proofs.board.Pieces.{below_or_not}
+use Rattle.dfu_laws.proofs.board.Pieces.{below_or_at_least}
 
 -- Pieces of a series.
 
@@ -15,11 +15,12 @@ abbrev pub part_count : Bool → ℕ → ℕ
 part_count true n = min 1 n
 part_count false n = (n + 255) / 256
 
--- Number of pieces of a series behind its first n bytes, and of the whole series.
+-- Number of pieces of a series behind its first n bytes.
 abbrev pub count_behind_bytes : List Step → ℕ → ℕ
 count_behind_bytes [] n = 0
 count_behind_bytes (s ∷ ss) n = part_count s.erases (length s.write.bytes - n) + count_behind_bytes ss (n - length s.write.bytes)
 
+-- Number of pieces of a series.
 abbrev pub piece_count : List Step → ℕ
 piece_count [] = 0
 piece_count (s ∷ ss) = part_count s.erases (length s.write.bytes) + piece_count ss
@@ -74,15 +75,15 @@ count_behind_at_most_count (s ∷ ss) n =
           length s.write.bytes),
     )
 
-pub count_append : (xs ys : List Step) → piece_count (xs ++ ys) ≡ piece_count xs + piece_count ys
-count_append [] ys = omega arith
-count_append (x ∷ xs) ys = omega (arith, count_append xs ys)
+pub piece_count_of_append : (xs ys : List Step) → piece_count (xs ++ ys) ≡ piece_count xs + piece_count ys
+piece_count_of_append [] ys = omega arith
+piece_count_of_append (x ∷ xs) ys = omega (arith, piece_count_of_append xs ys)
 
 marked_steps_count_bound : (ws : List Write) → piece_count (steps_of_writes true ws) ≤ length ws
 marked_steps_count_bound [] = omega arith
 marked_steps_count_bound (w ∷ ws) = omega (arith, marked_steps_count_bound ws)
 
--- The erases for bytes that are written anew.
+-- The erases for bytes that are written anew; none without sectors.
 abbrev pub erases_for_write : (sector at n : ℕ) → List Write
 erases_for_write sector at n = if sector == 0 then [] else sector_erases sector at n
 
@@ -90,7 +91,7 @@ pub write_anew_count_bound : (sector at : ℕ) (bytes : List ℕ)
     → piece_count (write_anew_steps sector at bytes) ≤ length (erases_for_write sector at (length bytes)) + (length bytes + 255) / 256
 write_anew_count_bound sector at bytes =
     let gone = erases_for_write sector at (length bytes) in
-    omega (arith, count_append (steps_of_writes true gone) (program_step at bytes ∷ []), marked_steps_count_bound gone)
+    omega (arith, piece_count_of_append (steps_of_writes true gone) (program_step at bytes ∷ []), marked_steps_count_bound gone)
 
 pub write_some_count_bound : (sector at : ℕ) (bytes : List ℕ)
     → piece_count (write_some_steps sector at bytes) ≤ length (erases_for_write sector at (length bytes)) + (length bytes + 255) / 256
@@ -147,7 +148,7 @@ bytes_up_to_sector s zero = 0
 bytes_up_to_sector s (suc r) = s - suc r
 
 gap_of_next_place : (s r : ℕ) → r < s → bytes_up_to_sector s ((r + 1) % s) ≡ s - 1 - r
-gap_of_next_place s r low = elim (below_or_not (suc r) s) [
+gap_of_next_place s r low = elim (below_or_at_least (suc r) s) [
   | inl more ↦
       let e : (r + 1) % s ≡ suc r = mod-eq_of_lt (omega (arith, more)) ∙ omega arith in
       ap (λ (x : ℕ). bytes_up_to_sector s x) e ∙ omega arith

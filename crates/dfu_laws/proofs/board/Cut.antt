@@ -43,21 +43,28 @@ abbrev pub StepsAreWrites : Type 0
 StepsAreWrites = (job : SlotWrite) (grain : Grain) (end : ℕ) (held block : List ℕ)
     → step_writes (job_steps job grain end held block) ≡ job_writes job grain end held block
 
--- Laws of dfu_asks on which the proof stands.
+-- Laws of dfu_asks of the pieces and writes of a job.
 pub record WriteLaws : Type 0 where
+  -- A torn piece breaks the writes off.
   pub tear : TornPieceBreaksWrites
+  -- The steps of a job are its writes.
   pub same : StepsAreWrites
+  -- A block whose writes are broken off fails its call.
   pub blocks : BrokenBlockFailsCall
+  -- A commit whose writes are broken off fails its call.
   pub commits : BrokenCommitFailsCall
 
--- The laws together.
+-- The record of these four laws.
 pub write_laws : TornPieceBreaksWrites → StepsAreWrites → BrokenBlockFailsCall → BrokenCommitFailsCall → WriteLaws
 write_laws tear same blocks commits = record { tear = tear; same = same; blocks = blocks; commits = commits }
 
--- Answer of a device at the end of a row.
+-- The device has an answer at the end of a row.
 record HasRowEndAnswer (c : Setting) (m : DeviceState) (asked : Option ℕ) : Type 0 where
+  -- Answer of the device.
   answer : Answer
+  -- Bytes of the answer.
   out : List ℕ
+  -- The row ends with this answer.
   says : IsRowEndAnswer c m asked answer out
 
 error_has_row_end_answer : (c : Setting) (code : Code) (asked : Option ℕ) → HasRowEndAnswer c (device_state.Error code) asked
@@ -90,18 +97,28 @@ failed_mode_has_row_end_answer c fault m asked = by_test (is_block m)
 
 -- The row that is due failed by a write, and leaves a device whose store is on the flash as it is.
 pub record IsRowCutOff (b : Board) (len : ℕ) (d : DeviceView) : Type 0 where
+  -- Answer of the row, which nobody saw.
   pub answer : Answer
+  -- Bytes of the answer.
   pub out : List ℕ
+  -- Device after the row.
   pub after : DeviceView
+  -- The row failed.
   pub row : DueRowFails Failed len d answer out after
+  -- The device keeps its setting.
   pub config : after.config ≡ b.asking.config
+  -- Its store is the one on the flash as it is.
   pub slots : after.slots ≡ store_on (medium_on b)
+  -- This store is sound.
   pub store : IsStore (store_on (medium_on b))
 
--- The next piece of the work, whose range may have any bytes.
+-- The work has a next piece, whose range may have any bytes.
 pub record HasNextPiece (b : Board) (cause : Cause) (d : DeviceView) (k : IsBoardAtWork b cause d) : Type 0 where
+  -- Next piece of the work.
   pub piece : Step
+  -- The piece is due.
   pub is : IsStepPiece (steps_in (lent_on b) k.asks.work) k.asks.work.done piece
+  -- The flash has any bytes in the range of the piece.
   pub torn : Torn k.stood piece.write.at piece.write.bytes b.flash
 
 module _ (laws : WriteLaws) where
@@ -117,9 +134,9 @@ module _ (laws : WriteLaws) where
       (subst (λ (ws : List Write). w.done < total ws) (sym (work_steps_are_writes b w)) k.asks.left) in
       record { piece = there.0; is = there.1; torn = k.torn there.0 there.1 }
 
-  work_writes_broken_off : (b : Board) (cause : Cause) (d : DeviceView) (k : IsBoardAtWork b cause d) (fault : WriteFault)
+  work_writes_are_broken_off : (b : Board) (cause : Cause) (d : DeviceView) (k : IsBoardAtWork b cause d) (fault : WriteFault)
       → BrokenWrites fault (mapped_medium (grain_in (lent_on b)) k.was) (writes_in (lent_on b) k.asks.work) (medium_on b)
-  work_writes_broken_off b cause d k fault =
+  work_writes_are_broken_off b cause d k fault =
       let a = lent_on b in
       let w = k.asks.work in
       let same = work_steps_are_writes b w in
@@ -132,7 +149,7 @@ module _ (laws : WriteLaws) where
       (subst (λ (ws : List Write). Torn (bytes_after_writes k.was ws w.done) p.at p.bytes b.flash) (sym same)
       (subst (λ (l : List ℕ). Torn l p.at p.bytes b.flash) k.asks.flash_is next.torn)))
 
-  -- Whatever bytes are in the range of the piece that is due, the row was broken off by a write that failed.
+  -- With any bytes in the range of the piece that is due, the row was broken off by a write that failed.
   pub torn_piece_cuts_row_off : (b : Board) (cause : Cause) (d : DeviceView) (k : IsBoardAtWork b cause d) → IsRowCutOff b k.len d
   torn_piece_cuts_row_off b cause d k =
       let a = lent_on b in
@@ -141,7 +158,7 @@ module _ (laws : WriteLaws) where
       let said = failed_mode_has_row_end_answer a.config Failed a.mode w.asked in
       let left : DeviceView = view_of_parts a.config (store_on (medium_on b)) (failed_mode Failed a.mode) a.block in
       let e = fails laws.blocks laws.commits a.config (grain_in a) a.block a.held a.put_end w.job k.s k.was b.flash on.medium on.store
-      Failed a.mode w.asked k.len on.sound on.due (work_writes_broken_off b cause d k Failed) said.answer said.out said.says in
+      Failed a.mode w.asked k.len on.sound on.due (work_writes_are_broken_off b cause d k Failed) said.answer said.out said.says in
       record {
         answer = said.answer;
         out = said.out;

@@ -17,17 +17,22 @@ use Rattle.dfu_laws.proofs.board.Installs.{IsManifestationOver}
 -- After the row that was due, the bytes taken are those before, or none if no download is under way; no image waits; the image is the one
 -- before or the one that waited; and once manifestation is over, the image is the bytes taken.
 pub record DueRowOutcome (d d' : DeviceView) : Type 0 where
+  -- The bytes taken stay, or there are none if no download is under way.
   pub taken : accepted_of (situation d') ≡ accepted_in_state (state_of d'.stage) (accepted_of (situation d))
+  -- No image waits.
   pub waits : (t : List ℕ) → IsPending d'.stage t → ⊥
+  -- The image is the one before, or the one that waited.
   pub image : (image_of d'.slots ≡ image_of d.slots) ⊎ IsPending d.stage (image_of d'.slots)
+  -- Once manifestation is over, the image is the bytes taken.
   pub puts : IsManifestationOver d'.stage → image_of d'.slots ≡ accepted_of (situation d)
 
 -- If the device entered the stage, `DueRowOutcome` holds of it.
-abbrev EndsInStage : DeviceView → DeviceView → Stage → Type 0
-EndsInStage d d' st = (accepted_in (image_of d'.slots) st ≡ accepted_in_state (state_of st) (accepted_of (situation d))) × ((t : List ℕ)
+abbrev StageHasDueOutcome : DeviceView → DeviceView → Stage → Type 0
+StageHasDueOutcome d d' st =
+    (accepted_in (image_of d'.slots) st ≡ accepted_in_state (state_of st) (accepted_of (situation d))) × ((t : List ℕ)
     → IsPending st t → ⊥)
 
-stage_entered_has_outcome : (d d' : DeviceView) (st : Stage) → d'.stage ≡ st → EndsInStage d d' st
+stage_entered_has_outcome : (d d' : DeviceView) (st : Stage) → d'.stage ≡ st → StageHasDueOutcome d d' st
     → (image_of d'.slots ≡ image_of d.slots) ⊎ IsPending d.stage (image_of d'.slots)
     → (IsManifestationOver st → image_of d'.slots ≡ accepted_of (situation d)) → DueRowOutcome d d'
 stage_entered_has_outcome d d' st is ends image puts = record {

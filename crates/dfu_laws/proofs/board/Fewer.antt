@@ -21,7 +21,7 @@ use Rattle.dfu_laws.specs.board.Refines.{CallRows, EventRows, StepRows, IsBoardA
 use Rattle.dfu_laws.proofs.board.Pieces.{series_has_next_piece}
 use Rattle.dfu_laws.proofs.board.Cut.{StepsAreWrites}
 use Rattle.dfu_laws.proofs.board.Counting.{count_behind_bytes, piece_count, one_piece_fewer_behind, count_behind_at_most_count}
-use Rattle.dfu_laws.proofs.board.Asked.{device_series, work_steps_are_device_steps, work_pieces_bounded}
+use Rattle.dfu_laws.proofs.board.Asked.{device_due_steps, work_steps_are_device_steps, work_pieces_bounded}
 
 none_is_not_some_work : (w : PendingWrites) (x : Option PendingWrites) → x ≡ None → x ≡ Some w → ⊥
 none_is_not_some_work w x none some = absurd (cc)
@@ -77,13 +77,13 @@ record StepKeepsWork (b : Board) (says : BoardReply) (b' : Board) : Type 0 where
   none : operations_of says ≡ 0
   stays : b'.asking.work ≡ b.asking.work
 
--- The step is a call with no writes due before, and asks for writes.
+-- The step is a call that asks for writes, with none due before; a row of its cause is due then.
 record CallAsksForWork (b : Board) (e : Event) (says : BoardReply) : Type 0 where
   due : says ≡ WritesDue
   idle : b.asking.work ≡ None
   tells : (rows : List TableRow) (due' : Option Cause) → EventRows None e WritesDue rows due' → (cause : Cause) × (due' ≡ Some cause)
 
--- The step is a report, and asks for more writes.
+-- The step is a report on a piece of the work of the board, and is answered by more writes.
 record ReportAsksForMore (b : Board) (e : Event) (says : BoardReply) : Type 0 where
   due : says ≡ WritesDue
   failed : Bool
@@ -114,14 +114,14 @@ unanswered_step_of_work b b' (Took failed) WritesDue h un =
     inr (inr (record { due = refl; failed = failed; event = refl; work = h.work; work_is = h.left.work_is }))
 
 module _ (same : StepsAreWrites) (refines : IdleRunsRefineTable) (mid : Board) (d : DeviceView) (idle : IsIdleBoard mid d) where
-  -- Facts of a board with work: the piece that is due, and a bound of the pieces of its series.
-  record WorkFacts (b : Board) (w : PendingWrites) : Type 0 where
+  -- The work has a piece that is due, and its series has at most as many pieces as `operation_bound` says.
+  record IsBoundedWork (b : Board) (w : PendingWrites) : Type 0 where
     piece : Step
     is : IsStepPiece (steps_in (lent_on b) w) w.done piece
-    here : IsStepPiece (device_series d w.job) w.done piece
-    most : piece_count (device_series d w.job) ≤ operation_bound w.job (length (lent_on b).block) b.asking.sector.size
+    here : IsStepPiece (device_due_steps d w.job) w.done piece
+    most : piece_count (device_due_steps d w.job) ≤ operation_bound w.job (length (lent_on b).block) b.asking.sector.size
 
-  works_at : (b : Board) (cause : Cause) (k : IsBoardAtWork b cause d) → WorkFacts b k.asks.work
+  works_at : (b : Board) (cause : Cause) (k : IsBoardAtWork b cause d) → IsBoundedWork b k.asks.work
   works_at b cause k =
       let a = lent_on b in
       let w = k.asks.work in
@@ -134,28 +134,28 @@ module _ (same : StepsAreWrites) (refines : IdleRunsRefineTable) (mid : Board) (
         most = work_pieces_bounded b cause d k;
       }
 
-  -- A board after steps without an answer stands for the same device.
-  device_same_while_unanswered : (b : Board) (front : List BoardStep) → IsRun mid front b → AreUnanswered front
+  -- A board after steps without an answer represents the same device.
+  unanswered_steps_keep_device : (b : Board) (front : List BoardStep) → IsRun mid front b → AreUnanswered front
       → (due : Option Cause) × RepresentsDevice b due d
-  device_same_while_unanswered b front run un =
+  unanswered_steps_keep_device b front run un =
       let r = refines mid b d front idle run in
       let none = unanswered_steps_have_no_rows front None r.due r.rows un r.tells in
       let still : r.device ≡ d = subst (λ (rows : List TableRow). IsHistory d rows r.device) none r.history in
       (r.due, subst (λ (x : DeviceView). RepresentsDevice b r.due x) still r.stands)
 
-  work_at : (b : Board) (front : List BoardStep) (w : PendingWrites) → IsRun mid front b → AreUnanswered front → b.asking.work ≡ Some w
-      → WorkFacts b w
-  work_at b front w run un some = let x = device_same_while_unanswered b front run un in by_due_row x.0 x.1
+  work_is_due : (b : Board) (front : List BoardStep) (w : PendingWrites) → IsRun mid front b → AreUnanswered front → b.asking.work ≡ Some w
+      → IsBoundedWork b w
+  work_is_due b front w run un some = let x = unanswered_steps_keep_device b front run un in by_due_row x.0 x.1
     where
-      by_due_row : (due : Option Cause) → RepresentsDevice b due d → WorkFacts b w
+      by_due_row : (due : Option Cause) → RepresentsDevice b due d → IsBoundedWork b w
       by_due_row None k = absurd (none_is_not_some_work w b.asking.work k.work some)
       by_due_row (Some cause) k =
-          subst (λ (x : PendingWrites). WorkFacts b x) (kept_work_is_same k.asks.work w b.asking.work k.asks.work_is some) (works_at b
+          subst (λ (x : PendingWrites). IsBoundedWork b x) (kept_work_is_same k.asks.work w b.asking.work k.asks.work_is some) (works_at b
           cause k)
 
   idle_after_unanswered : (b : Board) (front : List BoardStep) → IsRun mid front b → AreUnanswered front → b.asking.work ≡ None →
       IsIdleBoard b d
-  idle_after_unanswered b front run un none = let x = device_same_while_unanswered b front run un in by_due_row x.0 x.1
+  idle_after_unanswered b front run un none = let x = unanswered_steps_keep_device b front run un in by_due_row x.0 x.1
     where
       by_due_row : (due : Option Cause) → RepresentsDevice b due d → IsIdleBoard b d
       by_due_row None k = k
@@ -164,7 +164,7 @@ module _ (same : StepsAreWrites) (refines : IdleRunsRefineTable) (mid : Board) (
   -- The work is the same job as before, and the steps asked at most once for each piece by which its series is shorter.
   record FewerPiecesLeft (w w' : PendingWrites) (asks : ℕ) : Type 0 where
     job : w'.job ≡ w.job
-    few : asks + count_behind_bytes (device_series d w.job) w'.done ≤ count_behind_bytes (device_series d w.job) w.done
+    few : asks + count_behind_bytes (device_due_steps d w.job) w'.done ≤ count_behind_bytes (device_due_steps d w.job) w.done
 
   working : (rest front : List BoardStep) (b b' : Board) (w w' : PendingWrites) → IsRun mid front b → AreUnanswered front
       → IsRun b rest b' → AreUnanswered rest → AllPiecesAdvance rest → b.asking.work ≡ Some w → b'.asking.work ≡ Some w'
@@ -173,7 +173,7 @@ module _ (same : StepsAreWrites) (refines : IdleRunsRefineTable) (mid : Board) (
       let e : w' ≡ w = kept_work_is_same w' w b.asking.work (ap (λ (x : Board). x.asking.work) (sym more) ∙ some') some in
       record {
         job = ap (λ (x : PendingWrites). x.job) e;
-        few = omega (arith, ap (λ (x : PendingWrites). count_behind_bytes (device_series d w.job) x.done) e);
+        few = omega (arith, ap (λ (x : PendingWrites). count_behind_bytes (device_due_steps d w.job) x.done) e);
       }
   working (t ∷ rest) front b b' w w' run un more still further some some' =
       let on = front ++ t ∷ [] in
@@ -185,7 +185,7 @@ module _ (same : StepsAreWrites) (refines : IdleRunsRefineTable) (mid : Board) (
             record { job = x.job; few = omega (arith, x.few, keeps.none) }
         | inr (inl calls) ↦ absurd (none_is_not_some_work w b.asking.work calls.idle some)
         | inr (inr reports) ↦
-            let at = work_at b front w run un some in
+            let at = work_is_due b front w run un some in
             let p = at.piece in
             let goes : PieceAdvances b (Took reports.failed) WritesDue t.after =
             subst (λ (x : Board). PieceAdvances x (Took reports.failed) WritesDue t.after) more.0
@@ -195,38 +195,38 @@ module _ (same : StepsAreWrites) (refines : IdleRunsRefineTable) (mid : Board) (
             let x = working rest on t.after b' next w' run' un' more.3 still.1 further.1 (goes w p some at.is) some' in
             record {
               job = x.job;
-              few = omega (arith, x.few, ap operations_of reports.due, one_piece_fewer_behind (device_series d w.job) w.done p at.here);
+              few = omega (arith, x.few, ap operations_of reports.due, one_piece_fewer_behind (device_due_steps d w.job) w.done p at.here);
             }
       ]
 
   -- From a board with no writes due, the steps ask at most for all pieces of the series.
-  starting : (rest front : List BoardStep) (b b' : Board) (w' : PendingWrites) → IsRun mid front b → AreUnanswered front
+  idle_steps_ask_few : (rest front : List BoardStep) (b b' : Board) (w' : PendingWrites) → IsRun mid front b → AreUnanswered front
       → IsRun b rest b' → AreUnanswered rest → AllPiecesAdvance rest → b.asking.work ≡ None → b'.asking.work ≡ Some w'
-      → operations_in rest ≤ piece_count (device_series d w'.job)
-  starting [] front b b' w' run un more still further none some' =
+      → operations_in rest ≤ piece_count (device_due_steps d w'.job)
+  idle_steps_ask_few [] front b b' w' run un more still further none some' =
       absurd (none_is_not_some_work w' b.asking.work none (ap (λ (x : Board). x.asking.work) (sym more) ∙ some'))
-  starting (t ∷ rest) front b b' w' run un more still further none some' =
+  idle_steps_ask_few (t ∷ rest) front b b' w' run un more still further none some' =
       let on = front ++ t ∷ [] in
       let one : IsRun b (t ∷ []) t.after = (more.0, more.1, more.2, refl) in
       let run' = runs_append mid b t.after front (t ∷ []) run one in
       let un' = unanswered_append front (t ∷ []) un (still.0, tt) in
       elim (unanswered_step_of_work b t.after t.event t.says more.1 still.0) [
         | inl keeps ↦
-            let x = starting rest on t.after b' w' run' un' more.3 still.1 further.1 (keeps.stays ∙ none) some' in
+            let x = idle_steps_ask_few rest on t.after b' w' run' un' more.3 still.1 further.1 (keeps.stays ∙ none) some' in
             omega (arith, x, keeps.none)
         | inr (inl calls) ↦
             let k = asking_call_leaves_work b t.after front t run un one calls none in
             let x = working rest on t.after b' k.0 w' run' un' more.3 still.1 further.1 k.1 some' in
-            let at = work_at b' (on ++ rest) w' (runs_append mid t.after b' on rest run' more.3) (unanswered_append on rest un' still.1)
+            let at = work_is_due b' (on ++ rest) w' (runs_append mid t.after b' on rest run' more.3) (unanswered_append on rest un' still.1)
             some' in
             omega (
               arith,
               x.few,
               ap operations_of calls.due,
-              count_behind_at_most_count (device_series d (k.0).job) (k.0).done,
-              one_piece_fewer_behind (device_series d w'.job) w'.done at.piece at.here,
-              ap (λ (j : SlotWrite). piece_count (device_series d j)) x.job,
-              ap (λ (j : SlotWrite). count_behind_bytes (device_series d j) w'.done) x.job,
+              count_behind_at_most_count (device_due_steps d (k.0).job) (k.0).done,
+              one_piece_fewer_behind (device_due_steps d w'.job) w'.done at.piece at.here,
+              ap (λ (j : SlotWrite). piece_count (device_due_steps d j)) x.job,
+              ap (λ (j : SlotWrite). count_behind_bytes (device_due_steps d j) w'.done) x.job,
             )
         | inr (inr reports) ↦ absurd (none_is_not_some_work reports.work b.asking.work none reports.work_is)
       ]
@@ -255,8 +255,8 @@ pub run_operations_bounded : StepsAreWrites → RunsRefineDeviceTable → IdleRu
 run_operations_bounded same runs refines b mid b' old steps w on run none more un further some =
     let r = runs b mid old on run in
     let idle = by_due_row mid r.due r.device r.stands none in
-    let few = starting same refines mid r.device idle steps [] mid b' w refl tt more un further none some in
-    let at = work_at same refines mid r.device idle b' steps w more un some in
+    let few = idle_steps_ask_few same refines mid r.device idle steps [] mid b' w refl tt more un further none some in
+    let at = work_is_due same refines mid r.device idle b' steps w more un some in
     omega (arith, few, at.most)
   where
     by_due_row : (m : Board) (due : Option Cause) (d : DeviceView) → RepresentsDevice m due d → m.asking.work ≡ None → IsIdleBoard m d

@@ -14,19 +14,19 @@ use Rattle.dfu_device.specs.Table.{Plan, Sure, Writes, Commits, plan, time_plan,
 use Rattle.dfu_device.specs.DeviceView.{DeviceView, profile, situation}
 use Rattle.dfu_device.specs.Rows.{request_for_table, asked_length, Done, is_served, setup_plan, handled_by_reading, Cause, Transfer, Passing, BusReset, RefusingClose, Refusing, PowerOn, Row}
 use Rattle.dfu_device.specs.AcceptedBytes.{accepted_in, accepted_of}
-use Rattle.dfu_device.specs.Cases.{either_way}
+use Rattle.dfu_device.specs.Cases.{holds_in_both_branches}
 use Rattle.dfu_laws.specs.board.ImageSurvival.{is_manifesting, has_manifested}
 use Rattle.dfu_laws.specs.board.Accepts.{IsPending}
 
--- An image may wait in this stage, or be in place.
+-- The state of the stage is one of manifestation: an image may wait in it, or is complete.
 abbrev pub IsManifestingStage : Stage → Type 0
 IsManifestingStage st = is_manifesting (state_of st) ≡ true
 
--- Manifestation is over in this stage.
+-- The state of the stage is one in which manifestation is over.
 abbrev pub IsManifestationOver : Stage → Type 0
 IsManifestationOver st = has_manifested (state_of st) ≡ true
 
--- No stage is one of manifestation and one after it.
+-- No stage is both one of manifestation and one after it.
 pub manifesting_stage_is_not_over : (st : Stage) → IsManifestingStage st → IsManifestationOver st → ⊥
 manifesting_stage_is_not_over (InManifestSync taken) on over = false≢true over
 manifesting_stage_is_not_over InManifestSyncComplete on over = false≢true over
@@ -48,7 +48,8 @@ PlanInstallsTakenBytes image st (Commits taken reply next bad) = taken ≡ accep
 request_plan_installs : (c : Profile) (image : List ℕ) (st : Stage) (r : Request) → IsManifestingStage st →
     PlanInstallsTakenBytes image st (plan c image st r)
 request_plan_installs c image (InManifestSync taken) GetStatus on =
-    either_way (PlanInstallsTakenBytes image (InManifestSync taken)) (c.manifest == 0) _ _ refl (λ over. absurd (false≢true over))
+    holds_in_both_branches (PlanInstallsTakenBytes image (InManifestSync taken)) (c.manifest == 0) _ _ refl
+    (λ over. absurd (false≢true over))
 request_plan_installs c image (InManifestSync taken) GetState on = λ over. absurd (false≢true over)
 request_plan_installs c image (InManifestSync taken) r on = λ over. absurd (false≢true over)
 request_plan_installs c image InManifestSyncComplete GetStatus on = λ over. refl
@@ -61,9 +62,10 @@ time_plan_installs : (c : Profile) (image : List ℕ) (st : Stage) (ms : ℕ) �
     PlanInstallsTakenBytes image st (time_plan c st ms)
 time_plan_installs c image (InManifest taken passed) ms on =
     let P : Plan → Type 0 = PlanInstallsTakenBytes image (InManifest taken passed) in
-    either_way P (ms == 0) _ _ (λ over. absurd (false≢true over))
-    (either_way P (nat_le (image_ms c.pace c.manifest (length taken)) (passed + ms)) _ _
-    (either_way (λ (next : Stage). P (Commits taken Ack next (λ fault. Ack))) c.tolerant InManifestSyncComplete InManifestWaitReset
+    holds_in_both_branches P (ms == 0) _ _ (λ over. absurd (false≢true over))
+    (holds_in_both_branches P (nat_le (image_ms c.pace c.manifest (length taken)) (passed + ms)) _ _
+    (holds_in_both_branches
+    (λ (next : Stage). P (Commits taken Ack next (λ fault. Ack))) c.tolerant InManifestSyncComplete InManifestWaitReset
     refl refl) (λ over. absurd (false≢true over)))
 time_plan_installs c image (InManifestSync taken) ms on = λ over. absurd (false≢true over)
 time_plan_installs c image InManifestSyncComplete ms on = λ over. absurd (false≢true over)
@@ -84,7 +86,7 @@ done_plan_installs (Commits taken reply stage bad) len w a out w' installs (inr 
 
 setup_plan_installs : (w : DeviceView) (p : Setup) (q : Asked) (body : List ℕ) → IsManifestingStage w.stage
     → PlanInstallsTakenBytes (image_of w.slots) w.stage (setup_plan w p q body)
-setup_plan_installs w p q body on = either_way (PlanInstallsTakenBytes (image_of w.slots) w.stage) (is_served p q body) _ _
+setup_plan_installs w p q body on = holds_in_both_branches (PlanInstallsTakenBytes (image_of w.slots) w.stage) (is_served p q body) _ _
     (request_plan_installs (profile w) (image_of w.slots) w.stage (request_for_table q body) on) (λ over. absurd
     (manifesting_stage_is_not_over w.stage on over))
 

@@ -12,7 +12,7 @@ use Rattle.dfu_laws.specs.board.Happens.{EventOutcome}
 use Rattle.dfu_laws.specs.board.Steps.{reply_of_close, reply_of_reset}
 
 module _ (b b' : Board) (flash : b'.flash ≡ b.flash) where
-  -- `refuse_close`.
+  -- `refuse_close` has the outcome of its event.
   pub close_step : (setup : List ℕ) (why : Objection) (r : Result Bool Refusal)
       → OnOk r ((b.asking.work ≡ None) × (b'.asking.work ≡ None)) → OnOk r (IsDevice (lent_on b) b.flash → IsDevice (lent_on b') b'.flash)
       → (IsDevice (lent_on b) b.flash → IfOk r (λ x. IsTrue x ↔ ClosesDownload setup (device_on b)))
@@ -28,7 +28,7 @@ module _ (b b' : Board) (flash : b'.flash ≡ b.flash) where
   close_step setup why (Ok false) work is closes row other bad = other refl
   close_step setup why (Err e) work is closes row other bad = bad
 
-  -- `refuse`.
+  -- `refuse` has the outcome of its event.
   pub refuse_result_is_outcome : (why : Objection) (r : Result (Unit {0}) Refusal) → OnOk r ((b.asking.work ≡ None) × (b'.asking.work
       ≡ None))
       → OnOk r (IsDevice (lent_on b) b.flash → IsDevice (lent_on b') b'.flash)

@@ -5,10 +5,10 @@ use Rattle.dfu_asks.specs.Steps.{Step, step_writes}
 use Rattle.dfu_asks.specs.Carried.{total, IsPieceOfStep, IsStepPiece}
 
 -- A number n is below k, or k is at most n.
-pub below_or_not : (n k : ℕ) → (n < k) ⊎ (k ≤ n)
-below_or_not n zero = inr (omega arith)
-below_or_not zero (suc k) = inl (omega arith)
-below_or_not (suc n) (suc k) = elim (below_or_not n k) [
+pub below_or_at_least : (n k : ℕ) → (n < k) ⊎ (k ≤ n)
+below_or_at_least n zero = inr (omega arith)
+below_or_at_least zero (suc k) = inl (omega arith)
+below_or_at_least (suc n) (suc k) = elim (below_or_at_least n k) [
   | inl low ↦ inl (omega (arith, low))
   | inr high ↦ inr (omega (arith, high))
 ]
@@ -51,7 +51,7 @@ step_has_next_part s n left =
 -- A series that has bytes left has a next piece.
 pub series_has_next_piece : (ss : List Step) (n : ℕ) → n < total (step_writes ss) → (p : Step) × IsStepPiece ss n p
 series_has_next_piece [] n left = absurd (omega (arith, left))
-series_has_next_piece (s ∷ ss) n left = elim (below_or_not n (length s.write.bytes)) [
+series_has_next_piece (s ∷ ss) n left = elim (below_or_at_least n (length s.write.bytes)) [
   | inl low ↦ (next_part s n, inl (step_has_next_part s n low))
   | inr past ↦
       let later = series_has_next_piece ss (n - length s.write.bytes) (omega (arith, left, past)) in

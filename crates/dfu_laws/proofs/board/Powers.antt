@@ -5,7 +5,7 @@ use Rattle.std.proofs.lemmas.Bool.{false≢true}
 use Rattle.dfu_wire.specs.declared.setups.Setup.{Setup}
 use Rattle.dfu_wire.specs.declared.requests.Request.TheVariants as request
 use Rattle.dfu_wire.specs.Setup.{IsSetup}
-use Rattle.dfu_wire.specs.Request.{SetupRequest as AsksFor}
+use Rattle.dfu_wire.specs.Request.{SetupAsksFor as AsksFor}
 use Rattle.dfu_slots.specs.declared.fault.WriteFault.TheVariants.{Failed}
 use Rattle.dfu_slots.specs.Medium.{MediumState}
 use Rattle.dfu_slots.specs.Image.{HasImage}
@@ -16,7 +16,7 @@ use Rattle.dfu_device.specs.DeviceView.{DeviceView, profile, situation}
 use Rattle.dfu_device.specs.Rows.{Cause, Transfer, BusReset, PowerOn, handled_by_reading}
 use Rattle.dfu_device.specs.History.{IsHistory, HistoryStep as TableRow}
 use Rattle.dfu_device.specs.AcceptedBytes.{accepted_in, accepted_of, accepted_in_state}
-use Rattle.dfu_asks.specs.Lent.{SameSetup}
+use Rattle.dfu_asks.specs.Lent.{SameConfig}
 use Rattle.dfu_asks.specs.Due.{DueRowFails}
 use Rattle.dfu_asks.specs.Mapped.{grain_of, mapped_medium}
 use Rattle.dfu_laws.specs.board.Board.{Board, lent_on, medium_on, device_on, Restart, BoardReply}
@@ -40,10 +40,10 @@ device_after_power_loss w = record { config = w.config; slots = store_on w.slots
 abbrev device_after_start : DeviceView → Bool → DeviceView
 device_after_start w begins = record (device_after_power_loss w) { stage = start_stage begins }
 
-started_board_device : (b b' : Board) (w : DeviceView) → w.config ≡ b.asking.config → w.slots.medium ≡ medium_on b →
-    SameSetup b.asking b'.asking
+started_board_has_start_device : (b b' : Board) (w : DeviceView) → w.config ≡ b.asking.config → w.slots.medium ≡ medium_on b →
+    SameConfig b.asking b'.asking
     → b'.flash ≡ b.flash → (begins : Bool) → BoardStarts begins b' → device_on b' ≡ device_after_start w begins
-started_board_device b b' w config medium same flash begins (on, is) =
+started_board_has_start_device b b' w config medium same flash begins (on, is) =
     let again : medium_on b' ≡ w.slots.medium = (λ i. mapped_medium (grain_of (same.unit i) (same.sector i)) (flash i)) ∙ sym medium in
     let set : b'.asking.config ≡ w.config = same.config ∙ sym config in
     on.device ∙ (λ i. record { config = set i; slots = store_on (again i); stage = start_stage (is i) })
@@ -54,6 +54,7 @@ started_board_device b b' w config medium same flash begins (on, is) =
 abbrev detach_bytes : List ℕ
 detach_bytes = 0x21 ∷ 0 ∷ 0 ∷ 0 ∷ 0 ∷ 0 ∷ 0 ∷ 0 ∷ []
 
+-- Setup of a DETACH, with the timeout 0.
 abbrev detach_setup : Setup
 detach_setup = record { kind = 0x21; request = 0; value = 0; index = 0; length = 0 }
 
@@ -64,13 +65,16 @@ detach_setup_asks_detach : AsksFor detach_setup (request.Detach 0)
 detach_setup_asks_detach = (record { kind = refl; request = refl; index = refl }, refl, refl)
 
 -- The rows that a device makes as power comes back.
-record PowerRows (w : DeviceView) (begins : Bool) (w' : DeviceView) : Type 0 where
+record MakesStartRows (w : DeviceView) (begins : Bool) (w' : DeviceView) : Type 0 where
+  -- Rows of the start.
   rows : List TableRow
+  -- The rows lead from one device to the other.
   history : IsHistory w rows w'
+  -- The rows are those of a start.
   start : AreStartRows begins rows
 
-power_rows : (w w' : DeviceView) (begins : Bool) → w' ≡ device_after_start w begins → PowerRows w begins w'
-power_rows w w' false e = record {
+power_makes_rows : (w w' : DeviceView) (begins : Bool) → w' ≡ device_after_start w begins → MakesStartRows w begins w'
+power_makes_rows w w' false e = record {
   rows = row_of_answer w PowerOn answer.Ack [] w';
   history = (refl, (refl, refl, e), refl);
   start = record {
@@ -81,7 +85,7 @@ power_rows w w' false e = record {
     out_is = refl;
   };
 }
-power_rows w w' true e =
+power_makes_rows w w' true e =
     let up : DeviceView = device_after_power_loss w in
     let left : DeviceView = record up { stage = InAppDetach (min (profile up).detach_ms 0) 0 } in
     let first : TableRow = record { before = w; cause = PowerOn; answer = answer.Ack; out = []; after = up } in
@@ -136,9 +140,9 @@ nothing_pending_at_start : (begins : Bool) (t : List ℕ) → IsPending (start_s
 nothing_pending_at_start true t m = m
 nothing_pending_at_start false t m = m
 
-start_is_not_over : (begins : Bool) → Restart begins ≢ Restart true → IsManifestationOver (start_stage begins) → ⊥
-start_is_not_over true other over = other refl
-start_is_not_over false other over = false≢true over
+start_ends_nothing : (begins : Bool) → Restart begins ≢ Restart true → IsManifestationOver (start_stage begins) → ⊥
+start_ends_nothing true other over = other refl
+start_ends_nothing false other over = false≢true over
 
 -- No image waits to be put in place on a board that was just powered on.
 pub nothing_waits_at_power : (b : Board) (t : List ℕ) → IsPoweredOn b → IsPending (device_on b).stage t → ⊥
@@ -148,15 +152,15 @@ nothing_waits_at_power b t on m = nothing_pending_at_start on.begins t (subst (�
 power_loss_keeps_image : (w w' : DeviceView) (begins : Bool) → w' ≡ device_after_start w begins → image_of w'.slots ≡ image_of w.slots
 power_loss_keeps_image w w' begins e = ap (λ (x : DeviceView). image_of x.slots) e ∙ reopened_store_keeps_image w.slots
 
--- A restart of a board with no writes due.
+-- A restart of a board with no writes due makes the rows of a start.
 pub idle_restart_makes_rows : (b b' : Board) (d : DeviceView) (begins : Bool) (says : BoardReply) → IsIdleBoard b d →
-    SameSetup b.asking b'.asking
+    SameConfig b.asking b'.asking
     → b'.flash ≡ b.flash → BoardStarts begins b' → StepMakesRows b' None d (Restart begins) says
 idle_restart_makes_rows b b' d begins says k same flash on =
-    let there = started_board_device b b' d (ap (λ (x : DeviceView). x.config) (sym k.device))
+    let there = started_board_has_start_device b b' d (ap (λ (x : DeviceView). x.config) (sym k.device))
     (ap (λ (x : DeviceView). x.slots.medium) (sym k.device))
     same flash begins on in
-    let r = power_rows d (device_on b') begins there in
+    let r = power_makes_rows d (device_on b') begins there in
     record {
       rows = r.rows;
       due' = None;
@@ -170,19 +174,19 @@ idle_restart_makes_rows b b' d begins says k same flash on =
           (start_drops_taken_bytes begins (image_of (device_after_power_loss d).slots) (accepted_of (situation d) ++ []));
       waits = λ t m. absurd (nothing_waits_at_power b' t on.0 m);
       image = inl (power_loss_keeps_image d (device_on b') begins there);
-      puts = λ other manifests over. absurd (start_is_not_over begins other (subst (λ (x : DeviceView). IsManifestationOver x.stage) there
+      puts = λ other manifests over. absurd (start_ends_nothing begins other (subst (λ (x : DeviceView). IsManifestationOver x.stage) there
           over));
       slots = inl (ap (λ (x : DeviceView). x.slots.medium) there);
     }
 
--- A restart of a board while its writes are due.
+-- A restart of a board while its writes are due makes the row of those writes, cut off, and the rows of a start.
 pub restart_cuts_due_row : (laws : WriteLaws) (b b' : Board) (cause : Cause) (d : DeviceView) (begins : Bool) (says : BoardReply) →
     IsBoardAtWork b cause d
-    → SameSetup b.asking b'.asking → b'.flash ≡ b.flash → BoardStarts begins b' → StepMakesRows b' (Some cause) d (Restart begins) says
+    → SameConfig b.asking b'.asking → b'.flash ≡ b.flash → BoardStarts begins b' → StepMakesRows b' (Some cause) d (Restart begins) says
 restart_cuts_due_row laws b b' cause d begins says k same flash on =
     let c = torn_piece_cuts_row_off laws b cause d k in
-    let there = started_board_device b b' c.after c.config (ap (λ (s : SlotsState). s.medium) c.slots) same flash begins on in
-    let r = power_rows c.after (device_on b') begins there in
+    let there = started_board_has_start_device b b' c.after c.config (ap (λ (s : SlotsState). s.medium) c.slots) same flash begins on in
+    let r = power_makes_rows c.after (device_on b') begins there in
     let first : TableRow = record { before = d; cause = cause; answer = c.answer; out = c.out; after = c.after } in
     let due = failing_due_row_outcome d c.after k.len c.answer c.out Failed c.row in
     record {
@@ -203,7 +207,7 @@ restart_cuts_due_row laws b b' cause d begins says k same flash on =
             | inl old ↦ inl (left ∙ old)
             | inr new ↦ inr (subst (λ (t : List ℕ). IsPending d.stage t) (sym left) new)
           ];
-      puts = λ other manifests over. absurd (start_is_not_over begins other (subst (λ (x : DeviceView). IsManifestationOver x.stage) there
+      puts = λ other manifests over. absurd (start_ends_nothing begins other (subst (λ (x : DeviceView). IsManifestationOver x.stage) there
           over));
       slots = inr (
         refl,

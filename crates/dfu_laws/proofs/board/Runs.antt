@@ -30,7 +30,7 @@ state_of_mode_alone m xs ys xs' ys' = by_mode m
     by_mode device_state.AppIdle = refl
     by_mode m = refl
 
--- A board is in the state of the device that it stands for.
+-- A board is in the state of the device that it represents.
 pub board_state_is_device_state : (b : Board) (due : Option Cause) (d : DeviceView) → RepresentsDevice b due d → state_on b
     ≡ state_of d.stage
 board_state_is_device_state b None d k = state_of_mode_alone b.asking.mode [] [] _ _ ∙ ap (λ (x : DeviceView). state_of x.stage) k.device
@@ -39,11 +39,14 @@ board_state_is_device_state b (Some cause) d k = state_of_mode_alone b.asking.mo
 
 -- Facts that each step keeps.
 
--- The bytes that a device has taken are those of the old steps and the steps. An image that waits was closed by one of the steps. The
--- active image is the one given, or was closed by one of the steps.
+-- The bytes that a device has taken are those that the old steps and the steps took. An image that waits was closed by one of the steps.
+-- The active image is the one given, or was closed by one of the steps.
 pub record DeviceBytesFromSteps (image : List ℕ) (old steps : List BoardStep) (d : DeviceView) : Type 0 where
+  -- The bytes taken are those of the steps.
   pub taken : accepted_bytes_of [] (old ++ steps) ≡ accepted_of (situation d)
+  -- An image that waits was closed by one of the steps.
   pub waits : (t : List ℕ) → IsPending d.stage t → DownloadOfImageClosed old steps t
+  -- The active image is the one given, or was closed by one of the steps.
   pub whence : (image_of d.slots ≡ image) ⊎ DownloadOfImageClosed old steps (image_of d.slots)
 
 accepted_bytes_append : (t : List ℕ) (xs ys : List BoardStep) → accepted_bytes_of t (xs ++ ys)
@@ -107,12 +110,19 @@ history_append w mid w' (x ∷ xs) ys h more = (h.0, h.1, history_append x.after
 pub record RunOutcome (Kept : List BoardStep → DeviceView → Type 0) (steps rest : List BoardStep) (b' : Board) (due : Option Cause)
     (d : DeviceView)
     : Type 0 where
+  -- Rows of the rest of the run.
   pub rows : List TableRow
+  -- Cause whose row is due at its end, or none.
   pub due' : Option Cause
+  -- Device at its end.
   pub device : DeviceView
+  -- The rows lead to this device.
   pub history : IsHistory d rows device
+  -- The rows are those of the steps.
   pub tells : StepRows due rest rows due'
+  -- The board represents the device.
   pub stands : RepresentsDevice b' due' device
+  -- The fact holds of all steps and of the device.
   pub kept : Kept (steps ++ rest) device
 
 -- Each step keeps the fact `Kept`.
@@ -121,7 +131,7 @@ EachStepKeeps Kept = (steps : List BoardStep) (s : BoardStep) (due : Option Caus
     → (x : StepMakesRows s.after due d s.event s.says) → Kept (steps ++ s ∷ []) x.device
 
 module _ (laws : WriteLaws) (takes : RowAcceptsBody) (Kept : List BoardStep → DeviceView → Type 0) (keeps : EachStepKeeps Kept) where
-  -- A run makes rows of the device for which the board stands, and keeps each fact that each step keeps.
+  -- A run makes rows of the device that the board represents, and keeps each fact that each step keeps.
   pub run_keeps_and_makes_rows : (steps rest : List BoardStep) (b b' : Board) (due : Option Cause) (d : DeviceView) →
       RepresentsDevice b due d
       → Kept steps d → IsRun b rest b' → RunOutcome Kept steps rest b' due d

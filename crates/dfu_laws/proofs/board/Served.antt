@@ -5,7 +5,7 @@ use Rattle.dfu_slots.specs.Medium.{Torn}
 use Rattle.dfu_slots.specs.StoreView.{SlotsState}
 use Rattle.dfu_device.specs.declared.answer.Answer.{Answer}
 use Rattle.dfu_device.specs.Setting.{Setting}
-use Rattle.dfu_device.specs.DeviceView.{powered_on}
+use Rattle.dfu_device.specs.DeviceView.{powered_on_device}
 use Rattle.dfu_device.specs.Rows.{Cause, Passing, Row}
 use Rattle.dfu_slots.specs.declared.layout.Unit.{Unit as WriteUnit}
 use Rattle.dfu_asks.specs.declared.asking.Asking.{Asking}
@@ -19,19 +19,19 @@ use Rattle.dfu_asks.specs.Steps.{Step}
 use Rattle.dfu_asks.specs.Carried.{IsStepPiece}
 use Rattle.dfu_asks.specs.Asks.{device_in, device_of, IsDevice, steps_in}
 use Rattle.dfu_asks.specs.Calls.{WritesPending, DeviceCalled, call_answered, call_asks, DevicePieceReported}
-use Rattle.dfu_asks.specs.Refused.{IsDeviceOn, RoomForBlocks, HasRemainingWrites, IsServedCall, ReportAccepted}
+use Rattle.dfu_asks.specs.Refused.{IsDeviceOn, RoomForBlocks, HasRemainingWrites, ServedCallFacts, ReportAccepted}
 use Rattle.dfu_asks.specs.Lent.{lent}
 use Rattle.dfu_asks.proofs.Unseen.{unseen_of_mapped}
 use Rattle.dfu_laws.specs.board.Board.{Board, lent_on, BoardReply, Answers}
 use Rattle.dfu_laws.specs.board.Happens.{IsServedBy, TookResult, BoardStarts, IsRefusedOr, reply_of_call}
 use Rattle.dfu_laws.specs.board.Steps.{board_of_parts, reply_of_result}
 
--- If P gives Q, a result that gives P in case of an error gives Q.
+-- If P implies Q, and P holds in case of an error, Q holds in case of an error.
 pub weaken_on_error : {T E P Q : Type 0} (r : Result T E) → (P → Q) → OnErr r P → OnErr r Q
 weaken_on_error (Ok x) follows p = tt
 weaken_on_error (Err e) follows p = follows p
 
--- A reply is no refusal, so what holds after a call that is not refused holds after a reply.
+-- A reply is no refusal, so a fact of calls that are not refused holds after it.
 holds_after_any_reply : (b b' : Board) (out : List ℕ) (P : Type 0) (r : Reply) → P → IsRefusedOr (reply_of_call r out) b b' P
 holds_after_any_reply b b' out P reply.Asks is = is
 holds_after_any_reply b b' out P (reply.Answered x count) is = is
@@ -47,7 +47,7 @@ served_by_call_outcome : (b b' : Board) (cause : Cause) (said : BoardReply) (r :
 served_by_call_outcome b b' cause said r idle fits flash outcome =
     record { idle = idle; fits = fits; flash = flash; reply = r; outcome = outcome }
 
--- A reply to a setup is what a board does that serves it.
+-- A reply to a setup is the outcome of a board that serves it.
 pub reply_to_setup_is_served : (b b' : Board) (cause : Cause) (out out' : List ℕ) (r : Reply) → b.asking.work ≡ None →
     RoomForBlocks b.asking (length b.block)
     → b'.flash ≡ b.flash
@@ -58,10 +58,10 @@ reply_to_setup_is_served b b' cause out out' r idle fits flash outcome =
     holds_after_any_reply b b' out' (IsServedBy b cause (reply_of_call r out') b') r
     (served_by_call_outcome b b' cause (reply_of_call r out') r idle fits flash (λ kept. (out, out', outcome kept, refl)))
 
--- `handle`.
+-- The result of `handle` is the outcome of its event.
 pub handle_result_is_served : (b b' : Board) (cause : Cause) (need room : ℕ) (out out' : List ℕ) (r : Result Reply Refusal) → b'.flash
     ≡ b.flash
-    → OnOk r (IsServedCall b.asking b.block b.flash need room)
+    → OnOk r (ServedCallFacts b.asking b.block b.flash need room)
     → IfOk r (λ y. IsDeviceOn b.asking b.block b.held b.flash
     → DeviceCalled (lent_on b) b.flash out (λ d x sent d'. Row d cause x sent d') (lent_on b') out' y)
     → OnErr r (b' ≡ b)
@@ -78,7 +78,7 @@ module _ (b b' : Board) (ms : ℕ) (zeros : List ℕ) where
       sym one ∙ e.gave.count_is ∙ ap (λ (l : List ℕ). length l) (e.gave.row unseen_of_mapped).1
   time_answer_has_no_bytes out x count _ is (call_asks len asks device due out_is) = absurd (cc)
 
-  -- A reply to time that passed, which has no bytes, is what a board does as time passes.
+  -- A reply to time that passed, which has no bytes, is the outcome of a board as time passes.
   pub reply_to_time_is_served : (r : Reply) → b.asking.work ≡ None → RoomForBlocks b.asking (length b.block) → b'.flash ≡ b.flash
       → (IsDeviceOn b.asking b.block b.held b.flash → (out : List ℕ)
       × DeviceCalled (lent_on b) b.flash zeros (λ d x sent d'. Row d (Passing ms) x sent d') (lent_on b') out r)
@@ -86,18 +86,18 @@ module _ (b b' : Board) (ms : ℕ) (zeros : List ℕ) where
   reply_to_time_is_served r idle fits flash outcome =
       holds_after_any_reply b b' [] (IsServedBy b (Passing ms) (reply_of_call r []) b') r
       (served_by_call_outcome b b' (Passing ms) (reply_of_call r []) r idle fits flash
-      (λ kept. let o = outcome kept in (zeros, o.0, o.1, no_bytes r o.0 o.1)))
+      (λ kept. let o = outcome kept in (zeros, o.0, o.1, empty_image_has_copied_bytes r o.0 o.1)))
     where
-      no_bytes : (r : Reply) (out : List ℕ)
+      empty_image_has_copied_bytes : (r : Reply) (out : List ℕ)
           → DeviceCalled (lent_on b) b.flash zeros (λ d y sent d'. Row d (Passing ms) y sent d') (lent_on b') out r
           → reply_of_call r [] ≡ reply_of_call r out
-      no_bytes reply.Asks out called = refl
-      no_bytes (reply.Answered x count) out called =
+      empty_image_has_copied_bytes reply.Asks out called = refl
+      empty_image_has_copied_bytes (reply.Answered x count) out called =
           let none : count ≡ 0 = time_answer_has_no_bytes out x count (reply.Answered x count) refl called in
           ap (λ (n : ℕ). Answers x (take n [])) none ∙ sym (ap (λ (n : ℕ). Answers x (take n out)) none)
 
-  -- `elapse`.
-  pub elapse_result_is_served : (r : Result Reply Refusal) → b'.flash ≡ b.flash → OnOk r (IsServedCall b.asking b.block b.flash 0 0)
+  -- The result of `elapse` is the outcome of its event.
+  pub elapse_result_is_served : (r : Result Reply Refusal) → b'.flash ≡ b.flash → OnOk r (ServedCallFacts b.asking b.block b.flash 0 0)
       → IfOk r (λ y. IsDeviceOn b.asking b.block b.held b.flash
       → (out : List ℕ) × DeviceCalled (lent_on b) b.flash zeros (λ d x sent d'. Row d (Passing ms) x sent d') (lent_on b') out y)
       → OnErr r (b' ≡ b)
@@ -105,7 +105,7 @@ module _ (b b' : Board) (ms : ℕ) (zeros : List ℕ) where
   elapse_result_is_served (Ok r) flash served outcome same = reply_to_time_is_served r served.work served.fits flash outcome
   elapse_result_is_served (Err e) flash served outcome same = same
 
--- A reply to how a piece went is what a board does after that report.
+-- A reply to a report on a piece is the outcome of a board after that report.
 pub reply_to_report_is_outcome : (b b' : Board) (failed : Bool) (out out' : List ℕ) (r : Reply) (w : PendingWrites) →
     HasRemainingWrites (lent_on b) w
     → b'.flash ≡ b.flash
@@ -125,7 +125,7 @@ reply_to_report_is_outcome b b' failed out out' r w left flash outcome = holds_a
       says_is = refl;
     })
 
--- `took`.
+-- The result of `took` is the outcome of its event.
 pub took_result_is_outcome : (b b' : Board) (failed : Bool) (room : ℕ) (out out' : List ℕ) (r : Result Reply Refusal) → b'.flash ≡ b.flash
     → OnOk r (ReportAccepted (lent_on b) room)
     → IfOk r (λ y. (len : ℕ) (s : SlotsState) (was before : List ℕ) (asks : WritesPending (lent_on b) len s was before) (p : Step)
@@ -142,9 +142,9 @@ pub result_is_some : {A P : Type 0} (r : Option A) → IfNone r (¬ P) → P →
 result_is_some (Some x) never p = refl
 result_is_some None never p = absurd (never p)
 
--- `power_on`.
+-- The result of `power_on` starts a board.
 pub power_on_result_starts_board : (r : Option Asking) (block held flash : List ℕ) (config : Setting) (unit : WriteUnit) (sector : Sector)
-    → IfSome r (λ a. device_in (lent a block held) flash ≡ powered_on config (mapped_medium (grain_of unit sector) flash))
+    → IfSome r (λ a. device_in (lent a block held) flash ≡ powered_on_device config (mapped_medium (grain_of unit sector) flash))
     → IfSome r (λ a. IsDevice (lent a block held) flash)
     → IfSome r (λ a. (a.work ≡ None) × (a.block_len ≡ 0) × (a.config ≡ config) × (a.unit ≡ unit))
     → IfSome r (λ a. a.sector ≡ sector)
@@ -152,7 +152,7 @@ pub power_on_result_starts_board : (r : Option Asking) (block held flash : List 
 power_on_result_starts_board (Some a) block held flash config unit sector device is kept sector_is = (
   record {
     begins = false;
-    device = device ∙ (λ i. powered_on (sym kept.2 i) (mapped_medium (grain_of (sym kept.3 i) (sym sector_is i)) flash));
+    device = device ∙ (λ i. powered_on_device (sym kept.2 i) (mapped_medium (grain_of (sym kept.3 i) (sym sector_is i)) flash));
     is = is;
     work = kept.0;
   },
@@ -160,11 +160,12 @@ power_on_result_starts_board (Some a) block held flash config unit sector device
 )
 power_on_result_starts_board None block held flash config unit sector device is kept sector_is = tt
 
--- If P of a value gives Q of it, a result that gives P for Some gives Q for Some; and likewise from two facts.
+-- If P of a value implies Q of it, and P holds for Some, Q holds for Some.
 pub weaken_on_some : {A : Type 0} (P Q : A → Type 0) (r : Option A) → ((x : A) → P x → Q x) → IfSome r P → IfSome r Q
 weaken_on_some P Q (Some x) follows p = follows x p
 weaken_on_some P Q None follows p = tt
 
+-- If P and R of a value imply Q of it, and both hold for Some, Q holds for Some.
 pub weaken_on_some_by_two : {A : Type 0} (P R Q : A → Type 0) (r : Option A) → ((x : A) → P x → R x → Q x) → IfSome r P → IfSome r R →
     IfSome r Q
 weaken_on_some_by_two P R Q (Some x) follows p t = follows x p t

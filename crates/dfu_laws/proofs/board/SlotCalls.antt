@@ -11,7 +11,7 @@ use Rattle.dfu_slots.specs.Writes.{held_writes}
 use Rattle.dfu_slots.specs.StoreView.{SlotsState, held_data_place, data_place, spare_of, is_begun, StoreCall, Begin, Put, Commit, writes_of, Ending, AllWorked, BrokenBy, CallEnds, CallsEnd}
 use Rattle.dfu_slots.specs.Store.{IsStore}
 use Rattle.dfu_slots.proofs.Stands.{active_image_at_its_place}
-use Rattle.dfu_slots.proofs.Newest.{places_of_active_image}
+use Rattle.dfu_slots.proofs.Newest.{test_finds_active_image}
 use Rattle.dfu_slots.proofs.Edges.{slot_ends_at_edge}
 use Rattle.dfu_slots.proofs.Series.{WritesEnded}
 use Rattle.dfu_slots.proofs.Multiples.{held_bytes_end_at_put_end, filled_held_fits_capacity}
@@ -29,9 +29,9 @@ use Rattle.dfu_asks.specs.declared.pending_writes.PendingWrites.{PendingWrites}
 use Rattle.dfu_asks.specs.Lent.{LentDevice}
 use Rattle.dfu_asks.specs.Due.{DueRowWorks, DueRowFails}
 use Rattle.dfu_asks.specs.Asks.{device_of, IsDueJobOfMode, IsWorkingForRow}
-use Rattle.dfu_asks.proofs.Working.{NextBlockFits, block_in_device, commit_in_device}
+use Rattle.dfu_asks.proofs.Working.{NextBlockFits, unwritten_block_may_be_written, due_commit_commits_all_puts}
 use Rattle.dfu_laws.specs.board.Slots.{IsInSlot}
-use Rattle.dfu_laws.proofs.board.Slots.{begin_adds_no_image, data_of_closed_adds_no_image}
+use Rattle.dfu_laws.proofs.board.Slots.{begin_adds_no_image, data_writes_add_no_image}
 use Rattle.dfu_laws.proofs.board.Opens.{commit_keeps_or_activates_image}
 
 -- Each image in a slot was in one before, or is active.
@@ -58,8 +58,8 @@ put_adds_no_image : (s now : SlotsState) (has : HasImage s.medium) → ¬ HasOpe
 put_adds_no_image s now has shut at new fits ends =
     let a = has.active in
     let g = gate_of s.medium in
-    let place = (places_of_active_image g s.medium.bytes a.at a.spare has.image (active_image_at_its_place a)).1 in
-    data_of_closed_adds_no_image s.medium now.medium has shut (writes_of s (Put at new))
+    let place = (test_finds_active_image g s.medium.bytes a.at a.spare has.image (active_image_at_its_place a)).1 in
+    data_writes_add_no_image s.medium now.medium has shut (writes_of s (Put at new))
     (put_writes_lie_inside s.medium.grain s.held new (a.spare + 2 * g) (a.spare + slot_size s.medium.bytes) (data_place s (at - length
     s.held))
     (slot_ends_at_edge s.medium.grain s.medium.bytes (active_image_at_its_place a).sized a.sized.whole a.at a.spare a.places) (omega
@@ -87,7 +87,7 @@ first_put_adds_no_image s now has new fits ending called = by_ending_of_calls en
         let closed = begin_closes_gate w s.medium mid.medium a.at a.spare has.image st came.writes in
         let b = there.active in
         let place : b.spare ≡ spare_at (gate_room w) mid.medium.bytes =
-        (places_of_active_image (gate_of mid.medium) mid.medium.bytes b.at b.spare there.image (active_image_at_its_place b)).1
+        (test_finds_active_image (gate_of mid.medium) mid.medium.bytes b.at b.spare there.image (active_image_at_its_place b)).1
         ∙ ap (λ (x : Grain). spare_at (gate_room x) mid.medium.bytes) same.grain in
         let shut : ¬ HasOpenGate (slot (gate_of mid.medium) mid.medium.bytes b.spare) = λ is_open. closed
         (subst (λ (q : ℕ). HasOpenGate (slot (gate_room w) mid.medium.bytes q)) place is_open) in
@@ -111,7 +111,7 @@ module _ (s now : SlotsState) (store : IsStore s) where
   -- The spare slot is closed once `begin` worked.
   begun_spare_is_closed : is_begun s ≡ true → ¬ HasOpenGate (slot (gate_of s.medium) s.medium.bytes has.active.spare)
   begun_spare_is_closed begun =
-      let place = (places_of_active_image (gate_of s.medium) s.medium.bytes has.active.at has.active.spare has.image
+      let place = (test_finds_active_image (gate_of s.medium) s.medium.bytes has.active.at has.active.spare has.image
       (active_image_at_its_place has.active)).1 in
       subst (λ (q : ℕ). ¬ HasOpenGate (slot (gate_of s.medium) s.medium.bytes q)) (sym place) (begun_gate_is_closed s begun)
 
@@ -152,7 +152,7 @@ module _ (s now : SlotsState) (store : IsStore s) where
   commit_keeps_slot_images after len begun ending called =
       let a = has.active in
       let g = gate_of s.medium in
-      let place = (places_of_active_image g s.medium.bytes a.at a.spare has.image (active_image_at_its_place a)).1 in
+      let place = (test_finds_active_image g s.medium.bytes a.at a.spare has.image (active_image_at_its_place a)).1 in
       commit_keeps_or_activates_image s.medium now.medium has after (begun_spare_is_closed begun) (held_writes s.medium.grain (data_place s
       (held_data_place s)) s.held) len
       _
@@ -164,7 +164,7 @@ module _ (s now : SlotsState) (store : IsStore s) where
       (omega (arith, place, filled_held_fits_capacity s store.puts a.sized.whole.units, a.sized.room)))
       (one_call_ends_its_writes s now (Commit len) ending called)
 
--- Rows that came to their end.
+-- Rows that ended.
 module _ (a : LentDevice) (w : PendingWrites) (len : ℕ) (s : SlotsState) (was : List ℕ) (on : IsWorkingForRow a w len s was) (x : Answer)
     (out : List ℕ) (w' : DeviceView) (after : HasImage w'.slots.medium) where
   pub working_row_keeps_slot_images : DueRowWorks len (device_of a s) x out w' → SlotImagesKeptOrActive s.medium w'.slots.medium
@@ -173,17 +173,19 @@ module _ (a : LentDevice) (w : PendingWrites) (len : ℕ) (s : SlotsState) (was 
       by_mode : (m : DeviceState) → IsTrue (are_device_parts m (length a.block) s) → IsDueJobOfMode m w.asked len s w.job a.put_end a.held
           → DueRowWorks len (view_of_parts a.config s m a.block) x out w' → SlotImagesKeptOrActive s.medium w'.slots.medium
       by_mode (device_state.DownloadSync n number) sound due (says, h) =
-          λ i y. inl (block_calls_add_no_image s w'.slots on.store n a.block (block_in_device n (length a.block) s sound) AllWorked h.calls
+          λ i y. inl (block_calls_add_no_image s w'.slots on.store n a.block
+          (unwritten_block_may_be_written n (length a.block) s sound) AllWorked h.calls
           i y)
       by_mode (device_state.DownloadBusy n number passed) sound due (says, h) =
-          λ i y. inl (block_calls_add_no_image s w'.slots on.store n a.block (block_in_device n (length a.block) s sound) AllWorked h.calls
+          λ i y. inl (block_calls_add_no_image s w'.slots on.store n a.block
+          (unwritten_block_may_be_written n (length a.block) s sound) AllWorked h.calls
           i y)
       by_mode (device_state.ManifestSync n) sound due (says, h) =
           commit_keeps_slot_images s w'.slots on.store after (length (take n (spare_of s)))
-          (and_parts _ _ (commit_in_device n s sound).put).0 AllWorked h.calls
+          (and_parts _ _ (due_commit_commits_all_puts n s sound).put).0 AllWorked h.calls
       by_mode (device_state.Manifest n passed) sound due (says, h) =
           commit_keeps_slot_images s w'.slots on.store after (length (take n (spare_of s)))
-          (and_parts _ _ (commit_in_device n s sound).put).0 AllWorked h.calls
+          (and_parts _ _ (due_commit_commits_all_puts n s sound).put).0 AllWorked h.calls
       by_mode m sound due row = absurd due
 
   pub failing_row_keeps_slot_images : (fault : WriteFault) → DueRowFails fault len (device_of a s) x out w' →
@@ -193,18 +195,20 @@ module _ (a : LentDevice) (w : PendingWrites) (len : ℕ) (s : SlotsState) (was 
       by_mode : (m : DeviceState) → IsTrue (are_device_parts m (length a.block) s) → IsDueJobOfMode m w.asked len s w.job a.put_end a.held
           → DueRowFails fault len (view_of_parts a.config s m a.block) x out w' → SlotImagesKeptOrActive s.medium w'.slots.medium
       by_mode (device_state.DownloadSync n number) sound due (says, h) =
-          λ i y. inl (block_calls_add_no_image s w'.slots on.store n a.block (block_in_device n (length a.block) s sound) (BrokenBy fault)
+          λ i y. inl (block_calls_add_no_image s w'.slots on.store n a.block (unwritten_block_may_be_written n (length a.block) s sound)
+          (BrokenBy fault)
           h.calls i y)
       by_mode (device_state.DownloadBusy n number passed) sound due (says, h) =
-          λ i y. inl (block_calls_add_no_image s w'.slots on.store n a.block (block_in_device n (length a.block) s sound) (BrokenBy fault)
+          λ i y. inl (block_calls_add_no_image s w'.slots on.store n a.block (unwritten_block_may_be_written n (length a.block) s sound)
+          (BrokenBy fault)
           h.calls i y)
       by_mode (device_state.ManifestSync n) sound due (says, h) =
-          commit_keeps_slot_images s w'.slots on.store after (length (take n (spare_of s))) (and_parts _ _ (commit_in_device n s
+          commit_keeps_slot_images s w'.slots on.store after (length (take n (spare_of s))) (and_parts _ _ (due_commit_commits_all_puts n s
           sound).put).0
           (BrokenBy fault)
           h.calls
       by_mode (device_state.Manifest n passed) sound due (says, h) =
-          commit_keeps_slot_images s w'.slots on.store after (length (take n (spare_of s))) (and_parts _ _ (commit_in_device n s
+          commit_keeps_slot_images s w'.slots on.store after (length (take n (spare_of s))) (and_parts _ _ (due_commit_commits_all_puts n s
           sound).put).0
           (BrokenBy fault)
           h.calls

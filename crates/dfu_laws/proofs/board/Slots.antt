@@ -4,21 +4,21 @@ use Rattle.std.specs.Int.{w32, from_le_bytes}
 use Rattle.std.specs.Prelude.{drop}
 use Rattle.std.proofs.lemmas.Bool.{eqb-true}
 use Rattle.dfu_slots.specs.Units.{Grain, gate_room}
-use Rattle.dfu_slots.specs.Medium.{MediumState, Write, FrameOutside}
+use Rattle.dfu_slots.specs.Medium.{MediumState, Write, ChangedWithin}
 use Rattle.dfu_slots.specs.Layout.{Slot, slot, slot_size, OPEN, HasOpenGate, ArePlaces, header_length, HasHeader}
 use Rattle.dfu_slots.specs.Image.{gate_of, slot_of, Active, HasImage, spare_at, spare}
 use Rattle.dfu_slots.specs.Writes.{closed_gate, begin_writes}
 use Rattle.dfu_slots.proofs.Stands.{ActiveAt, active_image_at_its_place}
 use Rattle.dfu_slots.proofs.Sectors.{gate_room_at_least_16}
-use Rattle.dfu_slots.proofs.Counting.{length_in_formed_header, same_bytes_same_header, slot_counts_as_same}
+use Rattle.dfu_slots.proofs.Counting.{formed_header_has_its_length, same_bytes_same_header, equal_open_slot_counts}
 use Rattle.dfu_slots.proofs.Parts.{gate_kept_outside_change, header_kept_outside_change, data_kept_outside_change, data_length, slot_size_kept_by_change}
-use Rattle.dfu_slots.proofs.Newest.{places_of_active_image, slot_place_ends_within}
+use Rattle.dfu_slots.proofs.Newest.{test_finds_active_image, slot_place_ends_within}
 use Rattle.dfu_slots.proofs.Kept.{active_slot_kept}
 use Rattle.dfu_slots.proofs.Torn.{wider_frame_holds}
-use Rattle.dfu_slots.proofs.Series.{AllWritesInside, WritesEnded, ended_writes_keep_rest, ended_writes_keep_grain, ended_writes_by_test}
+use Rattle.dfu_slots.proofs.Series.{AllWritesInside, WritesEnded, ended_writes_keep_rest, ended_writes_keep_grain, tested_writes_ended}
 use Rattle.dfu_slots.proofs.Begun.{closed_gate_fits_room}
 use Rattle.dfu_boot.specs.trial.Trial.{IsFilledSlot}
-use Rattle.dfu_boot.proofs.Places.{slot_places_symmetric}
+use Rattle.dfu_boot.proofs.Places.{slot_places_swap}
 use Rattle.dfu_laws.specs.board.Slots.{IsInSlot}
 
 -- The image in a slot, if it has one.
@@ -31,13 +31,13 @@ pub same_bytes_fill_same_image : (s t : Slot) → s.header ≡ t.header → s.da
 same_bytes_fill_same_image s t head body is_open f =
     let len : header_length s ≡ header_length t = ap (λ (h : List ℕ). from_le_bytes w32 (take 4 (drop 4 h))) head in (
       record {
-        counts = slot_counts_as_same s t head body is_open f.counts;
+        counts = equal_open_slot_counts s t head body is_open f.counts;
         header_is = subst (λ (n : ℕ). HasHeader t n) len (same_bytes_same_header s t (header_length s) head body f.header_is);
       },
       λ i. take (sym len i) (sym body i),
     )
 
--- A slot that has an image.
+-- A filled slot holds the image that it shows.
 pub filled_slot_holds_image : (m : MediumState) (at other : ℕ) (image : List ℕ) → ArePlaces m.bytes at other → IsFilledSlot (slot_of m at)
     → image_shown_in (slot_of m at) ≡ image → IsInSlot m image
 filled_slot_holds_image m at other image places f is = (at, other, places, f.counts, f.header_is, is)
@@ -57,12 +57,12 @@ active_slot_shows_image m image a =
           (omega (arith, a.sized.room)),
       a.sized.bound,
     ) in
-    let long = length_in_formed_header (slot_of m a.at) (length image) a.header_is fits in
+    let long = formed_header_has_its_length (slot_of m a.at) (length image) a.header_is fits in
     (long, ap (λ (n : ℕ). take n (slot_of m a.at).data_bytes) long ∙ sym a.image_is)
 
 -- An active image is in a slot.
-pub active_in_slot : (m : MediumState) (image : List ℕ) → Active m image → IsInSlot m image
-active_in_slot m image a =
+pub active_image_is_in_slot : (m : MediumState) (image : List ℕ) → Active m image → IsInSlot m image
+active_image_is_in_slot m image a =
     let s = active_slot_shows_image m image a in
     filled_slot_holds_image m a.at a.spare image a.places
     (record { counts = a.newest.counts; header_is = subst (λ (n : ℕ). HasHeader (slot_of m a.at) n) (sym s.0) a.header_is }) s.1
@@ -76,35 +76,44 @@ place_is_one_of_two bytes mine other at beside (inr p) (inl q) = inr (q.0 ∙ sy
 place_is_one_of_two bytes mine other at beside (inr p) (inr q) = inl (q.0 ∙ sym p.0)
 
 module _ (m now : MediumState) (has : HasImage m) where
+  -- Room of a gate.
   abbrev g : ℕ
   g = gate_of m
 
+  -- Place of the active slot.
   abbrev mine : ℕ
   mine = has.active.at
 
+  -- Place of the spare slot.
   abbrev other : ℕ
   other = has.active.spare
 
+  -- End of the spare slot.
   abbrev to : ℕ
   to = other + slot_size m.bytes
 
+  -- The active image is at its place.
   stands : ActiveAt g m.bytes mine other has.image
   stands = active_image_at_its_place has.active
 
+  -- The spare slot is at its place.
   place : other ≡ spare_at g m.bytes
-  place = (places_of_active_image g m.bytes mine other has.image stands).1
+  place = (test_finds_active_image g m.bytes mine other has.image stands).1
 
+  -- The spare slot ends within the flash.
   end : to ≤ length m.bytes
   end = (slot_place_ends_within g m.bytes mine other stands.sized stands.places).1
 
+  -- The room of a gate has at least 16 bytes.
   wide : 16 ≤ g
   wide = gate_room_at_least_16 m.grain
 
+  -- The write that closes the gate of the spare slot.
   abbrev closing : List Write
   closing = record { at = spare_at g m.bytes; bytes = closed_gate m.grain } ∷ []
 
   -- If P holds of each image before a change in the spare slot, and of the spare slot's image after it, P holds of each image after it.
-  pub spare_change_keeps_slot_images : (P : List ℕ → Type 0) → FrameOutside other to m.bytes now.bytes → now.grain ≡ m.grain
+  pub spare_change_keeps_slot_images : (P : List ℕ → Type 0) → ChangedWithin other to m.bytes now.bytes → now.grain ≡ m.grain
       → ((i : List ℕ) → IsInSlot m i → P i) → (IsFilledSlot (slot g now.bytes other) → P (image_shown_in (slot g now.bytes other)))
       → (i : List ℕ) → IsInSlot now i → P i
   spare_change_keeps_slot_images P keeps grain before beside image x =
@@ -131,7 +140,7 @@ module _ (m now : MediumState) (has : HasImage m) where
   pub begin_adds_no_image : WritesEnded m (begin_writes m.grain m.bytes) now → (i : List ℕ) → IsInSlot now i → IsInSlot m i
   begin_adds_no_image ends = ⊎_elim (λ one. closes one.0 one.1)
       (λ none. subst (λ (x : MediumState). (i : List ℕ) → IsInSlot x i → IsInSlot m i) (sym none.1) (λ i x. x))
-      (ended_writes_by_test m now ((spare g m.bytes).gate == OPEN) closing ends)
+      (tested_writes_ended m now ((spare g m.bytes).gate == OPEN) closing ends)
     where
       closes : ((spare g m.bytes).gate == OPEN) ≡ true → WritesEnded m closing now → (i : List ℕ) → IsInSlot now i → IsInSlot m i
       closes is_open ends =
@@ -145,13 +154,13 @@ module _ (m now : MediumState) (has : HasImage m) where
           (header_kept_outside_change g other (other + g) m.bytes now.bytes other keeps (inr (omega arith)))
           (data_kept_outside_change g other (other + g) m.bytes now.bytes other keeps (inr (omega arith)))
           (subst (λ (q : ℕ). HasOpenGate (slot g m.bytes q)) (sym place) (eqb-true _ _ is_open)) filled in
-          filled_slot_holds_image m other mine _ (slot_places_symmetric m.bytes mine other has.active.places) same.0 same.1)
+          filled_slot_holds_image m other mine _ (slot_places_swap m.bytes mine other has.active.places) same.0 same.1)
 
   module _ (shut : ¬ HasOpenGate (slot g m.bytes other)) where
     -- Writes in the data of a closed spare leave it closed.
-    pub data_of_closed_adds_no_image : (ws : List Write) → AllWritesInside (other + 2 * g) to ws → WritesEnded m ws now → (i : List ℕ) →
+    pub data_writes_add_no_image : (ws : List Write) → AllWritesInside (other + 2 * g) to ws → WritesEnded m ws now → (i : List ℕ) →
         IsInSlot now i → IsInSlot m i
-    data_of_closed_adds_no_image ws inside ends =
+    data_writes_add_no_image ws inside ends =
         let kept = ended_writes_keep_rest (other + 2 * g) to ws m now end inside ends in
         spare_change_keeps_slot_images (λ i. IsInSlot m i)
         (wider_frame_holds (other + 2 * g) to other to m.bytes now.bytes kept (omega arith) (omega arith)) (ended_writes_keep_grain ws m

@@ -1,4 +1,4 @@
--- Rows that a step of a board makes of the device for which the board stands.
+-- Rows that a step of a board makes of the device that the board represents.
 use Rattle.std.specs.Prelude.{◌≡◌, ◌≢◌, ◌⊎◌, ℕ, true, List, [], ◌∷◌, ◌++◌, length, take, drop, Option, Some, None}
 use Rattle.std.proofs.Common.{inl, refl, sym, ap, ◌∙◌, subst}
 use Rattle.std.proofs.lemmas.List.{append-nil, take_at}
@@ -21,7 +21,7 @@ use Rattle.dfu_laws.specs.board.Accepts.{IsPending}
 use Rattle.dfu_laws.proofs.board.Installs.{IsManifestingStage, IsManifestationOver, manifesting_stage_is_not_over}
 use Rattle.dfu_laws.proofs.board.SlotCalls.{SlotImagesKeptOrActive}
 
--- The bytes at the front of a buffer.
+-- The bytes of an answer are at the front of a buffer.
 pub answer_at_front_of_buffer : (sent out out' : List ℕ) (count : ℕ) → count ≡ length sent → out' ≡ sent ++ drop count out →
     take count out' ≡ sent
 answer_at_front_of_buffer sent out out' count count_is out_is =
@@ -52,22 +52,33 @@ abbrev pub IsClosingCall : Event → BoardReply → Type 0
 IsClosingCall e says =
     (setup : List ℕ) × (e ≡ Handle setup []) × (is_dnload setup ≡ true) × (says ≡ Answers answer.Ack [])
 
--- Rows of the device for which a board stood. The board tells the rows, and they add the body to the bytes taken. An image that waits after
+-- Rows of the device that a board represented. `Tells` holds of the rows, which add the body to the bytes taken. An image that waits after
 -- them waited before, or `Closes` holds; if `Puts` holds, the bytes taken are in place once manifestation is over. The slots keep their
 -- images, or the writes of a row are over.
 pub record MakesRowsOfDevice (b' : Board) (d : DeviceView) (Tells : List TableRow → Option Cause →
     Type 0) (body : List ℕ) (Closes Puts : Type 0)
     : Type 0 where
+  -- Rows that the step makes.
   pub rows : List TableRow
+  -- Cause whose row is due after them, or none.
   pub due' : Option Cause
+  -- Device after the rows.
   pub device : DeviceView
+  -- The rows lead to this device.
   pub history : IsHistory d rows device
+  -- `Tells` holds of the rows.
   pub tells : Tells rows due'
+  -- The board represents the device.
   pub stands : RepresentsDevice b' due' device
+  -- The body is added to the bytes taken.
   pub taken : accepted_of (situation device) ≡ accepted_in_state (state_of device.stage) (accepted_of (situation d) ++ body)
+  -- An image that waits waited before, or the step closed it.
   pub waits : (t : List ℕ) → IsPending device.stage t → IsPending d.stage t ⊎ (Closes × (t ≡ accepted_of (situation d)))
+  -- The image is the one before, or the one that waited.
   pub image : (image_of device.slots ≡ image_of d.slots) ⊎ IsPending d.stage (image_of device.slots)
+  -- The end of manifestation puts the bytes taken in place.
   pub puts : Puts → IsManifestingStage d.stage → IsManifestationOver device.stage → image_of device.slots ≡ accepted_of (situation d)
+  -- The medium stays, or the row ended, and each slot image was there before or is active.
   pub slots : (device.slots.medium ≡ d.slots.medium) ⊎ ((due' ≡ None) × SlotImagesKeptOrActive d.slots.medium device.slots.medium)
 
 -- A step of a board makes rows of the device, as `MakesRowsOfDevice` says.
@@ -76,12 +87,12 @@ StepMakesRows b' due d e says =
     MakesRowsOfDevice b' d (λ rows due'. EventRows due e says rows due') (acknowledged_body e says) (IsClosingCall e says) (e ≢ Restart
     true)
 
--- A step that makes no row.
-pub step_that_makes_no_row : (b' : Board) (due due' : Option Cause) (d : DeviceView) (e : Event) (says : BoardReply)
+-- A step makes no row, if its event has none and the board represents the same device after it.
+pub rowless_event_makes_no_row : (b' : Board) (due due' : Option Cause) (d : DeviceView) (e : Event) (says : BoardReply)
     → EventRows due e says [] due' →
     RepresentsDevice b' due' d
     → acknowledged_body e says ≡ [] → StepMakesRows b' due d e says
-step_that_makes_no_row b' due due' d e says tells stands none = record {
+rowless_event_makes_no_row b' due due' d e says tells stands none = record {
   rows = [];
   due' = due';
   device = d;
@@ -99,7 +110,7 @@ step_that_makes_no_row b' due due' d e says tells stands none = record {
 
 -- Rows after which a board is idle.
 
--- After a row that came to its end, the record is a device on the flash of the board, with no writes due.
+-- After a row that ended, the record is a device on the flash of the board, with no writes due.
 pub board_is_idle_after_row : (b' : Board) (flash : List ℕ) (x : Answer) (count : ℕ) (out out' : List ℕ) (R : Answer → List ℕ → Type 0)
     → b'.flash ≡ flash → CallCompleted flash x count out out' (lent_on b') R → IsIdleBoard b' (device_on b')
 board_is_idle_after_row b' flash x count out out' R same e = record {
@@ -119,7 +130,7 @@ answered_bytes_of_row says flash x count out out' now R e is =
 abbrev pub row_of_answer : DeviceView → Cause → Answer → List ℕ → DeviceView → List TableRow
 row_of_answer d cause x sent d' = record { before = d; cause = cause; answer = x; out = sent; after = d' } ∷ []
 
--- A call that is answered tells the one row of its answer.
+-- A call that is answered has the one row of its answer.
 pub answer_tells_one_row : (due : Option Cause) (d : DeviceView) (cause : Cause) (x : Answer) (sent : List ℕ) (d' : DeviceView) (says :
     BoardReply)
     → says ≡ Answers x sent → CallRows cause due says (row_of_answer d cause x sent d') None

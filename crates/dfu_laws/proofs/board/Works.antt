@@ -6,7 +6,7 @@ use Rattle.dfu_slots.specs.declared.fault.WriteFault.{WriteFault}
 use Rattle.dfu_slots.specs.declared.fault.WriteFault.TheVariants.{Failed, NotVerified}
 use Rattle.dfu_slots.specs.Medium.{Torn}
 use Rattle.dfu_slots.specs.Image.{HasImage}
-use Rattle.dfu_slots.proofs.Torn.{no_change_keeps_all, two_changes_of_range}
+use Rattle.dfu_slots.proofs.Torn.{no_change_keeps_all, two_changes_are_one_change}
 use Rattle.dfu_device.specs.declared.answer.Answer.{Answer}
 use Rattle.dfu_device.specs.Stage.{state_of}
 use Rattle.dfu_device.specs.DeviceView.{DeviceView, situation}
@@ -18,7 +18,7 @@ use Rattle.dfu_asks.specs.Steps.{Step}
 use Rattle.dfu_asks.specs.Carried.{IsStepPiece}
 use Rattle.dfu_asks.specs.Due.{DueRowWorks, DueRowFails}
 use Rattle.dfu_asks.specs.Asks.{device_in, device_of, steps_in}
-use Rattle.dfu_asks.specs.Calls.{CallCompleted, DueOutcome, outcome_asks, outcome_answered, piece_stood, piece_failed_on_flash, piece_not_on_flash}
+use Rattle.dfu_asks.specs.Calls.{CallCompleted, DueOutcome, outcome_asks, outcome_answered, piece_on_flash, piece_write_failed, piece_not_on_flash}
 use Rattle.dfu_laws.specs.board.Board.{Board, lent_on, medium_on, device_on, Took, BoardReply, Answers}
 use Rattle.dfu_laws.specs.board.Happens.{reply_of_call, FlashIsWritten, TookResult}
 use Rattle.dfu_laws.specs.board.Refines.{CallRows, IsBoardAtWork}
@@ -26,7 +26,7 @@ use Rattle.dfu_asks.proofs.Pieces.{next_piece_is_unique}
 use Rattle.dfu_laws.proofs.board.Cut.{WriteLaws, board_at_work_has_next_piece}
 use Rattle.dfu_laws.proofs.board.Due.{DueRowOutcome, working_due_row_outcome, failing_due_row_outcome}
 use Rattle.dfu_laws.proofs.board.SlotCalls.{SlotImagesKeptOrActive, working_row_keeps_slot_images, failing_row_keeps_slot_images}
-use Rattle.dfu_laws.proofs.board.Turns.{kept_work_is_one, StepMakesRows, step_that_makes_no_row, board_is_idle_after_row, answered_bytes_of_row, row_of_answer, answer_tells_one_row}
+use Rattle.dfu_laws.proofs.board.Turns.{kept_work_is_one, StepMakesRows, rowless_event_makes_no_row, board_is_idle_after_row, answered_bytes_of_row, row_of_answer, answer_tells_one_row}
 
 -- A write in the range of the piece that is due leaves a board at work.
 pub write_keeps_board_at_work : (b b' : Board) (cause : Cause) (d : DeviceView) → IsBoardAtWork b cause d → FlashIsWritten b b' →
@@ -45,7 +45,7 @@ write_keeps_board_at_work b b' cause d k h =
       asks = k.asks;
       device = k.device;
       row = k.row;
-      torn = λ p is. two_changes_of_range p.write.at (p.write.at + length p.write.bytes) k.stood b.flash b'.flash (k.torn p is)
+      torn = λ p is. two_changes_are_one_change p.write.at (p.write.at + length p.write.bytes) k.stood b.flash b'.flash (k.torn p is)
           (subst (λ (q : Step). Torn b.flash q.write.at q.write.bytes b'.flash)
           (next_piece_is_unique (steps_in (lent_on b) k.asks.work) k.asks.work.done h.piece p piece is) h.torn);
     } in
@@ -57,7 +57,7 @@ write_keeps_board_at_work b b' cause d k h =
     } in
     subst (λ (x : Board). IsBoardAtWork x cause d) path on
 
--- `took`.
+-- `took` on a board at work.
 module _ (laws : WriteLaws) (b b' : Board) (cause : Cause) (d : DeviceView) (failed : Bool) (says : BoardReply)
     (k : IsBoardAtWork b cause d)
     (h : TookResult b failed says b') where
@@ -93,11 +93,11 @@ module _ (laws : WriteLaws) (b b' : Board) (cause : Cause) (d : DeviceView) (fai
         );
       }
 
-  comes_to : (r : Reply) → DueOutcome (device_of (lent_on b) k.s) k.len k.s k.was b.flash h.out (lent_on b') h.out' r →
+  report_makes_rows : (r : Reply) → DueOutcome (device_of (lent_on b) k.s) k.len k.s k.was b.flash h.out (lent_on b') h.out' r →
       says ≡ reply_of_call r h.out'
       → StepMakesRows b' (Some cause) d (Took failed) says
-  comes_to _ (outcome_asks asks same out_is) is =
-      step_that_makes_no_row b' (Some cause) (Some cause) d (Took failed) says
+  report_makes_rows _ (outcome_asks asks same out_is) is =
+      rowless_event_makes_no_row b' (Some cause) (Some cause) d (Took failed) says
       (subst (λ (y : BoardReply). CallRows cause (Some cause) y [] (Some cause)) (sym is) (refl, refl))
       (record {
         len = k.len;
@@ -110,7 +110,7 @@ module _ (laws : WriteLaws) (b b' : Board) (cause : Cause) (d : DeviceView) (fai
         torn = λ p piece. no_change_keeps_all p.write.at (p.write.at + length p.write.bytes) b.flash b'.flash h.flash;
       })
       refl
-  comes_to _ (outcome_answered x count e) is =
+  report_makes_rows _ (outcome_answered x count e) is =
       over x count (λ y sent w'. DueRowWorks k.len (device_of (lent_on b) k.s) y sent w') e
       (λ sent w' row.
       let works : DueRowWorks k.len d x sent w' = subst (λ (z : DeviceView). DueRowWorks k.len z x sent w') k.device row in
@@ -134,8 +134,8 @@ module _ (laws : WriteLaws) (b b' : Board) (cause : Cause) (d : DeviceView) (fai
   told =
       let next = board_at_work_has_next_piece laws b cause d k in
       elim (h.outcome k.len k.s k.was k.stood k.asks next.piece next.is next.torn) [
-        | piece_stood fine there comes ↦ comes_to h.reply comes h.says_is
-        | piece_failed_on_flash x count fails reply_is e ↦ failed_row_makes_rows Failed x count e (h.says_is
+        | piece_on_flash fine there comes ↦ report_makes_rows h.reply comes h.says_is
+        | piece_write_failed x count fails reply_is e ↦ failed_row_makes_rows Failed x count e (h.says_is
             ∙ ap (λ (r : Reply). reply_of_call r h.out') reply_is)
         | piece_not_on_flash x count fine lies reply_is e ↦ failed_row_makes_rows NotVerified x count e (h.says_is
             ∙ ap (λ (r : Reply). reply_of_call r h.out') reply_is)

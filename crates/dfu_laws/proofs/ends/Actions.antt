@@ -11,7 +11,7 @@ use Rattle.dfu_host.specs.Wire.{IsSetupOf}
 use Rattle.dfu_sim.specs.LinkView.{Session, NoLiveSession, HostSession}
 use Rattle.dfu_host_core.specs.declared.action.DfuAction.{DfuAction}
 use Rattle.dfu_host_core.specs.Actions.{ActionRecord}
-use Rattle.dfu_host_core.specs.Runs.{CoreHost, CoreHostMatches, NextOfCoreSessions, NextOfHost}
+use Rattle.dfu_host_core.specs.Runs.{CoreHost, CoreHostMatches, NextIsHostAction, IsNextActionOfHost}
 use Rattle.dfu_laws.specs.board.Board.{Event, Elapse, Handle}
 use Rattle.dfu_laws.specs.link.Trials.{TrialMayEnd}
 use Rattle.dfu_laws.specs.link.LinkSteps.{CallMayBeUnderWay}
@@ -19,13 +19,16 @@ use Rattle.dfu_laws.specs.ends.Sessions.{CoreSession, NoSession, InSession, IsSe
 
 -- The live session in C is the session of a host.
 pub record LiveHostOf (payload : List ℕ) (x : CoreHost) (session : Session) : Type 0 where
+  -- Host of the session.
   pub host : HostState
+  -- The session is live with this host.
   pub live : session ≡ HostSession host
+  -- The record in C is this host.
   pub is : CoreHostMatches payload x host
 
-pub host_of_session : (payload : List ℕ) (x : CoreHost) (s : CoreSession) (session : Session) → s ≡ InSession payload x
+pub core_session_has_live_host : (payload : List ℕ) (x : CoreHost) (s : CoreSession) (session : Session) → s ≡ InSession payload x
     → IsSessionOf s session → LiveHostOf payload x session
-host_of_session payload x s session e is = held session (subst (λ (y : CoreSession). IsSessionOf y session) e is)
+core_session_has_live_host payload x s session e is = held session (subst (λ (y : CoreSession). IsSessionOf y session) e is)
   where
     held : (y : Session) → IsSessionOf (InSession payload x) y → LiveHostOf payload x y
     held (HostSession h) is = record { host = h; live = refl; is = is }
@@ -42,8 +45,11 @@ trial_may_end_with_host (InSession payload x) NoLiveSession state begins is may 
 
 -- The action sends the request of its host.
 pub record SendsRequestOf (payload : List ℕ) (d : Deed) (a : DfuAction) : Type 0 where
+  -- Request of the host.
   pub request : Request
+  -- The host sends it with the bytes of the action.
   pub deed_is : d ≡ Send request (sent_body payload a)
+  -- The setup of the action asks for it.
   pub asked : IsSetupOf request a.setup
 
 action_0_sends_request : (payload : List ℕ) (from : ℕ) (d : Deed) (a : DfuAction) → ActionRecord payload from d a → a.what ≡ 0 →
@@ -78,9 +84,9 @@ done_deed_is_action_3 payload from (Send q body) a report t e = absurd cc
 done_deed_is_action_3 payload from (Wait ms) a report t e = absurd cc
 done_deed_is_action_3 payload from Reset a report t e = absurd cc
 
-module _ (tells : NextOfCoreSessions) (payload : List ℕ) (x : CoreHost) (h : HostState) (here : CoreHostMatches payload x h) where
+module _ (tells : NextIsHostAction) (payload : List ℕ) (x : CoreHost) (h : HostState) (here : CoreHostMatches payload x h) where
   -- dfu_host_next returns the action of the host.
-  pub told : (a : DfuAction) → WantsAction payload x a → NextOfHost payload h (pos 0) a
+  pub told : (a : DfuAction) → WantsAction payload x a → IsNextActionOfHost payload h (pos 0) a
   told a wants = tells payload x h wants.0 (pos 0) a a here wants.1 (inl (refl, wants.2))
 
   pub wanted_action_0_sends : (a : DfuAction) → WantsAction payload x a → a.what ≡ 0 → SendsRequestOf payload (deed h.task h.phase) a
@@ -98,16 +104,16 @@ module _ (tells : NextOfCoreSessions) (payload : List ℕ) (x : CoreHost) (h : H
       h.phase) a report t.tells e)
 
 -- A call that may be under way with the session in C may be under way with its host.
-pub call_under_way_with_host : (tells : NextOfCoreSessions) (s : CoreSession) (session : Session) (call : Event) →
+pub call_is_under_way_with_host : (tells : NextIsHostAction) (s : CoreSession) (session : Session) (call : Event) →
     IsSessionOf s session → CoreCallMayBeUnderWay s call
     → CallMayBeUnderWay session call
-call_under_way_with_host tells s session (Elapse ms) is way = tt
-call_under_way_with_host tells (InSession payload x) (HostSession h) (Handle setup body) is (a, wants, what, same, cut) =
+call_is_under_way_with_host tells s session (Elapse ms) is way = tt
+call_is_under_way_with_host tells (InSession payload x) (HostSession h) (Handle setup body) is (a, wants, what, same, cut) =
     let q = wanted_action_0_sends tells payload x h is a wants what in (
       q.request,
       q.deed_is ∙ ap (λ (l : List ℕ). Send q.request l) (sym cut),
       subst (λ (l : List ℕ). IsSetupOf q.request l) (sym same) q.asked,
     )
-call_under_way_with_host tells (InSession payload x) NoLiveSession (Handle setup body) is way = absurd is
-call_under_way_with_host tells NoSession session (Handle setup body) is way = absurd way
-call_under_way_with_host tells s session call is way = absurd way
+call_is_under_way_with_host tells (InSession payload x) NoLiveSession (Handle setup body) is way = absurd is
+call_is_under_way_with_host tells NoSession session (Handle setup body) is way = absurd way
+call_is_under_way_with_host tells s session call is way = absurd way

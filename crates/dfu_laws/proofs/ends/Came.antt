@@ -9,23 +9,27 @@ use Rattle.dfu_host.specs.Wire.{IsSetupOf}
 use Rattle.dfu_host.specs.Counting.{KeptBytesAreCounted}
 use Rattle.dfu_sim.specs.LinkView.{Session, NoLiveSession, HostSession}
 use Rattle.dfu_sim.specs.Play.{Answered, HostOutcome, host_outcome, notify_restart}
-use Rattle.dfu_sim.specs.LinkInvariant.{IsCountedIn}
+use Rattle.dfu_sim.specs.LinkInvariant.{SessionIsCounted}
 use Rattle.dfu_host_core.specs.declared.action.DfuAction.{DfuAction}
-use Rattle.dfu_host_core.specs.Runs.{CoreHost, CoreHostMatches, CoreSessionsRefineHosts, NextOfCoreSessions}
+use Rattle.dfu_host_core.specs.Runs.{CoreHost, CoreHostMatches, CoreSessionsRefineHosts, NextIsHostAction}
 use Rattle.dfu_laws.specs.board.Board.{Board, BoardReply, BoardStep}
 use Rattle.dfu_laws.specs.link.LinkSteps.{HeardOfReply, link_after_outcome, BoardLinkStep, passes, sends, refuses, waits, resets, is_reset_by_other_cause, restarts, leaves, restarts_at_reset, marks}
 use Rattle.dfu_laws.specs.ends.Sessions.{CoreSession, InSession, IsSessionOf, WantsAction, sent_body, HostTakeOk, SeenOfReply, SessionSettles, RestartReported, no_session_hears_restart, session_hears_restart}
 use Rattle.dfu_laws.specs.ends.EndsSteps.{EndsStep, time_passes, sends_request, close_is_refused, refuses_image, wait_is_over, resets_bus, bus_is_reset, board_restarts, leaves_app, board_makes_way, mark_is_set}
-use Rattle.dfu_laws.proofs.ends.Actions.{host_of_session, wanted_action_0_sends, wanted_action_1_waits, wanted_action_2_resets, call_under_way_with_host}
-use Rattle.dfu_laws.proofs.ends.Heard.{heard_by, number_4_is_heard_as_wait, number_5_is_heard_as_reset, number_6_is_heard_as_restart, reply_sent_back_is_heard}
+use Rattle.dfu_laws.proofs.ends.Actions.{core_session_has_live_host, wanted_action_0_sends, wanted_action_1_waits, wanted_action_2_resets, call_is_under_way_with_host}
+use Rattle.dfu_laws.proofs.ends.Heard.{taken_is_heard, number_4_is_heard_as_wait, number_5_is_heard_as_reset, number_6_is_heard_as_restart, reply_sent_back_is_heard}
 use Rattle.dfu_laws.proofs.ends.Settled.{SettlesAsCoreSession, sized, host_outcome_is_core_session}
 
--- The event came to the board and to the session of a host, for which the session in C stands afterwards.
+-- The event came to the board and to the session of a host, and the session in C is the host's session afterwards.
 pub record EventOfHostSession (session : Session) (b : Board) (steps : List BoardStep) (answer : Answered) (s' : CoreSession) (b' : Board)
     : Type 0 where
+  -- Session of the host after the event.
   pub later : Session
+  -- The session in C is this session.
   pub is : IsSessionOf s' later
-  pub counted : IsCountedIn later
+  -- The bytes that it keeps are counted.
+  pub counted : SessionIsCounted later
+  -- The event happens to the board and the host's session.
   pub comes : BoardLinkStep (record { board = b; session = session }) steps answer (record { board = b'; session = later })
 
 outcome_is_event_of_host : (session : Session) (b : Board) (steps : List BoardStep) (answer : Answered) (s' : CoreSession) (b' : Board) (t
@@ -40,24 +44,24 @@ outcome_is_event_of_host session b steps answer s' b' t so comes = record {
       comes;
 }
 
-module _ (refine : CoreSessionsRefineHosts) (tells : NextOfCoreSessions) where
-  -- A restart that a live session in C hears of, its host hears of too.
+module _ (refine : CoreSessionsRefineHosts) (tells : NextIsHostAction) where
+  -- If a live session in C hears of a restart, its host hears of it too.
   restart_settles_core_session : (s : CoreSession) (session : Session) (answer : Answered) (s' : CoreSession) → IsSessionOf s session
-      → IsCountedIn session → RestartReported s answer s' → SettlesAsCoreSession (notify_restart session) answer s'
+      → SessionIsCounted session → RestartReported s answer s' → SettlesAsCoreSession (notify_restart session) answer s'
   restart_settles_core_session _ NoLiveSession _ _ is c no_session_hears_restart = record { answer_is = refl; is = tt; counted = tt }
   restart_settles_core_session _ (HostSession h) _ _ is c no_session_hears_restart = absurd is
   restart_settles_core_session _ NoLiveSession _ _ is c (session_hears_restart given settles) = absurd is
   restart_settles_core_session _ (HostSession h) answer s' is c (session_hears_restart {payload = payload} {bytes = bytes} {x = x} {x' =
       x'} given settles) =
-      let t = heard_by refine payload x x' h is 6 bytes given in
+      let t = taken_is_heard refine payload x x' h is 6 bytes given in
       let now = subst (λ (y : Heard). CoreHostMatches payload x' (after h y)) (number_6_is_heard_as_restart payload h bytes x' t) t.now in
       host_outcome_is_core_session tells payload x' h Restarted answer s' (sized tells payload x h is) c now settles
 
-  module _ (b : Board) (s : CoreSession) (session : Session) (is : IsSessionOf s session) (c : IsCountedIn session) where
+  module _ (b : Board) (s : CoreSession) (session : Session) (is : IsSessionOf s session) (c : SessionIsCounted session) where
     live_host_is_counted : (h : HostState) → session ≡ HostSession h → KeptBytesAreCounted h.task h.phase
-    live_host_is_counted h live = subst IsCountedIn live c
+    live_host_is_counted h live = subst SessionIsCounted live c
 
-    -- The host sends the request of the session in C, and hears what the session is told.
+    -- The host sends the request of the session in C, and hears the result that the session is told.
     requests : (payload bytes : List ℕ) (x x' : CoreHost) (a : DfuAction) (steps : List BoardStep) (says : BoardReply) (b' : Board) (seen : ℕ)
         (answer : Answered) (s' : CoreSession) → s ≡ InSession payload x → WantsAction payload x a → a.what ≡ 0
         → SeenOfReply says seen bytes
@@ -69,10 +73,10 @@ module _ (refine : CoreSessionsRefineHosts) (tells : NextOfCoreSessions) where
         h heard)))
         → EventOfHostSession session b steps answer s' b'
     requests payload bytes x x' a steps says b' seen answer s' live wants what tell given settles comes =
-        let o = host_of_session payload x s session live is in
+        let o = core_session_has_live_host payload x s session live is in
         let h = o.host in
         let q = wanted_action_0_sends tells payload x h o.is a wants what in
-        let t = heard_by refine payload x x' h o.is seen bytes given in
+        let t = taken_is_heard refine payload x x' h o.is seen bytes given in
         outcome_is_event_of_host session b steps answer s' b' (host_outcome h t.heard)
         (host_outcome_is_core_session tells payload x' h t.heard answer s' (sized tells payload x h o.is) (live_host_is_counted h o.live)
         t.now settles)
@@ -94,9 +98,9 @@ module _ (refine : CoreSessionsRefineHosts) (tells : NextOfCoreSessions) where
         requests payload bytes x x' a steps says b' seen answer s' live wants what tell given settles
         (λ h q heard hosted is_sent asked hears room. sends hosted is_sent asked (inr (why, objected)) hears room)
     came _ answer s' _ (wait_is_over {payload = payload} {bytes = bytes} {x = x} {x' = x'} {a = a} live wants what given settles) =
-        let o = host_of_session payload x s session live is in
+        let o = core_session_has_live_host payload x s session live is in
         let w = wanted_action_1_waits tells payload x o.host o.is a wants what in
-        let t = heard_by refine payload x x' o.host o.is 4 bytes given in
+        let t = taken_is_heard refine payload x x' o.host o.is 4 bytes given in
         let now = subst (λ (y : Heard). CoreHostMatches payload x' (after o.host y)) (number_4_is_heard_as_wait payload o.host bytes x' t)
         t.now in
         outcome_is_event_of_host session b [] answer s' b (host_outcome o.host Waited)
@@ -105,8 +109,8 @@ module _ (refine : CoreSessionsRefineHosts) (tells : NextOfCoreSessions) where
         (waits o.live w.1)
     came steps answer s' b' (resets_bus {payload = payload} {bytes = bytes} {x = x} {x' = x'} {a = a} live wants what serves given
         settles) =
-        let o = host_of_session payload x s session live is in
-        let t = heard_by refine payload x x' o.host o.is 5 bytes given in
+        let o = core_session_has_live_host payload x s session live is in
+        let t = taken_is_heard refine payload x x' o.host o.is 5 bytes given in
         let now = subst (λ (y : Heard). CoreHostMatches payload x' (after o.host y)) (number_5_is_heard_as_reset payload o.host bytes x' t)
         t.now in
         outcome_is_event_of_host session b steps answer s' b' (host_outcome o.host WasReset)
@@ -116,18 +120,18 @@ module _ (refine : CoreSessionsRefineHosts) (tells : NextOfCoreSessions) where
     came _ answer s' b' (bus_is_reset {call = call} {steps = steps} {more = more} way reaches serves hears) =
         outcome_is_event_of_host session b (steps ++ more) answer s' b' (notify_restart session) (restart_settles_core_session s session
         answer s' is c hears)
-        (is_reset_by_other_cause (call_under_way_with_host tells s session call is way) reaches serves)
+        (is_reset_by_other_cause (call_is_under_way_with_host tells s session call is way) reaches serves)
     came steps answer s' b' (board_restarts {call = call} way stops hears) =
         outcome_is_event_of_host session b steps answer s' b' (notify_restart session) (restart_settles_core_session s session answer s' is
         c hears)
-        (restarts (call_under_way_with_host tells s session call is way) stops)
+        (restarts (call_is_under_way_with_host tells s session call is way) stops)
     came _ _ _ _ (leaves_app {payload = payload} {x = x} live enters run event) =
-        let o = host_of_session payload x s session live is in
+        let o = core_session_has_live_host payload x s session live is in
         record { later = session; is = is; counted = c; comes = leaves o.live (enters o.host o.is) run event }
     came _ answer s' b' (board_makes_way {payload = payload} {bytes = bytes} {x = x} {x' = x'} {a = a} {power = power} {begins = begins} live
         wants what way run event given settles) =
-        let o = host_of_session payload x s session live is in
-        let t = heard_by refine payload x x' o.host o.is 5 bytes given in
+        let o = core_session_has_live_host payload x s session live is in
+        let t = taken_is_heard refine payload x x' o.host o.is 5 bytes given in
         let now = subst (λ (y : Heard). CoreHostMatches payload x' (after o.host y)) (number_5_is_heard_as_reset payload o.host bytes x' t)
         t.now in
         outcome_is_event_of_host session b (power ∷ []) answer s' b' (host_outcome o.host WasReset)

@@ -1,4 +1,4 @@
--- Numbers that a session in C is told, as what its host hears.
+-- Numbers that a session in C is told, as results that its host hears.
 use Rattle.std.specs.Prelude.{◌≡◌, ℕ, pos, List, [], ◌∷◌, Some, IsTrue}
 use Rattle.std.specs.Borrow.{Bor}
 use Rattle.std.proofs.Common.{inl, inr, refl, sym, ap, ◌∙◌, subst}
@@ -12,28 +12,40 @@ use Rattle.dfu_host.specs.Table.{deed}
 use Rattle.dfu_host.specs.Host.{HostState, after, aborted_host, wants_memory}
 use Rattle.dfu_host.specs.Wire.{SeenMeaning, BytesMeaning}
 use Rattle.dfu_host_core.specs.SeenNumbers.{seen_at}
-use Rattle.dfu_host_core.specs.Runs.{CoreHost, CoreHostMatches, CoreTakeCall, CoreAbortCall, HostCall, HostStep, HostCallResult, HostMovesByCall, HostCourse, stays, moves, CoreSessionsRefineHosts}
+use Rattle.dfu_host_core.specs.Runs.{CoreHost, CoreHostMatches, CoreTakeCall, CoreAbortCall, HostCall, HostStep, HostCallResult, HostMovesByCall, HostMoves, stays, moves, CoreSessionsRefineHosts}
 use Rattle.dfu_laws.specs.board.Board.{BoardReply, Answers, Nothing, WritesDue}
 use Rattle.dfu_laws.specs.link.LinkSteps.{HeardOfReply}
 use Rattle.dfu_laws.specs.ends.Sessions.{HostTakeOk, SeenOfReply}
 
--- dfu_host_take took a number and bytes; the host heard what they mean, and the record is the host after that.
+-- dfu_host_take took a number and bytes; the host heard their meaning, and the record is the host after that.
 pub record HostHeardNumber (payload : List ℕ) (h : HostState) (number : ℕ) (bytes : List ℕ) (x' : CoreHost) : Type 0 where
+  -- Slice of the bytes.
   pub slice : Bor (List ℕ)
+  -- The slice has the bytes.
   pub same : slice.now ≡ bytes
+  -- Result that the number and the slice spell.
   pub word : Seen
+  -- The number spells it.
   pub is : seen_at number slice ≡ Some word
+  -- Meaning of the result.
   pub heard : Heard
+  -- The result has this meaning for the host.
   pub hears : SeenMeaning (deed h.task h.phase) word heard
+  -- The host lacks memory only in a phase that needs some.
   pub room : heard ≡ NoRoom → IsTrue (wants_memory h.phase)
+  -- The record is the host after the result.
   pub now : CoreHostMatches payload x' (after h heard)
 
-course_of_one_step : {h now : HostState} {s : HostStep} → HostCourse h (s ∷ []) now → HostMovesByCall h s.call s.number now
-course_of_one_step (moves m stays) = m
+one_step_course_moves_host : {h now : HostState} {s : HostStep} → HostMoves h (s ∷ []) now → HostMovesByCall h s.call s.number now
+one_step_course_moves_host (moves m stays) = m
 
+-- A call on the record of a host moved the host, and the record is the host after that.
 record HostMoved (payload : List ℕ) (h : HostState) (call : HostCall) (x' : CoreHost) : Type 0 where
+  -- Host after the call.
   now : HostState
+  -- The record is this host.
   is : CoreHostMatches payload x' now
+  -- The call, which returned 0, moved the host to it.
   move : HostMovesByCall h call (pos 0) now
 
 module _ (refine : CoreSessionsRefineHosts) (payload : List ℕ) (x x' : CoreHost) (h : HostState) (here : CoreHostMatches payload x h) where
@@ -41,7 +53,7 @@ module _ (refine : CoreSessionsRefineHosts) (payload : List ℕ) (x x' : CoreHos
   moved call called =
       let s : HostStep = record { before = x; call = call; number = pos 0; after = x' } in
       let g = refine payload x x' h (s ∷ []) here (refl, called, refl) in
-      record { now = g.now; is = g.is; move = course_of_one_step g.goes }
+      record { now = g.now; is = g.is; move = one_step_course_moves_host g.goes }
 
   taken : (number : ℕ) (bytes : List ℕ) (now : HostState) → CoreHostMatches payload x' now →
       HostMovesByCall h (CoreTakeCall number bytes) (pos 0) now
@@ -58,15 +70,15 @@ module _ (refine : CoreSessionsRefineHosts) (payload : List ℕ) (x x' : CoreHos
   }
   taken number bytes now is (inr (number_is, none, same)) = absurd cc
 
-  pub heard_by : (number : ℕ) (bytes : List ℕ) → HostTakeOk payload x number bytes x' → HostHeardNumber payload h number bytes x'
-  heard_by number bytes given =
+  pub taken_is_heard : (number : ℕ) (bytes : List ℕ) → HostTakeOk payload x number bytes x' → HostHeardNumber payload h number bytes x'
+  taken_is_heard number bytes given =
       let m = moved (CoreTakeCall number bytes) given in taken number bytes m.now m.is m.move
 
   pub abort_matches_aborted_host : HostCallResult payload x CoreAbortCall (pos 0) x' → CoreHostMatches payload x' (aborted_host h)
   abort_matches_aborted_host called =
       let m = moved CoreAbortCall called in subst (λ (y : HostState). CoreHostMatches payload x' y) m.move.1 m.is
 
--- Meaning of the number that is told.
+-- A number that is told has one meaning.
 number_has_one_meaning : (k number : ℕ) (slice : Bor (List ℕ)) (w word : Seen) → seen_at k slice ≡ Some w → number ≡ k →
     seen_at number slice ≡ Some word
     → word ≡ w
@@ -74,32 +86,32 @@ number_has_one_meaning k number slice w word at same is =
     same_Some _ _ (sym is ∙ ap (λ (n : ℕ). seen_at n slice) same ∙ at)
 
 module _ (payload : List ℕ) (h : HostState) (bytes : List ℕ) (x' : CoreHost) where
-  word_heard_of_number : (number k : ℕ) (w : Seen) → (t : HostHeardNumber payload h number bytes x') → number ≡ k → seen_at k t.slice
+  number_means_word : (number k : ℕ) (w : Seen) → (t : HostHeardNumber payload h number bytes x') → number ≡ k → seen_at k t.slice
       ≡ Some w
       → SeenMeaning (deed h.task h.phase) w t.heard
-  word_heard_of_number number k w t same at =
+  number_means_word number k w t same at =
       subst (λ (v : Seen). SeenMeaning (deed h.task h.phase) v t.heard) (number_has_one_meaning k number t.slice w t.word at same t.is)
       t.hears
 
   pub number_4_is_heard_as_wait : (t : HostHeardNumber payload h 4 bytes x') → t.heard ≡ Waited
-  number_4_is_heard_as_wait t = word_heard_of_number 4 4 seen.Waited t refl refl
+  number_4_is_heard_as_wait t = number_means_word 4 4 seen.Waited t refl refl
 
   pub number_5_is_heard_as_reset : (t : HostHeardNumber payload h 5 bytes x') → t.heard ≡ WasReset
-  number_5_is_heard_as_reset t = word_heard_of_number 5 5 seen.WasReset t refl refl
+  number_5_is_heard_as_reset t = number_means_word 5 5 seen.WasReset t refl refl
 
   pub number_6_is_heard_as_restart : (t : HostHeardNumber payload h 6 bytes x') → t.heard ≡ Restarted
-  number_6_is_heard_as_restart t = word_heard_of_number 6 6 seen.Restarted t refl refl
+  number_6_is_heard_as_restart t = number_means_word 6 6 seen.Restarted t refl refl
 
-  -- After a request the host hears what is sent back, or nothing.
+  -- After a request the host hears the reply that is sent back, or nothing.
   pub reply_sent_back_is_heard : (says : BoardReply) (number : ℕ) (q : Request) (body : List ℕ) → deed h.task h.phase ≡ Send q body
       → (t : HostHeardNumber payload h number bytes x') → SeenOfReply says number bytes → HeardOfReply (Send q body) says t.heard
-  reply_sent_back_is_heard (Answers answer.Ack out) number q body is t (inl n) = inr (word_heard_of_number number 0 seen.Ack t n refl)
-  reply_sent_back_is_heard (Answers answer.Ack out) number q body is t (inr n) = inl (word_heard_of_number number 3 seen.Nothing t n refl)
+  reply_sent_back_is_heard (Answers answer.Ack out) number q body is t (inl n) = inr (number_means_word number 0 seen.Ack t n refl)
+  reply_sent_back_is_heard (Answers answer.Ack out) number q body is t (inr n) = inl (number_means_word number 3 seen.Nothing t n refl)
   reply_sent_back_is_heard (Answers answer.Bytes out) number q body is t (inl (n, same)) =
       inr (subst (λ (l : List ℕ). BytesMeaning (Send q body) l t.heard) (t.same ∙ same)
-      (subst (λ (d : Deed). BytesMeaning d t.slice.now t.heard) is (word_heard_of_number number 1 (seen.Bytes t.slice) t n refl)))
-  reply_sent_back_is_heard (Answers answer.Bytes out) number q body is t (inr n) = inl (word_heard_of_number number 3 seen.Nothing t n refl)
-  reply_sent_back_is_heard (Answers answer.Stall out) number q body is t (inl n) = inr (word_heard_of_number number 2 seen.Stall t n refl)
-  reply_sent_back_is_heard (Answers answer.Stall out) number q body is t (inr n) = inl (word_heard_of_number number 3 seen.Nothing t n refl)
-  reply_sent_back_is_heard Nothing number q body is t n = word_heard_of_number number 3 seen.Nothing t n refl
-  reply_sent_back_is_heard WritesDue number q body is t n = word_heard_of_number number 3 seen.Nothing t n refl
+      (subst (λ (d : Deed). BytesMeaning d t.slice.now t.heard) is (number_means_word number 1 (seen.Bytes t.slice) t n refl)))
+  reply_sent_back_is_heard (Answers answer.Bytes out) number q body is t (inr n) = inl (number_means_word number 3 seen.Nothing t n refl)
+  reply_sent_back_is_heard (Answers answer.Stall out) number q body is t (inl n) = inr (number_means_word number 2 seen.Stall t n refl)
+  reply_sent_back_is_heard (Answers answer.Stall out) number q body is t (inr n) = inl (number_means_word number 3 seen.Nothing t n refl)
+  reply_sent_back_is_heard Nothing number q body is t n = number_means_word number 3 seen.Nothing t n refl
+  reply_sent_back_is_heard WritesDue number q body is t n = number_means_word number 3 seen.Nothing t n refl

@@ -13,10 +13,10 @@ use Rattle.dfu_sim.specs.declared.offering.Purpose.TheVariants.{Install, Verify}
 use Rattle.dfu_sim.specs.LinkView.{Session, NoLiveSession, HostSession}
 use Rattle.dfu_sim.specs.Opening.{goal_of_purpose}
 use Rattle.dfu_sim.specs.Play.{Answered}
-use Rattle.dfu_sim.specs.LinkInvariant.{IsCountedIn}
+use Rattle.dfu_sim.specs.LinkInvariant.{SessionIsCounted}
 use Rattle.dfu_core.specs.Board.{CoreBoard}
 use Rattle.dfu_host_core.specs.BeginCalls.{IsInitialRecord}
-use Rattle.dfu_host_core.specs.Runs.{BeginIsInitial, CoreSessionsRefineHosts, NextOfCoreSessions, HasPayload}
+use Rattle.dfu_host_core.specs.Runs.{BegunSessionIsInitialHost, CoreSessionsRefineHosts, NextIsHostAction, HasPayload}
 use Rattle.dfu_laws.specs.board.Board.{Board, state_on, BoardStep}
 use Rattle.dfu_laws.specs.link.Plays.{BoardPlays, starts, offers, uploads, aborts, goes_on, ends, copies}
 use Rattle.dfu_laws.specs.in_c.Steps.{CoreStep, board_of_core, IsBoardOfCore}
@@ -31,7 +31,7 @@ use Rattle.dfu_laws.proofs.in_c.Played.{core_board_is_one_board}
 use Rattle.dfu_laws.proofs.in_c.Marked.{core_mark_marks_board, core_trial_end_ends_board, core_run_with_marks_append, core_run_then_mark, core_run_then_trial_end}
 use Rattle.dfu_laws.proofs.in_c.Copied.{core_home_copy_copies_board, core_run_then_home_copy}
 use Rattle.dfu_laws.proofs.in_c.GoesOn.{board_steps_of_append}
-use Rattle.dfu_laws.proofs.ends.Actions.{host_of_session, trial_may_end_with_host}
+use Rattle.dfu_laws.proofs.ends.Actions.{core_session_has_live_host, trial_may_end_with_host}
 use Rattle.dfu_laws.proofs.ends.Heard.{abort_matches_aborted_host}
 use Rattle.dfu_laws.proofs.ends.Settled.{aborted_host_is_counted}
 use Rattle.dfu_laws.proofs.ends.Came.{came}
@@ -42,7 +42,7 @@ record PlaysWithHost (b : Board) (steps : List BoardStep) (past back : List (Lis
     : Type 0 where
   session : Session
   is : IsSessionOf s session
-  counted : IsCountedIn session
+  counted : SessionIsCounted session
   plays : BoardPlays b steps past back last (record { board = now; session = session })
 
 no_core_session_is_none : (session : Session) → IsSessionOf NoSession session → session ≡ NoLiveSession
@@ -53,7 +53,7 @@ goal_has_payload : (purpose : Purpose) (payload : List ℕ) → HasPayload (goal
 goal_has_payload Install payload = refl
 goal_has_payload Verify payload = refl
 
-module _ (begin : BeginIsInitial) (refine : CoreSessionsRefineHosts) (tells : NextOfCoreSessions) where
+module _ (begin : BegunSessionIsInitialHost) (refine : CoreSessionsRefineHosts) (tells : NextIsHostAction) where
   ends_plays_are_host_plays : (b : Board) (steps : List BoardStep) (past back : List (List ℕ)) (last : Option (List ℕ)) (s : CoreSession)
       (now : Board)
       → EndsPlay b steps past back last s now → PlaysWithHost b steps past back last s now
@@ -79,11 +79,11 @@ module _ (begin : BeginIsInitial) (refine : CoreSessionsRefineHosts) (tells : Ne
       }
   ends_plays_are_host_plays b steps past back last _ now (session_is_given_up {payload = payload} {x = x} {x' = x'} p called) =
       let o = ends_plays_are_host_plays b steps past back last (InSession payload x) now p in
-      let h = host_of_session payload x (InSession payload x) o.session refl o.is in
+      let h = core_session_has_live_host payload x (InSession payload x) o.session refl o.is in
       record {
         session = HostSession (aborted_host h.host);
         is = abort_matches_aborted_host refine payload x x' h.host h.is called;
-        counted = aborted_host_is_counted h.host h.host.phase refl (subst IsCountedIn h.live o.counted);
+        counted = aborted_host_is_counted h.host h.host.phase refl (subst SessionIsCounted h.live o.counted);
         plays = aborts o.plays h.live;
       }
   ends_plays_are_host_plays b _ past back last _ _ (and_then {steps = steps} {more = more} {s = s} {s' = s'} {now = now} {b' = b'}
@@ -125,7 +125,7 @@ module _ (begin : BeginIsInitial) (refine : CoreSessionsRefineHosts) (tells : Ne
       let o = ends_plays_are_host_plays p.first p.calls past back last l.session p.now p.plays in
       record { session = o.session; is = o.is; plays = ends_plays_are_core_plays b steps past back last l p o }
 
-  -- The next event of a session in C comes to sessions of a host.
+  -- The next event of a session in C happens to sessions of a host.
   pub record NextEventWithHost (b : CoreBoard) (steps more : List CoreStep) (past back : List (List ℕ)) (last : Option (List ℕ)) (l l' :
       CoreEndsLink)
       (answer : Answered) : Type 0 where
@@ -134,11 +134,11 @@ module _ (begin : BeginIsInitial) (refine : CoreSessionsRefineHosts) (tells : Ne
     pub later : Session
     pub comes : CoreLinkStep (record { board = l.board; session = session }) more answer (record { board = l'.board; session = later })
 
-  pub next_event_with_host : (b : CoreBoard) (steps more : List CoreStep) (past back : List (List ℕ)) (last : Option (List ℕ)) (l l' :
+  pub next_event_has_host : (b : CoreBoard) (steps more : List CoreStep) (past back : List (List ℕ)) (last : Option (List ℕ)) (l l' :
       CoreEndsLink)
       (answer : Answered) → CoreEndsPlay b steps past back last l → CoreEndsStep l more answer l'
       → NextEventWithHost b steps more past back last l l' answer
-  next_event_with_host b steps more past back last l l' answer p c =
+  next_event_has_host b steps more past back last l l' answer p c =
       let o = ends_plays_are_host_plays p.first p.calls past back last l.session p.now p.plays in
       let w = came refine tells c.before l.session o.session o.is o.counted c.calls answer l'.session c.after c.comes in
       record {
@@ -159,13 +159,13 @@ module _ (begin : BeginIsInitial) (refine : CoreSessionsRefineHosts) (tells : Ne
 
   pub ends_report_means_in_place : CoreReportMeansInPlace → EndsReportMeansInPlace
   ends_report_means_in_place installs b steps more past back last l l' answer on p c says =
-      let n = next_event_with_host b steps more past back last l l' answer p c in
+      let n = next_event_has_host b steps more past back last l l' answer p c in
       installs b steps more past back last (record { board = l.board; session = n.session })
       (record { board = l'.board; session = n.later }) answer on n.plays n.comes says
 
   pub ends_upload_is_active_image : CoreUploadIsActiveImage → EndsUploadIsActiveImage
   ends_upload_is_active_image gives b steps more past back last l l' answer bytes on p c e =
-      let n = next_event_with_host b steps more past back last l l' answer p c in
+      let n = next_event_has_host b steps more past back last l l' answer p c in
       gives b steps more past back last (record { board = l.board; session = n.session })
       (record { board = l'.board; session = n.later }) answer bytes on n.plays n.comes e
 
@@ -176,7 +176,7 @@ module _ (begin : BeginIsInitial) (refine : CoreSessionsRefineHosts) (tells : Ne
 
   pub ends_active_image_known_within : CoreActiveImageKnownWithin → EndsActiveImageKnownWithin
   ends_active_image_known_within knows b mid steps front rest past back last l l' answer image on active p c run =
-      let n = next_event_with_host b steps (front ++ rest) past back last l l' answer p c in
+      let n = next_event_has_host b steps (front ++ rest) past back last l l' answer p c in
       knows b mid steps front rest past back last (record { board = l.board; session = n.session })
       (record { board = l'.board; session = n.later }) answer image on active n.plays n.comes run
 
@@ -212,7 +212,7 @@ ends_play_on_changed_board p now is run plays = record {
   plays = plays;
 }
 
--- Sessions between both ends in C go on.
+-- Sessions between both ends in C continue.
 pub ends_sessions_go_on : EndsContinue
 ends_sessions_go_on = record {
   starts = λ b on.

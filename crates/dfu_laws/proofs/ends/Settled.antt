@@ -13,8 +13,8 @@ use Rattle.dfu_host.specs.Counting.{ReportsNoBytes, KeptBytesAreCounted}
 use Rattle.dfu_host.specs.CountingLaws.{heard_host_stays_counted}
 use Rattle.dfu_sim.specs.LinkView.{NoLiveSession, HostSession}
 use Rattle.dfu_sim.specs.Play.{Answered, silent, HostOutcome, settled_session, host_outcome}
-use Rattle.dfu_sim.specs.LinkInvariant.{IsCountedIn}
-use Rattle.dfu_host_core.specs.Runs.{CoreHost, CoreHostMatches, NextOfCoreSessions}
+use Rattle.dfu_sim.specs.LinkInvariant.{SessionIsCounted}
+use Rattle.dfu_host_core.specs.Runs.{CoreHost, CoreHostMatches, NextIsHostAction}
 use Rattle.dfu_laws.specs.ends.Sessions.{CoreSession, NoSession, InSession, IsSessionOf, bytes_of_report, SessionSettles, stays_live, is_over}
 use Rattle.dfu_laws.proofs.ends.Actions.{told, host_is_done_only_by_action_3}
 
@@ -67,11 +67,14 @@ host_not_done_stays_live h p never = refl
 
 -- The host's session after an outcome is the session in C, with the same report.
 pub record SettlesAsCoreSession (t : HostOutcome) (answer : Answered) (s' : CoreSession) : Type 0 where
+  -- Both have the same report.
   pub answer_is : t.answer ≡ answer
+  -- The session in C is that of the host.
   pub is : IsSessionOf s' t.session
-  pub counted : IsCountedIn t.session
+  -- The bytes that it keeps are counted.
+  pub counted : SessionIsCounted t.session
 
-module _ (tells : NextOfCoreSessions) (payload : List ℕ) (x : CoreHost) (h : HostState) (here : CoreHostMatches payload x h) where
+module _ (tells : NextIsHostAction) (payload : List ℕ) (x : CoreHost) (h : HostState) (here : CoreHostMatches payload x h) where
   over_host_keeps_its_buffer : (kept : List ℕ) → h.phase ≡ OverUploaded kept → kept ≡ take x.kept.kept x.buffer
   over_host_keeps_its_buffer kept e = over_phase_keeps_memory (take x.kept.kept x.buffer) kept here.parts.phase (ap (λ (s : HostState).
       s.phase) here.is ∙ e)
@@ -84,7 +87,7 @@ module _ (tells : NextOfCoreSessions) (payload : List ℕ) (x : CoreHost) (h : H
       record {
         answer_is = ap (λ (t : HostOutcome). t.answer) e;
         is = subst (λ (t : HostOutcome). IsSessionOf (InSession payload x) t.session) (sym e) here;
-        counted = subst (λ (t : HostOutcome). IsCountedIn t.session) (sym e) c;
+        counted = subst (λ (t : HostOutcome). SessionIsCounted t.session) (sym e) c;
       }
   settled_session_is_core_session _ _ c (is_over a report wants what says) =
       let done = (told tells payload x h here a wants).report report what says in
@@ -92,15 +95,15 @@ module _ (tells : NextOfCoreSessions) (payload : List ℕ) (x : CoreHost) (h : H
       record {
         answer_is = ap (λ (t : HostOutcome). t.answer) e;
         is = subst (λ (t : HostOutcome). IsSessionOf NoSession t.session) (sym e) tt;
-        counted = subst (λ (t : HostOutcome). IsCountedIn t.session) (sym e) tt;
+        counted = subst (λ (t : HostOutcome). SessionIsCounted t.session) (sym e) tt;
       }
 
   -- A block of the session has a byte.
   pub sized : 0 < h.task.transfer
   sized = subst (λ (s : HostState). 0 < s.task.transfer) here.is here.held.stands.sound.transfers
 
--- Whatever the host hears, its session afterwards is the session in C, with the same report.
-pub host_outcome_is_core_session : (tells : NextOfCoreSessions) (payload : List ℕ) (x' : CoreHost) (h : HostState) (heard : Heard) (answer
+-- After any result that the host hears, its session is the session in C, with the same report.
+pub host_outcome_is_core_session : (tells : NextIsHostAction) (payload : List ℕ) (x' : CoreHost) (h : HostState) (heard : Heard) (answer
     : Answered) (s' : CoreSession)
     → 0 < h.task.transfer → KeptBytesAreCounted h.task h.phase → CoreHostMatches payload x' (after h heard) →
     SessionSettles payload x' answer s'

@@ -1,4 +1,4 @@
--- Operations of the copy of two areas on a board in C, as operations on the board for which it stands.
+-- Operations of the copy of two areas on a board in C, as operations on the board that it represents.
 use Rattle.std.specs.Prelude.{◌≡◌, pos, List, [], ◌∷◌}
 use Rattle.std.proofs.Common.{refl, sym, subst}
 use Rattle.dfu_slots.specs.Medium.{MediumState}
@@ -15,10 +15,13 @@ use Rattle.dfu_laws.proofs.in_c.Each.{power_outcome_starts_board}
 use Rattle.dfu_laws.proofs.in_c.Runs.{core_flash_is_board_flash}
 use Rattle.dfu_laws.proofs.in_c.Played.{core_board_is_one_board}
 
--- The board in C after the operations stands for a board after them.
+-- The board in C after the operations represents a board after them.
 pub record CopiedBoardOfCore (x : Board) (b' : CoreBoard) : Type 0 where
+  -- Board after the operations.
   pub board : Board
+  -- Operations led to it.
   pub copy : HomeCopy x board
+  -- The board in C represents it.
   pub is : IsBoardOfCore b' board
 
 pub core_home_copy_copies_board : (b b' : CoreBoard) (x : Board) → IsBoardOfCore b x → CoreHomeCopy b b' → CopiedBoardOfCore x b'

@@ -1,4 +1,4 @@
--- A board in C asks for writes as often as the board for which it stands.
+-- A board in C asks for writes as often as the board that it represents.
 use Rattle.std.specs.Prelude.{◌≡◌, ℕ, suc, zero, ◌+◌, ◌-◌, ◌/◌, ◌*◌, ◌≤◌, ◌<◌, ℤ, Bool, pos, List, [], ◌∷◌, length, Some, if◌then◌else◌}
 use Rattle.std.proofs.Common.{inl, inr, refl, sym, ap, ◌∙◌, subst, arith}
 use Rattle.std.proofs.Math.Nat.{le-div_iff_mul-le}
@@ -75,43 +75,43 @@ core_unanswered_is_unanswered c (CoreTook failed buffer) n out WritesDue told un
 
 -- Number of operations that a number of a call counts: 1 for DFU_WRITE_PENDING, and 0 for any other.
 
-refusal_number_no_operation : (e : Refusal) → operations_of_number (refusal_number e) ≡ 0
-refusal_number_no_operation refusal.NoConfig = refl
-refusal_number_no_operation refusal.NoBlock = refl
-refusal_number_no_operation refusal.Asked = refl
-refusal_number_no_operation refusal.NoMedium = refl
-refusal_number_no_operation refusal.NoDevice = refl
+refusal_number_is_no_operation : (e : Refusal) → operations_of_number (refusal_number e) ≡ 0
+refusal_number_is_no_operation refusal.NoConfig = refl
+refusal_number_is_no_operation refusal.NoBlock = refl
+refusal_number_is_no_operation refusal.Asked = refl
+refusal_number_is_no_operation refusal.NoMedium = refl
+refusal_number_is_no_operation refusal.NoDevice = refl
 
-refused_call_no_operation : (n : ℤ) → IsRefusalNumber n → operations_of_number n ≡ 0
-refused_call_no_operation n (inl is) = ap operations_of_number is
-refused_call_no_operation n (inr (inl is)) = ap operations_of_number is
-refused_call_no_operation n (inr (inr (e, is))) = ap operations_of_number is ∙ refusal_number_no_operation e
+refused_call_is_no_operation : (n : ℤ) → IsRefusalNumber n → operations_of_number n ≡ 0
+refused_call_is_no_operation n (inl is) = ap operations_of_number is
+refused_call_is_no_operation n (inr (inl is)) = ap operations_of_number is
+refused_call_is_no_operation n (inr (inr (e, is))) = ap operations_of_number is ∙ refusal_number_is_no_operation e
 
 refused_objection_no_operation : (n : ℤ) → ObjectionNumberTellsReply n Nothing → operations_of_number n ≡ 0
-refused_objection_no_operation n (inl is) = refused_call_no_operation n is
+refused_objection_no_operation n (inl is) = refused_call_is_no_operation n is
 refused_objection_no_operation n (inr (inl is)) = ap operations_of_number is
 refused_objection_no_operation n (inr (inr is)) = ap operations_of_number is
 
-answer_number_no_operation : (a : Answer) (count : ℕ) → operations_of_number (answer_number a count) ≡ 0
-answer_number_no_operation answer.Ack count = refl
-answer_number_no_operation answer.Bytes count = refl
-answer_number_no_operation answer.Stall count = refl
+answer_number_is_no_operation : (a : Answer) (count : ℕ) → operations_of_number (answer_number a count) ≡ 0
+answer_number_is_no_operation answer.Ack count = refl
+answer_number_is_no_operation answer.Bytes count = refl
+answer_number_is_no_operation answer.Stall count = refl
 
 call_number_counts_operation : (n : ℤ) (out : List ℕ) (says : BoardReply) → NumberTellsReply n out says → operations_of_number n
     ≡ operations_of says
-call_number_counts_operation n out Nothing told = refused_call_no_operation n told
+call_number_counts_operation n out Nothing told = refused_call_is_no_operation n told
 call_number_counts_operation n out WritesDue told = ap operations_of_number told
-call_number_counts_operation n out (Answers a bytes) told = ap operations_of_number told.1 ∙ answer_number_no_operation a told.0
+call_number_counts_operation n out (Answers a bytes) told = ap operations_of_number told.1 ∙ answer_number_is_no_operation a told.0
 
 time_number_counts_operation : (n : ℤ) (says : BoardReply) → TimeNumberTellsReply n says → operations_of_number n ≡ operations_of says
-time_number_counts_operation n Nothing told = refused_call_no_operation n told
+time_number_counts_operation n Nothing told = refused_call_is_no_operation n told
 time_number_counts_operation n WritesDue told = ap operations_of_number told
 time_number_counts_operation n (Answers a bytes) told = ap operations_of_number told
 
 objection_counts_operation : (n : ℤ) (says : BoardReply) → ObjectionNumberTellsReply n says → operations_of_number n ≡ operations_of says
 objection_counts_operation n Nothing told = refused_objection_no_operation n told
 objection_counts_operation n WritesDue told = elim told [ ]
-objection_counts_operation n (Answers a bytes) told = ap operations_of_number told.0 ∙ answer_number_no_operation a 0
+objection_counts_operation n (Answers a bytes) told = ap operations_of_number told.0 ∙ answer_number_is_no_operation a 0
 
 event_number_counts_operation : (e : CoreEvent) (n : ℤ) (out : List ℕ) (says : BoardReply) → EventNumberTellsReply e n out says
     → operations_of_number n ≡ operations_of says
@@ -130,12 +130,12 @@ event_number_counts_operation (CoreRestart begins) n out says told = ap operatio
 pending_number_is_of_asks : (r : Reply) (n : ℤ) → n ≡ WRITE_PENDING_NUMBER → n ≡ reply_number r → r ≡ reply.Asks
 pending_number_is_of_asks reply.Asks n asks is = refl
 pending_number_is_of_asks (reply.Answered a count) n asks is =
-    absurd (omega (arith, ap operations_of_number (sym asks ∙ is) ∙ answer_number_no_operation a count))
+    absurd (omega (arith, ap operations_of_number (sym asks ∙ is) ∙ answer_number_is_no_operation a count))
 
-refused_piece_no_operation : (b : CoreBoard) (Why : Asking → Type 0) (n : ℤ) → RefusesPiece b.config b.kept b.block Why n →
+refused_piece_is_no_operation : (b : CoreBoard) (Why : Asking → Type 0) (n : ℤ) → RefusesPiece b.config b.kept b.block Why n →
     operations_of_number n ≡ 0
-refused_piece_no_operation b Why n (device_is_not_found e is cause) = ap operations_of_number is ∙ refusal_number_no_operation e
-refused_piece_no_operation b Why n (piece_is_refused x is config room kept why) = ap operations_of_number is
+refused_piece_is_no_operation b Why n (device_is_not_found e is cause) = ap operations_of_number is ∙ refusal_number_is_no_operation e
+refused_piece_is_no_operation b Why n (piece_is_refused x is config room kept why) = ap operations_of_number is
 
 pending_number_is_an_operation : (n : ℤ) → n ≡ WRITE_PENDING_NUMBER → operations_of_number n ≡ 0 → ⊥
 pending_number_is_an_operation n asks none = absurd (omega (arith, ap operations_of_number asks, none))
@@ -161,7 +161,7 @@ core_step_advances_piece b b' x x' (CoreTook failed out) n out' WritesDue is is'
     core_record_pieces_advance b b' x x' g.before g.after g.does.reply is is' g.was now (pending_number_is_of_asks g.does.reply n told
     g.does.number_is) g.does.further
 core_step_advances_piece b b' x x' (CoreTook failed out) n out' WritesDue is is' (called, inr (inl denied)) told =
-    absurd (pending_number_is_an_operation n told (refused_piece_no_operation b _ n denied.0))
+    absurd (pending_number_is_an_operation n told (refused_piece_is_no_operation b _ n denied.0))
 core_step_advances_piece b b' x x' (CoreTook failed out) n out' WritesDue is is' (called, inr (inr denied)) told =
     absurd (pending_number_is_an_operation n told (ap operations_of_number denied.number_is))
 core_step_advances_piece b b' x x' (CoreTook failed out) n out' Nothing is is' happens told = tt

@@ -3,7 +3,7 @@ use Rattle.std.specs.Prelude.{◌≡◌, ℕ, ℤ, Bool, true, false, List, []}
 use Rattle.std.proofs.Common.{inl, inr, refl, sym, ap, ◌∙◌, subst, arith}
 use Rattle.dfu_device.specs.declared.answer.Answer.TheVariants as answer
 use Rattle.dfu_device.specs.Parts.{stage_of}
-use Rattle.dfu_device.specs.DeviceView.{powered_on}
+use Rattle.dfu_device.specs.DeviceView.{powered_on_device}
 use Rattle.dfu_asks.specs.declared.asking.Asking.{Asking}
 use Rattle.dfu_asks.specs.Mapped.{mapped_medium}
 use Rattle.dfu_asks.specs.Asks.{device_in, IsDevice}
@@ -12,7 +12,7 @@ use Rattle.dfu_laws.specs.board.Happens.{start_stage, BoardStarts, ObjectionServ
 use Rattle.dfu_core.specs.declared.config.DfuConfig.{DfuConfig}
 use Rattle.dfu_core.specs.declared.record.DfuRecord.{DfuRecord}
 use Rattle.dfu_asks.specs.Addressed.{addressed_setup}
-use Rattle.dfu_core.specs.RecordMeaning.{IsRecordOf, block_in_memory, tail_memory, with_memory}
+use Rattle.dfu_core.specs.RecordMeaning.{IsRecordOf, block_in_memory, held_memory, with_memory}
 use Rattle.dfu_core.specs.Writes.{ask_step}
 use Rattle.dfu_core.specs.Power.{PowerOutcome}
 use Rattle.dfu_core.specs.Idle.{IsIdleRecord}
@@ -25,9 +25,9 @@ use Rattle.dfu_core.specs.Happens.{KeepsConfigAndFlash, CoreFlashIsWritten, star
 use Rattle.dfu_laws.specs.in_c.Steps.{board_of_core, event_of_core, EventNumberTellsReply}
 use Rattle.dfu_laws.proofs.in_c.Same.{work_number_0_is_no_work}
 use Rattle.dfu_laws.proofs.in_c.Turned.{IsSoundCoreBoard, CoreStepIsBoardStep, sound_with_same_config, refused_call_is_board_step}
-use Rattle.dfu_laws.proofs.in_c.CallTurns.{handed_out_work_is_due, core_handle_is_board_step, core_elapse_is_board_step, core_reset_is_board_step, core_took_is_board_step, core_too_long_is_board_step, refused_setup_number}
+use Rattle.dfu_laws.proofs.in_c.CallTurns.{handed_out_work_is_due, core_handle_is_board_step, core_elapse_is_board_step, core_reset_is_board_step, core_took_is_board_step, core_too_long_is_board_step, refused_setup_is_refusal}
 
--- If a record in C takes the row of a refusal, the board for which it stands takes that row.
+-- If a record in C takes the row of a refusal, the board that it represents takes that row.
 record_refusal_is_board_refusal : (b : CoreBoard) (a : Asking) (e : CoreEvent) (cause : Cause) (x : Answer) (n : ℤ) (out' : List ℕ) (b' :
     CoreBoard)
     → IsSoundCoreBoard b a → KeepsConfigAndFlash b b' → b'.block ≡ b.block → IsIdleRecord b.config b.kept →
@@ -57,7 +57,7 @@ record_refusal_is_board_refusal b a e cause x n out' b' sound called block idle 
       told = told;
     }
 
--- dfu_core_refuse_close.
+-- dfu_core_refuse_close is a step of a board.
 core_refuse_close_is_board_step : (b : CoreBoard) (a : Asking) (setup : List ℕ) (status : ℕ) (n : ℤ) (out' : List ℕ) (b' : CoreBoard) →
     IsSoundCoreBoard b a
     → KeepsConfigAndFlash b b' → b'.block ≡ b.block → RefuseCloseOutcome b.config b.kept (addressed_setup b.config.interface setup) status
@@ -73,11 +73,11 @@ core_refuse_close_is_board_step b a setup status n out' b' sound called block (i
       | inl none ↦ inr (inl none.0)
       | inr refused ↦ elim refused [
         | inl other ↦ inr (inr other.0)
-        | inr early ↦ inl (refused_setup_number b n early)
+        | inr early ↦ inl (refused_setup_is_refusal b n early)
       ]
     ])
 
--- dfu_core_refuse.
+-- dfu_core_refuse is a step of a board.
 core_refuse_is_board_step : (b : CoreBoard) (a : Asking) (status : ℕ) (n : ℤ) (out' : List ℕ) (b' : CoreBoard) → IsSoundCoreBoard b a →
     KeepsConfigAndFlash b b'
     → b'.block ≡ b.block → RefuseOutcome b.config b.kept status n b'.kept → CoreStepIsBoardStep b a (CoreRefuse status) n out' b'
@@ -89,7 +89,7 @@ core_refuse_is_board_step b a status n out' b' sound called block (inr (kept, de
     refused_call_is_board_step b a _ n out' b' sound called.config called.flash kept block (λ same. same)
     (elim denied [
       | inl other ↦ inr (inr other.0)
-      | inr early ↦ inl (refused_setup_number b n early)
+      | inr early ↦ inl (refused_setup_is_refusal b n early)
     ])
 
 -- A write of the flash in C is a write of the board.
@@ -113,7 +113,7 @@ core_write_is_board_step b a n out' b' sound w =
           torn = w.torn;
           asking = refl;
           block = ap (λ (l : List ℕ). block_in_memory a l) w.block;
-          held = ap (λ (l : List ℕ). tail_memory a l) w.block;
+          held = ap (λ (l : List ℕ). held_memory a l) w.block;
         },
       );
       told = (w.handed.number_is, refl);
@@ -123,7 +123,7 @@ start_mode_has_start_stage : (begins : Bool) → stage_of (start_mode begins) []
 start_mode_has_start_stage true = refl
 start_mode_has_start_stage false = refl
 
--- A board in C that got power stands for a board that got power.
+-- A board in C that was powered on represents a board that was powered on.
 pub power_outcome_starts_board : (b : CoreBoard) (n : ℤ) (begins : Bool) → (p : PowerOutcome b.config (start_mode begins) b.flash n b.kept)
     → IsSoundCoreBoard b p.after × BoardStarts begins (board_of_core b p.after)
 power_outcome_starts_board b n begins p =
@@ -132,7 +132,7 @@ power_outcome_starts_board b n begins p =
       (
         record {
           begins = begins;
-          device = p.shows b.block ∙ (λ i. record (powered_on (sym p.is.set_up.config_is i) (mapped_medium (record {
+          device = p.shows b.block ∙ (λ i. record (powered_on_device (sym p.is.set_up.config_is i) (mapped_medium (record {
             unit = sym p.is.set_up.unit_is i;
             sector = sym p.is.set_up.sector_is i;
           }) b.flash)) { stage = start_mode_has_start_stage begins i });
@@ -143,7 +143,7 @@ power_outcome_starts_board b n begins p =
       ),
     )
 
--- dfu_core_power_on and dfu_core_begin.
+-- dfu_core_power_on and dfu_core_begin are steps of a board.
 core_restart_is_board_step : (b : CoreBoard) (a : Asking) (begins : Bool) (n : ℤ) (out' : List ℕ) (b' : CoreBoard) →
     KeepsConfigAndFlash b b'
     → PowerOutcome b.config (start_mode begins) b.flash n b'.kept → CoreStepIsBoardStep b a (CoreRestart begins) n out' b'
@@ -160,7 +160,7 @@ core_restart_is_board_step b a begins n out' b' called powers =
       told = (powers.number_is, refl);
     }
 
--- Each step of a board in C is a step of the board for which it stands.
+-- Each step of a board in C is a step of the board that it represents.
 pub core_step_is_board_step : (b : CoreBoard) (a : Asking) (e : CoreEvent) (n : ℤ) (out' : List ℕ) (b' : CoreBoard) → IsSoundCoreBoard b a
     → CoreEventOutcome b e n out' b' → CoreStepIsBoardStep b a e n out' b'
 core_step_is_board_step b a (CoreHandle setup body out) n out' b' sound is = core_handle_is_board_step b a setup body out n out' b' sound

@@ -11,15 +11,15 @@ use Rattle.dfu_device.specs.Table.{plan}
 use Rattle.dfu_device.specs.Outcome.{Outcome}
 use Rattle.dfu_device.specs.DeviceView.{DeviceView, profile}
 use Rattle.dfu_device.specs.Rows.{request_for_table, asked_length, ReplyAnswer, is_served, setup_plan, Handles, Cause, Row}
-use Rattle.dfu_device.specs.PlanOutcomes.{row_of, came}
-use Rattle.dfu_device.specs.Cases.{either_way}
+use Rattle.dfu_device.specs.PlanOutcomes.{row_follows_reading, came}
+use Rattle.dfu_device.specs.Cases.{holds_in_both_branches}
 use Rattle.dfu_device.specs.RowForms.{HoldsForEachReply, reply_of_plan, ReplyMatches, row_form, row_reply_matches_request}
 use Rattle.dfu_device.specs.History.{IsHistory, HistoryStep as TableRow}
 use Rattle.dfu_laws.specs.board.Board.{Event, Handle, BoardReply, Nothing, WritesDue, Answers as SaysAnswer, BoardStep}
 use Rattle.dfu_laws.specs.board.Refines.{EventRows, StepRows}
 use Rattle.dfu_laws.specs.in_c.ReplyKinds.{ReplyFitsRequest, ReplyFitsSetup, RepliesFitSetups}
 
--- One reply.
+-- Each kind of answer fits its request.
 
 stall_fits_request : (q : Request) (out : List ℕ) → ReplyFitsRequest q (SaysAnswer answer.Stall out)
 stall_fits_request (request.GetStatus len) out = tt
@@ -56,8 +56,8 @@ handled_answer_fits_setup w w' setup body a out h p q reads asks =
     let image = image_of w.slots in
     let r = request_for_table q body in
     let P : Reply → Type 0 = λ reply. ReplyMatches c.transfer reply r in
-    let x = came (setup_plan w p q body) (asked_length q) w a out w' (row_of p q setup body w a out w' reads asks h) in
-    let each = either_way (HoldsForEachReply P) (is_served p q body) _ _
+    let x = came (setup_plan w p q body) (asked_length q) w a out w' (row_follows_reading p q setup body w a out w' reads asks h) in
+    let each = holds_in_both_branches (HoldsForEachReply P) (is_served p q body) _ _
     (row_reply_matches_request c image w.stage r (plan c image w.stage r) (row_form c image w.stage r)) tt in
     answered_reply_fits_request c.transfer q body x.reply a out
     (subst P (ap (λ (o : Outcome). o.reply) x.same) (reply_of_plan P image (setup_plan w p q body) x.luck each)) x.answers
@@ -91,15 +91,19 @@ step_reply_fits_setup (Handle setup body) Nothing due due' rows d d' tells h = �
 step_reply_fits_setup (Handle setup body) WritesDue due due' rows d d' tells h = λ p q reads asks. writes_due_fit_request q
 step_reply_fits_setup e says due due' rows d d' tells h = tt
 
+-- A history in two parts, with the device between them.
 record HistoryParts (d : DeviceView) (xs ys : List TableRow) (d' : DeviceView) : Type 0 where
+  -- Device between the parts.
   mid : DeviceView
+  -- The first rows lead to it.
   first : IsHistory d xs mid
+  -- The other rows lead on from it.
   second : IsHistory mid ys d'
 
-history_parts : (d : DeviceView) (xs ys : List TableRow) (d' : DeviceView) → IsHistory d (xs ++ ys) d' → HistoryParts d xs ys d'
-history_parts d [] ys d' h = record { mid = d; first = refl; second = h }
-history_parts d (x ∷ xs) ys d' h =
-    let more = history_parts x.after xs ys d' h.2 in
+history_has_parts : (d : DeviceView) (xs ys : List TableRow) (d' : DeviceView) → IsHistory d (xs ++ ys) d' → HistoryParts d xs ys d'
+history_has_parts d [] ys d' h = record { mid = d; first = refl; second = h }
+history_has_parts d (x ∷ xs) ys d' h =
+    let more = history_has_parts x.after xs ys d' h.2 in
     record { mid = more.mid; first = (h.0, h.1, more.first); second = more.second }
 
 -- Each reply of a run to a setup fits the request of the setup.
@@ -108,7 +112,7 @@ pub run_replies_fit_setups : (steps : List BoardStep) (due due' : Option Cause) 
     → IsHistory d rows d' → RepliesFitSetups steps
 run_replies_fit_setups [] due due' rows d d' tells h = tt
 run_replies_fit_setups (s ∷ rest) due due' rows d d' (first, later, mid, are, t, more) h =
-    let parts = history_parts d first later d' (subst (λ (l : List TableRow). IsHistory d l d') are h) in (
+    let parts = history_has_parts d first later d' (subst (λ (l : List TableRow). IsHistory d l d') are h) in (
       step_reply_fits_setup s.event s.says due mid first d parts.mid t parts.first,
       run_replies_fit_setups rest mid due' later parts.mid d'
           more parts.second,

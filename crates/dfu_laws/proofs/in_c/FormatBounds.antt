@@ -12,16 +12,16 @@ use Rattle.dfu_asks.specs.declared.formatting.FormatStep.TheVariants.{CloseSecon
 use Rattle.dfu_asks.specs.Steps.{Step, write_anew_steps, open_steps, close_step}
 use Rattle.dfu_asks.specs.Phases.{piece_steps, image_steps, format_steps_from}
 use Rattle.dfu_laws.specs.in_c.FormatCounts.{format_erases, format_programs}
-use Rattle.dfu_laws.proofs.board.Pieces.{below_or_not}
-use Rattle.dfu_laws.proofs.board.Counting.{piece_count, count_append, erases_for_write, write_anew_count_bound, erases_of_joined_ranges, bytes_of_sectors, bytes_of_sectors_add, sectors_that_fit, sector_erases_bound}
-use Rattle.dfu_laws.proofs.board.Bounds.{number_of_flag, header_unit_at_most_256, gate_unit_length_at_most_256, gate_close_is_one_piece, unit_write_pieces_bound, false_takes_else, erased_with_sectors}
+use Rattle.dfu_laws.proofs.board.Pieces.{below_or_at_least}
+use Rattle.dfu_laws.proofs.board.Counting.{piece_count, piece_count_of_append, erases_for_write, write_anew_count_bound, erases_of_joined_ranges, bytes_of_sectors, bytes_of_sectors_add, sectors_that_fit, sector_erases_bound}
+use Rattle.dfu_laws.proofs.board.Bounds.{number_of_flag, header_unit_at_most_256, gate_unit_length_at_most_256, gate_close_is_one_piece, unit_write_pieces_bound, choice_takes_second, write_erases_its_sectors}
 
 -- The image is written 4096 bytes at a time.
 
 -- The erases of a range are as many as those of its two parts together, with sectors or without.
-erased_of_joined_ranges : (s a b at : ℕ) → length (erases_for_write s at (a + b))
+write_erases_of_joined_ranges : (s a b at : ℕ) → length (erases_for_write s at (a + b))
     ≡ length (erases_for_write s at a) + length (erases_for_write s (at + a) b)
-erased_of_joined_ranges s a b at = by_test (s == 0)
+write_erases_of_joined_ranges s a b at = by_test (s == 0)
   where
     by_test : (t : Bool) → length (if t then [] else sector_erases s at (a + b))
         ≡ length (if t then [] else sector_erases s at a) + length (if t then [] else sector_erases s (at + a) b)
@@ -39,13 +39,13 @@ pieces_of_4096_count_bound sector (suc n) at (x ∷ xs) =
     let back : List ℕ = drop 4096 bytes in
     let here = length-take 4096 bytes in
     let there = length-drop 4096 bytes in
-    elim (below_or_not (length bytes) 4096) [
+    elim (below_or_at_least (length bytes) 4096) [
       | inl low ↦
           let a : length front ≡ length bytes = omega (arith, here, low) in
           let b : length back ≡ 0 = omega (arith, there, low) in
           omega (
             arith,
-            count_append (write_anew_steps sector at front) (piece_steps sector n (at + 4096) back),
+            piece_count_of_append (write_anew_steps sector at front) (piece_steps sector n (at + 4096) back),
             write_anew_count_bound sector at front,
             pieces_of_4096_count_bound sector n (at + 4096) back,
             a,
@@ -59,14 +59,14 @@ pieces_of_4096_count_bound sector (suc n) at (x ∷ xs) =
           let e : 4096 + length back ≡ length bytes = omega (arith, there, high) in
           omega (
             arith,
-            count_append (write_anew_steps sector at front) (piece_steps sector n (at + 4096) back),
+            piece_count_of_append (write_anew_steps sector at front) (piece_steps sector n (at + 4096) back),
             write_anew_count_bound sector at front,
             pieces_of_4096_count_bound sector n (at + 4096) back,
             a,
             e,
             ap (λ (i : ℕ). length (erases_for_write sector at i)) a,
             ap (λ (i : ℕ). length (erases_for_write sector at i)) e,
-            erased_of_joined_ranges sector 4096 (length back) at,
+            write_erases_of_joined_ranges sector 4096 (length back) at,
           )
     ]
   where
@@ -77,13 +77,14 @@ pieces_of_4096_count_bound sector (suc n) at (x ∷ xs) =
         by_test true = refl
         by_test false = refl
 
--- Sectors.
+-- Sectors that an image needs.
 
--- Whole sectors are whole pages of 256 bytes, and whole pages are whole units.
+-- Whole sectors are whole pages of 256 bytes, if one sector is.
 sectors_are_whole_pages : (s q : ℕ) → s % 256 ≡ 0 → bytes_of_sectors s q % 256 ≡ 0
 sectors_are_whole_pages s zero pages = refl
 sectors_are_whole_pages s (suc q) pages = omega (arith, pages, sectors_are_whole_pages s q pages)
 
+-- Whole pages of 256 bytes are whole units.
 pages_are_whole_units : (u : WriteUnit) (n : ℕ) → n % 256 ≡ 0 → n % unit_size u ≡ 0
 pages_are_whole_units Byte n pages = omega arith
 pages_are_whole_units _ n pages = omega (arith, pages)
@@ -92,14 +93,14 @@ pages_are_whole_units _ n pages = omega (arith, pages)
 begun_sectors_hold_bytes : (s n : ℕ) → 0 < s → n ≤ bytes_of_sectors s ((n + s - 1) / s)
 begun_sectors_hold_bytes s n some =
     let q = (n + s - 1) / s in
-    elim (below_or_not (n + s - 1) (bytes_of_sectors s (suc q))) [
+    elim (below_or_at_least (n + s - 1) (bytes_of_sectors s (suc q))) [
       | inl low ↦ omega (arith, low)
       | inr high ↦ absurd (omega (arith, sectors_that_fit s (suc q) (n + s - 1) some high))
     ]
 
 -- In n bytes at most as many sectors begin as hold n bytes.
 begun_sectors_at_most_holding : (s c q n : ℕ) → 0 < s → n ≤ bytes_of_sectors s q → bytes_of_sectors s c ≤ n + s - 1 → c ≤ q
-begun_sectors_at_most_holding s c q n some hold le = elim (below_or_not q c) [
+begun_sectors_at_most_holding s c q n some hold le = elim (below_or_at_least q c) [
   | inl more ↦
       let d = c - suc q in
       let e : c ≡ suc q + d = omega (arith, more) in
@@ -113,14 +114,17 @@ filled_image_has_no_more_pages u image =
     let n = (length image + 255) / 256 * 256 in
     omega (arith, filled_bytes_within u n image (pages_are_whole_units u n (omega arith)) (omega arith))
 
--- All parts of a format.
+-- Pieces of all parts of a format.
 module _ (u : WriteUnit) (sector size crc : ℕ) (image : List ℕ) (pages : sector % 256 ≡ 0) where
+  -- Units and sectors of the flash.
   abbrev w : Grain
   w = record { unit = u; sector = sector }
 
+  -- The image, filled up to whole units.
   abbrev units : List ℕ
   units = filled_units u image
 
+  -- Place of the data of the first slot.
   abbrev data_at : ℕ
   data_at = 2 * gate_room w + 0
 
@@ -144,13 +148,14 @@ module _ (u : WriteUnit) (sector size crc : ℕ) (image : List ℕ) (pages : sec
       let wide : 0 < sector → 256 ≤ sector = λ some. omega (arith, some, pages) in
       omega (
         arith,
-        count_append (write_anew_steps sector (0 + gate_room w) head) (write_anew_steps sector 0 gate),
+        piece_count_of_append (write_anew_steps sector (0 + gate_room w) head) (write_anew_steps sector 0 gate),
         write_anew_count_bound sector (0 + gate_room w) head,
         write_anew_count_bound sector 0 gate,
         unit_write_pieces_bound sector (0 + gate_room w) (length head) wide (header_unit_at_most_256 u 0 (length image) crc),
         unit_write_pieces_bound sector 0 (length gate) wide (gate_unit_length_at_most_256 u OPEN),
       )
 
+  -- The steps of a format have at most the pieces of two gate closes, of the image, and of an open.
   all_count : piece_count (format_steps_from w size image crc CloseSecond)
       ≤ 2 + (length (erases_for_write sector data_at (length units)) + (length units + 255) / 256)
       + ((number_of_flag (not (sector == 0)) + 1) + (number_of_flag (not (sector == 0)) + 1))
@@ -160,9 +165,9 @@ module _ (u : WriteUnit) (sector size crc : ℕ) (image : List ℕ) (pages : sec
       let first : List Step = close_step w 0 ∷ [] in
       omega (
         arith,
-        count_append second (first ++ rest),
-        count_append first rest,
-        count_append (image_steps w image 0) (open_steps w 0 0 (length image) crc),
+        piece_count_of_append second (first ++ rest),
+        piece_count_of_append first rest,
+        piece_count_of_append (image_steps w image 0) (open_steps w 0 0 (length image) crc),
         gate_close_is_one_piece u sector size,
         gate_close_is_one_piece u sector 0,
         format_image_count_bound,
@@ -181,7 +186,7 @@ format_image_erases_bound u k at image pages =
     q) (sectors_are_whole_pages s q pages))
     (begun_sectors_hold_bytes s (length image) some) in
     let le : bytes_of_sectors s (length (sector_erases s at n)) ≤ n + s - 1 = omega (arith, sector_erases_bound s some n at) in
-    omega (arith, erased_with_sectors s at n on, begun_sectors_at_most_holding s (length (sector_erases s at n)) q n some hold le)
+    omega (arith, write_erases_its_sectors s at n on, begun_sectors_at_most_holding s (length (sector_erases s at n)) q n some hold le)
 
 -- A format has at most `format_erases` plus `format_programs` pieces.
 pub format_pieces_bound : (u : WriteUnit) (sector size crc : ℕ) (image : List ℕ) → sector % 256 ≡ 0
@@ -196,7 +201,7 @@ format_pieces_bound u (suc k) size crc image pages =
       filled_image_has_no_more_pages u image,
       format_image_erases_bound u k (data_at u (suc k) size crc image pages) image pages,
       ap (λ (b : Bool). number_of_flag (not b)) on,
-      false_takes_else (suc k == 0) on (4 + (length image + suc k - 1) / suc k),
+      choice_takes_second (suc k == 0) on (4 + (length image + suc k - 1) / suc k),
       fewer (suc k == 0) on,
     )
   where

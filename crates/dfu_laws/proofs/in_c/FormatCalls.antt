@@ -16,7 +16,7 @@ use Rattle.dfu_asks.specs.declared.formatting.FormatProgress.TheVariants as form
 use Rattle.dfu_asks.specs.Mapped.{mapped_medium}
 use Rattle.dfu_asks.specs.Carried.{IsStepPiece}
 use Rattle.dfu_asks.specs.Phases.{format_grain, remaining_steps}
-use Rattle.dfu_asks.specs.Formats.{FormatPending, FormatOutcome, FormatPieceReported, format_piece_stood, format_piece_failed, format_piece_not_on_flash}
+use Rattle.dfu_asks.specs.Formats.{FormatPending, FormatOutcome, FormatPieceReported, format_piece_on_flash, format_piece_failed, format_piece_not_on_flash}
 use Rattle.dfu_core.specs.declared.config.DfuConfig.{DfuConfig}
 use Rattle.dfu_core.specs.declared.record.DfuRecord.{DfuRecord}
 use Rattle.dfu_core.specs.Config.{config_grain, IsConfig}
@@ -28,8 +28,9 @@ use Rattle.dfu_laws.specs.in_c.FormatCalls.{FormatPieceResult, IsBeingFormatted,
 use Rattle.dfu_laws.proofs.in_c.Same.{sector_of_size_is_one}
 use Rattle.dfu_laws.proofs.in_c.Runs.{sized_medium_below_2_32}
 
--- A record stands for at most one format.
+-- A record represents at most one format.
 
+-- Phase of a format that the numbers of its record have.
 format_phase_at : (n from : ℕ) → FormatStep
 format_phase_at n from =
     if n == 0 then format_step.CloseSecond else if n == 1 then format_step.CloseFirst else if n == 2 then format_step.Image from
@@ -58,11 +59,17 @@ record_is_one_format c r f g h k = λ i. record {
 
 -- The record is a format of the image, and asks for its next write on the flash.
 pub record IsFormatAsking (c : DfuConfig) (image flash : List ℕ) (r : DfuRecord) : Type 0 where
+  -- The configuration is one of a device.
   pub config : IsConfig c
+  -- Format of the record.
   pub format : Formatting
+  -- The record is this format.
   pub is : IsFormatRecord c r format
+  -- Bytes of the flash before the format.
   pub was : List ℕ
+  -- The format asks for its next write.
   pub asks : FormatPending format image was flash
+  -- The flash has kept its length.
   pub size : length was ≡ length flash
 
 pub format_grain_is_config_grain : (c : DfuConfig) (r : DfuRecord) (f : Formatting) → IsFormatRecord c r f → format_grain f ≡ config_grain c
@@ -82,7 +89,7 @@ zero_number_means_formatted (format_progress.Broken why) e = absurd (cc)
 unbroken_piece_has_outcome : (f f' : Formatting) (image was flash : List ℕ) (p : Write) (failed : Bool) (came : FormatProgress)
     → FormatPieceReported f f' image was flash p failed came → ((why : WriteFault) → came ≢ format_progress.Broken why)
     → FormatOutcome (format_grain f) f' image was flash came
-unbroken_piece_has_outcome f f' image was flash p failed came (format_piece_stood r fine there comes) whole = comes
+unbroken_piece_has_outcome f f' image was flash p failed came (format_piece_on_flash r fine there comes) whole = comes
 unbroken_piece_has_outcome f f' image was flash p failed _ (format_piece_failed fails broken) whole = absurd (whole Failed refl)
 unbroken_piece_has_outcome f f' image was flash p failed _ (format_piece_not_on_flash fine lies broken) whole = absurd (whole NotVerified
     refl)
@@ -137,7 +144,7 @@ format_under_way_asks c image flash r (begins s) = record {
 format_under_way_asks c image flash' r' (goes_on {flash = flash} {n = n} {r = r} before t e) =
     piece_leaves_format_asking c image flash flash' r r' n (format_under_way_asks c image flash r before) t e
 
--- A format that ended made its image the active one.
+-- A format that ended made its image active.
 pub ended_format_activates_image : EndedFormatActivatesImage
 ended_format_activates_image c image flash flash' r r' n f t e =
     let a = format_under_way_asks c image flash r f in

@@ -10,7 +10,7 @@ use Rattle.dfu_asks.specs.Carried.{total, IsStepPiece}
 use Rattle.dfu_asks.specs.Phases.{format_steps, format_grain, remaining_steps, steps_of_part}
 use Rattle.dfu_asks.specs.Formats.{medium_of_format, FormatPending}
 use Rattle.dfu_asks.specs.FormatFurther.{FormatAdvancedBy}
-use Rattle.dfu_asks.proofs.FormatGoing.{piece_in_part_left}
+use Rattle.dfu_asks.proofs.FormatGoing.{part_piece_remains}
 use Rattle.dfu_core.specs.declared.config.DfuConfig.{DfuConfig}
 use Rattle.dfu_core.specs.declared.record.DfuRecord.{DfuRecord}
 use Rattle.dfu_core.specs.Config.{config_grain}
@@ -18,7 +18,7 @@ use Rattle.dfu_core.specs.Writes.{ask_step}
 use Rattle.dfu_laws.specs.in_c.FormatCalls.{IsBeingFormatted, begins, goes_on}
 use Rattle.dfu_laws.specs.in_c.FormatCounts.{format_erases, format_programs, format_operation_count, FormatOperationsBounded}
 use Rattle.dfu_laws.proofs.board.Pieces.{series_has_next_piece}
-use Rattle.dfu_laws.proofs.board.Counting.{count_behind_bytes, piece_count, count_append, count_behind_at_most_count, no_parts_of_no_bytes, one_piece_fewer_behind}
+use Rattle.dfu_laws.proofs.board.Counting.{count_behind_bytes, piece_count, piece_count_of_append, count_behind_at_most_count, no_parts_of_no_bytes, one_piece_fewer_behind}
 use Rattle.dfu_laws.proofs.in_c.FormatBounds.{format_pieces_bound}
 use Rattle.dfu_laws.proofs.in_c.FormatCalls.{format_under_way_asks, record_is_one_format, format_grain_is_config_grain, pending_number_means_asks}
 
@@ -38,6 +38,7 @@ count_behind_first_steps (x ∷ xs) ys n k e =
 abbrev format_pieces_left : Formatting → ℕ → List ℕ → ℕ
 format_pieces_left f size image = count_behind_bytes (remaining_steps f size image) f.done
 
+-- The most pieces of a format of an image.
 abbrev format_piece_bound : DfuConfig → List ℕ → ℕ
 format_piece_bound c image = format_erases (length image) c.sector + format_programs (length image) c.sector
 
@@ -48,11 +49,11 @@ due_format_has_piece_left f image was flash asks =
     let x = series_has_next_piece (steps_of_part f (length was) image) f.done asks.left in
     omega (
       arith,
-      one_piece_fewer_behind (remaining_steps f (length was) image) f.done x.0 (piece_in_part_left f (length was) image f.done
+      one_piece_fewer_behind (remaining_steps f (length was) image) f.done x.0 (part_piece_remains f (length was) image f.done
           x.0 x.1),
     )
 
--- At first at most all pieces of the format are left.
+-- When a format starts, at most all of its pieces are left.
 pieces_left_at_first : (c : DfuConfig) (f : Formatting) (image flash : List ℕ) → format_grain f ≡ config_grain c
     → FormatPending f image flash flash → format_pieces_left f (length flash) image ≤ format_piece_bound c image
 pieces_left_at_first c f image flash grain asks =
@@ -64,7 +65,7 @@ pieces_left_at_first c f image flash grain asks =
     omega (
       arith,
       count_behind_at_most_count left f.done,
-      count_append asks.way.front left,
+      piece_count_of_append asks.way.front left,
       ap (λ (ss : List Step). piece_count ss) asks.way.series,
       all,
       ap (λ (g : Grain). bound g) grain,
@@ -82,7 +83,7 @@ piece_leaves_one_fewer f f' size image p piece on =
       count_behind_first_steps on.front (remaining_steps f' size image) (f.done + length p.write.bytes) f'.done on.place,
     )
 
--- The times that a format has asked and the pieces that are left are together at most one more than all pieces.
+-- Times that a format has asked, plus pieces that are left, are at most one more than all pieces.
 asked_and_left_pieces_bound : (c : DfuConfig) (image flash : List ℕ) (r : DfuRecord) (f : IsBeingFormatted c image flash r)
     → format_operation_count c image flash r f + format_pieces_left (format_under_way_asks c image flash r f).format (length flash) image ≤
     1 + format_piece_bound c image

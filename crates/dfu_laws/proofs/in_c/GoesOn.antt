@@ -1,4 +1,4 @@
--- Sessions with a board in C go on as sessions with a board do.
+-- Sessions with a board in C continue as sessions with a board do.
 use Rattle.std.specs.Prelude.{◌≡◌, ℕ, List, [], ◌∷◌, ◌++◌, Option, pos}
 use Rattle.std.proofs.Common.{refl, sym, ap, ◌∙◌, subst}
 use Rattle.std.proofs.lemmas.List.{append-nil}
@@ -13,7 +13,7 @@ use Rattle.dfu_sim.specs.LinkView.{Session, NoLiveSession, HostSession}
 use Rattle.dfu_laws.specs.board.Board.{state_on, BoardStep}
 use Rattle.dfu_laws.specs.link.LinkSteps.{marks}
 use Rattle.dfu_laws.specs.link.Trials.{TrialMayEnd}
-use Rattle.dfu_laws.specs.link.Plays.{BoardPlays, starts as begins, offers as offers_on, uploads as uploads_on, aborts as gives_up, goes_on as comes_next, ends as trial_ends, copies as home_copy_comes}
+use Rattle.dfu_laws.specs.link.Plays.{BoardPlays, starts as begins, offers as event_offers_were_offered, uploads as uploads_on, aborts as abort_moves_host, goes_on as comes_next, ends as trial_ends, copies as home_copy_comes}
 use Rattle.dfu_core.specs.Board.{CoreBoard}
 use Rattle.dfu_laws.specs.in_c.Steps.{CoreStep, board_of_core, IsBoardOfCore, AreBoardStepsOf}
 use Rattle.dfu_laws.specs.in_c.Marks.{no_core_mark_or_end}
@@ -48,7 +48,7 @@ core_plays_with_other_session {mine = mine} {theirs = theirs} p same plays = rec
   plays = plays;
 }
 
--- Sessions with a board in C go on.
+-- Sessions with a board in C continue.
 pub core_plays_continue : CorePlaysContinue
 core_plays_continue = record {
   starts = λ b on.
@@ -68,11 +68,11 @@ core_plays_continue = record {
   offers = λ b steps past back last l purpose payload limits p none some. core_plays_with_other_session p
       (ap (λ (s : Setting). HostSession (host_for_goal s.functional (goal_of_purpose purpose payload) limits))
       p.is_link.board.kept.set_up.config_is)
-      (offers_on purpose payload limits p.plays (p.is_link.session ∙ none) some);
+      (event_offers_were_offered purpose payload limits p.plays (p.is_link.session ∙ none) some);
   uploads = λ b steps past back last l limits p none. core_plays_with_other_session p
       (ap (λ (s : Setting). HostSession (host_for_goal s.functional FetchGoal limits)) p.is_link.board.kept.set_up.config_is)
       (uploads_on limits p.plays (p.is_link.session ∙ none));
-  aborts = λ b steps past back last l h p live. core_plays_with_other_session p refl (gives_up p.plays (p.is_link.session ∙ live));
+  aborts = λ b steps past back last l h p live. core_plays_with_other_session p refl (abort_moves_host p.plays (p.is_link.session ∙ live));
   goes_on = λ b steps more past back last l l' answer p c. record {
     run = core_run_with_marks_append b l.board l'.board steps more p.run c.run;
     first = p.first;

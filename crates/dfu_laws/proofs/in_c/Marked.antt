@@ -1,4 +1,4 @@
--- Marks and ends of trials on a board in C, as marks and ends on the board for which it stands.
+-- Marks and ends of trials on a board in C, as marks and ends on the board that it represents.
 use Rattle.std.specs.Prelude.{◌≡◌, pos, Bool, List, [], ◌∷◌, ◌++◌}
 use Rattle.std.proofs.Common.{refl, sym, ap, subst}
 use Rattle.dfu_slots.specs.Medium.{MediumState}
@@ -15,10 +15,13 @@ use Rattle.dfu_laws.proofs.in_c.Same.{same_config_same_setup}
 use Rattle.dfu_laws.proofs.in_c.Each.{power_outcome_starts_board}
 use Rattle.dfu_laws.proofs.in_c.Runs.{core_flash_is_board_flash}
 
--- The board in C after a mark stands for a board after a mark.
+-- The board in C after a mark represents a board after a mark.
 pub record MarkedBoardOfCore (x : Board) (b' : CoreBoard) : Type 0 where
+  -- Board after the mark.
   pub board : Board
+  -- The board in C represents it.
   pub is : IsBoardOfCore b' board
+  -- A mark led to it.
   pub mark : IsMarkedBoard x board
 
 pub core_mark_marks_board : (b b' : CoreBoard) (x : Board) → IsBoardOfCore b x → IsMarkedCoreBoard b b' → MarkedBoardOfCore x b'
@@ -39,10 +42,13 @@ core_mark_marks_board b b' x is mark =
       };
     })
 
--- The board in C after the end of a trial stands for a board after the end of a trial.
+-- The board in C after the end of a trial represents a board after the end of a trial.
 pub record EndedBoardOfCore (x : Board) (begins : Bool) (b' : CoreBoard) : Type 0 where
+  -- Board after the end of the trial.
   pub board : Board
+  -- The board in C represents it.
   pub is : IsBoardOfCore b' board
+  -- The end of a trial led to it.
   pub end : TrialEnd x begins board
 
 pub core_trial_end_ends_board : (b b' : CoreBoard) (begins : Bool) (x : Board) → IsBoardOfCore b x → CoreTrialEnd b begins b' →

@@ -21,21 +21,23 @@ use Rattle.dfu_laws.proofs.in_c.Same.{record_is_one_device}
 use Rattle.dfu_laws.proofs.in_c.Each.{power_outcome_starts_board}
 use Rattle.dfu_laws.proofs.in_c.Runs.{core_flash_is_board_flash}
 
--- A board in C stands for at most one board.
+-- A board in C represents at most one board.
 pub core_board_is_one_board : (b : CoreBoard) (x y : Board) → IsBoardOfCore b x → IsBoardOfCore b y → x ≡ y
 core_board_is_one_board b x y h k =
     h.is ∙ ap (λ (a : Asking). board_of_core b a) (record_is_one_device b.config b.kept x.asking y.asking h.kept k.kept) ∙ sym k.is
 
--- A link to a board in C stands for at most one link.
+-- A link to a board in C represents at most one link.
 core_link_is_one_link : (l : CoreLink) (x y : BoardLink) → IsLinkOf l x → IsLinkOf l y → x ≡ y
 core_link_is_one_link l x y h k = λ i. record {
   board = core_board_is_one_board l.board x.board y.board h.board k.board i;
   session = (h.session ∙ sym k.session) i;
 }
 
--- A board in C that just got power stands for a board that just got power, with a transfer size over 0.
+-- A board in C that was just powered on represents a board that was just powered on, with a transfer size over 0.
 record IsOnWithTransferSize (x : Board) : Type 0 where
+  -- The board was just powered on.
   on : IsPoweredOn x
+  -- The transfer size is over 0.
   sized : 0 < x.asking.config.functional.transfer
 
 core_on_is_board_on : (b : CoreBoard) (x : Board) → IsCorePoweredOn b → IsBoardOfCore b x → IsOnWithTransferSize x
@@ -58,7 +60,7 @@ board_image_known_in_core : (b : CoreBoard) (x : Board) (image : List ℕ) (past
 board_image_known_in_core b x image past back now is known =
     subst (λ (m : MediumState). WasThereAtFirst m image back now ⊎ IsOneOf now past) (core_flash_is_board_flash b x is) known
 
--- The next event in C comes to the board for which the sessions so far stand.
+-- The next event in C happens to the board that the sessions so far represent.
 pub event_comes_to_board : (b : CoreBoard) (steps more : List CoreStep) (past back : List (List ℕ)) (last : Option (List ℕ))
     (l l' : CoreLink)
     (answer : Answered) → (p : CorePlays b steps past back last l) → (c : CoreLinkStep l more answer l')
@@ -101,28 +103,33 @@ core_active_image_is_known knows b steps past back last l image on active p =
       known = board_image_known_in_core b p.first image past back x.now p.is_first x.known;
     }
 
--- Each step of an event.
+-- The active image at each step of an event.
 
 -- The first steps in C are the first steps of the board.
 record FirstStepsOf (front : List CoreStep) (ts : List BoardStep) : Type 0 where
+  -- First steps of the board.
   first : List BoardStep
+  -- Its other steps.
   later : List BoardStep
+  -- The steps of the board are these two parts.
   are : ts ≡ first ++ later
+  -- The first steps in C are its first steps.
   steps : AreBoardStepsOf front first
 
-first_steps_in_c : (front rest : List CoreStep) (ts : List BoardStep) → AreBoardStepsOf (front ++ rest) ts → FirstStepsOf front ts
-first_steps_in_c [] rest ts are = record { first = []; later = ts; are = refl; steps = tt }
-first_steps_in_c (s ∷ front) rest (t ∷ ts) are =
-    let more = first_steps_in_c front rest ts are.1 in
+first_c_steps_are_board_steps : (front rest : List CoreStep) (ts : List BoardStep) → AreBoardStepsOf (front ++ rest) ts
+    → FirstStepsOf front ts
+first_c_steps_are_board_steps [] rest ts are = record { first = []; later = ts; are = refl; steps = tt }
+first_c_steps_are_board_steps (s ∷ front) rest (t ∷ ts) are =
+    let more = first_c_steps_are_board_steps front rest ts are.1 in
     record {
       first = t ∷ more.first;
       later = more.later;
       are = ap (λ (l : List BoardStep). t ∷ l) more.are;
       steps = (are.0, more.steps);
     }
-first_steps_in_c (s ∷ front) rest [] are = absurd are
+first_c_steps_are_board_steps (s ∷ front) rest [] are = absurd are
 
--- The first steps of the board lead to the board for which the board in C stands then.
+-- The first steps of the board lead to the board that the board in C represents then.
 core_steps_lead_to_board : (steps : List CoreStep) (ts : List BoardStep) (b mid : CoreBoard) (x y : Board) → IsBoardOfCore b x →
     AreBoardStepsOf steps ts
     → IsCoreRun b steps mid → IsRun x ts y → IsBoardOfCore mid y
@@ -138,7 +145,7 @@ pub core_active_image_known_within : ActiveImageIsKnownWithin → CoreActiveImag
 core_active_image_known_within knows b mid steps front rest past back last l l' answer image on active p c run =
     let start = core_on_is_board_on b p.first on p.is_first in
     let first = subst (λ (m : MediumState). Active m image) (sym (core_flash_is_board_flash b p.first p.is_first)) active in
-    let f = first_steps_in_c front rest c.calls c.are in
+    let f = first_c_steps_are_board_steps front rest c.calls c.are in
     let comes = subst (λ (ts : List BoardStep). BoardLinkStep p.link ts answer c.after) f.are
     (event_comes_to_board b steps (front ++ rest) past back last l l' answer p c) in
     let part = first_steps_are_run p.link.board c.after.board f.first f.later

@@ -30,22 +30,28 @@ use Rattle.dfu_laws.proofs.in_c.Each.{power_outcome_starts_board, core_step_is_b
 
 -- The steps lead from a board in C with the device a to a board in C with another device, and are a run of boards.
 pub record CoreRunOutcome (b : CoreBoard) (a : Asking) (steps : List CoreStep) (b' : CoreBoard) : Type 0 where
+  -- The configuration stays.
   pub config : b'.config ≡ b.config
+  -- Device at the end.
   pub last : Asking
+  -- The board in C is sound with it.
   pub sound : IsSoundCoreBoard b' last
+  -- Steps of the board.
   pub run : List BoardStep
+  -- The steps lead from board to board.
   pub is_run : IsRun (board_of_core b a) run (board_of_core b' last)
+  -- The steps in C are these steps.
   pub are : AreBoardStepsOf steps run
 
 sound_core_board_is_board : (b : CoreBoard) (a : Asking) → IsSoundCoreBoard b a → IsBoardOfCore b (board_of_core b a)
 sound_core_board_is_board b a sound = record { kept = sound.kept; is = refl }
 
--- The flash of a board in C is the flash of the board for which it stands.
+-- The flash of a board in C is the flash of the board that it represents.
 pub core_flash_is_board_flash : (b : CoreBoard) (x : Board) → IsBoardOfCore b x → medium_on x ≡ medium_of_core b
 core_flash_is_board_flash b x is = λ i. mapped_medium (record { unit = is.kept.set_up.unit_is i; sector = is.kept.set_up.sector_is i })
     (is.is i).flash
 
--- The state of a board in C is the state of the board for which it stands.
+-- The state of a board in C is the state of the board that it represents.
 pub core_state_is_board_state : (b : CoreBoard) (x : Board) (state : State) → IsBoardOfCore b x → HasBoardState b state → state_on x ≡ state
 core_state_is_board_state b x state at is =
     ap (λ (m : DeviceState). state_of (stage_of m [] [])) (record_has_one_mode b.kept x.asking.mode is.mode at.kept.mode is.has_mode)
@@ -158,20 +164,21 @@ core_image_stays_in_run stays b mid b' old steps image state on before is other 
     }
 
 -- Only dfu_core_begin is the event that begins.
-core_event_that_begins : (c : DfuConfig) (e : CoreEvent) → event_of_core c e ≡ Restart true → e ≡ CoreRestart true
-core_event_that_begins c (CoreRestart begins) same = ap CoreRestart (ap event_begins_for_host same)
+only_core_begin_begins : (c : DfuConfig) (e : CoreEvent) → event_of_core c e ≡ Restart true → e ≡ CoreRestart true
+only_core_begin_begins c (CoreRestart begins) same = ap CoreRestart (ap event_begins_for_host same)
   where
+    -- The event is a restart that begins for a host.
     event_begins_for_host : Event → Bool
     event_begins_for_host (Restart begins) = begins
     event_begins_for_host e = false
-core_event_that_begins c (CoreHandle setup body out) same = absurd (cc)
-core_event_that_begins c (CoreElapse ms) same = absurd (cc)
-core_event_that_begins c CoreReset same = absurd (cc)
-core_event_that_begins c (CoreTooLong setup body) same = absurd (cc)
-core_event_that_begins c (CoreRefuseClose setup status) same = absurd (cc)
-core_event_that_begins c (CoreRefuse status) same = absurd (cc)
-core_event_that_begins c CoreWrite same = absurd (cc)
-core_event_that_begins c (CoreTook failed out) same = absurd (cc)
+only_core_begin_begins c (CoreHandle setup body out) same = absurd (cc)
+only_core_begin_begins c (CoreElapse ms) same = absurd (cc)
+only_core_begin_begins c CoreReset same = absurd (cc)
+only_core_begin_begins c (CoreTooLong setup body) same = absurd (cc)
+only_core_begin_begins c (CoreRefuseClose setup status) same = absurd (cc)
+only_core_begin_begins c (CoreRefuse status) same = absurd (cc)
+only_core_begin_begins c CoreWrite same = absurd (cc)
+only_core_begin_begins c (CoreTook failed out) same = absurd (cc)
 
 pub core_manifestation_installs : ManifestationInstalls → CoreManifestationInstalls
 unfolding core_run_has_outcome
@@ -186,7 +193,7 @@ core_manifestation_installs installs b mid b' steps last state state' on before 
           (installs (board_of_core b on.powers.after) (board_of_core mid past.last) (board_of_core b' ran.last) past.run _ start.1.0
           past.is_run
           (ap (λ (s : State). is_manifesting s) (sound_core_state_is_board_state mid past.last state past.sound is) ∙ waits) ran.is_run
-          (λ e. other (core_event_that_begins mid.config last.event e))
+          (λ e. other (only_core_begin_begins mid.config last.event e))
           (ap (λ (s : State). has_manifested s) (sound_core_state_is_board_state b' ran.last state' ran.sound is') ∙ over));
     }
 

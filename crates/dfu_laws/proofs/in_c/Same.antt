@@ -1,4 +1,4 @@
--- A record stands for at most one device.
+-- A record represents at most one device.
 use Rattle.std.specs.Prelude.{◌≡◌, ◌==◌, ◌%◌, ◌^◌, ◌≤◌, ℕ, Bool, true, false, Option, Some, None, if◌then◌else◌}
 use Rattle.std.proofs.Common.{refl, sym, ap, ◌∙◌, arith}
 use Rattle.std.specs.Coded.{le_prop}
@@ -14,11 +14,11 @@ use Rattle.dfu_asks.specs.declared.pending_writes.SlotWrite.TheVariants as slot_
 use Rattle.dfu_asks.specs.declared.pending_writes.PendingWrites.{PendingWrites}
 use Rattle.dfu_asks.specs.declared.sector.Sector.{Sector}
 use Rattle.dfu_asks.specs.declared.asking.Asking.{Asking}
-use Rattle.dfu_asks.specs.Lent.{SameSetup}
+use Rattle.dfu_asks.specs.Lent.{SameConfig}
 use Rattle.dfu_core.specs.declared.config.DfuConfig.{DfuConfig}
 use Rattle.dfu_core.specs.declared.record.DfuRecord.{DfuRecord}
 use Rattle.dfu_core.specs.Mode.{HasModeNumbers, HasMode}
-use Rattle.dfu_core.specs.RecordMeaning.{IsFlagNumber, HasJobNumbers, IsPendingNumber, HasWorkNumbers, IsRecordOf}
+use Rattle.dfu_core.specs.RecordMeaning.{IsFlagNumber, HasJobNumbers, IsPendingLengthNumber, HasWorkNumbers, IsRecordOf}
 
 -- The code of a number.
 code_of_number : ℕ → Code
@@ -77,7 +77,7 @@ flag_of_its_number false n h = λ i. sym h i == 1
 number_is_one_flag : (b c : Bool) (n : ℕ) → IsFlagNumber b n → IsFlagNumber c n → b ≡ c
 number_is_one_flag b c n x y = flag_of_its_number b n x ∙ sym (flag_of_its_number c n y)
 
-number_is_one_asked_length : (n : ℕ) (x y : Option ℕ) → IsPendingNumber n x → IsPendingNumber n y → x ≡ y
+number_is_one_asked_length : (n : ℕ) (x y : Option ℕ) → IsPendingLengthNumber n x → IsPendingLengthNumber n y → x ≡ y
 number_is_one_asked_length n None None h k = refl
 number_is_one_asked_length n None (Some y) h k = absurd (omega (arith, h, k.0))
 number_is_one_asked_length n (Some x) None h k = absurd (omega (arith, h.0, k))
@@ -119,14 +119,14 @@ sector_of_size_is_one s t is = λ i. record {
 }
 
 -- Two devices of one configuration have the same setup.
-pub same_config_same_setup : (c : DfuConfig) (r r' : DfuRecord) (a a' : Asking) → IsRecordOf c r a → IsRecordOf c r' a' → SameSetup a a'
+pub same_config_same_setup : (c : DfuConfig) (r r' : DfuRecord) (a a' : Asking) → IsRecordOf c r a → IsRecordOf c r' a' → SameConfig a a'
 same_config_same_setup c r r' a a' h k = record {
   config = k.set_up.config_is ∙ sym h.set_up.config_is;
   unit = k.set_up.unit_is ∙ sym h.set_up.unit_is;
   sector = sector_of_size_is_one a'.sector a.sector (k.set_up.sector_is ∙ sym h.set_up.sector_is);
 }
 
--- Two devices for which a record stands are equal.
+-- Two devices that one record represents are equal.
 pub record_is_one_device : (c : DfuConfig) (r : DfuRecord) (a a' : Asking) → IsRecordOf c r a → IsRecordOf c r a' → a ≡ a'
 record_is_one_device c r a a' h k =
     let same = same_config_same_setup c r r a' a k h in

@@ -1,4 +1,4 @@
--- A payload that was put in place on trial on a board in C is what runs, as `CoreReportedTrialStays` says.
+-- A payload that was put in place on trial on a board in C is the image that runs, as `CoreReportedTrialStays` says.
 use Rattle.dfu_boot.specs.trial.Trial.{image_at}
 use Rattle.dfu_boot.specs.trial.Lists.{Tried}
 use Rattle.dfu_core.specs.Board.{medium_of_core}

@@ -10,28 +10,37 @@ use Rattle.dfu_laws.specs.board.Happens.{EventOutcome}
 use Rattle.dfu_core.specs.declared.config.DfuConfig.{DfuConfig}
 use Rattle.dfu_core.specs.declared.record.DfuRecord.{DfuRecord}
 use Rattle.dfu_core.specs.Config.{transfer_of, IsConfig}
-use Rattle.dfu_core.specs.RecordMeaning.{IsRecordOf, block_in_memory, tail_memory}
+use Rattle.dfu_core.specs.RecordMeaning.{IsRecordOf, block_in_memory, held_memory}
 use Rattle.dfu_core.specs.Calls.{RecordAfterCall}
 use Rattle.dfu_core.specs.Board.{CoreBoard, CoreEvent}
 use Rattle.dfu_laws.specs.in_c.Steps.{board_of_core, event_of_core, EventNumberTellsReply}
 use Rattle.dfu_laws.proofs.in_c.Same.{record_is_one_device}
 
--- The record of a board in C stands for the device a, whose block is no longer than the transfer size.
+-- The record of a board in C represents the device a, whose block is no longer than the transfer size.
 pub record IsSoundCoreBoard (b : CoreBoard) (a : Asking) : Type 0 where
+  -- The configuration is one of a device.
   pub config : IsConfig b.config
+  -- The record is that of the device.
   pub kept : IsRecordOf b.config b.kept a
+  -- The block is no longer than the transfer size.
   pub short : a.block_len ≤ transfer_of b.config
 
 -- A step of a board in C is a step of a board, and leads to a sound board in C.
 pub record CoreStepIsBoardStep (b : CoreBoard) (a : Asking) (e : CoreEvent) (n : ℤ) (out : List ℕ) (b' : CoreBoard) : Type 0 where
+  -- The configuration stays.
   pub config : b'.config ≡ b.config
+  -- Device after the step.
   pub after : Asking
+  -- The board in C is sound with it.
   pub sound : IsSoundCoreBoard b' after
+  -- Reply of the board.
   pub says : BoardReply
+  -- The event has this outcome on the board.
   pub happens : EventOutcome (board_of_core b a) (event_of_core b.config e) says (board_of_core b' after)
+  -- The number in C gives the reply.
   pub told : EventNumberTellsReply e n out says
 
--- If the configuration stays, and the record stands for the device a with a block no longer than the transfer size, the board in C is
+-- If the configuration stays, and the record represents the device a with a block no longer than the transfer size, the board in C is
 -- sound.
 pub sound_with_same_config : (b b' : CoreBoard) (a : Asking) → IsConfig b.config → b'.config ≡ b.config → IsRecordOf b.config b'.kept a
     → a.block_len ≤ transfer_of b.config → IsSoundCoreBoard b' a
@@ -60,13 +69,13 @@ block_memory_fits b a sound room =
     length-take-le a.config.functional.transfer b.block (omega (arith, size, room)) in
     subst (λ (n : ℕ). RoomForBlocks a n) (sym (count ∙ size)) (transfer_memory_fits_block b a sound)
 
--- A board in C of which nothing changed is sound, and stands for the same board.
+-- A board in C of which nothing changed is sound, and represents the same board.
 unchanged_board_is_sound : (b : CoreBoard) (a : Asking) (b' : CoreBoard) → IsSoundCoreBoard b a → b'.config ≡ b.config → b'.flash
     ≡ b.flash → b'.kept ≡ b.kept
     → b'.block ≡ b.block → IsSoundCoreBoard b' a × (board_of_core b' a ≡ board_of_core b a)
 unchanged_board_is_sound b a b' sound config flash kept block = (
   sound_with_same_config b b' a sound.config config (subst (λ (r : DfuRecord). IsRecordOf b.config r a) (sym kept) sound.kept) sound.short,
-  λ i. record { asking = a; block = block_in_memory a (block i); held = tail_memory a (block i); flash = flash i },
+  λ i. record { asking = a; block = block_in_memory a (block i); held = held_memory a (block i); flash = flash i },
 )
 
 -- A call that is refused changes nothing.
@@ -94,7 +103,7 @@ record_call_leaves_sound_board b a b' Does sound config g =
     sound_with_same_config b b' g.after sound.config config g.is
     (g.fits (subst (λ (x : Asking). RoomForBlocks x (transfer_of b.config)) (sym same) (transfer_memory_fits_block b a sound))).block
 
--- A call on a record is a step of the board if what the call does to the device is an outcome of the event.
+-- A call on a record is a step of the board if its effect on the device is an outcome of the event.
 pub record_call_is_board_step : (b : CoreBoard) (a : Asking) (e : CoreEvent) (n : ℤ) (out' : List ℕ) (b' : CoreBoard) {Does : Asking →
     Asking → Type 0}
     (says : BoardReply)

@@ -7,9 +7,7 @@ use Rattle.dfu_wire.specs.declared.codes.Code.TheVariants.{Ok as NoFault}
 use Rattle.dfu_wire.specs.declared.requests.Request.{Request as Asked}
 use Rattle.dfu_wire.specs.declared.requests.Request.TheVariants as asked
 use Rattle.dfu_wire.specs.Setup.{IsSetup}
-use Rattle.dfu_wire.specs.Request.{SetupRequest}
-use Rattle.dfu_wire.specs.OneValue.{setup_bytes_one_value}
-use Rattle.dfu_wire.specs.OneRequest.{setup_asks_once}
+use Rattle.dfu_wire.specs.Request.{SetupAsksFor}
 use Rattle.dfu_device.specs.declared.objection.Objection.{Objection}
 use Rattle.dfu_device.specs.declared.answer.Answer.{Answer}
 use Rattle.dfu_device.specs.declared.answer.Answer.TheVariants as answer
@@ -17,23 +15,23 @@ use Rattle.dfu_device.specs.Setting.{Setting}
 use Rattle.dfu_device.specs.Stage.{Profile, Stage, InDownloadIdle, InManifestSyncComplete, InUploadIdle, InError}
 use Rattle.dfu_device.specs.Table.{objection_code, may_close, Plan, Sure, Writes, Commits, plan, time_plan}
 use Rattle.dfu_device.specs.DeviceView.{DeviceView, profile, profile_of}
-use Rattle.dfu_device.specs.Rows.{Done, request_for_table, Cause, Transfer, Passing, BusReset, RefusingClose, Refusing, PowerOn, Handles, Row, is_close, IsCloseSetup, body_length, is_served, asked_length}
-use Rattle.dfu_device.specs.PlanOutcomes.{row_of, not_served}
+use Rattle.dfu_device.specs.Rows.{Done, request_for_table, Cause, Transfer, Passing, BusReset, RefusingClose, Refusing, PowerOn, Handles, Row, is_close, body_length, is_served, asked_length}
+use Rattle.dfu_device.specs.PlanOutcomes.{close_setup_asks_for_close, row_follows_reading, not_served_is_stalled}
 use Rattle.dfu_slots.specs.StoreView.{image_of, room_of}
 use Rattle.dfu_conformance.specs.declared.row.StandardState.{StandardState}
 use Rattle.dfu_conformance.specs.declared.row.StandardState.TheVariants as place
 use Rattle.dfu_conformance.specs.declared.event.LogEvent.{LogEvent}
-use Rattle.dfu_conformance.specs.RowMatches.{device_stays_at, asks}
+use Rattle.dfu_conformance.specs.RowMatches.{may_stay_by_answer, asks}
 use Rattle.dfu_conformance.specs.Setups.{event_of, is_plain}
 use Rattle.dfu_conformance.specs.MayAnswer.{Run}
-use Rattle.dfu_conformance.proofs.ForCallers.{run_from_move}
+use Rattle.dfu_conformance.proofs.ForCallers.{move_begins_run}
 use Rattle.dfu_laws.specs.judge.Conformity.{attributes, attributes_of, place_of, seen, TransferAddsEvent, EventsOfStep, StageInvariant, NeedsManifestTime, HistoriesConform, DevicesFromStartConform}
 use Rattle.dfu_laws.proofs.judge.Leads.{PlanOutcomesLead, stall_row_leads, write_code_allowed_in_error, commit_code_allowed_in_error}
 use Rattle.dfu_laws.proofs.judge.Rows.{all_plans_lead}
 use Rattle.dfu_laws.proofs.judge.Seen.{EventLeadsOn}
 use Rattle.dfu_laws.proofs.judge.Passing.{time_plan_moves, passed_time_moves_device, reset_leads_run_on, reset_stage_keeps_invariant, late_refusal_moves_device, objection_code_allowed_in_error, power_leads_run_on}
 
--- A plan that is kept and was carried out led the device on by a row of the standard's table.
+-- A plan that was carried out led the device on by a row of the standard's table, if each of its outcomes does.
 done_plan_leads_on : (pl : Plan) (c : Profile) (p : Setup) (q : Asked) (body : List ℕ) (st : Stage) (w : DeviceView) (a : Answer) (out :
     List ℕ)
     (w' : DeviceView) → PlanOutcomesLead c p q body st pl → Done pl (asked_length q) w a out w'
@@ -81,18 +79,18 @@ unserved_request_is_not_plain p q body ours off = and_left _ _ off
 
 -- A transfer led the device on: by its row, or, if its body or setup is not as section 3 has it, by a stall that changed nothing.
 transfer_leads_on : (w : DeviceView) (setup body : List ℕ) (a : Answer) (out : List ℕ) (w' : DeviceView) (p : Setup) (q : Asked) (b : Bool)
-    → NeedsManifestTime (profile w) → StageInvariant (profile w) w.stage → IsSetup p setup → SetupRequest p q → IsClassForInterface0 q
+    → NeedsManifestTime (profile w) → StageInvariant (profile w) w.stage → IsSetup p setup → SetupAsksFor p q → IsClassForInterface0 q
     → is_served p q body ≡ b → Handles setup body w a out w'
     → EventLeadsOn (attributes_of (profile w)) (place_of w.stage) (event_of p q (length body) (seen a out)) (place_of w'.stage)
     × StageInvariant (profile w) w'.stage × (w'.config ≡ w.config)
 transfer_leads_on w setup body a out w' p q true takes stands reads asks ours on h =
-    let done = row_of p q setup body w a out w' reads asks h in
+    let done = row_follows_reading p q setup body w a out w' reads asks h in
     let led = done_plan_leads_on (plan (profile w) (image_of w.slots) w.stage (request_for_table q body)) (profile w) p q body w.stage w a
     out w'
     (all_plans_lead (profile w) (image_of w.slots) w.stage p q body takes stands asks on) (rw on at done) in
     (led.0, led.1, done_plan_keeps_config _ (asked_length q) w a out w' done)
 transfer_leads_on w setup body a out w' p q false takes stands reads asks ours off h =
-    let (stall, same) = not_served p q setup body w a out w' reads asks off h in
+    let (stall, same) = not_served_is_stalled p q setup body w a out w' reads asks off h in
     subst (λ (z : DeviceView). EventLeadsOn (attributes_of (profile w)) (place_of w.stage) (event_of p q (length body) (seen a out))
     (place_of z.stage)
     × StageInvariant (profile w) z.stage × (z.config ≡ w.config)) (sym same) (
@@ -101,7 +99,7 @@ transfer_leads_on w setup body a out w' p q false takes stands reads asks ours o
         inl refl,
         inr (inr (inr (
           refl,
-          (λ k. device_stays_at (unserved_request_is_not_plain p q body ours off k) (seen
+          (λ k. may_stay_by_answer (unserved_request_is_not_plain p q body ours off k) (seen
               (stall k) out)),
         ))),
       ),
@@ -116,7 +114,7 @@ StepExtendsRun w w' rest events =
     → Run (attributes_of (profile w)) 0 (place_of w.stage) events last)
     × StageInvariant (profile w) w'.stage × (w'.config ≡ w.config)
 
--- An event that led a device on, and is seen, is the head of a run.
+-- An event that led a device on, and that a judge sees, is the head of a run.
 led_event_extends_run : (w w' : DeviceView) (e : LogEvent) (rest events : List LogEvent) → events ≡ e ∷ rest
     → EventLeadsOn (attributes_of (profile w)) (place_of w.stage) e (place_of w'.stage) × StageInvariant (profile w) w'.stage
     × (w'.config ≡ w.config) → StepExtendsRun w w' rest events
@@ -130,26 +128,19 @@ led_event_extends_run w w' e rest events adds ((here, moved, may), stands, confi
 request_extends_run : (w : DeviceView) (setup body : List ℕ) (a : Answer) (out : List ℕ) (w' : DeviceView) (rest events : List LogEvent) (p
     : Setup)
     (q : Asked)
-    → NeedsManifestTime (profile w) → StageInvariant (profile w) w.stage → IsSetup p setup → SetupRequest p q
+    → NeedsManifestTime (profile w) → StageInvariant (profile w) w.stage → IsSetup p setup → SetupAsksFor p q
     → Handles setup body w a out w' → TransferAddsEvent p q body (seen a out) rest events → StepExtendsRun w w' rest events
 request_extends_run w setup body a out w' rest events p asked.NotDfu takes stands reads asks h adds =
-    let (stall, same) = not_served p asked.NotDfu setup body w a out w' reads asks refl h in
+    let (stall, same) = not_served_is_stalled p asked.NotDfu setup body w a out w' reads asks refl h in
     subst (λ (z : DeviceView). StepExtendsRun w z rest events) (sym same)
     (λ last run. subst (λ (es : List LogEvent). Run (attributes_of (profile w)) 0 (place_of w.stage) es last) (sym adds) run, stands, refl)
 request_extends_run w setup body a out w' rest events p q takes stands reads asks h adds =
     led_event_extends_run w w' _ rest events adds (transfer_leads_on w setup body a out w' p q _ takes stands reads asks tt refl h)
 
--- A request that closes a download is a DNLOAD with wLength 0, read as any other setup.
-close_setup_reads_as_close : (setup : List ℕ) (p : Setup) (q : Asked) → IsSetup p setup → SetupRequest p q → IsCloseSetup setup →
-    is_close q ≡ true
-close_setup_reads_as_close setup p q reads asks (p2, q2, reads2, asks2, close) =
-    let same : p2 ≡ p = setup_bytes_one_value p2 p setup reads2 reads in
-    subst (λ (r : Asked). is_close r ≡ true) (setup_asks_once p q2 q (subst (λ (x : Setup). SetupRequest x q2) same asks2) asks) close
-
 -- A close that the program refuses is a stall in the standard's table.
 refused_close_extends_run : (w : DeviceView) (a : Answer) (out : List ℕ) (w' : DeviceView) (rest events : List LogEvent) (p : Setup) (q :
     Asked)
-    (why : Objection) (st : Stage) → is_close q ≡ true → SetupRequest p q → may_close w.config.least st ≡ true → w.stage ≡ st
+    (why : Objection) (st : Stage) → is_close q ≡ true → SetupAsksFor p q → may_close w.config.least st ≡ true → w.stage ≡ st
     → (a ≡ answer.Stall) × (out ≡ [])
     → w' ≡ record w { stage = InError (objection_code why) } → TransferAddsEvent p q [] (seen a out) rest events →
     StepExtendsRun w w' rest events
@@ -184,7 +175,7 @@ history_step_extends_run w (Passing ms) a out w' rest events takes stands row sa
     let kept = time_plan_moves (profile w) w.stage ms stands in
     let moved = passed_time_moves_device (time_plan (profile w) w.stage ms) (profile w) w.stage w answer.Ack [] w' kept row.2 in (
       λ last run. subst (λ (es : List LogEvent). Run (attributes_of (profile w)) 0 (place_of w.stage) es last) (sym same)
-          (run_from_move (attributes_of (profile w)) 0 (place_of w.stage) (place_of w'.stage) rest last moved.0 run),
+          (move_begins_run (attributes_of (profile w)) 0 (place_of w.stage) (place_of w'.stage) rest last moved.0 run),
       moved.1,
       done_plan_keeps_config _ 0 w answer.Ack [] w' row.2,
     )
@@ -202,13 +193,13 @@ history_step_extends_run w (RefusingClose setup why) a out w' rest events takes 
   asks,
   adds,
 ) =
-    refused_close_extends_run w a out w' rest events p q why w.stage (close_setup_reads_as_close setup p q reads asks closes.0) asks
+    refused_close_extends_run w a out w' rest events p q why w.stage (close_setup_asks_for_close setup p q reads asks closes.0) asks
     closes.1 refl (stall, none) same adds
 history_step_extends_run w (Refusing why) a out w' rest events takes stands row same =
     let moved = late_refusal_moves_device (profile w) why w.stage stands in
     subst (λ (z : DeviceView). StepExtendsRun w z rest events) (sym row.2) (
       λ last run. subst (λ (es : List LogEvent). Run (attributes_of (profile w)) 0 (place_of w.stage) es last) (sym same)
-          (run_from_move (attributes_of (profile w)) 0 (place_of w.stage) _ rest last moved.0 run),
+          (move_begins_run (attributes_of (profile w)) 0 (place_of w.stage) _ rest last moved.0 run),
       moved.1,
       refl,
     )

@@ -11,11 +11,11 @@ use Rattle.dfu_wire.specs.declared.codes.Code.{Code}
 use Rattle.dfu_wire.specs.declared.codes.Code.TheVariants.{StalledPkt as ErrStalledPkt, Address as ErrAddress}
 use Rattle.dfu_wire.specs.declared.requests.Request.{Request as Asked}
 use Rattle.dfu_wire.specs.declared.requests.Request.TheVariants as asked
-use Rattle.dfu_wire.specs.Request.{SetupRequest}
+use Rattle.dfu_wire.specs.Request.{SetupAsksFor}
 use Rattle.dfu_device.specs.declared.answer.Answer.{Answer}
 use Rattle.dfu_device.specs.Stage.{Reply, Ack, StateOf, Data, Stall, Profile, Stage, InDfuIdle, InDownloadSync, InUploadIdle, InError, state_of, code_of, poll_of_stage, status_of}
-use Rattle.dfu_device.specs.Table.{Plan, Sure, Writes, Commits, write_code, commit_code, block_plan, upload_plan, next_number}
-use Rattle.dfu_device.specs.Cases.{either_way}
+use Rattle.dfu_device.specs.Table.{Plan, Sure, Writes, Commits, write_code, commit_code, block_plan, upload_plan, number_after}
+use Rattle.dfu_device.specs.Cases.{holds_in_both_branches}
 use Rattle.dfu_device.specs.Rows.{ReplyAnswer, asked_length, is_served}
 use Rattle.dfu_conformance.specs.declared.row.StandardState.TheVariants as place
 use Rattle.dfu_conformance.specs.declared.row.EventKind.{EventKind as Came}
@@ -27,8 +27,8 @@ use Rattle.dfu_conformance.specs.declared.row.Gives.TheVariants as gives
 use Rattle.dfu_conformance.specs.declared.event.Response.{Response as Shows}
 use Rattle.dfu_conformance.specs.declared.standard.TheConstants.{STANDARD}
 use Rattle.dfu_conformance.specs.declared.drifts.TheConstants.{DRIFTS}
-use Rattle.dfu_conformance.specs.RowMatches.{asks, request_number, bytes_match}
-use Rattle.dfu_conformance.specs.Candidates.{is_row_for}
+use Rattle.dfu_conformance.specs.RowMatches.{asks, event_kind_number, answer_allows_bytes}
+use Rattle.dfu_conformance.specs.Candidates.{applies_to}
 use Rattle.dfu_conformance.specs.Setups.{event_of}
 use Rattle.dfu_conformance.proofs.ForCallers.{is_row, is_move}
 use Rattle.dfu_laws.specs.judge.Conformity.{attributes_of, place_of, seen, StageInvariant}
@@ -51,7 +51,7 @@ PlanOutcomesLead c p q body st (Commits taken reply next bad) =
     → AnswerLeadsOn c p q body st (bad fault) (InError (commit_code fault)))
 
 -- A DNLOAD has as many bytes as its setup says.
-pub dnload_has_length : (p : Setup) (number len : ℕ) (body : List ℕ) → SetupRequest p (asked.Dnload number len)
+pub dnload_has_length : (p : Setup) (number len : ℕ) (body : List ℕ) → SetupAsksFor p (asked.Dnload number len)
     → is_served p (asked.Dnload number len) body ≡ true
     → len ≡ length body
 dnload_has_length p number len body asks served =
@@ -61,13 +61,13 @@ dnload_has_length p number len body asks served =
 pub empty_dnload_asks_close : (p : Setup) (number len n : ℕ) (a : Shows) → len ≡ 0 →
     asks came.Close (event_of p (asked.Dnload number len) n a) ≡ true
 empty_dnload_asks_close p number len n a is =
-    or_left _ _ (eq-eqb _ _ (ap request_number (sym (cond-true (len == 0) came.Close came.Block (eq-eqb len 0 is)))))
+    or_left _ _ (eq-eqb _ _ (ap event_kind_number (sym (cond-true (len == 0) came.Close came.Block (eq-eqb len 0 is)))))
 
 -- A DNLOAD with bytes is a block.
 pub dnload_with_bytes_asks_block : (p : Setup) (number len n : ℕ) (a : Shows) (x : ℕ) (xs : List ℕ) → len ≡ length (x ∷ xs)
     → asks came.Block (event_of p (asked.Dnload number len) n a) ≡ true
 dnload_with_bytes_asks_block p number len n a x xs is =
-    or_left _ _ (eq-eqb _ _ (ap request_number (sym (cond-false (len == 0) came.Close came.Block (ne_eqb len 0 (λ z. omega (
+    or_left _ _ (eq-eqb _ _ (ap event_kind_number (sym (cond-false (len == 0) came.Close came.Block (ne_eqb len 0 (λ z. omega (
       arith,
       z,
       is,
@@ -85,8 +85,8 @@ came_of_request (asked.GetState len) body = came.GetState
 came_of_request asked.Abort body = came.Abort
 came_of_request q body = came.Other
 
--- A row about what came is about the request of the setup.
-pub row_is_about_request : (p : Setup) (q : Asked) (body : List ℕ) (a : Shows) → SetupRequest p q → is_served p q body ≡ true
+-- The event of a request is of that request's kind in the judge's table.
+pub row_is_about_request : (p : Setup) (q : Asked) (body : List ℕ) (a : Shows) → SetupAsksFor p q → is_served p q body ≡ true
     → asks (came_of_request q body) (event_of p q (length body) a) ≡ true
 row_is_about_request p (asked.Dnload k len) [] a asks v = empty_dnload_asks_close p k len 0 a (dnload_has_length p k len [] asks v)
 row_is_about_request p (asked.Dnload k len) (x ∷ xs) a asks v = dnload_with_bytes_asks_block p k len (length (x ∷ xs)) a x xs
@@ -94,7 +94,7 @@ row_is_about_request p (asked.Dnload k len) (x ∷ xs) a asks v = dnload_with_by
 row_is_about_request p q body a asks v = refl
 
 -- A request that is stalled leads the device on, if the table has a row for it.
-pub stall_row_leads : (c : Profile) (p : Setup) (q : Asked) (body : List ℕ) (st next : Stage) → SetupRequest p q → is_served p q body ≡ true
+pub stall_row_leads : (c : Profile) (p : Setup) (q : Asked) (body : List ℕ) (st next : Stage) → SetupAsksFor p q → is_served p q body ≡ true
     → list_any (is_row (place_of st) (came_of_request q body) Always gives.Stall (place_of next)) STANDARD ≡ true →
     AnswerLeadsOn c p q body st Stall next
 stall_row_leads c p q body st next asks v some = λ a out h.
@@ -105,10 +105,10 @@ stall_row_leads c p q body st next asks v some = λ a out h.
     q) a out h)
 
 -- A request that is acknowledged leads the device on, if the table has a row for it.
-pub ack_row_leads : (c : Profile) (p : Setup) (q : Asked) (body : List ℕ) (st next : Stage) (when : When) → SetupRequest p q
+pub ack_row_leads : (c : Profile) (p : Setup) (q : Asked) (body : List ℕ) (st next : Stage) (when : When) → SetupAsksFor p q
     → is_served p q body ≡ true
     → list_any (is_row (place_of st) (came_of_request q body) when gives.Ack (place_of next)) STANDARD ≡ true
-    → is_row_for when (attributes_of c) 0 ≡ true → AnswerLeadsOn c p q body st Ack next
+    → applies_to when (attributes_of c) 0 ≡ true → AnswerLeadsOn c p q body st Ack next
 ack_row_leads c p q body st next when asks v some row_is_for_device = λ a out h.
     row_leads_on_in_place (attributes_of c) (place_of st) (came_of_request q body) when gives.Ack (place_of next) (event_of p q (length
     body) (seen a out)) some
@@ -119,7 +119,7 @@ ack_row_leads c p q body st next when asks v some row_is_for_device = λ a out h
 pub getstatus_row_leads : (c : Profile) (p : Setup) (len : ℕ) (body : List ℕ) (st next : Stage) (when : When) → StageInvariant c next →
     len ≡ p.length
     → list_any (is_row (place_of st) came.GetStatus when gives.Status (place_of next)) STANDARD ≡ true
-    → is_row_for when (attributes_of c) 0 ≡ true
+    → applies_to when (attributes_of c) 0 ≡ true
     → AnswerLeadsOn c p (asked.GetStatus len) body st (status_of c next) next
 getstatus_row_leads c p len body st next when stands is some row_is_for_device = λ a out h.
     row_leads_on_in_place (attributes_of c) (place_of st) came.GetStatus when gives.Status (place_of next)
@@ -162,7 +162,7 @@ getstate_row_leads c p len body st is some = λ a out h.
 -- An UPLOAD is answered with a part of the image.
 pub upload_gives_part : (c : Profile) (p : Setup) (number len : ℕ) (body part : List ℕ) (st next : Stage) (g : Gives)
     → list_any (is_row (place_of st) came.Upload CanUpload g (place_of next)) STANDARD ≡ true → c.can_upload ≡ true
-    → bytes_match g (place_of st) (place_of next) p.length (length part) (slice_index part 0) (slice_index part 4) ≡ true
+    → answer_allows_bytes g (place_of st) (place_of next) p.length (length part) (slice_index part 0) (slice_index part 4) ≡ true
     → AnswerLeadsOn c p (asked.Upload number len) body st (Data part) next
 upload_gives_part c p number len body part st next g some can fits = λ a out h.
     row_leads_on_in_place (attributes_of c) (place_of st) came.Upload CanUpload g (place_of next)
@@ -178,7 +178,7 @@ fact_of_branch P false x y f g = g refl
 -- The plan of an UPLOAD from a place of the image leads the device on.
 pub upload_plan_leads : (c : Profile) (image : List ℕ) (at expected : ℕ) (st : Stage) (p : Setup) (k len : ℕ) (body : List ℕ) →
     c.can_upload ≡ true
-    → SetupRequest p (asked.Upload k len) → is_served p (asked.Upload k len) body ≡ true
+    → SetupAsksFor p (asked.Upload k len) → is_served p (asked.Upload k len) body ≡ true
     → list_any (is_row (place_of st) came.Upload Always gives.Stall place.Error) STANDARD ≡ true
     → list_any (is_row (place_of st) came.Upload CanUpload gives.Short place.DfuIdle) STANDARD ≡ true
     → list_any (is_row (place_of st) came.Upload CanUpload gives.Full place.UploadIdle) STANDARD ≡ true
@@ -188,9 +188,10 @@ upload_plan_leads c image at expected st p k len body can asks v stall_row short
     let bad : (code : Code) → StageInvariant c (InError code) → P (Sure Stall (InError code)) = λ code stands.
     (stall_row_leads c p (asked.Upload k len) body st (InError code) asks v stall_row, stands) in
     let part = take len (drop at image) in
-    let next = InUploadIdle (at + len) (next_number expected) in
-    either_way P (len == 0) _ _ (bad ErrStalledPkt tt) (either_way P (nat_lt c.transfer len) _ _ (bad ErrStalledPkt tt)
-    (either_way P (not (k == expected)) _ _ (bad ErrAddress tt)
+    let next = InUploadIdle (at + len) (number_after expected) in
+    holds_in_both_branches P (len == 0) _ _ (bad ErrStalledPkt tt)
+    (holds_in_both_branches P (nat_lt c.transfer len) _ _ (bad ErrStalledPkt tt)
+    (holds_in_both_branches P (not (k == expected)) _ _ (bad ErrAddress tt)
     (fact_of_branch P (nat_lt (length part) len) (Sure (Data part) InDfuIdle) (Sure (Data part) next)
     (λ is_short. (
       upload_gives_part c p k len body part st InDfuIdle gives.Short short_row can
@@ -205,19 +206,20 @@ upload_plan_leads c image at expected st p k len body can asks v stall_row short
 
 -- The plan of a block leads the device on, whether it is taken or stalled.
 pub block_plan_leads : (c : Profile) (taken : List ℕ) (expected : ℕ) (st : Stage) (p : Setup) (k len x : ℕ) (xs : List ℕ) (when : When)
-    → SetupRequest p (asked.Dnload k len) → is_served p (asked.Dnload k len) (x ∷ xs) ≡ true
+    → SetupAsksFor p (asked.Dnload k len) → is_served p (asked.Dnload k len) (x ∷ xs) ≡ true
     → list_any (is_row (place_of st) came.Block Always gives.Stall place.Error) STANDARD ≡ true
     → list_any (is_row (place_of st) came.Block when gives.Ack place.DownloadSync) STANDARD ≡ true
-    → is_row_for when (attributes_of c) 0 ≡ true
+    → applies_to when (attributes_of c) 0 ≡ true
     → PlanOutcomesLead c p (asked.Dnload k len) (x ∷ xs) st (block_plan c taken expected k (x ∷ xs))
 block_plan_leads c taken expected st p k len x xs when asks v stall_row ack_row row_is_for_device =
     let P : Plan → Type 0 = PlanOutcomesLead c p (asked.Dnload k len) (x ∷ xs) st in
     let bad : (code : Code) → StageInvariant c (InError code) → P (Sure Stall (InError code)) = λ code stands.
     (stall_row_leads c p (asked.Dnload k len) (x ∷ xs) st (InError code) asks v stall_row, stands) in
-    either_way P (nat_lt c.transfer (length (x ∷ xs))) _ _ (bad ErrStalledPkt tt) (either_way P (not (k == expected)) _ _
+    holds_in_both_branches P (nat_lt c.transfer (length (x ∷ xs))) _ _ (bad ErrStalledPkt tt)
+    (holds_in_both_branches P (not (k == expected)) _ _
     (bad ErrAddress tt)
-    (either_way P (nat_lt c.capacity (length taken + length (x ∷ xs))) _ _ (bad ErrAddress tt) (
-      ack_row_leads c p (asked.Dnload k len) (x ∷ xs) st (InDownloadSync taken (x ∷ xs) (next_number expected)) when asks v ack_row
+    (holds_in_both_branches P (nat_lt c.capacity (length taken + length (x ∷ xs))) _ _ (bad ErrAddress tt) (
+      ack_row_leads c p (asked.Dnload k len) (x ∷ xs) st (InDownloadSync taken (x ∷ xs) (number_after expected)) when asks v ack_row
           row_is_for_device,
       tt,
     )))

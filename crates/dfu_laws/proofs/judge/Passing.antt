@@ -8,7 +8,7 @@ use Rattle.dfu_device.specs.declared.objection.Objection.{Objection}
 use Rattle.dfu_device.specs.declared.objection.Objection.TheVariants.{Target, File}
 use Rattle.dfu_device.specs.Stage.{Profile, Stage, InAppIdle, InAppDetach, InDownloadBusy, InManifestSync, InManifestSyncComplete, InManifest, InManifestWaitReset, InError}
 use Rattle.dfu_device.specs.Table.{Plan, Sure, Writes, Commits, time_plan, reset_stage, objection_code, refuse_stage}
-use Rattle.dfu_device.specs.Cases.{either_way}
+use Rattle.dfu_device.specs.Cases.{holds_in_both_branches}
 use Rattle.dfu_device.specs.DeviceView.{DeviceView}
 use Rattle.dfu_device.specs.Rows.{Done}
 use Rattle.dfu_conformance.specs.declared.row.StandardState.{StandardState}
@@ -20,10 +20,10 @@ use Rattle.dfu_conformance.specs.declared.event.LogEvent.{LogEvent}
 use Rattle.dfu_conformance.specs.declared.marks.TheConstants.{MARKS}
 use Rattle.dfu_conformance.specs.declared.drifts.TheConstants.{DRIFTS}
 use Rattle.dfu_conformance.specs.RowMatches.{asks, answer_matches}
-use Rattle.dfu_conformance.specs.Candidates.{is_row_for}
+use Rattle.dfu_conformance.specs.Candidates.{applies_to}
 use Rattle.dfu_conformance.specs.Setups.{reset_event, power_event}
 use Rattle.dfu_conformance.specs.MayAnswer.{MayAnswer, MayMove, Run}
-use Rattle.dfu_conformance.proofs.ForCallers.{is_row, device_goes_by_listed_row, is_move, device_moves_by_listed_drift, run_from_move}
+use Rattle.dfu_conformance.proofs.ForCallers.{is_row, device_goes_by_listed_row, is_move, device_moves_by_listed_drift, move_begins_run}
 use Rattle.dfu_laws.specs.judge.Conformity.{attributes_of, place_of, StageInvariant}
 use Rattle.dfu_laws.proofs.judge.Bits.{attribute_bits_select_rows}
 use Rattle.dfu_laws.proofs.judge.Leads.{write_code_allowed_in_error, commit_code_allowed_in_error, fact_of_branch}
@@ -41,7 +41,7 @@ TimePlanMoves c st (Commits taken reply next bad) =
 -- A move of the standard's table that needs no event is one that the device may make.
 pub device_moves_itself : (c : Profile) (from : StandardState) (when : When) (next : StandardState)
     → list_any (is_move from when next) DRIFTS ≡ true
-    → is_row_for when (attributes_of c) 0 ≡ true → MayMove (attributes_of c) 0 from next
+    → applies_to when (attributes_of c) 0 ≡ true → MayMove (attributes_of c) 0 from next
 device_moves_itself c from when next some row_is_for_device = inr (device_moves_by_listed_drift DRIFTS from when next (attributes_of c) 0
     some row_is_for_device)
 
@@ -49,20 +49,20 @@ device_moves_itself c from when next some row_is_for_device = inr (device_moves_
 pub time_plan_moves : (c : Profile) (st : Stage) (ms : ℕ) → StageInvariant c st → TimePlanMoves c st (time_plan c st ms)
 time_plan_moves c (InAppDetach timer passed) ms stands =
     let P : Plan → Type 0 = TimePlanMoves c (InAppDetach timer passed) in
-    either_way P (ms == 0) _ _ (inl refl, tt) (fact_of_branch P c.will_detach _ _
+    holds_in_both_branches P (ms == 0) _ _ (inl refl, tt) (fact_of_branch P c.will_detach _ _
     (λ detaches. (
       device_moves_itself c place.AppDetach WillDetach place.DfuIdle refl
           ((attribute_bits_select_rows c.can_download c.can_upload c.tolerant c.will_detach).4 ∙ detaches),
       tt,
     ))
-    (λ stays. either_way P (nat_le (max 1 timer) (passed + ms)) _ _ (
+    (λ stays. holds_in_both_branches P (nat_le (max 1 timer) (passed + ms)) _ _ (
       device_moves_itself c place.AppDetach Always place.AppIdle refl refl,
       tt,
     ) (inl refl, tt)))
 time_plan_moves c (InDownloadBusy before block number passed) ms stands =
     let P : Plan → Type 0 = TimePlanMoves c (InDownloadBusy before block number passed) in
-    either_way P (ms == 0) _ _ (inl refl, tt)
-    (either_way P (nat_le (block_ms c.pace c.busy (length before) (length block)) (passed + ms)) _ _ (
+    holds_in_both_branches P (ms == 0) _ _ (inl refl, tt)
+    (holds_in_both_branches P (nat_le (block_ms c.pace c.busy (length before) (length block)) (passed + ms)) _ _ (
       (device_moves_itself c place.DownloadBusy Always place.DownloadSync refl refl, tt),
       device_moves_itself c place.DownloadBusy Always place.Error refl refl,
     ) (inl refl, tt))
@@ -72,7 +72,8 @@ time_plan_moves c (InManifest taken passed) ms stands =
     × MayMove (attributes_of c) 0 place.Manifest place.Error in
     let fault : MayMove (attributes_of c) 0 place.Manifest place.Error =
     device_moves_itself c place.Manifest Always place.Error refl refl in
-    either_way P (ms == 0) _ _ (inl refl, tt) (either_way P (nat_le (image_ms c.pace c.manifest (length taken)) (passed + ms)) _ _
+    holds_in_both_branches P (ms == 0) _ _ (inl refl, tt)
+    (holds_in_both_branches P (nat_le (image_ms c.pace c.manifest (length taken)) (passed + ms)) _ _
     (fact_of_branch Q c.tolerant InManifestSyncComplete InManifestWaitReset
     (λ on. (
       (
@@ -115,7 +116,7 @@ passed_time_moves_device (Commits taken reply next bad) c st w a out w' kept (in
       commit_code_allowed_in_error c fault,
     )
 
--- The objection of a program is no code that a device may not have in dfuERROR.
+-- The code of a program's objection is one that a device may have in dfuERROR.
 pub objection_code_allowed_in_error : (c : Profile) (why : Objection) → StageInvariant c (InError (objection_code why))
 objection_code_allowed_in_error c Target = tt
 objection_code_allowed_in_error c File = tt
@@ -145,13 +146,13 @@ reset_leads_run_on att (InAppDetach timer passed) rest last run = (
   place.Fresh,
   inl refl,
   mark_row_allows_event att place.AppDetach place.Fresh reset_event refl refl refl,
-  run_from_move att 0 place.Fresh place.DfuIdle rest last (inr (device_moves_by_listed_drift DRIFTS place.Fresh Always place.DfuIdle att 0
+  move_begins_run att 0 place.Fresh place.DfuIdle rest last (inr (device_moves_by_listed_drift DRIFTS place.Fresh Always place.DfuIdle att 0
       refl refl)) run,
 )
 reset_leads_run_on att st rest last run =
     (place_of st, place.AppIdle, inl refl, mark_row_allows_event att (place_of st) place.AppIdle reset_event refl refl refl, run)
 
--- After a reset a device is in a stage that it can come to.
+-- A reset of the bus keeps the invariant of stages.
 pub reset_stage_keeps_invariant : (c : Profile) (st : Stage) → StageInvariant c (reset_stage st)
 reset_stage_keeps_invariant c (InAppDetach timer passed) = tt
 reset_stage_keeps_invariant c st = tt

@@ -7,10 +7,10 @@ use Rattle.dfu_wire.specs.declared.codes.Code.{Code}
 use Rattle.dfu_wire.specs.declared.codes.Code.TheVariants.{StalledPkt as ErrStalledPkt, NotDone as ErrNotDone}
 use Rattle.dfu_wire.specs.declared.requests.Request.{Request as Asked}
 use Rattle.dfu_wire.specs.declared.requests.Request.TheVariants as asked
-use Rattle.dfu_wire.specs.Request.{SetupRequest}
+use Rattle.dfu_wire.specs.Request.{SetupAsksFor}
 use Rattle.dfu_device.specs.Stage.{Profile, Stage, InAppIdle, InAppDetach, InDfuIdle, InDownloadSync, InDownloadSyncWritten, InDownloadBusy, InDownloadIdle, InManifestSync, InManifestSyncComplete, InManifest, InManifestWaitReset, InUploadIdle, InError}
 use Rattle.dfu_device.specs.Table.{plan, write_code, commit_code}
-use Rattle.dfu_device.specs.Cases.{either_way}
+use Rattle.dfu_device.specs.Cases.{holds_in_both_branches}
 use Rattle.dfu_device.specs.Rows.{request_for_table, is_served}
 use Rattle.dfu_conformance.specs.declared.row.When.TheVariants.{Always, CanDownload, Tolerant}
 use Rattle.dfu_conformance.specs.RowMatches.{asks}
@@ -20,11 +20,11 @@ use Rattle.dfu_laws.proofs.judge.Leads.{PlanOutcomesLead, stall_row_leads, ack_r
 
 -- The plan of each request in the stage leads the device on by a row of the standard's table.
 abbrev pub AllPlansLead : Profile → (image : List ℕ) → Stage → Type 0
-AllPlansLead c i st = (p : Setup) (q : Asked) (body : List ℕ) → NeedsManifestTime c → StageInvariant c st → SetupRequest p q
+AllPlansLead c i st = (p : Setup) (q : Asked) (body : List ℕ) → NeedsManifestTime c → StageInvariant c st → SetupAsksFor p q
     → is_served p q body ≡ true
     → PlanOutcomesLead c p q body st (plan c i st (request_for_table q body))
 
--- In appIDLE.
+-- Each request in appIDLE leads the device on by a row of the standard's table.
 app_idle_plans_lead : (c : Profile) (i : List ℕ) → AllPlansLead c i InAppIdle
 app_idle_plans_lead c i p asked.NotDfu body takes s asks v = absurd (false≢true v)
 app_idle_plans_lead c i p (asked.Detach timeout) body takes s asks v =
@@ -39,7 +39,7 @@ app_idle_plans_lead c i p (asked.Dnload k len) [] takes s asks v =
     (stall_row_leads c p (asked.Dnload k len) [] InAppIdle InAppIdle asks v refl, tt)
 app_idle_plans_lead c i p q body takes s asks v = (stall_row_leads c p q body InAppIdle InAppIdle asks v refl, tt)
 
--- In appDETACH.
+-- Each request in appDETACH leads the device on by a row of the standard's table.
 app_detach_plans_lead : (c : Profile) (i : List ℕ) (timer passed : ℕ) → AllPlansLead c i (InAppDetach timer passed)
 app_detach_plans_lead c i timer passed p asked.NotDfu body takes s asks v = absurd (false≢true v)
 app_detach_plans_lead c i timer passed p (asked.GetStatus len) body takes s asks v =
@@ -54,11 +54,11 @@ app_detach_plans_lead c i timer passed p q body takes s asks v = (
   tt,
 )
 
--- In dfuIDLE.
+-- Each request in dfuIDLE leads the device on by a row of the standard's table.
 dfu_idle_plans_lead : (c : Profile) (i : List ℕ) → AllPlansLead c i InDfuIdle
 dfu_idle_plans_lead c i p asked.NotDfu body takes s asks v = absurd (false≢true v)
 dfu_idle_plans_lead c i p (asked.Dnload k len) [] takes s asks v =
-    either_way (PlanOutcomesLead c p (asked.Dnload k len) [] InDfuIdle) (not c.can_download) _ _
+    holds_in_both_branches (PlanOutcomesLead c p (asked.Dnload k len) [] InDfuIdle) (not c.can_download) _ _
     (stall_row_leads c p (asked.Dnload k len) [] InDfuIdle (InError ErrStalledPkt) asks v refl, tt)
     (stall_row_leads c p (asked.Dnload k len) [] InDfuIdle (InError ErrStalledPkt) asks v refl, tt)
 dfu_idle_plans_lead c i p (asked.Dnload k len) (x ∷ xs) takes s asks v =
@@ -83,12 +83,12 @@ dfu_idle_plans_lead c i p (asked.GetStatus len) body takes s asks v = (
 dfu_idle_plans_lead c i p (asked.GetState len) body takes s asks v = (getstate_row_leads c p len body InDfuIdle asks.1 refl, tt)
 dfu_idle_plans_lead c i p q body takes s asks v = (stall_row_leads c p q body InDfuIdle (InError ErrStalledPkt) asks v refl, tt)
 
--- In dfuDNLOAD-SYNC, with a block that is not written.
+-- Each request in dfuDNLOAD-SYNC, with a block that is not written, leads the device on by a row of the standard's table.
 download_sync_plans_lead : (c : Profile) (i : List ℕ) (before block : List ℕ) (number : ℕ)
     → AllPlansLead c i (InDownloadSync before block number)
 download_sync_plans_lead c i before block number p asked.NotDfu body takes s asks v = absurd (false≢true v)
 download_sync_plans_lead c i before block number p (asked.GetStatus len) body takes s asks v =
-    either_way (PlanOutcomesLead c p (asked.GetStatus len) body (InDownloadSync before block number)) (c.busy == 0) _ _ (
+    holds_in_both_branches (PlanOutcomesLead c p (asked.GetStatus len) body (InDownloadSync before block number)) (c.busy == 0) _ _ (
       (
         getstatus_row_leads c p len body (InDownloadSync before block number) (InDownloadIdle (before
             ++ block) number) Always tt asks.1 refl refl,
@@ -108,7 +108,7 @@ download_sync_plans_lead c i before block number p (asked.Dnload k len) [] takes
 download_sync_plans_lead c i before block number p q body takes s asks v =
     (stall_row_leads c p q body (InDownloadSync before block number) (InError ErrStalledPkt) asks v refl, tt)
 
--- In dfuDNLOAD-SYNC, with all written.
+-- Each request in dfuDNLOAD-SYNC, with all blocks written, leads the device on by a row of the standard's table.
 written_sync_plans_lead : (c : Profile) (i : List ℕ) (taken : List ℕ) (number : ℕ)
     → AllPlansLead c i (InDownloadSyncWritten taken number)
 written_sync_plans_lead c i taken number p asked.NotDfu body takes s asks v = absurd (false≢true v)
@@ -121,7 +121,7 @@ written_sync_plans_lead c i taken number p (asked.Dnload k len) [] takes s asks 
 written_sync_plans_lead c i taken number p q body takes s asks v =
     (stall_row_leads c p q body (InDownloadSyncWritten taken number) (InError ErrStalledPkt) asks v refl, tt)
 
--- In dfuDNBUSY.
+-- Each request in dfuDNBUSY leads the device on by a row of the standard's table.
 download_busy_plans_lead : (c : Profile) (i : List ℕ) (before block : List ℕ) (number passed : ℕ)
     → AllPlansLead c i (InDownloadBusy before block number passed)
 download_busy_plans_lead c i before block number passed p asked.NotDfu body takes s asks v = absurd (false≢true v)
@@ -130,11 +130,11 @@ download_busy_plans_lead c i before block number passed p (asked.Dnload k len) [
 download_busy_plans_lead c i before block number passed p q body takes s asks v =
     (stall_row_leads c p q body (InDownloadBusy before block number passed) (InError ErrStalledPkt) asks v refl, tt)
 
--- In dfuDNLOAD-IDLE.
+-- Each request in dfuDNLOAD-IDLE leads the device on by a row of the standard's table.
 download_idle_plans_lead : (c : Profile) (i : List ℕ) (taken : List ℕ) (number : ℕ) → AllPlansLead c i (InDownloadIdle taken number)
 download_idle_plans_lead c i taken number p asked.NotDfu body takes s asks v = absurd (false≢true v)
 download_idle_plans_lead c i taken number p (asked.Dnload k len) [] takes s asks v =
-    either_way (PlanOutcomesLead c p (asked.Dnload k len) [] (InDownloadIdle taken number)) (nat_le c.least (length taken)) _ _
+    holds_in_both_branches (PlanOutcomesLead c p (asked.Dnload k len) [] (InDownloadIdle taken number)) (nat_le c.least (length taken)) _ _
     (ack_row_leads c p (asked.Dnload k len) [] (InDownloadIdle taken number) (InManifestSync taken) Always asks v refl refl, tt)
     (stall_row_leads c p (asked.Dnload k len) [] (InDownloadIdle taken number) (InError ErrNotDone) asks v refl, tt)
 download_idle_plans_lead c i taken number p (asked.Dnload k len) (x ∷ xs) takes s asks v =
@@ -148,7 +148,7 @@ download_idle_plans_lead c i taken number p (asked.GetState len) body takes s as
 download_idle_plans_lead c i taken number p q body takes s asks v =
     (stall_row_leads c p q body (InDownloadIdle taken number) (InError ErrStalledPkt) asks v refl, tt)
 
--- In dfuMANIFEST-SYNC, not complete.
+-- Each request in dfuMANIFEST-SYNC, not complete, leads the device on by a row of the standard's table.
 manifest_sync_plans_lead : (c : Profile) (i : List ℕ) (taken : List ℕ) → AllPlansLead c i (InManifestSync taken)
 manifest_sync_plans_lead c i taken p asked.NotDfu body takes s asks v = absurd (false≢true v)
 manifest_sync_plans_lead c i taken p (asked.GetStatus len) body takes s asks v =
@@ -177,7 +177,7 @@ manifest_sync_plans_lead c i taken p q body takes s asks v = (
   tt,
 )
 
--- In dfuMANIFEST-SYNC, complete.
+-- Each request in dfuMANIFEST-SYNC, complete, leads the device on by a row of the standard's table.
 manifest_complete_plans_lead : (c : Profile) (i : List ℕ) → AllPlansLead c i InManifestSyncComplete
 manifest_complete_plans_lead c i p asked.NotDfu body takes s asks v = absurd (false≢true v)
 manifest_complete_plans_lead c i p (asked.GetStatus len) body takes s asks v = (
@@ -198,7 +198,7 @@ manifest_complete_plans_lead c i p q body takes s asks v = (
   tt,
 )
 
--- In dfuMANIFEST.
+-- Each request in dfuMANIFEST leads the device on by a row of the standard's table.
 manifest_plans_lead : (c : Profile) (i : List ℕ) (taken : List ℕ) (passed : ℕ) → AllPlansLead c i (InManifest taken passed)
 manifest_plans_lead c i taken passed p asked.NotDfu body takes s asks v = absurd (false≢true v)
 manifest_plans_lead c i taken passed p (asked.Dnload k len) [] takes s asks v =
@@ -209,7 +209,7 @@ manifest_plans_lead c i taken passed p q body takes s asks v = (
   tt,
 )
 
--- In dfuMANIFEST-WAIT-RESET.
+-- Each request in dfuMANIFEST-WAIT-RESET leads the device on by a row of the standard's table.
 manifest_wait_reset_plans_lead : (c : Profile) (i : List ℕ) → AllPlansLead c i InManifestWaitReset
 manifest_wait_reset_plans_lead c i p asked.NotDfu body takes s asks v = absurd (false≢true v)
 manifest_wait_reset_plans_lead c i p (asked.Dnload k len) [] takes s asks v =
@@ -220,7 +220,7 @@ manifest_wait_reset_plans_lead c i p q body takes s asks v = (
   tt,
 )
 
--- In dfuUPLOAD-IDLE.
+-- Each request in dfuUPLOAD-IDLE leads the device on by a row of the standard's table.
 upload_idle_plans_lead : (c : Profile) (i : List ℕ) (at number : ℕ) → AllPlansLead c i (InUploadIdle at number)
 upload_idle_plans_lead c i at number p asked.NotDfu body takes s asks v = absurd (false≢true v)
 upload_idle_plans_lead c i at number p (asked.Upload k len) body takes s asks v =
@@ -239,7 +239,7 @@ upload_idle_plans_lead c i at number p q body takes s asks v = (
   tt,
 )
 
--- In dfuERROR.
+-- Each request in dfuERROR leads the device on by a row of the standard's table.
 error_plans_lead : (c : Profile) (i : List ℕ) (code : Code) → AllPlansLead c i (InError code)
 error_plans_lead c i code p asked.NotDfu body takes s asks v = absurd (false≢true v)
 error_plans_lead c i code p asked.ClrStatus body takes s asks v =

@@ -1,4 +1,4 @@
--- Answers as the judge sees them, matched with what a row of its table gives.
+-- Answers as the judge sees them, matched with the answers of the rows of its table.
 use Rattle.std.specs.Prelude.{◌≡◌, ℕ, zero, suc, ◌<◌, ◌==◌, ◌||◌, min, true, List, [], ◌∷◌, length, take, slice_index}
 use Rattle.std.specs.List.{list_any}
 use Rattle.std.proofs.Common.{refl, ap, ◌∙◌, inl, inr, arith}
@@ -21,8 +21,8 @@ use Rattle.dfu_conformance.specs.declared.row.Gives.TheVariants as gives
 use Rattle.dfu_conformance.specs.declared.event.LogEvent.{LogEvent}
 use Rattle.dfu_conformance.specs.declared.standard.TheConstants.{STANDARD}
 use Rattle.dfu_conformance.specs.declared.drifts.TheConstants.{DRIFTS}
-use Rattle.dfu_conformance.specs.RowMatches.{asks, answer_matches, bytes_match, has_code, number_of_state}
-use Rattle.dfu_conformance.specs.Candidates.{is_row_for}
+use Rattle.dfu_conformance.specs.RowMatches.{asks, answer_matches, answer_allows_bytes, has_code, bstate_of_place}
+use Rattle.dfu_conformance.specs.Candidates.{applies_to}
 use Rattle.dfu_conformance.specs.MayAnswer.{MayAnswer, MayMove}
 use Rattle.dfu_conformance.proofs.ForCallers.{is_row, device_goes_by_listed_row, is_move, device_moves_by_listed_drift}
 use Rattle.dfu_laws.specs.judge.Conformity.{place_of, seen, StageInvariant}
@@ -33,7 +33,7 @@ EventLeadsOn a from e next = (here : StandardState) × MayMove a 0 from here × 
 
 -- An event that a row of the standard's table allows leads the device on.
 pub row_leads_on_in_place : (a : ℕ) (from : StandardState) (q : Came) (when : When) (g : Gives) (next : StandardState) (e : LogEvent)
-    → list_any (is_row from q when g next) STANDARD ≡ true → is_row_for when a 0 ≡ true → asks q e ≡ true
+    → list_any (is_row from q when g next) STANDARD ≡ true → applies_to when a 0 ≡ true → asks q e ≡ true
     → answer_matches g from next e.length e.answer ≡ true → EventLeadsOn a from e next
 row_leads_on_in_place a from q when g next e some row_is_for_device is_asked is_shown =
     (from, inl refl, inl (device_goes_by_listed_row STANDARD from q when g next a 0 e some row_is_for_device is_asked is_shown))
@@ -42,7 +42,7 @@ row_leads_on_in_place a from q when g next e some row_is_for_device is_asked is_
 pub row_after_own_move_leads_on : (a : ℕ) (from here : StandardState) (q : Came) (when : When) (g : Gives) (next : StandardState) (e :
     LogEvent)
     → list_any (is_move from Always here) DRIFTS ≡ true
-    → list_any (is_row here q when g next) STANDARD ≡ true → is_row_for when a 0 ≡ true → asks q e ≡ true
+    → list_any (is_row here q when g next) STANDARD ≡ true → applies_to when a 0 ≡ true → asks q e ≡ true
     → answer_matches g here next e.length e.answer ≡ true → EventLeadsOn a from e next
 row_after_own_move_leads_on a from here q when g next e move some row_is_for_device is_asked is_shown = (
   here,
@@ -51,44 +51,44 @@ row_after_own_move_leads_on a from here q when g next e move some row_is_for_dev
       next a 0 e some row_is_for_device is_asked is_shown),
 )
 
--- An acknowledgement is what a row that gives Ack gives.
+-- An acknowledgement matches a row that gives Ack.
 pub ack_answer_matches_row : (from next : StandardState) (len n : ℕ) (a : Answer) (out : List ℕ) → ReplyAnswer n Ack a out
     → answer_matches gives.Ack from next len (seen a out) ≡ true
 ack_answer_matches_row from next len n a out h = ap (λ (x : Answer). answer_matches gives.Ack from next len (seen x out)) h.0
 
--- A stall is what a row that gives Stall gives.
+-- A stall matches a row that gives Stall.
 pub stall_answer_matches_row : (from next : StandardState) (len n : ℕ) (a : Answer) (out : List ℕ) → ReplyAnswer n Stall a out
     → answer_matches gives.Stall from next len (seen a out) ≡ true
 stall_answer_matches_row from next len n a out h = ap (λ (x : Answer). answer_matches gives.Stall from next len (seen x out)) h.0
 
 -- The first len of n bytes are min len n bytes.
-pub front_length_is_least : (bytes : List ℕ) (len n : ℕ) → length bytes ≡ n → (length (take len bytes) == min len n) ≡ true
-front_length_is_least bytes len n size = eq-eqb _ _ (length-take len bytes ∙ ap (λ (k : ℕ). min len k) size)
+pub prefix_length_is_min : (bytes : List ℕ) (len n : ℕ) → length bytes ≡ n → (length (take len bytes) == min len n) ≡ true
+prefix_length_is_min bytes len n size = eq-eqb _ _ (length-take len bytes ∙ ap (λ (k : ℕ). min len k) size)
 
--- A state that was answered is what a row of GETSTATE gives.
+-- A state that was answered matches a row of GETSTATE.
 pub state_answer_matches_row : (from : StandardState) (state : State) (len n : ℕ) (a : Answer) (out : List ℕ)
-    → state_byte state ≡ number_of_state from
+    → state_byte state ≡ bstate_of_place from
     → n ≡ len
     → ReplyAnswer n (StateOf state) a out → answer_matches gives.State from from len (seen a out) ≡ true
 state_answer_matches_row from state len n a out same is h =
     ap (λ (x : Answer). answer_matches gives.State from from len (seen x out)) h.0
-    ∙ ap (λ (l : List ℕ). bytes_match gives.State from from len (length l) (slice_index l 0) (slice_index l 4))
+    ∙ ap (λ (l : List ℕ). answer_allows_bytes gives.State from from len (length l) (slice_index l 0) (slice_index l 4))
     (h.1 ∙ ap (λ (k : ℕ). take k (state_byte state ∷ [])) is)
-    ∙ and_from _ _ (front_length_is_least (state_byte state ∷ []) len 1 refl) (first len)
+    ∙ and_from _ _ (prefix_length_is_min (state_byte state ∷ []) len 1 refl) (first len)
   where
     first : (len : ℕ) → ((length (take len (state_byte state ∷ [])) == 0) || (slice_index (take len
-        (state_byte state ∷ [])) 0 == number_of_state from)) ≡ true
+        (state_byte state ∷ [])) 0 == bstate_of_place from)) ≡ true
     first zero = refl
     first (suc k) = or_right _ _ (eq-eqb _ _ same)
 
--- The front of a status is what a row of GETSTATUS gives.
+-- The front of a status matches a row of GETSTATUS.
 pub status_front_matches_row : (next : StandardState) (bytes : List ℕ) (len : ℕ) → length bytes ≡ 6 →
     has_code next (slice_index bytes 0) ≡ true
-    → slice_index bytes 4 ≡ number_of_state next
-    → bytes_match gives.Status next next len (length (take len bytes)) (slice_index (take len bytes) 0) (slice_index
+    → slice_index bytes 4 ≡ bstate_of_place next
+    → answer_allows_bytes gives.Status next next len (length (take len bytes)) (slice_index (take len bytes) 0) (slice_index
     (take len bytes) 4) ≡ true
 status_front_matches_row next bytes len size coded same =
-    and_from _ _ (front_length_is_least bytes len 6 size) (and_from _ _ (first len) (elim (cases_lt 4 len) [
+    and_from _ _ (prefix_length_is_min bytes len 6 size) (and_from _ _ (first len) (elim (cases_lt 4 len) [
       | inl long ↦ or_right _ _ (eq-eqb _ _ (get_or-take len bytes 4 0 long ∙ same))
       | inr short ↦
           let few : length (take len bytes) < 5 =
@@ -99,26 +99,26 @@ status_front_matches_row next bytes len size coded same =
     first zero = refl
     first (suc k) = or_right _ _ (ap (λ (x : ℕ). has_code next x) (get_or-take (suc k) bytes 0 0 (omega arith)) ∙ coded)
 
--- A status that was answered is what a row of GETSTATUS gives.
+-- A status that was answered matches a row of GETSTATUS.
 pub status_answer_matches_row : (from next : StandardState) (code : Code) (poll : ℕ) (state : State) (len n : ℕ) (a : Answer) (out : List ℕ)
-    → has_code next (code_byte code) ≡ true → state_byte state ≡ number_of_state next → n ≡ len
+    → has_code next (code_byte code) ≡ true → state_byte state ≡ bstate_of_place next → n ≡ len
     → ReplyAnswer n (StatusOf code poll state) a out → answer_matches gives.Status from next len (seen a out) ≡ true
 status_answer_matches_row from next code poll state len n a out coded same is (bytes_are, bytes, status, string, front) =
     ap (λ (x : Answer). answer_matches gives.Status from next len (seen x out)) bytes_are
-    ∙ ap (λ (l : List ℕ). bytes_match gives.Status from next len (length l) (slice_index l 0) (slice_index l 4))
+    ∙ ap (λ (l : List ℕ). answer_allows_bytes gives.Status from next len (length l) (slice_index l 0) (slice_index l 4))
     (front ∙ ap (λ (k : ℕ). take k bytes) is)
     ∙ status_front_matches_row next bytes len status.length (ap (λ (x : ℕ). has_code next x) status.code ∙ coded) (status.state ∙ same)
 
--- A part of an image is what a row of UPLOAD gives, a short one or a full one.
+-- A part of an image, short or full, matches a row of UPLOAD.
 pub image_part_matches_row : (from next : StandardState) (part : List ℕ) (len n : ℕ) (a : Answer) (out : List ℕ) (g : Gives)
-    → bytes_match g from next len (length part) (slice_index part 0) (slice_index part 4) ≡ true
+    → answer_allows_bytes g from next len (length part) (slice_index part 0) (slice_index part 4) ≡ true
     → ReplyAnswer n (Data part) a out → answer_matches g from next len (seen a out) ≡ true
 image_part_matches_row from next part len n a out g fits h =
     ap (λ (x : Answer). answer_matches g from next len (seen x out)) h.0
-    ∙ ap (λ (l : List ℕ). bytes_match g from next len (length l) (slice_index l 0) (slice_index l 4)) h.1 ∙ fits
+    ∙ ap (λ (l : List ℕ). answer_allows_bytes g from next len (length l) (slice_index l 0) (slice_index l 4)) h.1 ∙ fits
 
 -- The number of the state of a stage is the number of its place.
-pub state_number_of_place : (st : Stage) → state_byte (state_of st) ≡ number_of_state (place_of st)
+pub state_number_of_place : (st : Stage) → state_byte (state_of st) ≡ bstate_of_place (place_of st)
 state_number_of_place (InError code) = refl
 state_number_of_place st = refl
 

@@ -23,7 +23,7 @@ use Rattle.dfu_sim.specs.LinkAgreement.{pending_of, ClosedWasOffered, Agrees}
 use Rattle.dfu_sim.specs.Fact.{HostFact, SessionFact}
 use Rattle.dfu_sim.specs.Simulation.{Simulation, ActiveImageWasOffered}
 use Rattle.dfu_sim.proofs.Replies.{phase_has_host_deed}
-use Rattle.dfu_sim.proofs.Actions.{Went, delivered_action_went}
+use Rattle.dfu_sim.proofs.Actions.{Went, action_moves_device}
 use Rattle.dfu_sim.proofs.Saying.{taking_keeps_live_session, dropping_keeps_live_session, plain_report_is_not_in_place, uploaded_step_gives_active_image}
 use Rattle.dfu_sim.proofs.Taking.{restart_outcome_holds, restart_report_promises_nothing}
 use Rattle.dfu_sim.proofs.Projected.{heard_in}
@@ -31,7 +31,7 @@ use Rattle.dfu_laws.proofs.link.Timed.{ImageKeptOrOffered}
 
 -- The live session after an action.
 
--- The live session is the one before, or no session is live.
+-- The live session is the one before, or no session is live any more.
 abbrev pub SessionStaysOrEnds : Session → Session → Type 0
 SessionStaysOrEnds before now = (live_session_of now ≡ live_session_of before) ⊎ (live_session_of now ≡ NothingLive)
 
@@ -50,14 +50,20 @@ go_keeps_or_ends_session (goes b d s) = elim (report_keeps_or_ends_session s) [
 
 -- Facts after an action.
 
--- A session took what it heard, and the device came from the situation s to s'. The facts of the session hold again; the session is still
--- live, or over; with Installed or Verified its payload is the active image, and the state is appIDLE.
+-- A session took a result, and the device moved from the situation s to s'. The facts of the session hold again; the session is still live,
+-- or over; with Installed or Verified its payload is the active image, and the state is appIDLE.
 pub record FactsAfterAction (c : Profile) (past : List (List ℕ)) (before : Session) (s s' : Situation) (t : HostOutcome) : Type 0 where
+  -- The device keeps its image, or has one that was offered.
   pub device : ImageKeptOrOffered past s s'
+  -- The facts of the session hold again.
   pub fact : SessionFact c s' t.session
+  -- The session is still live, or over.
   pub live : SessionStaysOrEnds before t.session
+  -- The payload of a live session was offered.
   pub offered : IsLiveOffer past (live_session_of t.session)
+  -- With Installed or Verified the payload is the active image of a device in appIDLE.
   pub done : IsInPlaceReport t.answer.report → (s'.stage ≡ InAppIdle) × (live_session_of before ≡ LoadingPayload s'.image)
+  -- Bytes that come with a report are the active image.
   pub gives : (bytes : List ℕ) → t.answer.gave ≡ Some bytes → bytes ≡ s'.image
 
 -- Bytes are given only with Uploaded.
@@ -124,7 +130,7 @@ module _ (simulation : Simulation) (only : ActiveImageWasOffered) (c : Profile) 
   action_keeps_session_facts w w' h heard fate e sound offered f whole acts room =
       let d = deed h.task h.phase in
       let x = subst (λ (p : Profile). Went w.slots.medium.fuse p (situation w) d (delivery_of fate) w' heard) e
-      (delivered_action_went d (delivery_of fate) w w' heard (phase_has_host_deed h.task h.phase) acts) in
+      (action_moves_device d (delivery_of fate) w w' heard (phase_has_host_deed h.task h.phase) acts) in
       let hears = heard_in h.phase heard _ x.room x.hears room in
       let there : (action_result c (situation w) d (delivery_of fate) x.first x.second).device ≡ situation w' =
       x.device ∙ ap (λ harming. situation_after_harm harming (situation w')) whole in
@@ -157,13 +163,13 @@ module _ (simulation : Simulation) (only : ActiveImageWasOffered) (c : Profile) 
       }
 
   -- After a restart of which a live host hears, the facts of the session hold again, with the device in any state.
-  pub told_well : (s s' : Situation) (session : Session) → IsLiveOffer past (live_session_of session) → SessionFact c s session
+  pub told_host_keeps_facts : (s s' : Situation) (session : Session) → IsLiveOffer past (live_session_of session) → SessionFact c s session
       → ImageKeptOrOffered past s s' → FactsAfterAction c past session s s' (notify_restart session)
-  told_well s s' NoLiveSession offered f device =
+  told_host_keeps_facts s s' NoLiveSession offered f device =
       record { device = device; fact = tt; live = inl refl; offered = tt; done = λ e. elim e [ ]; gives = λ bytes e. absurd (cc) }
-  told_well s s' (HostSession h) offered f device = restart_keeps_session_facts s s' h offered f device
+  told_host_keeps_facts s s' (HostSession h) offered f device = restart_keeps_session_facts s s' h offered f device
 
--- A time of no milliseconds.
+-- A plan of 0 milliseconds does nothing.
 
 no_time_plan_done : (c : Profile) (w : DeviceView) (stage : Stage) → w.stage ≡ stage → Done (time_plan c stage 0) 0 w answer.Ack [] w
 no_time_plan_done c w (InAppDetach timer passed) e = ((refl, refl), λ i. record w { stage = e i })
@@ -171,6 +177,6 @@ no_time_plan_done c w (InDownloadBusy before block number passed) e = ((refl, re
 no_time_plan_done c w (InManifest taken passed) e = ((refl, refl), λ i. record w { stage = e i })
 no_time_plan_done c w stage e = ((refl, refl), λ i. record w { stage = e i })
 
--- No milliseconds leave a device as it was.
+-- A time of 0 milliseconds leaves a device as it was.
 pub zero_time_keeps_device : (w : DeviceView) → Elapses 0 w w
 zero_time_keeps_device w = no_time_plan_done (profile w) w w.stage refl

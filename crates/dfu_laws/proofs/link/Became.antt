@@ -19,9 +19,13 @@ use Rattle.dfu_laws.proofs.link.Timed.{ImageKeptOrOffered, image_kept_or_offered
 
 -- No writes are due on a board. Its device has the profile c, and an image that is the one of s or was offered; closed bytes were offered.
 pub record BoardImageKeptOrOffered (c : Profile) (past : List (List ℕ)) (s : Situation) (b' : Board) : Type 0 where
+  -- Device of the board.
   pub device : DeviceView
+  -- The board is this device, with no writes due.
   pub idle : IsIdleBoard b' device
+  -- The device has the profile `c`.
   pub profile_is : profile device ≡ c
+  -- The device keeps the image of `s`, or has one that was offered.
   pub well : ImageKeptOrOffered past s (situation device)
 
 -- After a reset of the bus no closed bytes wait.
@@ -29,7 +33,7 @@ reset_leaves_no_closed_bytes : (past : List (List ℕ)) (stage : Stage) → Clos
 reset_leaves_no_closed_bytes past (InAppDetach timer passed) = tt
 reset_leaves_no_closed_bytes past stage = tt
 
--- A reset of the bus leaves the image.
+-- A reset of the bus does not change the image.
 pub reset_keeps_image : (past : List (List ℕ)) (d d' : DeviceView) → d' ≡ record d { stage = reset_stage d.stage }
     → ImageKeptOrOffered past (situation d) (situation d')
 reset_keeps_image past d d' e = record {
@@ -57,7 +61,7 @@ module _ (refines : IdleRunsRefineTable) (c : Profile) (past : List (List ℕ)) 
       (ap (λ (p : Profile). situation_after_ms p (situation d) ms y.luck) (sym e) ∙ ap (λ (o : Outcome). o.after) y.same)
       (passed_time_keeps_or_offers c past (image_of d.slots) ms d.stage sound y.luck)
 
-  -- A call that tells of time keeps the image, or puts an offered one in place.
+  -- A call of `elapse` keeps the image, or puts an offered one in place.
   elapse_call_keeps_or_offers : (ms : ℕ) (b b' : Board) (d : DeviceView) (steps : List BoardStep) (a : Answer) (out : List ℕ) →
       IsIdleBoard b d
       → profile d ≡ c
@@ -71,7 +75,7 @@ module _ (refines : IdleRunsRefineTable) (c : Profile) (past : List (List ℕ)) 
         well = elapsed_time_keeps_or_offers ms d x.device e sound x.row.2;
       }
 
-  -- A call that tells of time and is lost, or is handed in once or twice, keeps the image, or puts an offered one in place.
+  -- A call of `elapse` that is lost, or is delivered once or twice, keeps the image, or puts an offered one in place.
   pub reached_elapse_keeps_or_offers : (ms : ℕ) (b b' : Board) (d : DeviceView) (steps : List BoardStep) (says : BoardReply) →
       IsIdleBoard b d → profile d ≡ c
       → ClosedWasOffered past d.stage → CallReaches (Elapse ms) b steps says b' → BoardImageKeptOrOffered c past (situation d) b'
@@ -86,7 +90,7 @@ module _ (refines : IdleRunsRefineTable) (c : Profile) (past : List (List ℕ)) 
       board_kept_or_offered_then (situation d) mid b' x (elapse_call_keeps_or_offers ms mid b' x.device second a out x.idle x.profile_is
       x.well.sound more)
 
-  -- A call that tells of a reset of the bus keeps the image.
+  -- A call of `usb_reset` keeps the image.
   pub reset_call_keeps_image : (b b' : Board) (d : DeviceView) (steps : List BoardStep) (a : Answer) (out : List ℕ) → IsIdleBoard b d →
       profile d ≡ c
       → CallServed b UsbReset steps a out b' → BoardImageKeptOrOffered c past (situation d) b'

@@ -17,12 +17,15 @@ use Rattle.dfu_home.specs.Next.{IsNextDue}
 use Rattle.dfu_home.specs.Laws.{place_of, end_of_due, HomeOperationOutcome, ImageStays, IsFirstSlotOperation, WritesTheFirstSlot, FirstSlotIsKnown}
 use Rattle.dfu_laws.specs.board.Slots.{IsInSlot}
 use Rattle.dfu_laws.specs.link.Copies.{HomeOperations, no_operation, then_operation, HomeOperationsKeepImage}
-use Rattle.dfu_laws.proofs.board.Slots.{image_shown_in, filled_slot_holds_image, slot_of_image_is_filled, active_in_slot}
+use Rattle.dfu_laws.proofs.board.Slots.{image_shown_in, filled_slot_holds_image, slot_of_image_is_filled, active_image_is_in_slot}
 
--- Laws of one operation on which the proof stands.
-pub record HomeLaws : Type 0 where
+-- Laws of dfu_home of one operation of the copy.
+pub record HomeOperationLaws : Type 0 where
+  -- An operation keeps the active image.
   pub stays : ImageStays
+  -- An operation writes in the first slot.
   pub writes : WritesTheFirstSlot
+  -- The image in the first slot is known after an operation.
   pub knows : FirstSlotIsKnown
 
 -- An operation ends within the first slot.
@@ -45,19 +48,22 @@ operations_keep_size m _ no_operation = refl
 operations_keep_size m _ (then_operation {mid = mid} {now = now} {due = due} p more does carried) =
     carried.bytes.size ∙ operations_keep_size m mid more
 
-module _ (laws : HomeLaws) where
+module _ (laws : HomeOperationLaws) where
   module _ (m now : MediumState) (image : List ℕ) (p : Progress) (due : Due) (a : Active m image) (does : IsNextDue m p due)
       (carried : HomeOperationOutcome m due now) where
+    -- Room of a gate.
     abbrev g : ℕ
     g = gate_of m
 
+    -- Size of a slot.
     abbrev half : ℕ
     half = slot_size m.bytes
 
+    -- The slots keep their size.
     size : slot_size now.bytes ≡ half
     size = slot_size_kept_by_change (place_of due) (end_of_due m.grain.sector due) m.bytes now.bytes carried.bytes
 
-    -- The second slot stays.
+    -- An operation does not change the second slot.
     second_slot_stays : ◌≡◌ {A = Slot} (slot_of now half) (slot_of m half)
     second_slot_stays = ap (λ (w : Grain). slot (gate_room w) now.bytes half) carried.grain
         ∙ slot_kept_outside_change g (place_of due) (end_of_due m.grain.sector due) m.bytes now.bytes half carried.bytes
@@ -68,7 +74,7 @@ module _ (laws : HomeLaws) where
     first_slot_image i filled shows = ⊎_elim
         (λ same.
         filled_slot_holds_image m 0 half i (inl (refl, refl)) (subst IsFilledSlot same filled) (ap image_shown_in (sym same) ∙ shows))
-        (λ shown. subst (λ (j : List ℕ). IsInSlot m j) (sym shown ∙ shows) (active_in_slot m image a))
+        (λ shown. subst (λ (j : List ℕ). IsInSlot m j) (sym shown ∙ shows) (active_image_is_in_slot m image a))
         (laws.knows m now image p due a does carried filled.counts.is_open)
 
     second_slot_image : (i : List ℕ) → IsFilledSlot (slot_of now half) → image_shown_in (slot_of now half) ≡ i → IsInSlot m i

@@ -72,6 +72,7 @@ dfu_idle_is_one_stage stage e = absurd (cc)
 -- The host after the end of a trial.
 
 module _ (c : Profile) (s s' : Situation) (before : s.stage ≡ InDfuIdle) (after : s'.stage ≡ InDfuIdle) where
+  -- Both devices are in the same stage.
   stage_is : s.stage ≡ s'.stage
   stage_is = before ∙ sym after
 
@@ -81,53 +82,53 @@ module _ (c : Profile) (s s' : Situation) (before : s.stage ≡ InDfuIdle) (afte
       let none : FetchedSoFar k kept s'.image InDfuIdle = subst (λ (x : Stage). FetchedSoFar k kept s.image x) before f in
       subst (λ (x : Stage). FetchedSoFar k kept s'.image x) (sym after) none
 
-  load_fact_before_transfer : (p : List ℕ) (task : Task) (phase : Phase) → BeginsTransfer (deed task phase) → PhaseFact c p phase s →
+  any_image_keeps_load_fact : (p : List ℕ) (task : Task) (phase : Phase) → BeginsTransfer (deed task phase) → PhaseFact c p phase s →
       PhaseFact c p phase s'
-  load_fact_before_transfer p task (Block n) t f = (f.0, subst (λ (x : Stage). IsAtBlock p c.transfer n x) stage_is f.1)
-  load_fact_before_transfer p task Close t f = subst (λ (x : Stage). WholePayloadAccepted p x) stage_is f
-  load_fact_before_transfer p task (Fetch k kept) t f = f
-  load_fact_before_transfer p task (Compare k) t f = f
-  load_fact_before_transfer p task Enter t f = f
-  load_fact_before_transfer p task phase t f = absurd t
+  any_image_keeps_load_fact p task (Block n) t f = (f.0, subst (λ (x : Stage). IsAtBlock p c.transfer n x) stage_is f.1)
+  any_image_keeps_load_fact p task Close t f = subst (λ (x : Stage). WholePayloadAccepted p x) stage_is f
+  any_image_keeps_load_fact p task (Fetch k kept) t f = f
+  any_image_keeps_load_fact p task (Compare k) t f = f
+  any_image_keeps_load_fact p task Enter t f = f
+  any_image_keeps_load_fact p task phase t f = absurd t
 
-  fetch_fact_before_transfer : (task : Task) (phase : Phase) → BeginsTransfer (deed task phase) → FetchFact phase s → FetchFact phase s'
-  fetch_fact_before_transfer task (Fetch k kept) t f = (f.0, nothing_fetched_in_dfu_idle k kept f.1)
-  fetch_fact_before_transfer task (Block n) t f = f
-  fetch_fact_before_transfer task Close t f = f
-  fetch_fact_before_transfer task (Compare k) t f = f
-  fetch_fact_before_transfer task Enter t f = f
-  fetch_fact_before_transfer task phase t f = absurd t
+  any_image_keeps_fetch_fact : (task : Task) (phase : Phase) → BeginsTransfer (deed task phase) → FetchFact phase s → FetchFact phase s'
+  any_image_keeps_fetch_fact task (Fetch k kept) t f = (f.0, nothing_fetched_in_dfu_idle k kept f.1)
+  any_image_keeps_fetch_fact task (Block n) t f = f
+  any_image_keeps_fetch_fact task Close t f = f
+  any_image_keeps_fetch_fact task (Compare k) t f = f
+  any_image_keeps_fetch_fact task Enter t f = f
+  any_image_keeps_fetch_fact task phase t f = absurd t
 
-  compare_fact_before_transfer : (p : List ℕ) (task : Task) (phase : Phase) → BeginsTransfer (deed task phase) → CompareFact c p phase s
+  any_image_keeps_compare_fact : (p : List ℕ) (task : Task) (phase : Phase) → BeginsTransfer (deed task phase) → CompareFact c p phase s
       → CompareFact c p phase s'
-  compare_fact_before_transfer p task (Compare k) t f = (f.0, nothing_fetched_in_dfu_idle k (first_blocks p c.transfer k) f.1)
-  compare_fact_before_transfer p task (Block n) t f = f
-  compare_fact_before_transfer p task Close t f = f
-  compare_fact_before_transfer p task (Fetch k kept) t f = f
-  compare_fact_before_transfer p task Enter t f = f
-  compare_fact_before_transfer p task phase t f = absurd t
+  any_image_keeps_compare_fact p task (Compare k) t f = (f.0, nothing_fetched_in_dfu_idle k (first_blocks p c.transfer k) f.1)
+  any_image_keeps_compare_fact p task (Block n) t f = f
+  any_image_keeps_compare_fact p task Close t f = f
+  any_image_keeps_compare_fact p task (Fetch k kept) t f = f
+  any_image_keeps_compare_fact p task Enter t f = f
+  any_image_keeps_compare_fact p task phase t f = absurd t
 
   -- Before a transfer begins in dfuIDLE, the facts of a session hold of any image.
-  goal_fact_before_transfer : (g : Goal) (task : Task) (phase : Phase) → BeginsTransfer (deed task phase) → GoalFact c g phase s →
+  any_image_keeps_goal_fact : (g : Goal) (task : Task) (phase : Phase) → BeginsTransfer (deed task phase) → GoalFact c g phase s →
       GoalFact c g phase s'
-  goal_fact_before_transfer (LoadGoal p) task phase t f = load_fact_before_transfer p task phase t f
-  goal_fact_before_transfer FetchGoal task phase t f = fetch_fact_before_transfer task phase t f
-  goal_fact_before_transfer (VerifyGoal p) task phase t f = load_fact_before_transfer p task phase t f
-  goal_fact_before_transfer (CompareGoal p) task phase t f = compare_fact_before_transfer p task phase t f
+  any_image_keeps_goal_fact (LoadGoal p) task phase t f = any_image_keeps_load_fact p task phase t f
+  any_image_keeps_goal_fact FetchGoal task phase t f = any_image_keeps_fetch_fact task phase t f
+  any_image_keeps_goal_fact (VerifyGoal p) task phase t f = any_image_keeps_load_fact p task phase t f
+  any_image_keeps_goal_fact (CompareGoal p) task phase t f = any_image_keeps_compare_fact p task phase t f
 
 -- The facts of the live session hold after the end of a trial.
-pub session_fact_after_trial_end : (c : Profile) (session : Session) (b b' : Board) (begins : Bool) (d : DeviceView) → state_on b
+pub trial_end_keeps_session_fact : (c : Profile) (session : Session) (b b' : Board) (begins : Bool) (d : DeviceView) → state_on b
     ≡ state_of d.stage
     → TrialMayEnd session (state_on b) begins → BoardStarts begins b' → SessionFact c (situation d) session
     → SessionFact c (situation (device_on b')) session
-session_fact_after_trial_end c NoLiveSession b b' begins d state may starts f = tt
-session_fact_after_trial_end c (HostSession h) b b' begins d state may starts f = record {
+trial_end_keeps_session_fact c NoLiveSession b b' begins d state may starts f = tt
+trial_end_keeps_session_fact c (HostSession h) b b' begins d state may starts f = record {
   task_is = f.task_is;
   on = f.on;
   some = f.some;
   fact = elim may [
     | inl common ↦ common_phase_has_goal_fact c h.task.goal (situation (device_on b')) h.phase common
-    | inr transfer ↦ goal_fact_before_transfer c (situation d) (situation (device_on b')) (dfu_idle_is_one_stage d.stage (sym state
+    | inr transfer ↦ any_image_keeps_goal_fact c (situation d) (situation (device_on b')) (dfu_idle_is_one_stage d.stage (sym state
         ∙ transfer.1))
         (begun_board_is_in_dfu_idle b' begins starts transfer.2) h.task.goal h.task h.phase transfer.0 f.fact
   ];

@@ -32,11 +32,15 @@ use Rattle.dfu_laws.proofs.link.Acted.{FactsAfterAction, report_keeps_or_ends_se
 
 -- Restarts of a board.
 
--- A board restarted in appIDLE, and is the device of before but for its state.
+-- A board restarted in appIDLE, and its device is as before but for its state.
 pub record RestartedInAppIdle (d : DeviceView) (b' : Board) : Type 0 where
+  -- Device of the board.
   pub device : DeviceView
+  -- The board is this device, with no writes due.
   pub idle : IsIdleBoard b' device
+  -- The device is as after a loss of power.
   pub same : situation device ≡ situation_after_power (situation d)
+  -- The profile stays.
   pub fixed : profile device ≡ profile d
 
 -- The row of power changes nothing of a device but its state.
@@ -119,7 +123,7 @@ module _ (c : Profile) (past : List (List ℕ)) where
   own_reset_leads_to_next g (Last report) s is f = last_reset_leads_to_next g s report f
   own_reset_leads_to_next g phase s is f = absurd (cc)
 
-  -- If a host took what it heard, and the image was kept or offered, the facts of the session hold again.
+  -- If a host took a result, and the image was kept or offered, the facts of the session hold again.
   heard_keeps_session_facts : (s s' : Situation) (h : HostState) (heard : Heard) → ImageKeptOrOffered past s s'
       → TakenOutcomeHolds c past s' (live_session_of_goal h.task.goal) [] (host_outcome h heard) →
       FactsAfterAction c past (HostSession h) s s' (host_outcome h heard)
@@ -134,15 +138,15 @@ module _ (c : Profile) (past : List (List ℕ)) where
   }
 
   -- A host in phase Enter.
-  abbrev entering : Goal → (left again : ℕ) → HostState
-  entering g left again = record { task = task_for c g; phase = Enter; actions = left; restarts = again }
+  abbrev entering_host : Goal → (left again : ℕ) → HostState
+  entering_host g left again = record { task = task_for c g; phase = Enter; actions = left; restarts = again }
 
   -- If a live host in phase Enter hears that its reset is over, the facts of its session hold again, whatever the device is.
   pub enter_reset_keeps_facts : (s s' : Situation) (h : HostState) → IsLiveOffer past (live_session_of (HostSession h)) →
       HostFact c s h → h.phase ≡ Enter
       → ImageKeptOrOffered past s s' → FactsAfterAction c past (HostSession h) s s' (host_outcome h WasReset)
   enter_reset_keeps_facts s s' h offered f enters device =
-      let q = entering h.task.goal h.actions h.restarts in
+      let q = entering_host h.task.goal h.actions h.restarts in
       let same : q ≡ h = λ i. record {
         task = sym (task_of_descriptor_unique c h.task f.task_is) i;
         phase = sym enters i;
@@ -159,7 +163,7 @@ module _ (c : Profile) (past : List (List ℕ)) where
   power_keeps_image : (s : Situation) → ImageKeptOrOffered past s (situation_after_power s)
   power_keeps_image s = record { image = inl refl; sound = tt }
 
-  -- If a live host hears that its reset is over, and the device is in appIDLE with the image of before, the facts of its session hold
+  -- If a live host hears that its reset is over, and the device is in appIDLE with its image unchanged, the facts of its session hold
   -- again.
   pub own_reset_keeps_facts : (s s' : Situation) (h : HostState) → IsLiveOffer past (live_session_of (HostSession h)) → HostFact c s h
       → deed h.task h.phase ≡ Reset → s' ≡ situation_after_power s → FactsAfterAction c past (HostSession h) s s' (host_outcome h WasReset)

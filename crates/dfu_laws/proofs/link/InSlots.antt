@@ -2,7 +2,7 @@
 use Rattle.std.specs.Prelude.{◌≡◌, ◌⊎◌, ℕ, ◌+◌, ◌/◌, List}
 use Rattle.std.proofs.Common.{inl, inr, sym, ap, ◌∙◌, subst, arith, ⊎_elim}
 use Rattle.dfu_slots.specs.Units.{Grain, gate_room}
-use Rattle.dfu_slots.specs.Medium.{MediumState, FrameOutside}
+use Rattle.dfu_slots.specs.Medium.{MediumState, ChangedWithin}
 use Rattle.dfu_slots.specs.Layout.{Slot, slot, slot_size, ArePlaces}
 use Rattle.dfu_slots.specs.Image.{gate_of, slot_of, IsSizedMedium}
 use Rattle.dfu_slots.proofs.Sectors.{gate_room_at_least_16}
@@ -12,14 +12,14 @@ use Rattle.dfu_boot.specs.trial.Trial.{IsFilledSlot}
 use Rattle.dfu_boot.specs.trial.Unread.{ChangedUnreadBytes}
 use Rattle.dfu_boot.specs.trial.Lists.{Ends, TrialStepResult}
 use Rattle.dfu_boot.specs.declared.trial.standing.Standing.TheVariants as standing
-use Rattle.dfu_boot.proofs.Places.{slot_places_symmetric}
+use Rattle.dfu_boot.proofs.Places.{slot_places_swap}
 use Rattle.dfu_laws.specs.board.Slots.{IsInSlot}
 use Rattle.dfu_laws.specs.link.Marks.{OpenGateWasClosed}
 use Rattle.dfu_laws.proofs.board.Slots.{image_shown_in, same_bytes_fill_same_image, filled_slot_holds_image, slot_of_image_is_filled, place_is_one_of_two}
 
 -- Marks put no image into a slot.
-pub marks_change_no_slot : (m now : MediumState) → ChangedUnreadBytes m now → (i : List ℕ) → IsInSlot now i → IsInSlot m i
-marks_change_no_slot m now un i x =
+pub marks_add_no_slot_image : (m now : MediumState) → ChangedUnreadBytes m now → (i : List ℕ) → IsInSlot now i → IsInSlot m i
+marks_add_no_slot_image m now un i x =
     let size : slot_size now.bytes ≡ slot_size m.bytes = ap (λ (n : ℕ). n / 2) un.size in
     let places : ArePlaces m.bytes x.0 x.1 =
     subst (λ (n : ℕ). ((x.0 ≡ 0) × (x.1 ≡ n)) ⊎ ((x.0 ≡ n) × (x.1 ≡ 0))) size x.2 in
@@ -28,19 +28,23 @@ marks_change_no_slot m now un i x =
     x.5)
 
 module _ (m now : MediumState) (sized : IsSizedMedium m) (closed : OpenGateWasClosed m now.bytes) (grain : now.grain ≡ m.grain) where
+  -- Place of the slot whose gate was closed.
   abbrev at : ℕ
   at = closed.0
 
+  -- Place of the other slot.
   abbrev base : ℕ
   base = closed.1
 
+  -- Room of a gate.
   abbrev g : ℕ
   g = gate_of m
 
   -- Only the gate of the closed slot changed.
-  closed_gate_alone_changes : FrameOutside at (at + g) m.bytes now.bytes
+  closed_gate_alone_changes : ChangedWithin at (at + g) m.bytes now.bytes
   closed_gate_alone_changes = wider_frame_holds at (at + m.grain.sector) at (at + g) m.bytes now.bytes closed.4 (omega arith) (omega arith)
 
+  -- Slots have the room of a gate that they had.
   there : (p : ℕ) → ◌≡◌ {A = Slot} (slot_of now p) (slot g now.bytes p)
   there p = ap (λ (w : Grain). slot (gate_room w) now.bytes p) grain
 
@@ -66,7 +70,7 @@ module _ (m now : MediumState) (sized : IsSizedMedium m) (closed : OpenGateWasCl
             filled_slot_holds_image m at base _ closed.2 old.0 (old.1 ∙ ap image_shown_in (sym same) ∙ x.5)
         | inr other ↦
             let same : ◌≡◌ {A = Slot} (slot_of now x.0) (slot_of m base) = ap (λ (p : ℕ). slot_of now p) other ∙ base_slot_unchanged in
-            filled_slot_holds_image m base at _ (slot_places_symmetric m.bytes at base closed.2) (subst IsFilledSlot same
+            filled_slot_holds_image m base at _ (slot_places_swap m.bytes at base closed.2) (subst IsFilledSlot same
             (slot_of_image_is_filled now i x))
             (ap image_shown_in (sym same) ∙ x.5)
       ]

@@ -1,4 +1,4 @@
--- Boards after marks of a trial, which are the device of before, with the same image and in the same stage.
+-- Boards after marks of a trial, whose device has the same image and stage as before.
 use Rattle.std.specs.Prelude.{◌≡◌, ◌&&◌, ◌||◌, ◌==◌, ℕ, ◌+◌, ◌-◌, ◌*◌, ◌/◌, ◌^◌, ◌≤◌, ◌<◌, nat_le, nat_lt, IsTrue, List, length, take, drop, get_or, slice_index, slice_range, if◌then◌else◌}
 use Rattle.std.proofs.Common.{inl, inr, refl, sym, ap, ◌∙◌, subst, arith, ⊎_elim}
 use Rattle.std.proofs.lemmas.Bool.{cases_lt}
@@ -12,9 +12,9 @@ use Rattle.dfu_slots.specs.Store.{IsStore}
 use Rattle.dfu_slots.proofs.Stands.{sized_medium_has_two_slots}
 use Rattle.dfu_slots.proofs.Newest.{tested_places_are_slots}
 use Rattle.dfu_slots.proofs.Edges.{slot_ends_at_edge}
-use Rattle.dfu_slots.proofs.Seeing.{begun_only_by_gate}
+use Rattle.dfu_slots.proofs.Seeing.{same_gate_same_begun}
 use Rattle.dfu_boot.specs.trial.Unread.{ChangedUnreadBytes}
-use Rattle.dfu_boot.proofs.Places.{slot_places_symmetric}
+use Rattle.dfu_boot.proofs.Places.{slot_places_swap}
 use Rattle.dfu_boot.proofs.Unread.{unread_change_keeps_images}
 use Rattle.dfu_device.specs.declared.device_state.DeviceState.{DeviceState}
 use Rattle.dfu_device.specs.declared.device_state.DeviceState.TheVariants as device_state
@@ -29,7 +29,7 @@ use Rattle.dfu_laws.specs.board.Board.{Board, lent_on, medium_on}
 use Rattle.dfu_laws.specs.board.Refines.{IsIdleBoard}
 use Rattle.dfu_laws.specs.link.Marks.{IsMarkedBoard}
 
--- A byte of a range.
+-- Byte p of a list is byte p - a of each range from a that has it.
 byte_of_range : (l : List ℕ) (a b p : ℕ) → a ≤ p → p < b → slice_index l p ≡ get_or (slice_range l a b) (p - a) 0
 byte_of_range l a b p low high =
     let e : a + (p - a) ≡ p = omega (arith, low) in
@@ -37,41 +37,49 @@ byte_of_range l a b p low high =
     ∙ sym (get_or-take (b - a) (drop a l) (p - a) 0 (omega (arith, low, high)))
 
 module _ (w : Grain) (old now : List ℕ) (un : ChangedUnreadBytes (mapped_medium w old) (mapped_medium w now)) where
+  -- Room of a gate.
   abbrev g : ℕ
   g = gate_room w
 
+  -- The slots keep their size.
   half : slot_size now ≡ slot_size old
   half = ap (λ (k : ℕ). k / 2) un.size
 
+  -- The first slot is as before.
   first : slot g now 0 ≡ slot g old 0
   first = un.slots 0 (slot_size old) (inl (refl, refl))
 
+  -- The second slot is as before.
   second : slot g now (slot_size now) ≡ slot g old (slot_size old)
   second = ap (λ (k : ℕ). slot g now k) half ∙ un.slots (slot_size old) 0 (inr (refl, refl))
 
-  active_is : active_at g now ≡ active_at g old
-  active_is = λ i. if is_newest (first i) (second i) then 0 else half i
+  -- The active slot is at the same place.
+  active_place_same : active_at g now ≡ active_at g old
+  active_place_same = λ i. if is_newest (first i) (second i) then 0 else half i
 
-  spare_is : spare_at g now ≡ spare_at g old
-  spare_is = λ i. if is_newest (first i) (second i) then half i else 0
+  -- The spare slot is at the same place.
+  spare_place_same : spare_at g now ≡ spare_at g old
+  spare_place_same = λ i. if is_newest (first i) (second i) then half i else 0
 
   marked_active_slot_same : slot g now (active_at g now) ≡ slot g old (active_at g old)
-  marked_active_slot_same = ap (λ (k : ℕ). slot g now k) active_is
+  marked_active_slot_same = ap (λ (k : ℕ). slot g now k) active_place_same
       ∙ un.slots (active_at g old) (spare_at g old) (tested_places_are_slots g old)
 
-  spare_there : slot g now (spare_at g old) ≡ slot g old (spare_at g old)
-  spare_there = un.slots (spare_at g old) (active_at g old) (slot_places_symmetric old (active_at g old) (spare_at g old)
+  -- The slot at the old place of the spare slot is as before.
+  spare_slot_at_old_place_same : slot g now (spare_at g old) ≡ slot g old (spare_at g old)
+  spare_slot_at_old_place_same = un.slots (spare_at g old) (active_at g old) (slot_places_swap old (active_at g old) (spare_at g old)
       (tested_places_are_slots g old))
 
-  spare_same : slot g now (spare_at g now) ≡ slot g old (spare_at g old)
-  spare_same = ap (λ (k : ℕ). slot g now k) spare_is ∙ spare_there
+  -- The spare slot is as before.
+  spare_slot_same : slot g now (spare_at g now) ≡ slot g old (spare_at g old)
+  spare_slot_same = ap (λ (k : ℕ). slot g now k) spare_place_same ∙ spare_slot_at_old_place_same
 
   -- A sector that is erased ahead of the puts in the spare slot is erased there.
   marked_ahead_sector_erased : IsSizedMedium (mapped_medium w old) → (k : ℕ) → 2 * g + k ≤ slot_size old
       → IsWritableAhead (mapped_medium w old) (spare_at g old + 2 * g + k)
       → IsWritableAhead (mapped_medium w now) (spare_at g now + 2 * g + k)
   marked_ahead_sector_erased sized k fits ahead some =
-      subst (λ (x : ℕ). IsErasedToSector w.sector now (x + 2 * g + k) (x + 2 * g + k)) (sym spare_is) there
+      subst (λ (x : ℕ). IsErasedToSector w.sector now (x + 2 * g + k) (x + 2 * g + k)) (sym spare_place_same) there
     where
       spare_place_now : ℕ
       spare_place_now = spare_at g old
@@ -80,7 +88,7 @@ module _ (w : Grain) (old now : List ℕ) (un : ChangedUnreadBytes (mapped_mediu
       there p low high none = ⊎_elim
           (λ inner.
           byte_of_range now (spare_place_now + 2 * g) (spare_place_now + slot_size now) p (omega (arith, low)) (omega (arith, inner, half))
-          ∙ ap (λ (x : Slot). get_or x.data_bytes (p - (spare_place_now + 2 * g)) 0) spare_there
+          ∙ ap (λ (x : Slot). get_or x.data_bytes (p - (spare_place_now + 2 * g)) 0) spare_slot_at_old_place_same
           ∙ sym (byte_of_range old (spare_place_now + 2 * g) (spare_place_now + slot_size old) p (omega (arith, low)) inner)
           ∙ ahead some p low (omega (arith, high, un.size)) none)
           (λ past. absurd (none (spare_place_now + slot_size old) (omega (arith, fits)) past
@@ -95,37 +103,37 @@ module _ (w : Grain) (old now : List ℕ) (un : ChangedUnreadBytes (mapped_mediu
 
     marked_spare_bytes_same : spare_of (store_of (mapped_medium w now) held end) ≡ spare_of (store_of (mapped_medium w old) held end)
     unfolding spare_of
-    marked_spare_bytes_same = ap (λ (x : Slot). written x.data_bytes (end - length held) held) spare_same
+    marked_spare_bytes_same = ap (λ (x : Slot). written x.data_bytes (end - length held) held) spare_slot_same
 
-    begun_same : is_begun (store_of (mapped_medium w now) held end) ≡ is_begun (store_of (mapped_medium w old) held end)
-    begun_same =
-        begun_only_by_gate (store_of (mapped_medium w old) held end) (store_of (mapped_medium w now) held end)
-        (ap (λ (x : Slot). x.gate) spare_same)
+    begun_flag_same : is_begun (store_of (mapped_medium w now) held end) ≡ is_begun (store_of (mapped_medium w old) held end)
+    begun_flag_same =
+        same_gate_same_begun (store_of (mapped_medium w old) held end) (store_of (mapped_medium w now) held end)
+        (ap (λ (x : Slot). x.gate) spare_slot_same)
 
     marked_room_same : room_of (store_of (mapped_medium w now) held end) ≡ room_of (store_of (mapped_medium w old) held end)
     unfolding room_of
     marked_room_same = ap (λ (k : ℕ). k - 2 * g) half
 
-    filled_same : (m : DeviceState) (n : ℕ)
+    filled_flag_same : (m : DeviceState) (n : ℕ)
         → is_filled m n (store_of (mapped_medium w now) held end) ≡ is_filled m n (store_of (mapped_medium w old) held end)
-    filled_same (device_state.DownloadSync written number) n =
-        λ i. nat_lt 0 n && (nat_le (written + n) (marked_room_same i) && ((written == 0) || (begun_same i && (end == written))))
-    filled_same (device_state.DownloadBusy written number passed) n =
-        λ i. nat_lt 0 n && (nat_le (written + n) (marked_room_same i) && ((written == 0) || (begun_same i && (end == written))))
-    filled_same (device_state.DownloadSyncWritten written number) n =
-        λ i. nat_lt 0 written && (nat_le written (marked_room_same i) && (begun_same i && (end == written)))
-    filled_same (device_state.DownloadIdle written number) n =
-        λ i. nat_lt 0 written && (nat_le written (marked_room_same i) && (begun_same i && (end == written)))
-    filled_same (device_state.ManifestSync written) n =
-        λ i. nat_lt 0 written && (nat_le written (marked_room_same i) && (begun_same i && (end == written)))
-    filled_same (device_state.Manifest written passed) n =
-        λ i. nat_lt 0 written && (nat_le written (marked_room_same i) && (begun_same i && (end == written)))
-    filled_same m n = refl
+    filled_flag_same (device_state.DownloadSync written number) n =
+        λ i. nat_lt 0 n && (nat_le (written + n) (marked_room_same i) && ((written == 0) || (begun_flag_same i && (end == written))))
+    filled_flag_same (device_state.DownloadBusy written number passed) n =
+        λ i. nat_lt 0 n && (nat_le (written + n) (marked_room_same i) && ((written == 0) || (begun_flag_same i && (end == written))))
+    filled_flag_same (device_state.DownloadSyncWritten written number) n =
+        λ i. nat_lt 0 written && (nat_le written (marked_room_same i) && (begun_flag_same i && (end == written)))
+    filled_flag_same (device_state.DownloadIdle written number) n =
+        λ i. nat_lt 0 written && (nat_le written (marked_room_same i) && (begun_flag_same i && (end == written)))
+    filled_flag_same (device_state.ManifestSync written) n =
+        λ i. nat_lt 0 written && (nat_le written (marked_room_same i) && (begun_flag_same i && (end == written)))
+    filled_flag_same (device_state.Manifest written passed) n =
+        λ i. nat_lt 0 written && (nat_le written (marked_room_same i) && (begun_flag_same i && (end == written)))
+    filled_flag_same m n = refl
 
     marked_device_parts_same : (m : DeviceState) (n : ℕ)
         → are_device_parts m n (store_of (mapped_medium w now) held end) ≡ are_device_parts m n (store_of (mapped_medium w old) held end)
     marked_device_parts_same m n = λ i. ((length (marked_spare_bytes_same i) == marked_room_same i)
-        && (nat_le (marked_room_same i) (2 ^ 24) && nat_le (length (marked_image_same i)) (marked_room_same i))) && filled_same m n i
+        && (nat_le (marked_room_same i) (2 ^ 24) && nat_le (length (marked_image_same i)) (marked_room_same i))) && filled_flag_same m n i
 
     marked_store_is_store : IsStore (store_of (mapped_medium w old) held end) → IsStore (store_of (mapped_medium w now) held end)
     marked_store_is_store s =
@@ -147,15 +155,19 @@ module _ (w : Grain) (old now : List ℕ) (un : ChangedUnreadBytes (mapped_mediu
 
   marked_note_is_of_medium : (n : Noted) → IsNoteOfMedium n (mapped_medium w old) → IsNoteOfMedium n (mapped_medium w now)
   marked_note_is_of_medium n k = record {
-    place = (λ i. if n.second then half i else 0) ∙ k.place ∙ sym active_is;
+    place = (λ i. if n.second then half i else 0) ∙ k.place ∙ sym active_place_same;
     header = k.header ∙ sym (ap (λ (x : Slot). x.header) marked_active_slot_same);
   }
 
 -- No writes are due on a board, and its device has the image, the stage and the profile of d.
 pub record MarkedBoardDevice (d : DeviceView) (b' : Board) : Type 0 where
+  -- Device of the board.
   pub device : DeviceView
+  -- The board is this device, with no writes due.
   pub idle : IsIdleBoard b' device
+  -- The image and the stage are those of `d`.
   pub same : situation device ≡ situation d
+  -- The profile is that of `d`.
   pub fixed : profile device ≡ profile d
 
 module _ (a : LentDevice) (old now : List ℕ) (un : ChangedUnreadBytes (mapped_medium (grain_in a) old) (mapped_medium (grain_in a) now))

@@ -7,14 +7,16 @@ use Rattle.dfu_device.specs.History.{HistoryStep as TableRow}
 use Rattle.dfu_laws.specs.board.Board.{Event, Restart, BoardReply, WritesDue, BoardStep}
 use Rattle.dfu_laws.specs.board.Refines.{CallRows, EventRows, StepRows}
 use Rattle.dfu_laws.specs.link.Calls.{WritesStayDue, WritesEndWithAnswer, ends, writes_still_due_then, AnsweredCall, at_once, answered_after_writes, WritesCutByPower, power_goes, power_lost_later, IsBrokenCall, broken}
-use Rattle.dfu_laws.proofs.link.Served.{IsCallOfCause, event_tells_of_rows, carried_writes_have_no_row}
+use Rattle.dfu_laws.proofs.link.Served.{IsCallOfCause, event_rows_are_cause_rows, carried_writes_have_no_row}
 
 -- Lists of steps.
 
+-- First step of a list, or the given step if the list is empty.
 abbrev pub first_step_of : BoardStep → List BoardStep → BoardStep
 first_step_of s [] = s
 first_step_of s (x ∷ xs) = x
 
+-- Steps of a list behind its first.
 abbrev pub steps_behind_first : List BoardStep → List BoardStep
 steps_behind_first [] = []
 steps_behind_first (x ∷ xs) = xs
@@ -50,7 +52,8 @@ pub unanswered_part_has_no_row : (call : Event) (cause : Cause) (steps : List Bo
     → IsUnansweredPart call steps → StepRows None steps rows due → rows ≡ []
 unanswered_part_has_no_row call cause [] rows due is p t = t.0
 unanswered_part_has_no_row call cause (s ∷ rest) rows due is p (first, later, mid, are, t, more) =
-    let told = event_tells_of_rows call cause None mid s.says first is (subst (λ (x : Event). EventRows None x s.says first mid) p.0 t) in
+    let told = event_rows_are_cause_rows call cause None mid s.says first is
+    (subst (λ (x : Event). EventRows None x s.says first mid) p.0 t) in
     let x : (first ≡ []) × (mid ≡ Some cause) = subst (λ (y : BoardReply). CallRows cause None y first mid) p.1 told in
     are ∙ (λ i. x.0 i ++ later)
     ∙ writes_still_due_have_no_row cause rest later due p.2 (subst (λ (z : Option Cause). StepRows z rest later due) x.1 more)
@@ -58,26 +61,26 @@ unanswered_part_has_no_row call cause (s ∷ rest) rows due is p (first, later, 
 same_step_stays_due : (x s : BoardStep) → x ≡ s → WritesStayDue s.event s.says → WritesStayDue x.event x.says
 same_step_stays_due x s e c = subst (λ (y : BoardStep). WritesStayDue y.event y.says) (sym e) c
 
-front_of_ending_writes : (a : Answer) (out : List ℕ) (front rest steps : List BoardStep) → WritesEndWithAnswer a out steps → front
+ending_writes_stay_due : (a : Answer) (out : List ℕ) (front rest steps : List BoardStep) → WritesEndWithAnswer a out steps → front
     ++ rest ≡ steps
     → AllWritesStayDue front ⊎ (rest ≡ [])
-front_of_ending_writes a out [] rest steps w e = inl tt
-front_of_ending_writes a out (x ∷ xs) rest _ (ends s failed event says) e = inr (joined_parts_are_empty xs rest (ap steps_behind_first e)).1
-front_of_ending_writes a out (x ∷ xs) rest _ (writes_still_due_then s more c w) e = elim (front_of_ending_writes a out xs rest more w (ap
+ending_writes_stay_due a out [] rest steps w e = inl tt
+ending_writes_stay_due a out (x ∷ xs) rest _ (ends s failed event says) e = inr (joined_parts_are_empty xs rest (ap steps_behind_first e)).1
+ending_writes_stay_due a out (x ∷ xs) rest _ (writes_still_due_then s more c w) e = elim (ending_writes_stay_due a out xs rest more w (ap
     steps_behind_first e)) [
       | inl all ↦ inl (same_step_stays_due x s (ap (first_step_of x) e) c, all)
       | inr none ↦ inr none
     ]
 
 -- First steps of a call that is answered are a part of it without the answer, or all of it.
-pub front_of_answered_call : (call : Event) (a : Answer) (out : List ℕ) (front rest steps : List BoardStep) → AnsweredCall call a out steps
+pub call_part_is_unanswered : (call : Event) (a : Answer) (out : List ℕ) (front rest steps : List BoardStep) → AnsweredCall call a out steps
     → front ++ rest ≡ steps → IsUnansweredPart call front ⊎ (rest ≡ [])
-front_of_answered_call call a out [] rest steps is e = inl tt
-front_of_answered_call call a out (x ∷ xs) rest _ (at_once s event says) e = inr (joined_parts_are_empty xs rest (ap steps_behind_first
+call_part_is_unanswered call a out [] rest steps is e = inl tt
+call_part_is_unanswered call a out (x ∷ xs) rest _ (at_once s event says) e = inr (joined_parts_are_empty xs rest (ap steps_behind_first
     e)).1
-front_of_answered_call call a out (x ∷ xs) rest _ (answered_after_writes s more event says w) e =
+call_part_is_unanswered call a out (x ∷ xs) rest _ (answered_after_writes s more event says w) e =
     let same : x ≡ s = ap (first_step_of x) e in
-    elim (front_of_ending_writes a out xs rest more w (ap steps_behind_first e)) [
+    elim (ending_writes_stay_due a out xs rest more w (ap steps_behind_first e)) [
       | inl all ↦ inl (ap (λ (y : BoardStep). y.event) same ∙ event, ap (λ (y : BoardStep). y.says) same ∙ says, all)
       | inr none ↦ inr none
     ]
@@ -86,17 +89,23 @@ front_of_answered_call call a out (x ∷ xs) rest _ (answered_after_writes s mor
 
 -- The last of the steps is a loss of power, and `Holds` is true of those before it.
 pub record IsCutByPowerAfter (Holds : List BoardStep → Type 0) (steps : List BoardStep) : Type 0 where
+  -- Steps before the loss of power.
   pub front : List BoardStep
+  -- Step in which the power goes.
   pub power : BoardStep
+  -- True if the board then begins for a host.
   pub begins : Bool
+  -- The steps are these and the loss of power.
   pub steps_are : steps ≡ front ++ power ∷ []
+  -- `Holds` is true of the steps before.
   pub part : Holds front
+  -- The last step is the loss of power.
   pub event : power.event ≡ Restart begins
 
 -- One more step before steps that are cut leaves them cut.
-cut_later : {Holds Before : List BoardStep → Type 0} (s : BoardStep) (rest : List BoardStep)
+step_keeps_cut : {Holds Before : List BoardStep → Type 0} (s : BoardStep) (rest : List BoardStep)
     → ((front : List BoardStep) → Holds front → Before (s ∷ front)) → IsCutByPowerAfter Holds rest → IsCutByPowerAfter Before (s ∷ rest)
-cut_later s rest more x = record {
+step_keeps_cut s rest more x = record {
   front = s ∷ x.front;
   power = x.power;
   begins = x.begins;
@@ -108,30 +117,30 @@ cut_later s rest more x = record {
 cut_writes_end_by_power : (steps : List BoardStep) → WritesCutByPower steps → IsCutByPowerAfter AllWritesStayDue steps
 cut_writes_end_by_power _ (power_goes s begins event) =
     record { front = []; power = s; begins = begins; steps_are = refl; part = tt; event = event }
-cut_writes_end_by_power _ (power_lost_later s rest c w) = cut_later s rest (λ front all. (c, all)) (cut_writes_end_by_power rest w)
+cut_writes_end_by_power _ (power_lost_later s rest c w) = step_keeps_cut s rest (λ front all. (c, all)) (cut_writes_end_by_power rest w)
 
 -- A call that is broken off is cut after first steps that are not answered yet.
 pub broken_call_is_cut_by_power : (call : Event) (steps : List BoardStep) → IsBrokenCall call steps →
     IsCutByPowerAfter (IsUnansweredPart call) steps
-broken_call_is_cut_by_power call _ (broken s rest event says w) = cut_later s rest (λ front all. (event, says, all))
+broken_call_is_cut_by_power call _ (broken s rest event says w) = step_keeps_cut s rest (λ front all. (event, says, all))
     (cut_writes_end_by_power rest w)
 
-front_of_cut_writes : (front rest steps : List BoardStep) → WritesCutByPower steps → front ++ rest ≡ steps →
+cut_writes_stay_due : (front rest steps : List BoardStep) → WritesCutByPower steps → front ++ rest ≡ steps →
     AllWritesStayDue front ⊎ (rest ≡ [])
-front_of_cut_writes [] rest steps w e = inl tt
-front_of_cut_writes (x ∷ xs) rest _ (power_goes s begins event) e = inr (joined_parts_are_empty xs rest (ap steps_behind_first e)).1
-front_of_cut_writes (x ∷ xs) rest _ (power_lost_later s more c w) e = elim (front_of_cut_writes xs rest more w (ap steps_behind_first e)) [
+cut_writes_stay_due [] rest steps w e = inl tt
+cut_writes_stay_due (x ∷ xs) rest _ (power_goes s begins event) e = inr (joined_parts_are_empty xs rest (ap steps_behind_first e)).1
+cut_writes_stay_due (x ∷ xs) rest _ (power_lost_later s more c w) e = elim (cut_writes_stay_due xs rest more w (ap steps_behind_first e)) [
   | inl all ↦ inl (same_step_stays_due x s (ap (first_step_of x) e) c, all)
   | inr none ↦ inr none
 ]
 
 -- First steps of a call that is broken off are a part of it without the loss of power, or all of it.
-pub front_of_broken_call : (call : Event) (front rest steps : List BoardStep) → IsBrokenCall call steps → front ++ rest ≡ steps
+pub broken_part_unanswered : (call : Event) (front rest steps : List BoardStep) → IsBrokenCall call steps → front ++ rest ≡ steps
     → IsUnansweredPart call front ⊎ (rest ≡ [])
-front_of_broken_call call [] rest steps br e = inl tt
-front_of_broken_call call (x ∷ xs) rest _ (broken s more event says w) e =
+broken_part_unanswered call [] rest steps br e = inl tt
+broken_part_unanswered call (x ∷ xs) rest _ (broken s more event says w) e =
     let same : x ≡ s = ap (first_step_of x) e in
-    elim (front_of_cut_writes xs rest more w (ap steps_behind_first e)) [
+    elim (cut_writes_stay_due xs rest more w (ap steps_behind_first e)) [
       | inl all ↦ inl (ap (λ (y : BoardStep). y.event) same ∙ event, ap (λ (y : BoardStep). y.says) same ∙ says, all)
       | inr none ↦ inr none
     ]

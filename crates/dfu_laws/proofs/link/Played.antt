@@ -18,7 +18,7 @@ use Rattle.dfu_sim.specs.Agreement.{live_session_of, IsLiveOffer}
 use Rattle.dfu_sim.specs.LinkAgreement.{ClosedWasOffered}
 use Rattle.dfu_sim.specs.Fact.{SessionFact}
 use Rattle.dfu_sim.specs.Simulation.{Simulation, ActiveImageWasOffered}
-use Rattle.dfu_sim.proofs.Objecting.{refusal_keeps_closed_offer, session_fact_after_refusal}
+use Rattle.dfu_sim.proofs.Objecting.{refusal_keeps_closed_offer, refusal_keeps_session_fact}
 use Rattle.dfu_laws.specs.board.Board.{Board, Handle, Elapse, UsbReset, Refuse, Restart, Event, BoardReply, BoardStep}
 use Rattle.dfu_laws.specs.board.Happens.{IsRun}
 use Rattle.dfu_laws.specs.board.Refines.{IsIdleBoard, IdleRunsRefineTable}
@@ -26,13 +26,13 @@ use Rattle.dfu_laws.specs.link.Calls.{CallReaches, lost, behind}
 use Rattle.dfu_laws.specs.link.LinkSteps.{BoardLink, CallMayBeUnderWay, link_after_outcome, BoardLinkStep, passes, sends, refuses, waits, resets, is_reset_by_other_cause, restarts, leaves, restarts_at_reset, marks}
 use Rattle.dfu_laws.proofs.link.Served.{IsCallOfCause, served}
 use Rattle.dfu_laws.proofs.link.Fixed.{row_keeps_profile}
-use Rattle.dfu_laws.proofs.link.Timed.{ImageKeptOrOffered, session_fact_after_time}
-use Rattle.dfu_laws.proofs.link.Acted.{FactsAfterAction, action_keeps_session_facts, told_well, zero_time_keeps_device}
+use Rattle.dfu_laws.proofs.link.Timed.{ImageKeptOrOffered, any_time_keeps_session_fact}
+use Rattle.dfu_laws.proofs.link.Acted.{FactsAfterAction, action_keeps_session_facts, told_host_keeps_facts, zero_time_keeps_device}
 use Rattle.dfu_laws.proofs.link.Handed.{idle_board_restarts_in_app_idle, enter_fact_of_any_device, enter_reset_keeps_facts, own_reset_keeps_facts}
 use Rattle.dfu_laws.proofs.link.Marked.{mark_keeps_device}
 use Rattle.dfu_laws.proofs.link.Became.{BoardImageKeptOrOffered, board_kept_or_offered_then, reset_call_keeps_image, reached_elapse_keeps_or_offers, elapsed_time_keeps_or_offers}
 use Rattle.dfu_laws.proofs.link.Stopped.{cut_off_call_keeps_or_offers}
-use Rattle.dfu_laws.proofs.link.Sent.{nothing_may_be_heard, facts_after_request, facts_after_refused_close}
+use Rattle.dfu_laws.proofs.link.Sent.{any_reply_may_be_lost, request_keeps_facts, refused_image_keeps_facts}
 
 -- A board is the device d, with no writes due, and the facts of the live session hold. The active image was there at first, or was offered;
 -- closed bytes were offered; and so was the payload of the live session, which is that of the last session.
@@ -46,7 +46,7 @@ pub record BoardAndHostFacts (c : Profile) (first : List ℕ → Type 0) (past :
   pub sound : ClosedWasOffered past d.stage
   pub known : first (image_of d.slots) ⊎ IsOneOf (image_of d.slots) past
 
--- Facts after the next event.
+-- The facts hold after the event: with Installed or Verified the last payload is the image, in appIDLE; bytes that are given are the image.
 pub record FactsAfterEvent (c : Profile) (first : List ℕ → Type 0) (past : List (List ℕ)) (last : Option (List ℕ)) (answer : Answered)
     (l' : BoardLink) : Type 0 where
   pub device : DeviceView
@@ -88,7 +88,7 @@ host_action_keeps_facts c first past last l d d' b' t s idle fixed w = record {
   gives = w.gives;
 }
 
--- The cause of a call that is under way.
+-- A call that is under way has a cause.
 pub call_under_way_has_cause : (session : Session) (call : Event) → CallMayBeUnderWay session call → (cause : Cause)
     × IsCallOfCause call cause
 call_under_way_has_cause session (Elapse ms) way = (Passing ms, refl)
@@ -106,9 +106,9 @@ module _ (refines : IdleRunsRefineTable) (simulation : Simulation) (only : Activ
   ended_call_keeps_or_offers session (Elapse ms) b b' d steps says k e sound offered f way reaches = reached_elapse_keeps_or_offers refines
       c past ms b b' d steps says k e sound reaches
   ended_call_keeps_or_offers (HostSession h) (Handle setup body) b b' d steps says k e sound offered f (q, is, asked) reaches =
-      let x = facts_after_request refines simulation only c sized past h q setup body is asked d e sound offered f b b' steps says
+      let x = request_keeps_facts refines simulation only c sized past h q setup body is asked d e sound offered f b b' steps says
       NothingHeard k reaches
-      (nothing_may_be_heard (Send q body) says) (λ none. absurd (cc)) in
+      (any_reply_may_be_lost (Send q body) says) (λ none. absurd (cc)) in
       record { device = x.device; idle = x.idle; profile_is = x.profile_is; well = x.acted.device }
   ended_call_keeps_or_offers session call b b' d steps says k e sound offered f way reaches = elim way [ ]
 
@@ -137,7 +137,7 @@ module _ (refines : IdleRunsRefineTable) (simulation : Simulation) (only : Activ
         stands = record {
           idle = x.idle;
           profile_is = y.fixed ∙ s.profile_is;
-          fact = subst (λ (z : Situation). SessionFact c z l.session) there (session_fact_after_time c (situation d) ms y.luck l.session
+          fact = subst (λ (z : Situation). SessionFact c z l.session) there (any_time_keeps_session_fact c (situation d) ms y.luck l.session
               s.fact);
           live = s.live;
           offered = s.offered;
@@ -151,7 +151,7 @@ module _ (refines : IdleRunsRefineTable) (simulation : Simulation) (only : Activ
       live is asked (inl reaches) hears room) =
       let f = subst (λ (x : Session). SessionFact c (situation d) x) live s.fact in
       let o = subst (λ (x : Session). IsLiveOffer past (live_session_of x)) live s.offered in
-      let x = facts_after_request refines simulation only c sized past h q setup body is asked d s.profile_is s.sound o f l.board b' steps
+      let x = request_keeps_facts refines simulation only c sized past h q setup body is asked d s.profile_is s.sound o f l.board b' steps
       says heard s.idle reaches hears room in
       host_action_keeps_facts c first past last l d x.device b' (host_outcome h heard) s x.idle x.profile_is
       (subst (λ (y : Session). FactsAfterAction c past y (situation d) (situation x.device) (host_outcome h heard)) (sym live) x.acted)
@@ -159,7 +159,7 @@ module _ (refines : IdleRunsRefineTable) (simulation : Simulation) (only : Activ
       {heard = heard} live is asked (inr (why, refused)) hears room) =
       let f = subst (λ (x : Session). SessionFact c (situation d) x) live s.fact in
       let o = subst (λ (x : Session). IsLiveOffer past (live_session_of x)) live s.offered in
-      let x = facts_after_refused_close refines simulation only c sized past h q setup body is asked d s.profile_is s.sound o f why l.board
+      let x = refused_image_keeps_facts refines simulation only c sized past h q setup body is asked d s.profile_is s.sound o f why l.board
       b' steps says
       heard s.idle refused hears room in
       host_action_keeps_facts c first past last l d x.device b' (host_outcome h heard) s x.idle x.profile_is
@@ -173,7 +173,7 @@ module _ (refines : IdleRunsRefineTable) (simulation : Simulation) (only : Activ
           idle = x.idle;
           profile_is = row_keeps_profile d x.device (Refusing why) a out x.row ∙ s.profile_is;
           fact = subst (λ (z : DeviceView). SessionFact c (situation z) l.session) (sym same)
-              (session_fact_after_refusal c why (situation d) l.session s.fact);
+              (refusal_keeps_session_fact c why (situation d) l.session s.fact);
           live = s.live;
           offered = s.offered;
           sound = subst (λ (z : DeviceView). ClosedWasOffered past z.stage) (sym same) (refusal_keeps_closed_offer why past d.stage
@@ -207,7 +207,7 @@ module _ (refines : IdleRunsRefineTable) (simulation : Simulation) (only : Activ
       let y = board_kept_or_offered_then refines c past (situation d) mid b' x (reset_call_keeps_image refines c past mid b' x.device more
       a out x.idle x.profile_is serves) in
       host_action_keeps_facts c first past last l d y.device b' (notify_restart l.session) s y.idle y.profile_is
-      (told_well simulation only c sized past (situation d) (situation y.device) l.session s.offered s.fact y.well)
+      (told_host_keeps_facts simulation only c sized past (situation d) (situation y.device) l.session s.offered s.fact y.well)
   event_keeps_facts first last l _ d steps _ s (restarts {call = call} {b' = b'} way stops) =
       let cause = call_under_way_has_cause l.session call way in
       let x = cut_off_call_keeps_or_offers refines past c l.board b' d call cause.0 steps s.idle s.profile_is s.sound cause.1
@@ -215,7 +215,7 @@ module _ (refines : IdleRunsRefineTable) (simulation : Simulation) (only : Activ
       s.fact way reaches)
       stops in
       host_action_keeps_facts c first past last l d x.device b' (notify_restart l.session) s x.idle x.profile_is
-      (told_well simulation only c sized past (situation d) (situation x.device) l.session s.offered s.fact x.well)
+      (told_host_keeps_facts simulation only c sized past (situation d) (situation x.device) l.session s.offered s.fact x.well)
   event_keeps_facts first last l _ d _ _ s (leaves {h = h} {power = power} {begins = begins} {b' = b'} live enters run event) =
       let f = subst (λ (x : Session). SessionFact c (situation d) x) live s.fact in
       let x = restart_keeps_or_offers l b' d power begins s.idle s.profile_is s.sound s.offered s.fact run event in

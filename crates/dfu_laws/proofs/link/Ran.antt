@@ -1,16 +1,16 @@
--- Steps that come to a board over a link, which are runs between marks and ends of trials.
+-- Steps of a board over a link, which are runs between marks and ends of trials.
 use Rattle.std.specs.Prelude.{◌≡◌, ◌⊎◌, ℕ, Bool, Option, List, [], ◌∷◌, ◌++◌}
 use Rattle.std.proofs.Common.{inl, inr, refl, sym, ◌∙◌, subst}
 use Rattle.dfu_device.specs.declared.objection.Objection.{Objection}
 use Rattle.dfu_sim.specs.Play.{Answered}
-use Rattle.dfu_asks.specs.Lent.{SameSetup}
+use Rattle.dfu_asks.specs.Lent.{SameConfig}
 use Rattle.dfu_laws.specs.board.Board.{Board, Event, Handle, BoardReply, BoardStep}
 use Rattle.dfu_laws.specs.board.Happens.{EventOutcome, IsRun}
 use Rattle.dfu_laws.specs.link.Calls.{CallReaches, lost, once, twice, ImageRefusedAtClose, close_refused_once, close_refused_then_repeated, CallCutOff, behind, within, power_lost_in_second_call}
 use Rattle.dfu_laws.specs.link.Marks.{IsMarkedBoard, TrialEnd, MarksOrTrialEnds, no_mark_or_end, one_more, then_trial_end, then_home_copy, IsRunWithMarks, AreStepsJoined}
 use Rattle.dfu_laws.specs.link.Copies.{HomeCopy}
 use Rattle.dfu_laws.specs.link.LinkSteps.{BoardLink, BoardLinkStep, passes, sends, refuses, waits, resets, is_reset_by_other_cause, restarts, leaves, restarts_at_reset, marks}
-use Rattle.dfu_laws.specs.link.Plays.{BoardPlays, starts, offers, uploads, aborts as gives_up, goes_on, ends, copies, PlaysAreRuns}
+use Rattle.dfu_laws.specs.link.Plays.{BoardPlays, starts, offers, uploads, aborts as abort_moves_host, goes_on, ends, copies, PlaysAreRuns}
 
 run_append : (b mid b' : Board) (xs ys : List BoardStep) → IsRun b xs mid → IsRun mid ys b' → IsRun b (xs ++ ys) b'
 run_append b mid b' [] ys run more = subst (λ (x : Board). IsRun x ys b') run more
@@ -18,15 +18,18 @@ run_append b mid b' (x ∷ xs) ys run more = (run.0, run.1, run.2, run_append x.
 
 -- A run in two parts, with the board between them.
 pub record RunParts (b : Board) (xs ys : List BoardStep) (b' : Board) : Type 0 where
+  -- Board between the parts.
   pub mid : Board
+  -- The first steps lead to it.
   pub first : IsRun b xs mid
+  -- The other steps lead on from it.
   pub second : IsRun mid ys b'
 
 -- A run over two lists of steps, one after the other, has two parts.
-pub run_parts : (b : Board) (xs ys : List BoardStep) (b' : Board) → IsRun b (xs ++ ys) b' → RunParts b xs ys b'
-run_parts b [] ys b' run = record { mid = b; first = refl; second = run }
-run_parts b (x ∷ xs) ys b' run =
-    let more = run_parts x.after xs ys b' run.3 in
+pub run_has_parts : (b : Board) (xs ys : List BoardStep) (b' : Board) → IsRun b (xs ++ ys) b' → RunParts b xs ys b'
+run_has_parts b [] ys b' run = record { mid = b; first = refl; second = run }
+run_has_parts b (x ∷ xs) ys b' run =
+    let more = run_has_parts x.after xs ys b' run.3 in
     record { mid = more.mid; first = (run.0, run.1, run.2, more.first); second = more.second }
 
 -- Equal steps from a board lead to one board.
@@ -55,7 +58,7 @@ cut_off_call_is_run call b b' steps (within run br) = run
 cut_off_call_is_run call b b' _ (power_lost_in_second_call {first = first} {second = second} {mid = mid} serves run br) =
     run_append b mid b' first second serves.run run
 
--- The steps lead to the board b' by a run, or are none and a mark leads to it.
+-- The steps lead to the board b' by a run; or there are none, and a mark leads to it.
 abbrev pub IsRunOrMark : Board → List BoardStep → Board → Type 0
 IsRunOrMark b steps b' = IsRun b steps b' ⊎ ((steps ≡ []) × IsMarkedBoard b b')
 
@@ -80,11 +83,13 @@ link_step_is_run_or_mark l _ _ _ (marks mark) = inr (refl, mark)
 
 -- The steps xs are a run to some board.
 pub record RunOfFirstSteps (b : Board) (xs : List BoardStep) : Type 0 where
+  -- Board after the steps.
   pub mid : Board
+  -- The steps lead to it.
   pub run : IsRun b xs mid
 
 pub first_steps_are_run : (b b' : Board) (xs ys : List BoardStep) → IsRunOrMark b (xs ++ ys) b' → RunOfFirstSteps b xs
-first_steps_are_run b b' xs ys (inl run) = let p = run_parts b xs ys b' run in record { mid = p.mid; run = p.first }
+first_steps_are_run b b' xs ys (inl run) = let p = run_has_parts b xs ys b' run in record { mid = p.mid; run = p.first }
 first_steps_are_run b b' [] ys (inr (none, mark)) = record { mid = b; run = refl }
 first_steps_are_run b b' (x ∷ xs) ys (inr (none, mark)) = absurd (cc)
 
@@ -95,7 +100,7 @@ run_is_run_with_marks b b' [] same = subst (λ (x : Board). MarksOrTrialEnds b x
 run_is_run_with_marks b b' (s ∷ rest) (same, happens, alike, more) = (
   subst (λ (x : Board). MarksOrTrialEnds b x) (sym same) no_mark_or_end,
   subst (λ (x : Board). EventOutcome x s.event s.says s.after) (sym same) happens,
-  subst (λ (x : Board). SameSetup x.asking s.after.asking) (sym same) alike,
+  subst (λ (x : Board). SameConfig x.asking s.after.asking) (sym same) alike,
   run_is_run_with_marks s.after b' rest more,
 )
 
@@ -104,6 +109,7 @@ run_or_mark_has_marks b b' steps (inl run) = run_is_run_with_marks b b' steps ru
 run_or_mark_has_marks b b' steps (inr (none, mark)) = subst (λ (l : List BoardStep). IsRunWithMarks b l b') (sym none) (one_more
     no_mark_or_end mark)
 
+-- Marks after marks are marks.
 marks_append : (b mid b' : Board) → MarksOrTrialEnds b mid → MarksOrTrialEnds mid b' → MarksOrTrialEnds b b'
 marks_append b mid _ marked no_mark_or_end = marked
 marks_append b mid _ marked (one_more {mid = late} {b' = b'} more mark) = one_more (marks_append b mid late marked more) mark
@@ -131,7 +137,7 @@ joined_steps_are_run b b' [] marked same = same
 joined_steps_are_run b b' (s ∷ rest) (marked, happens, alike, more) (same, joined) = (
   same,
   subst (λ (x : Board). EventOutcome x s.event s.says s.after) same happens,
-  subst (λ (x : Board). SameSetup x.asking s.after.asking) same alike,
+  subst (λ (x : Board). SameConfig x.asking s.after.asking) same alike,
   joined_steps_are_run s.after b' rest more joined,
 )
 
@@ -142,7 +148,7 @@ plays_are_runs_with_marks b steps _ _ _ _ (offers {past = past} {back = back} {l
     plays_are_runs_with_marks b steps past back last l p
 plays_are_runs_with_marks b steps past back _ _ (uploads {last = last} {l = l} limits p none) = plays_are_runs_with_marks b steps past back
     last l p
-plays_are_runs_with_marks b steps past back last _ (gives_up {l = l} p live) = plays_are_runs_with_marks b steps past back last l p
+plays_are_runs_with_marks b steps past back last _ (abort_moves_host {l = l} p live) = plays_are_runs_with_marks b steps past back last l p
 plays_are_runs_with_marks b _ past back last _ (goes_on {steps = steps} {more = more} {l = l} {l' = l'} {answer = answer} p comes) =
     run_with_marks_append b l.board l'.board steps more (plays_are_runs_with_marks b steps past back last l p)
     (run_or_mark_has_marks l.board l'.board more (link_step_is_run_or_mark l l' more answer comes))

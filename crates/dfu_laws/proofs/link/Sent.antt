@@ -29,10 +29,10 @@ use Rattle.dfu_laws.proofs.link.Served.{ServedByRow, served}
 use Rattle.dfu_laws.proofs.link.Fixed.{row_keeps_profile}
 use Rattle.dfu_laws.proofs.link.Acted.{FactsAfterAction, action_keeps_session_facts}
 
--- Of any reply a host may hear nothing, because the reply may be lost.
-pub nothing_may_be_heard : (d : Deed) (says : BoardReply) → HeardOfReply d says NothingHeard
-nothing_may_be_heard d (Answers a out) = inl refl
-nothing_may_be_heard d says = refl
+-- A host may hear nothing of any reply, because the reply may be lost.
+pub any_reply_may_be_lost : (d : Deed) (says : BoardReply) → HeardOfReply d says NothingHeard
+any_reply_may_be_lost d (Answers a out) = inl refl
+any_reply_may_be_lost d says = refl
 
 module _ (refines : IdleRunsRefineTable) (simulation : Simulation) (only : ActiveImageWasOffered) (c : Profile) (sized : 0 < c.transfer)
     (past : List (List ℕ)) (h : HostState) (q : Request) (setup body : List ℕ) (is : deed h.task h.phase ≡ Send q body)
@@ -105,23 +105,27 @@ module _ (refines : IdleRunsRefineTable) (simulation : Simulation) (only : Activ
 
   -- The board after a request with the meaning that was heard: a device with the same profile, and the facts of the session hold again.
   pub record FactsAfterRequest (b' : Board) (heard : Heard) : Type 0 where
+    -- Device of the board.
     pub device : DeviceView
+    -- The board is this device, with no writes due.
     pub idle : IsIdleBoard b' device
+    -- The device has the profile `c`.
     pub profile_is : profile device ≡ c
+    -- The facts of the session hold again.
     pub acted : FactsAfterHearing device heard
 
   -- One row of the request leaves a board on which the facts hold again.
-  facts_after_one_row : (b' : Board) (heard : Heard) (cause : Cause) (a : Answer) (out : List ℕ) (x : ServedByRow d cause a out b') →
+  one_row_keeps_facts : (b' : Board) (heard : Heard) (cause : Cause) (a : Answer) (out : List ℕ) (x : ServedByRow d cause a out b') →
       FactsAfterHearing x.device heard
       → FactsAfterRequest b' heard
-  facts_after_one_row b' heard cause a out x acted =
+  one_row_keeps_facts b' heard cause a out x acted =
       record { device = x.device; idle = x.idle; profile_is = row_keeps_profile d x.device cause a out x.row ∙ e; acted = acted }
 
   -- Two rows of the request leave a board on which the facts hold again.
-  facts_after_second_row : (mid b' : Board) (heard : Heard) (cause : Cause) (a0 a : Answer) (out0 out : List ℕ) (x : ServedByRow d cause a0
+  second_row_keeps_facts : (mid b' : Board) (heard : Heard) (cause : Cause) (a0 a : Answer) (out0 out : List ℕ) (x : ServedByRow d cause a0
       out0 mid)
       (y : ServedByRow x.device (Transfer setup body) a out b') → FactsAfterHearing y.device heard → FactsAfterRequest b' heard
-  facts_after_second_row mid b' heard cause a0 a out0 out x y acted = record {
+  second_row_keeps_facts mid b' heard cause a0 a out0 out x y acted = record {
     device = y.device;
     idle = y.idle;
     profile_is = row_keeps_profile x.device y.device (Transfer setup body) a out y.row
@@ -130,39 +134,39 @@ module _ (refines : IdleRunsRefineTable) (simulation : Simulation) (only : Activ
   }
 
   -- In each way in which a request reaches a board, the facts of the session hold again.
-  pub facts_after_request : (b b' : Board) (steps : List BoardStep) (says : BoardReply) (heard : Heard) → IsIdleBoard b d
+  pub request_keeps_facts : (b b' : Board) (steps : List BoardStep) (says : BoardReply) (heard : Heard) → IsIdleBoard b d
       → CallReaches (Handle setup body) b steps says b' → HeardOfReply (Send q body) says heard
       → (heard ≡ NoRoom → IsTrue (wants_memory h.phase)) → FactsAfterRequest b' heard
-  facts_after_request b _ _ _ heard k lost hears room = record {
+  request_keeps_facts b _ _ _ heard k lost hears room = record {
     device = d;
     idle = k;
     profile_is = e;
     acted = lost_request_keeps_facts
         heard hears room;
   }
-  facts_after_request b b' steps _ heard k (once {a = a} {out = out} serves) hears room =
+  request_keeps_facts b b' steps _ heard k (once {a = a} {out = out} serves) hears room =
       let x = served refines b b' d (Handle setup body) (Transfer setup body) steps a out refl k serves in
-      facts_after_one_row b' heard (Transfer setup body) a out x (request_once_keeps_facts x.device a out heard x.row hears room)
-  facts_after_request b b' _ _ heard k (twice {first = first} {second = second} {a = a} {x = a0} {out = out} {said = out0} {mid = mid}
+      one_row_keeps_facts b' heard (Transfer setup body) a out x (request_once_keeps_facts x.device a out heard x.row hears room)
+  request_keeps_facts b b' _ _ heard k (twice {first = first} {second = second} {a = a} {x = a0} {out = out} {said = out0} {mid = mid}
       serves more)
       hears room =
       let x = served refines b mid d (Handle setup body) (Transfer setup body) first a0 out0 refl k serves in
       let y = served refines mid b' x.device (Handle setup body) (Transfer setup body) second a out refl x.idle more in
-      facts_after_second_row mid b' heard (Transfer setup body) a0 a out0 out x y
+      second_row_keeps_facts mid b' heard (Transfer setup body) a0 a out0 out x y
       (request_twice_keeps_facts x.device y.device a a0 out out0 heard x.row y.row hears room)
 
   -- If the program refused the image that the request closes, the facts of the session hold again.
-  pub facts_after_refused_close : (why : Objection) (b b' : Board) (steps : List BoardStep) (says : BoardReply) (heard : Heard) →
+  pub refused_image_keeps_facts : (why : Objection) (b b' : Board) (steps : List BoardStep) (says : BoardReply) (heard : Heard) →
       IsIdleBoard b d
       → ImageRefusedAtClose setup body why b steps says b' → HeardOfReply (Send q body) says heard
       → (heard ≡ NoRoom → IsTrue (wants_memory h.phase)) → FactsAfterRequest b' heard
-  facts_after_refused_close why b b' steps _ heard k (close_refused_once {a = a} {out = out} serves) hears room =
+  refused_image_keeps_facts why b b' steps _ heard k (close_refused_once {a = a} {out = out} serves) hears room =
       let x = served refines b b' d (RefuseClose setup why) (RefusingClose setup why) steps a out refl k serves in
-      facts_after_one_row b' heard (RefusingClose setup why) a out x (refused_close_keeps_facts why x.device a out heard x.row hears room)
-  facts_after_refused_close why b b' _ _ heard k (close_refused_then_repeated {first = first} {second = second} {a = a} {x = a0} {out =
+      one_row_keeps_facts b' heard (RefusingClose setup why) a out x (refused_close_keeps_facts why x.device a out heard x.row hears room)
+  refused_image_keeps_facts why b b' _ _ heard k (close_refused_then_repeated {first = first} {second = second} {a = a} {x = a0} {out =
       out} {said = out0} {mid = mid}
       serves more) hears room =
       let x = served refines b mid d (RefuseClose setup why) (RefusingClose setup why) first a0 out0 refl k serves in
       let y = served refines mid b' x.device (Handle setup body) (Transfer setup body) second a out refl x.idle more in
-      facts_after_second_row mid b' heard (RefusingClose setup why) a0 a out0 out x y
+      second_row_keeps_facts mid b' heard (RefusingClose setup why) a0 a out0 out x y
       (repeated_close_keeps_facts why x.device y.device a a0 out out0 heard x.row y.row hears room)

@@ -19,15 +19,17 @@ IsCallOfCause (Refuse why) cause = cause ≡ Refusing why
 IsCallOfCause event cause = ⊥
 
 -- The rows of the event of a call are the rows of its cause.
-pub event_tells_of_rows : (call : Event) (cause : Cause) (due due' : Option Cause) (says : BoardReply) (rows : List TableRow)
+pub event_rows_are_cause_rows : (call : Event) (cause : Cause) (due due' : Option Cause) (says : BoardReply) (rows : List TableRow)
     → IsCallOfCause call cause
     → EventRows due call says rows due' → CallRows cause due says rows due'
-event_tells_of_rows (Handle setup body) cause due due' says rows is t = subst (λ (x : Cause). CallRows x due says rows due') (sym is) t
-event_tells_of_rows (Elapse ms) cause due due' says rows is t = subst (λ (x : Cause). CallRows x due says rows due') (sym is) t
-event_tells_of_rows UsbReset cause due due' says rows is t = subst (λ (x : Cause). CallRows x due says rows due') (sym is) t
-event_tells_of_rows (RefuseClose setup why) cause due due' says rows is t = subst (λ (x : Cause). CallRows x due says rows due') (sym is) t
-event_tells_of_rows (Refuse why) cause due due' says rows is t = subst (λ (x : Cause). CallRows x due says rows due') (sym is) t
-event_tells_of_rows event cause due due' says rows is t = elim is [ ]
+event_rows_are_cause_rows (Handle setup body) cause due due' says rows is t =
+    subst (λ (x : Cause). CallRows x due says rows due') (sym is) t
+event_rows_are_cause_rows (Elapse ms) cause due due' says rows is t = subst (λ (x : Cause). CallRows x due says rows due') (sym is) t
+event_rows_are_cause_rows UsbReset cause due due' says rows is t = subst (λ (x : Cause). CallRows x due says rows due') (sym is) t
+event_rows_are_cause_rows (RefuseClose setup why) cause due due' says rows is t =
+    subst (λ (x : Cause). CallRows x due says rows due') (sym is) t
+event_rows_are_cause_rows (Refuse why) cause due due' says rows is t = subst (λ (x : Cause). CallRows x due says rows due') (sym is) t
+event_rows_are_cause_rows event cause due due' says rows is t = elim is [ ]
 
 -- A call that is refused has no row, and the row that is due stays due.
 refused_call_has_no_row : (cause due : Cause) (due' : Option Cause) (says : BoardReply) (rows : List TableRow) → says ≡ Nothing
@@ -83,10 +85,12 @@ answered_call_makes_one_row : (call : Event) (cause : Cause) (a : Answer) (out :
     → IsOneRow cause a out rows × (due ≡ None)
 answered_call_makes_one_row call cause a out _ rows due is (at_once s event says) (first, later, mid, are, t, more) =
     answered_call_rows cause None mid due s.says a out rows first later says
-    (event_tells_of_rows call cause None mid s.says first is (subst (λ (x : Event). EventRows None x s.says first mid) event t)) are more.0
+    (event_rows_are_cause_rows call cause None mid s.says first is (subst (λ (x : Event). EventRows None x s.says first mid) event t)) are
+    more.0
     more.1
 answered_call_makes_one_row call cause a out _ rows due is (answered_after_writes s rest event says w) (first, later, mid, are, t, more) =
-    let told = event_tells_of_rows call cause None mid s.says first is (subst (λ (x : Event). EventRows None x s.says first mid) event t) in
+    let told = event_rows_are_cause_rows call cause None mid s.says first is
+    (subst (λ (x : Event). EventRows None x s.says first mid) event t) in
     let x : (first ≡ []) × (mid ≡ Some cause) = subst (λ (y : BoardReply). CallRows cause None y first mid) says told in
     let same : rows ≡ later = are ∙ (λ i. x.0 i ++ later) in
     let y = ended_writes_make_one_row cause a out rest later due w (subst (λ (z : Option Cause). StepRows z rest later due) x.1 more) in
@@ -106,8 +110,11 @@ history_of_one_row d d' cause a out rows one h =
 
 -- Result of a call: the row of its cause, and no writes are due.
 pub record ServedByRow (d : DeviceView) (cause : Cause) (a : Answer) (out : List ℕ) (b' : Board) : Type 0 where
+  -- Device after the call.
   pub device : DeviceView
+  -- The call made the row of its cause.
   pub row : Row d cause a out device
+  -- The board is this device, with no writes due.
   pub idle : IsIdleBoard b' device
 
 module _ (refines : IdleRunsRefineTable) where

@@ -42,39 +42,42 @@ abort_keeps_live_session : {tolerant : Bool} {t : ℕ} {m m' : Machine} {report 
 abort_keeps_live_session aborts = refl
 
 module _ (simulation : Simulation) (only : ActiveImageWasOffered) (c : Profile) (sized : 0 < c.transfer) where
-  pub opened_fact_of_same_profile : (s : Situation) (p : Profile) → p ≡ c → (goal : Goal) (limits : Limits)
+  pub same_profile_keeps_opened_fact : (s : Situation) (p : Profile) → p ≡ c → (goal : Goal) (limits : Limits)
       → SessionFact c s (opened c goal limits.actions limits.restarts)
       → SessionFact c s (opened p goal limits.actions limits.restarts)
-  opened_fact_of_same_profile s p e goal limits f =
+  same_profile_keeps_opened_fact s p e goal limits f =
       subst (λ (x : Profile). SessionFact c s (opened x goal limits.actions limits.restarts)) (sym e) f
 
   -- The facts of a session hold as it begins.
-  pub fact_of_offered_session : (past : List (List ℕ)) (s : Situation) (purpose : Purpose) (payload : List ℕ) (limits : Limits)
+  pub offered_session_has_fact : (past : List (List ℕ)) (s : Situation) (purpose : Purpose) (payload : List ℕ) (limits : Limits)
       → ClosedWasOffered past s.stage
       → 0 < length payload → SessionFact c s (opened c (goal_of_purpose purpose payload) limits.actions limits.restarts)
-  fact_of_offered_session past s purpose payload limits sound some =
+  offered_session_has_fact past s purpose payload limits sound some =
       (simulation c (record { device = s; session = NoLiveSession })
       (record { device = s; session = opened c (goal_of_purpose purpose payload) limits.actions limits.restarts }) []
       (machine_of_link simulation only c sized past s NoLiveSession) (Offers purpose payload limits) silent sized tt
       (agrees simulation only c sized past s NoLiveSession sound tt)
       (record { allowed = some; first = Works; second = Works; room = true; same = refl })).fact
 
-  pub fact_of_upload_session : (past : List (List ℕ)) (s : Situation) (limits : Limits) → ClosedWasOffered past s.stage
+  pub upload_session_has_fact : (past : List (List ℕ)) (s : Situation) (limits : Limits) → ClosedWasOffered past s.stage
       → SessionFact c s (opened c FetchGoal limits.actions limits.restarts)
-  fact_of_upload_session past s limits sound =
+  upload_session_has_fact past s limits sound =
       (simulation c (record { device = s; session = NoLiveSession })
       (record { device = s; session = opened c FetchGoal limits.actions limits.restarts }) []
       (machine_of_link simulation only c sized past s NoLiveSession) (Uploads limits) silent sized tt
       (agrees simulation only c sized past s NoLiveSession sound tt)
       (record { allowed = tt; first = Works; second = Works; room = true; same = refl })).fact
 
-  pub record GaveUp (s : Situation) (h : HostState) : Type 0 where
+  -- Once a live host is given up, the facts of its session hold, and the live session is the same.
+  pub record GivenUpKeepsFact (s : Situation) (h : HostState) : Type 0 where
+    -- The facts of the session hold.
     pub fact : SessionFact c s (HostSession (aborted_host h))
+    -- The live session is the same.
     pub live : live_session_of (HostSession (aborted_host h)) ≡ live_session_of (HostSession h)
 
   pub given_up_session_keeps_fact : (past : List (List ℕ)) (s : Situation) (h : HostState) → ClosedWasOffered past s.stage
       → IsLiveOffer past (live_session_of (HostSession h))
-      → SessionFact c s (HostSession h) → GaveUp s h
+      → SessionFact c s (HostSession h) → GivenUpKeepsFact s h
   given_up_session_keeps_fact past s h sound offered f =
       let x = simulation c (record { device = s; session = HostSession h }) (record { device = s; session = HostSession (aborted_host h) })
       []

@@ -26,15 +26,15 @@ use Rattle.dfu_laws.specs.link.LinkSteps.{BoardLink, BoardLinkStep}
 use Rattle.dfu_laws.specs.link.Marks.{TrialEnd}
 use Rattle.dfu_laws.specs.link.Copies.{HomeCopy}
 use Rattle.dfu_laws.specs.link.Trials.{TrialMayEnd}
-use Rattle.dfu_laws.specs.link.Plays.{BoardPlays, starts, offers, uploads, aborts as gives_up, goes_on, ends, copies}
-use Rattle.dfu_laws.proofs.board.Slots.{active_in_slot}
-use Rattle.dfu_laws.proofs.link.InSlots.{marks_change_no_slot, gate_close_adds_no_image}
+use Rattle.dfu_laws.specs.link.Plays.{BoardPlays, starts, offers, uploads, aborts as abort_moves_host, goes_on, ends, copies}
+use Rattle.dfu_laws.proofs.board.Slots.{active_image_is_in_slot}
+use Rattle.dfu_laws.proofs.link.InSlots.{marks_add_no_slot_image, gate_close_adds_no_image}
 use Rattle.dfu_laws.proofs.link.Premises.{LinkLaws}
 use Rattle.dfu_laws.proofs.link.Copied.{operations_keep_image, operations_add_no_image}
-use Rattle.dfu_laws.proofs.link.Ended.{idle_board_has_device_state, trial_end_keeps_profile, session_fact_after_trial_end, home_copy_keeps_profile, home_copy_keeps_stage}
+use Rattle.dfu_laws.proofs.link.Ended.{idle_board_has_device_state, trial_end_keeps_profile, trial_end_keeps_session_fact, home_copy_keeps_profile, home_copy_keeps_stage}
 use Rattle.dfu_laws.proofs.link.Played.{BoardAndHostFacts, FactsAfterEvent, event_keeps_facts}
 use Rattle.dfu_laws.proofs.link.Ran.{link_step_is_run_or_mark}
-use Rattle.dfu_laws.proofs.link.Sessions.{purpose_goal_is_loading, same_loading_same_payload, closed_bytes_offered_with_more, opened_fact_of_same_profile, fact_of_offered_session, fact_of_upload_session, given_up_session_keeps_fact}
+use Rattle.dfu_laws.proofs.link.Sessions.{purpose_goal_is_loading, same_loading_same_payload, closed_bytes_offered_with_more, same_profile_keeps_opened_fact, offered_session_has_fact, upload_session_has_fact, given_up_session_keeps_fact}
 use Rattle.dfu_laws.proofs.link.Stopped.{no_bytes_closed_at_start}
 use Rattle.dfu_laws.proofs.link.Within.{idle_board_image_is_known}
 use Rattle.dfu_laws.proofs.link.Throughout.{known_through_event}
@@ -44,6 +44,7 @@ abbrev pub WasThereAtFirst : MediumState → (image : List ℕ) (back : List (Li
 WasThereAtFirst m image back i = (i ≡ image) ⊎ (IsInSlot m i × IsOneOf i back)
 
 module _ (laws : LinkLaws) (c : Profile) (sized : 0 < c.transfer) (b : Board) (image : List ℕ) (active : Active (medium_on b) image) where
+  -- An image was on the first board: as its active image, or in a slot if it was active as a trial ended.
   abbrev WasOnBoardAtFirst : List (List ℕ) → List ℕ → Type 0
   WasOnBoardAtFirst back i = WasThereAtFirst (medium_on b) image back i
 
@@ -53,30 +54,33 @@ module _ (laws : LinkLaws) (c : Profile) (sized : 0 < c.transfer) (b : Board) (i
 
   origin_of_known_image : (past back : List (List ℕ)) (i : List ℕ) → WasOnBoardAtFirst back i ⊎ IsOneOf i past → SlotImageOrigin past i
   origin_of_known_image past back i (inl (inl same)) =
-      inl (subst (λ (z : List ℕ). IsInSlot (medium_on b) z) (sym same) (active_in_slot (medium_on b) image active))
+      inl (subst (λ (z : List ℕ). IsInSlot (medium_on b) z) (sym same) (active_image_is_in_slot (medium_on b) image active))
   origin_of_known_image past back i (inl (inr came)) = inl came.0
   origin_of_known_image past back i (inr one) = inr one
 
   -- The facts of a board and its host hold, and each image in a slot was in a slot at first, or was offered.
-  pub record BoardAndSlotsStand (past back : List (List ℕ)) (last : Option (List ℕ)) (l : BoardLink) : Type 0 where
+  pub record BoardAndSlotFacts (past back : List (List ℕ)) (last : Option (List ℕ)) (l : BoardLink) : Type 0 where
+    -- Device of the board.
     pub device : DeviceView
+    -- The facts of the board and its host hold.
     pub stands : BoardAndHostFacts c (WasOnBoardAtFirst back) past last l device
+    -- Each image in a slot was in a slot at first, or was offered.
     pub slots : (i : List ℕ) → IsInSlot (medium_on l.board) i → SlotImageOrigin past i
 
-  -- If a session begins on a board on which the facts hold, they hold again.
+  -- The facts of a board hold again after a session begins on it.
   begins : (past now back : List (List ℕ)) (last next : Option (List ℕ)) (l : BoardLink) (goal : Goal) (limits : Limits)
-      → (x : BoardAndSlotsStand past back last l) → SessionFact c (situation x.device) (opened c goal limits.actions limits.restarts)
+      → (x : BoardAndSlotFacts past back last l) → SessionFact c (situation x.device) (opened c goal limits.actions limits.restarts)
       → ((payload : List ℕ) → live_session_of_goal goal ≡ LoadingPayload payload → next ≡ Some payload) →
       IsLiveOffer now (live_session_of_goal goal)
       → ClosedWasOffered now x.device.stage → WasOnBoardAtFirst back (image_of x.device.slots) ⊎ IsOneOf (image_of x.device.slots) now
       → ((i : List ℕ) → SlotImageOrigin past i → SlotImageOrigin now i)
-      → BoardAndSlotsStand now back next (record l { session = HostSession (host_for_goal l.board.asking.config.functional goal limits) })
+      → BoardAndSlotFacts now back next (record l { session = HostSession (host_for_goal l.board.asking.config.functional goal limits) })
   begins past now back last next l goal limits x f live offered sound known more = record {
     device = x.device;
     stands = record {
       idle = x.stands.idle;
       profile_is = x.stands.profile_is;
-      fact = opened_fact_of_same_profile laws.simulation laws.only c sized (situation x.device) (profile (device_on l.board))
+      fact = same_profile_keeps_opened_fact laws.simulation laws.only c sized (situation x.device) (profile (device_on l.board))
           (ap profile x.stands.idle.device ∙ x.stands.profile_is) goal limits f;
       live = live;
       offered = offered;
@@ -86,23 +90,23 @@ module _ (laws : LinkLaws) (c : Profile) (sized : 0 < c.transfer) (b : Board) (i
     slots = λ i there. more i (x.slots i there);
   }
 
-  -- What was offered is still offered after one more payload.
-  more_of : {P : Type 0} (i payload : List ℕ) (offered : List (List ℕ)) → P ⊎ IsOneOf i offered → P ⊎ IsOneOf i (payload ∷ offered)
-  more_of i payload offered (inl here) = inl here
-  more_of i payload offered (inr one) = inr (inr one)
+  -- A payload that was offered still is after one more offer.
+  offered_remains : {P : Type 0} (i payload : List ℕ) (offered : List (List ℕ)) → P ⊎ IsOneOf i offered → P ⊎ IsOneOf i (payload ∷ offered)
+  offered_remains i payload offered (inl here) = inl here
+  offered_remains i payload offered (inr one) = inr (inr one)
 
-  -- If a trial ends on a board on which the facts hold, they hold again.
+  -- The facts of a board hold again after a trial ends on it.
   trial_end_keeps_invariant : (past back : List (List ℕ)) (last : Option (List ℕ)) (l : BoardLink) (b' : Board) (came : List ℕ) (dfu : Bool)
-      → BoardAndSlotsStand past back last l → TrialMayEnd l.session (state_on l.board) dfu → TrialEnd l.board dfu b' →
+      → BoardAndSlotFacts past back last l → TrialMayEnd l.session (state_on l.board) dfu → TrialEnd l.board dfu b' →
       Active (medium_on b') came
-      → BoardAndSlotsStand past (came ∷ back) last (record { board = b'; session = l.session })
+      → BoardAndSlotFacts past (came ∷ back) last (record { board = b'; session = l.session })
   trial_end_keeps_invariant past back last l b' came dfu x may end now =
       let on = end.starts.0 in
       let grain : (medium_on b').grain ≡ (medium_on l.board).grain = λ j. grain_of (end.same.unit j) (end.same.sector j) in
       let sized = x.stands.idle.is.store.has_image.active.sized in
       let there : (i : List ℕ) → IsInSlot (medium_on b') i → SlotImageOrigin past i =
       λ i in_slot. x.slots i (gate_close_adds_no_image (medium_on l.board) (medium_on b') sized end.closed grain i in_slot) in
-      let whence : SlotImageOrigin past came = there came (active_in_slot (medium_on b') came now) in
+      let whence : SlotImageOrigin past came = there came (active_image_is_in_slot (medium_on b') came now) in
       let known : WasOnBoardAtFirst (came ∷ back) came ⊎ IsOneOf came past = elim (whence) [
         | inl first ↦ inl (inr (first, inl refl))
         | inr one ↦ inr one
@@ -112,7 +116,7 @@ module _ (laws : LinkLaws) (c : Profile) (sized : 0 < c.transfer) (b : Board) (i
         stands = record {
           idle = record { work = on.work; is = on.is; device = refl };
           profile_is = trial_end_keeps_profile l.board b' dfu end ∙ ap profile x.stands.idle.device ∙ x.stands.profile_is;
-          fact = session_fact_after_trial_end c l.session l.board b' dfu x.device (idle_board_has_device_state laws.refines l.board
+          fact = trial_end_keeps_session_fact c l.session l.board b' dfu x.device (idle_board_has_device_state laws.refines l.board
               x.device x.stands.idle) may end.starts
               x.stands.fact;
           live = x.stands.live;
@@ -124,10 +128,10 @@ module _ (laws : LinkLaws) (c : Profile) (sized : 0 < c.transfer) (b : Board) (i
         slots = there;
       }
 
-  -- If operations of the copy come to a board on which the facts hold, they hold again.
+  -- The facts of a board hold again after operations of the copy on it.
   home_copy_keeps_invariant : (past back : List (List ℕ)) (last : Option (List ℕ)) (l : BoardLink) (b' : Board)
-      → BoardAndSlotsStand past back last l → HomeCopy l.board b'
-      → BoardAndSlotsStand past back last (record { board = b'; session = l.session })
+      → BoardAndSlotFacts past back last l → HomeCopy l.board b'
+      → BoardAndSlotFacts past back last (record { board = b'; session = l.session })
   home_copy_keeps_invariant past back last l b' x copy =
       let on = copy.starts.0 in
       let was : Active (medium_on l.board) (image_of (device_on l.board).slots) =
@@ -158,7 +162,7 @@ module _ (laws : LinkLaws) (c : Profile) (sized : 0 < c.transfer) (b : Board) (i
   -- After the next event each image in a slot was in a slot before, or was active meanwhile.
   event_keeps_slot_origins : (past back : List (List ℕ)) (last : Option (List ℕ)) (l l' : BoardLink) (more : List BoardStep) (answer :
       Answered)
-      → (x : BoardAndSlotsStand past back last l) → FactsAfterEvent c (WasOnBoardAtFirst back) past last answer l' →
+      → (x : BoardAndSlotFacts past back last l) → FactsAfterEvent c (WasOnBoardAtFirst back) past last answer l' →
       BoardLinkStep l more answer l' → (i : List ℕ)
       → IsInSlot (medium_on l'.board) i → SlotImageOrigin past i
   event_keeps_slot_origins past back last l l' more answer x y comes i there = elim (link_step_is_run_or_mark l l' more answer comes) [
@@ -166,7 +170,7 @@ module _ (laws : LinkLaws) (c : Profile) (sized : 0 < c.transfer) (b : Board) (i
       | inl before ↦ x.slots i before
       | inr was ↦ active_meanwhile_has_origin was
     ]
-    | inr mark ↦ x.slots i (marks_change_no_slot (medium_on l.board) (medium_on l'.board) mark.1.unread i there)
+    | inr mark ↦ x.slots i (marks_add_no_slot_image (medium_on l.board) (medium_on l'.board) mark.1.unread i there)
   ]
     where
       active_meanwhile_has_origin : WasActiveMeanwhile l.board more i → SlotImageOrigin past i
@@ -180,9 +184,10 @@ module _ (laws : LinkLaws) (c : Profile) (sized : 0 < c.transfer) (b : Board) (i
           let same : k.now ≡ i = laws.one s k.now k.active ∙ sym (laws.one s i was.active) in
           origin_of_known_image past back i (subst (λ (z : List ℕ). WasOnBoardAtFirst back z ⊎ IsOneOf z past) same k.known)
 
+  -- The facts of a board and its slots hold after any sessions with a board that was just powered on.
   pub stands : (steps : List BoardStep) (past back : List (List ℕ)) (last : Option (List ℕ)) (l : BoardLink) → IsPoweredOn b
       → profile (device_on b) ≡ c
-      → BoardPlays b steps past back last l → BoardAndSlotsStand past back last l
+      → BoardPlays b steps past back last l → BoardAndSlotFacts past back last l
   stands _ _ _ _ _ on e starts = record {
     device = device_on b;
     stands = record {
@@ -199,18 +204,18 @@ module _ (laws : LinkLaws) (c : Profile) (sized : 0 < c.transfer) (b : Board) (i
   stands steps _ _ _ _ on e (offers {past = past} {back = back} {last = last} {l = l} purpose payload limits p none some) =
       let x = stands steps past back last l on e p in
       begins past (payload ∷ past) back last (Some payload) l (goal_of_purpose purpose payload) limits x
-      (fact_of_offered_session laws.simulation laws.only c sized past (situation x.device) purpose payload limits x.stands.sound some)
+      (offered_session_has_fact laws.simulation laws.only c sized past (situation x.device) purpose payload limits x.stands.sound some)
       (λ y same. same_loading_same_payload payload y (sym (purpose_goal_is_loading purpose payload) ∙ same))
       (subst (λ (y : LiveSession). IsLiveOffer (payload ∷ past) y) (sym (purpose_goal_is_loading purpose payload)) (inl refl))
       (closed_bytes_offered_with_more payload past x.device.stage x.stands.sound)
-      (more_of (image_of x.device.slots) payload past x.stands.known)
-      (λ i whence. more_of i payload past whence)
+      (offered_remains (image_of x.device.slots) payload past x.stands.known)
+      (λ i whence. offered_remains i payload past whence)
   stands steps past back _ _ on e (uploads {last = last} {l = l} limits p none) =
       let x = stands steps past back last l on e p in
       begins past past back last None l FetchGoal limits x
-      (fact_of_upload_session laws.simulation laws.only c sized past (situation x.device) limits x.stands.sound)
+      (upload_session_has_fact laws.simulation laws.only c sized past (situation x.device) limits x.stands.sound)
       (λ y same. absurd (cc)) tt x.stands.sound x.stands.known (λ i whence. whence)
-  stands steps past back last _ on e (gives_up {l = l} {h = h} p live) =
+  stands steps past back last _ on e (abort_moves_host {l = l} {h = h} p live) =
       let x = stands steps past back last l on e p in
       let f = subst (λ (y : Session). SessionFact c (situation x.device) y) live x.stands.fact in
       let o = subst (λ (y : Session). IsLiveOffer past (live_session_of y)) live x.stands.offered in

@@ -1,25 +1,26 @@
--- A payload that was put in place on trial is what runs, as `ReportedTrialStays` says.
+-- A payload that was put in place on trial is the image that runs, as `ReportedTrialStays` says.
 use Rattle.std.specs.Prelude.{ℕ, List}
 use Rattle.dfu_slots.specs.Medium.{MediumState}
 use Rattle.dfu_slots.specs.Image.{Active}
 use Rattle.dfu_boot.specs.trial.Marks.{AreTries}
 use Rattle.dfu_boot.specs.trial.Trial.{image_at}
 use Rattle.dfu_boot.specs.trial.Calls.{IsStanding}
-use Rattle.dfu_boot.specs.trial.Lists.{TrialStep, TrialCourse, TrustedImages, Tried, AreTrusted, AllTrusted}
+use Rattle.dfu_boot.specs.trial.Lists.{TrialStep, IsTrialTrace, TrustedImages, Tried, AreTrusted, AllTrusted}
 use Rattle.dfu_boot.specs.declared.trial.standing.Trial.{Trial}
 use Rattle.dfu_boot.specs.declared.trial.standing.Standing.TheVariants.{OnTrial}
 use Rattle.dfu_laws.specs.board.Board.{medium_on}
 use Rattle.dfu_laws.specs.link.Plays.{ReportMeansPayloadInPlace}
 use Rattle.dfu_laws.specs.link.Stays.{ReportedTrialStays}
 
--- The clauses `tried` and `list` of the law `what_was_confirmed_runs_or_the_newest_on_trial`.
+-- The clause `tried` of the law `what_was_confirmed_runs_or_the_newest_on_trial`.
 abbrev pub TrialIsTrusted : Type 0
 TrialIsTrusted = (m : MediumState) (tries : ℕ) (t : Trial) (image : List ℕ) → IsStanding m tries (OnTrial t) → Active m image
     → AreTrusted m tries (Tried (image_at m t.base) image t.starts)
 
+-- The clause `list` of the law `what_was_confirmed_runs_or_the_newest_on_trial`.
 abbrev pub ListIsTrusted : Type 0
 ListIsTrusted = (m : MediumState) (tries : ℕ) (trust : TrustedImages) (steps : List TrialStep) → AreTries m.grain tries
-    → AreTrusted m tries trust → TrialCourse tries m steps → AllTrusted tries trust m steps
+    → AreTrusted m tries trust → IsTrialTrace tries m steps → AllTrusted tries trust m steps
 
 pub reported_trial_stays : TrialIsTrusted → ListIsTrusted → ReportMeansPayloadInPlace → ReportedTrialStays
 reported_trial_stays tried list_is installs b steps more past back last l l' answer tries t list on sized plays comes says are stands came =

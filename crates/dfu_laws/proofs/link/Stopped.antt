@@ -21,7 +21,7 @@ use Rattle.dfu_laws.specs.link.Calls.{IsBrokenCall, CallReaches, once, CallCutOf
 use Rattle.dfu_laws.proofs.link.Served.{IsCallOfCause}
 use Rattle.dfu_laws.proofs.link.Fixed.{history_keeps_profile}
 use Rattle.dfu_laws.proofs.link.Parts.{IsUnansweredPart, unanswered_part_has_no_row, broken_call_is_cut_by_power}
-use Rattle.dfu_laws.proofs.link.Ran.{run_parts}
+use Rattle.dfu_laws.proofs.link.Ran.{run_has_parts}
 use Rattle.dfu_laws.proofs.link.Became.{BoardImageKeptOrOffered, board_kept_or_offered_then}
 
 -- An image that waits is the active image, or was offered, if closed bytes were offered.
@@ -33,13 +33,13 @@ waiting_image_is_known past image i InManifestSyncComplete on sound e = inl e
 waiting_image_is_known past image i (InManifest taken passed) on sound e = inr (subst (λ (l : List ℕ). IsOneOf l past) (sym e) sound)
 waiting_image_is_known past image i st on sound e = absurd (false≢true on)
 
--- If no writes are due on a board, it is the device for which it stands.
+-- If no writes are due on a board, it is the device that it represents.
 board_without_work_is_idle : (b : Board) (due : Option Cause) (d : DeviceView) → RepresentsDevice b due d → b.asking.work ≡ None →
     IsIdleBoard b d
 board_without_work_is_idle b None d k none = k
 board_without_work_is_idle b (Some cause) d k none = let some = k.asks.work_is in absurd (cc)
 
--- No closed bytes wait on a board that just got power.
+-- No closed bytes wait on a board that was just powered on.
 pub no_bytes_closed_at_start : (past : List (List ℕ)) (begins : Bool) → ClosedWasOffered past (start_stage begins)
 no_bytes_closed_at_start past true = tt
 no_bytes_closed_at_start past false = tt
@@ -53,12 +53,12 @@ restart_step_starts_board b b' s begins run event =
 
 module _ (refines : IdleRunsRefineTable) (past : List (List ℕ)) where
   -- Within a call the active image is that of the device, or was offered.
-  pub image_within_call : (b mid : Board) (d : DeviceView) (call : Event) (cause : Cause) (front : List BoardStep) (image : List ℕ)
+  pub call_image_kept_or_offered : (b mid : Board) (d : DeviceView) (call : Event) (cause : Cause) (front : List BoardStep) (image : List ℕ)
       → IsIdleBoard b d
       → ClosedWasOffered past d.stage → IsCallOfCause call cause → IsUnansweredPart call front → IsRun b front mid →
       Active (medium_on mid) image
       → (image ≡ image_of d.slots) ⊎ IsOneOf image past
-  image_within_call b mid d call cause front image k sound is part run active =
+  call_image_kept_or_offered b mid d call cause front image k sound is part run active =
       let r = refines b mid d front k run in
       let none = unanswered_part_has_no_row call cause front r.rows r.due is part r.tells in
       let same : r.device ≡ d = subst (λ (rows : List TableRow). IsHistory d rows r.device) none r.history in
@@ -71,13 +71,13 @@ module _ (refines : IdleRunsRefineTable) (past : List (List ℕ)) where
 
   module _ (c : Profile) where
     -- If the power goes after the first steps of a call, the image is kept or an offered one is in place.
-    pub stopped : (b b' : Board) (d : DeviceView) (call : Event) (cause : Cause) (front : List BoardStep) (power : BoardStep)
+    pub stop_keeps_or_offers : (b b' : Board) (d : DeviceView) (call : Event) (cause : Cause) (front : List BoardStep) (power : BoardStep)
         (begins : Bool)
         → IsIdleBoard b d → profile d ≡ c → ClosedWasOffered past d.stage → IsCallOfCause call cause → IsUnansweredPart call front
         → power.event ≡ Restart begins
         → IsRun b (front ++ power ∷ []) b' → BoardImageKeptOrOffered c past (situation d) b'
-    stopped b b' d call cause front power begins k e sound is part event run =
-        let parts = run_parts b front (power ∷ []) b' run in
+    stop_keeps_or_offers b b' d call cause front power begins k e sound is part event run =
+        let parts = run_has_parts b front (power ∷ []) b' run in
         let happens = restart_step_starts_board parts.mid b' power begins parts.second event in
         let on = happens.1.0 in
         let r = refines b b' d (front ++ power ∷ []) k run in
@@ -95,7 +95,7 @@ module _ (refines : IdleRunsRefineTable) (past : List (List ℕ)) where
           profile_is = history_keeps_profile d r.device r.rows r.history ∙ e;
           well = record {
             image = subst (λ (i : List ℕ). (i ≡ image_of d.slots) ⊎ IsOneOf i past) now
-                (image_within_call b parts.mid d call cause front there.has_image.image k sound is part parts.first
+                (call_image_kept_or_offered b parts.mid d call cause front there.has_image.image k sound is part parts.first
                 (subst (λ (m : MediumState). Active m there.has_image.image) again there.has_image.active));
             sound = subst (λ (x : DeviceView). ClosedWasOffered past x.stage) idle.device
                 (subst (λ (x : DeviceView). ClosedWasOffered past x.stage) (sym on.device) (no_bytes_closed_at_start past on.begins));
@@ -121,7 +121,7 @@ module _ (refines : IdleRunsRefineTable) (past : List (List ℕ)) where
         BoardImageKeptOrOffered c past (situation d) b'
     power_in_call_keeps_or_offers b b' d call cause steps k e sound is br run =
         let x = broken_call_is_cut_by_power call steps br in
-        stopped b b' d call cause x.front x.power x.begins k e sound is x.part x.event
+        stop_keeps_or_offers b b' d call cause x.front x.power x.begins k e sound is x.part x.event
         (subst (λ (l : List BoardStep). IsRun b l b') x.steps_are run)
 
     -- If each whole call keeps the image or puts an offered one in place, a call during which the power fails does the same.
@@ -135,7 +135,7 @@ module _ (refines : IdleRunsRefineTable) (past : List (List ℕ)) where
         reaches run event) =
         let x = leads mid steps says reaches in
         board_kept_or_offered_then refines c past (situation d) mid b' x
-        (stopped mid b' x.device call cause [] power begins x.idle x.profile_is x.well.sound is tt event run)
+        (stop_keeps_or_offers mid b' x.device call cause [] power begins x.idle x.profile_is x.well.sound is tt event run)
     cut_off_call_keeps_or_offers b b' d call cause steps k e sound is leads (within run br) = power_in_call_keeps_or_offers b b' d call
         cause steps k e sound is br run
     cut_off_call_keeps_or_offers b b' d call cause _ k e sound is leads (power_lost_in_second_call {first = first} {second = second} {a =

@@ -20,7 +20,7 @@ use Rattle.dfu_laws.proofs.link.Served.{served}
 use Rattle.dfu_laws.proofs.link.Became.{BoardImageKeptOrOffered}
 use Rattle.dfu_laws.proofs.link.Played.{BoardAndHostFacts, call_under_way_has_cause, ended_call_keeps_or_offers}
 use Rattle.dfu_laws.proofs.link.Ran.{reached_call_is_run}
-use Rattle.dfu_laws.proofs.link.Within.{DeviceImageIsKnown, BoardImageIsKnown, KnownAfterEachStep, event_keeps_image_known, idle_board_image_is_known, known_through_append, call_known, known_through_no_step, known_through_reached_call, known_through_cut_off_call}
+use Rattle.dfu_laws.proofs.link.Within.{DeviceImageIsKnown, BoardImageIsKnown, KnownAfterEachStep, event_keeps_image_known, idle_board_image_is_known, known_through_append, known_through_answered_call, known_through_no_step, known_through_reached_call, known_through_cut_off_call}
 
 module _ (refines : IdleRunsRefineTable) (simulation : Simulation) (only : ActiveImageWasOffered) (c : Profile) (sized : 0 < c.transfer)
     (first : List ℕ → Type 0) (past : List (List ℕ)) (last : Option (List ℕ)) where
@@ -41,7 +41,8 @@ module _ (refines : IdleRunsRefineTable) (simulation : Simulation) (only : Activ
       → DeviceImageIsKnown first past d → BoardImageIsKnown first past b' → ImageRefusedAtClose setup body why b steps says b' →
       KnownAfterEachStep refines c first past b steps
   known_through_refused_close b b' d setup body why steps _ k known at (close_refused_once {a = a} {out = out} serves) =
-      call_known refines c first past b b' d (RefuseClose setup why) (RefusingClose setup why) steps a out k known refl serves at
+      known_through_answered_call refines c first past b b' d (RefuseClose setup why)
+      (RefusingClose setup why) steps a out k known refl serves at
   known_through_refused_close b b' d setup body why _ _ k known at (close_refused_then_repeated {first = xs} {second = ys} {a = a} {x = a0}
       {out = out} {said = out0}
       {mid = mid} serves more) =
@@ -52,10 +53,12 @@ module _ (refines : IdleRunsRefineTable) (simulation : Simulation) (only : Activ
         known = subst (λ (z : DeviceView). first (image_of z.slots) ⊎ IsOneOf (image_of z.slots) past) (sym same) known.known;
       } in
       known_through_append refines c first past b mid xs ys
-      (call_known refines c first past b mid d (RefuseClose setup why) (RefusingClose setup why) xs a0 out0 k known refl serves
+      (known_through_answered_call refines c first past b mid d (RefuseClose setup why)
+      (RefusingClose setup why) xs a0 out0 k known refl serves
       (idle_board_image_is_known refines c first past mid x.device x.idle there))
       serves.run
-      (call_known refines c first past mid b' x.device (Handle setup body) (Transfer setup body) ys a out x.idle there refl more at)
+      (known_through_answered_call refines c first past mid b' x.device (Handle setup body)
+      (Transfer setup body) ys a out x.idle there refl more at)
 
   -- The image is known at each step of a restart with no call under way.
   known_through_restart : (l : BoardLink) (b' : Board) (d : DeviceView) (power : BoardStep) (begins : Bool) →
@@ -74,7 +77,7 @@ module _ (refines : IdleRunsRefineTable) (simulation : Simulation) (only : Activ
       BoardAndHostFacts c first past last l d
       → BoardImageIsKnown first past l'.board → BoardLinkStep l steps answer l' → KnownAfterEachStep refines c first past l.board steps
   known_through_event l _ d steps _ s at (passes {ms = ms} {a = a} {out = out} {b' = b'} serves) =
-      call_known refines c first past l.board b' d (Elapse ms) (Passing ms) steps a out s.idle
+      known_through_answered_call refines c first past l.board b' d (Elapse ms) (Passing ms) steps a out s.idle
       (record { sound = s.sound; known = s.known }) refl serves at
   known_through_event l _ d steps _ s at (sends {h = h} {q = q} {setup = setup} {body = body} {says = says} {b' = b'} live is asked (inl
       reaches)
@@ -86,11 +89,11 @@ module _ (refines : IdleRunsRefineTable) (simulation : Simulation) (only : Activ
       (inr (why, refused)) hears room) =
       known_through_refused_close l.board b' d setup body why steps says s.idle (record { sound = s.sound; known = s.known }) at refused
   known_through_event l _ d steps _ s at (refuses {why = why} {a = a} {out = out} {b' = b'} serves) =
-      call_known refines c first past l.board b' d (Refuse why) (Refusing why) steps a out s.idle
+      known_through_answered_call refines c first past l.board b' d (Refuse why) (Refusing why) steps a out s.idle
       (record { sound = s.sound; known = s.known }) refl serves at
   known_through_event l _ d _ _ s at (waits live is) = known_through_no_step refines c first past l.board at
   known_through_event l _ d steps _ s at (resets {a = a} {out = out} {b' = b'} live is serves) =
-      call_known refines c first past l.board b' d UsbReset BusReset steps a out s.idle
+      known_through_answered_call refines c first past l.board b' d UsbReset BusReset steps a out s.idle
       (record { sound = s.sound; known = s.known }) refl serves at
   known_through_event l _ d _ _ s at (is_reset_by_other_cause {call = call} {steps = steps} {more = more} {says = says} {a = a} {out = out}
       {mid = mid} {b' = b'} way
@@ -102,7 +105,8 @@ module _ (refines : IdleRunsRefineTable) (simulation : Simulation) (only : Activ
       (known_through_reached_call refines c first past l.board mid d call cause.0 steps says s.idle known cause.1
       (under_way_call_keeps_or_offers l d call s way) reaches)
       (reached_call_is_run call l.board mid steps says reaches)
-      (call_known refines c first past mid b' x.device UsbReset BusReset more a out x.idle (event_keeps_image_known refines c first past d
+      (known_through_answered_call refines c first past mid b' x.device UsbReset BusReset more a out x.idle
+      (event_keeps_image_known refines c first past d
       mid known x) refl serves at)
   known_through_event l _ d steps _ s at (restarts {call = call} {b' = b'} way stops) =
       let cause = call_under_way_has_cause l.session call way in

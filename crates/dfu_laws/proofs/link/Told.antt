@@ -17,29 +17,32 @@ use Rattle.dfu_laws.proofs.link.Played.{FactsAfterEvent, event_keeps_facts}
 use Rattle.dfu_laws.proofs.link.Within.{idle_board_image_is_known}
 use Rattle.dfu_laws.proofs.link.Throughout.{known_through_event}
 use Rattle.dfu_laws.proofs.link.Premises.{LinkLaws}
-use Rattle.dfu_laws.proofs.link.Standing.{WasThereAtFirst, BoardAndSlotsStand, stands}
+use Rattle.dfu_laws.proofs.link.Standing.{WasThereAtFirst, BoardAndSlotFacts, stands}
 
 module _ (laws : LinkLaws) where
   idle_board_image_is_active : (b : Board) (d : DeviceView) → IsIdleBoard b d → Active (medium_on b) (image_of d.slots)
   idle_board_image_is_active b d k = subst (λ (z : DeviceView). Active (medium_on b) (image_of z.slots)) k.device
       (laws.shown (flash_store (lent_on b) b.flash) k.is.store.has_image)
 
-  -- The image of a board that just got power is its active image.
+  -- The image of a board that was just powered on is its active image.
   powered_board_image_is_active : (b : Board) → IsPoweredOn b → Active (medium_on b) (image_of (device_on b).slots)
   powered_board_image_is_active b on = laws.shown (flash_store (lent_on b) b.flash) on.is.store.has_image
 
-  -- The facts after sessions with a board, and after the next event.
-  record PlaysAndNextEvent (b : Board) (image : List ℕ) (active : Active (medium_on b) image) (sized : 0 < (profile (device_on b)).transfer)
+  -- The facts of a board and its slots hold after the sessions so far, and those after the next event hold too.
+  record FactsAroundNextEvent (b : Board) (image : List ℕ) (active : Active (medium_on b) image)
+      (sized : 0 < (profile (device_on b)).transfer)
       (past back : List (List ℕ)) (last : Option (List ℕ)) (l l' : BoardLink) (answer : Answered) : Type 0 where
-    before : BoardAndSlotsStand laws (profile (device_on b)) sized b image active past back last l
+    -- The facts hold after the sessions so far.
+    before : BoardAndSlotFacts laws (profile (device_on b)) sized b image active past back last l
+    -- The facts hold after the next event.
     went : FactsAfterEvent (profile (device_on b)) (λ i. WasThereAtFirst (medium_on b) image back i) past last answer l'
 
-  plays_and_next_event : (b : Board) (image : List ℕ) (active : Active (medium_on b) image) (sized : 0 < (profile (device_on b)).transfer)
+  event_keeps_all_facts : (b : Board) (image : List ℕ) (active : Active (medium_on b) image) (sized : 0 < (profile (device_on b)).transfer)
       (steps more : List BoardStep) (past back : List (List ℕ)) (last : Option (List ℕ)) (l l' : BoardLink) (answer : Answered)
       → IsPoweredOn b
       → BoardPlays b steps past back last l → BoardLinkStep l more answer l' →
-      PlaysAndNextEvent b image active sized past back last l l' answer
-  plays_and_next_event b image active sized steps more past back last l l' answer on plays comes =
+      FactsAroundNextEvent b image active sized past back last l l' answer
+  event_keeps_all_facts b image active sized steps more past back last l l' answer on plays comes =
       let c : Profile = profile (device_on b) in
       let x = stands laws c sized b image active steps past back last l on refl plays in
       record {
@@ -52,7 +55,7 @@ module _ (laws : LinkLaws) where
   -- If Installed or Verified is reported, the payload is in place.
   pub report_means_payload_in_place : ReportMeansPayloadInPlace
   report_means_payload_in_place b steps more past back last l l' answer on sized plays comes e =
-      let y = (plays_and_next_event b (image_of (device_on b).slots) (powered_board_image_is_active b on) sized steps more past back last l
+      let y = (event_keeps_all_facts b (image_of (device_on b).slots) (powered_board_image_is_active b on) sized steps more past back last l
       l' answer on plays
       comes).went in
       let done = y.done e in
@@ -66,7 +69,7 @@ module _ (laws : LinkLaws) where
   -- Bytes that come with Uploaded are the active image.
   pub upload_is_active_image : UploadIsActiveImage
   upload_is_active_image b steps more past back last l l' answer bytes on sized plays comes e =
-      let y = (plays_and_next_event b (image_of (device_on b).slots) (powered_board_image_is_active b on) sized steps more past back last l
+      let y = (event_keeps_all_facts b (image_of (device_on b).slots) (powered_board_image_is_active b on) sized steps more past back last l
       l' answer on plays
       comes).went in
       subst (λ (i : List ℕ). Active (medium_on l'.board) i) (sym (y.gives bytes e)) (idle_board_image_is_active l'.board y.device
@@ -82,7 +85,7 @@ module _ (laws : LinkLaws) where
   pub active_image_is_known_within : ActiveImageIsKnownWithin
   active_image_is_known_within b mid steps front rest past back last l l' answer image on sized active plays comes run =
       let c : Profile = profile (device_on b) in
-      let g = plays_and_next_event b image active sized steps (front ++ rest) past back last l l' answer on plays comes in
+      let g = event_keeps_all_facts b image active sized steps (front ++ rest) past back last l l' answer on plays comes in
       let x = g.before in
       let y = g.went in
       let was : List ℕ → Type 0 = λ i. WasThereAtFirst (medium_on b) image back i in

@@ -15,20 +15,25 @@ use Rattle.dfu_laws.specs.board.Happens.{IsRun}
 use Rattle.dfu_laws.specs.board.Refines.{IsIdleBoard, IdleRunsRefineTable}
 use Rattle.dfu_laws.specs.link.Calls.{CallServed, IsBrokenCall, CallReaches, lost, once, twice, CallCutOff, behind, within, power_lost_in_second_call}
 use Rattle.dfu_laws.proofs.link.Served.{IsCallOfCause}
-use Rattle.dfu_laws.proofs.link.Parts.{first_step_of, steps_behind_first, IsUnansweredPart, joined_parts_are_empty, front_of_answered_call, front_of_broken_call}
+use Rattle.dfu_laws.proofs.link.Parts.{first_step_of, steps_behind_first, IsUnansweredPart, joined_parts_are_empty, call_part_is_unanswered, broken_part_unanswered}
 use Rattle.dfu_laws.proofs.link.Became.{BoardImageKeptOrOffered}
-use Rattle.dfu_laws.proofs.link.Stopped.{image_within_call}
+use Rattle.dfu_laws.proofs.link.Stopped.{call_image_kept_or_offered}
 use Rattle.dfu_laws.proofs.link.Ran.{run_leads_to_one_board, reached_call_is_run}
 
 -- The image of a device was there at first, or was offered; and closed bytes were offered.
 pub record DeviceImageIsKnown (first : List ℕ → Type 0) (past : List (List ℕ)) (d : DeviceView) : Type 0 where
+  -- Closed bytes were offered.
   pub sound : ClosedWasOffered past d.stage
+  -- The image was there at first, or was offered.
   pub known : first (image_of d.slots) ⊎ IsOneOf (image_of d.slots) past
 
 -- The active image of a board was there at first, or was offered.
 pub record BoardImageIsKnown (first : List ℕ → Type 0) (past : List (List ℕ)) (b : Board) : Type 0 where
+  -- Active image of the board.
   pub now : List ℕ
+  -- The image is active.
   pub active : Active (medium_on b) now
+  -- The image was there at first, or was offered.
   pub known : first now ⊎ IsOneOf now past
 
 module _ (refines : IdleRunsRefineTable) (c : Profile) (first : List ℕ → Type 0) (past : List (List ℕ)) where
@@ -37,20 +42,20 @@ module _ (refines : IdleRunsRefineTable) (c : Profile) (first : List ℕ → Typ
   KnownAfterEachStep b steps = (front rest : List BoardStep) (mid : Board) → front ++ rest ≡ steps → IsRun b front mid →
       BoardImageIsKnown first past mid
 
-  known_by : (image i : List ℕ) → first image ⊎ IsOneOf image past → (i ≡ image) ⊎ IsOneOf i past → first i ⊎ IsOneOf i past
-  known_by image i known (inl same) = elim known [
+  origin_known_by_start : (image i : List ℕ) → first image ⊎ IsOneOf image past → (i ≡ image) ⊎ IsOneOf i past → first i ⊎ IsOneOf i past
+  origin_known_by_start image i known (inl same) = elim known [
     | inl here ↦ inl (subst first (sym same) here)
     | inr one ↦ inr (subst (λ (x : List ℕ). IsOneOf x past) (sym same) one)
   ]
-  known_by image i known (inr one) = inr one
+  origin_known_by_start image i known (inr one) = inr one
 
-  -- The device after an event is known if the device before was.
+  -- An event keeps the image of a device known.
   pub event_keeps_image_known : (d : DeviceView) (b' : Board) → DeviceImageIsKnown first past d →
       (x : BoardImageKeptOrOffered c past (situation d) b')
       → DeviceImageIsKnown first past x.device
   event_keeps_image_known d b' k x = record {
     sound = x.well.sound;
-    known = known_by (image_of d.slots) (image_of x.device.slots) k.known x.well.image;
+    known = origin_known_by_start (image_of d.slots) (image_of x.device.slots) k.known x.well.image;
   }
 
   image_known_within_call : (b mid : Board) (d : DeviceView) (call : Event) (cause : Cause) (front : List BoardStep) → IsIdleBoard b d
@@ -61,11 +66,11 @@ module _ (refines : IdleRunsRefineTable) (c : Profile) (first : List ℕ → Typ
       record {
         now = i.image;
         active = i.active;
-        known = known_by (image_of d.slots) i.image known.known
-            (image_within_call refines past b mid d call cause front i.image k known.sound is part run i.active);
+        known = origin_known_by_start (image_of d.slots) i.image known.known
+            (call_image_kept_or_offered refines past b mid d call cause front i.image k known.sound is part run i.active);
       }
 
-  -- The active image of a board with no writes due is known if that of its device is.
+  -- The active image of a board with no writes due is known if the image of its device is.
   pub idle_board_image_is_known : (b : Board) (d : DeviceView) → IsIdleBoard b d → DeviceImageIsKnown first past d →
       BoardImageIsKnown first past b
   idle_board_image_is_known b d k known = image_known_within_call b b d UsbReset BusReset [] k known refl tt refl
@@ -88,32 +93,34 @@ module _ (refines : IdleRunsRefineTable) (c : Profile) (first : List ℕ → Typ
       run.3 more front rest x (ap steps_behind_first e) after
 
   -- At the end of a run the image is known if it is known on the board after all steps.
-  all_known : (b b' mid : Board) (steps front rest : List BoardStep) → IsRun b steps b' → BoardImageIsKnown first past b'
+  image_known_at_run_end : (b b' mid : Board) (steps front rest : List BoardStep) → IsRun b steps b' → BoardImageIsKnown first past b'
       → front ++ rest ≡ steps
       → rest ≡ [] → IsRun b front mid → BoardImageIsKnown first past mid
-  all_known b b' mid steps front rest run at e none way =
+  image_known_at_run_end b b' mid steps front rest run at e none way =
       let same : front ≡ steps = sym (append-nil front) ∙ ap (λ (l : List BoardStep). front ++ l) (sym none) ∙ e in
       subst (λ (x : Board). BoardImageIsKnown first past x)
       (run_leads_to_one_board b steps b' mid run (subst (λ (l : List BoardStep). IsRun b l mid) same way)) at
 
   -- The image is known at each step of a call that is answered.
-  pub call_known : (b b' : Board) (d : DeviceView) (call : Event) (cause : Cause) (steps : List BoardStep) (a : Answer) (out : List ℕ)
+  pub known_through_answered_call : (b b' : Board) (d : DeviceView) (call : Event) (cause : Cause) (steps : List BoardStep) (a : Answer)
+      (out : List ℕ)
       → IsIdleBoard b d → DeviceImageIsKnown first past d → IsCallOfCause call cause → CallServed b call steps a out b' →
       BoardImageIsKnown first past b'
       → KnownAfterEachStep b steps
-  call_known b b' d call cause steps a out k known is serves at front rest mid e run = elim (front_of_answered_call call a out front rest
+  known_through_answered_call b b' d call cause steps a out k known is serves at front rest mid e run =
+      elim (call_part_is_unanswered call a out front rest
       steps serves.is e) [
         | inl part ↦ image_known_within_call b mid d call cause front k known is part run
-        | inr none ↦ all_known b b' mid steps front rest serves.run at e none run
+        | inr none ↦ image_known_at_run_end b b' mid steps front rest serves.run at e none run
       ]
 
   known_through_broken_call : (b b' : Board) (d : DeviceView) (call : Event) (cause : Cause) (steps : List BoardStep) → IsIdleBoard b d
       → DeviceImageIsKnown first past d
       → IsCallOfCause call cause → IsRun b steps b' → IsBrokenCall call steps → BoardImageIsKnown first past b' → KnownAfterEachStep b steps
-  known_through_broken_call b b' d call cause steps k known is all br at front rest mid e run = elim (front_of_broken_call call front rest
+  known_through_broken_call b b' d call cause steps k known is all br at front rest mid e run = elim (broken_part_unanswered call front rest
       steps br e) [
         | inl part ↦ image_known_within_call b mid d call cause front k known is part run
-        | inr none ↦ all_known b b' mid steps front rest all at e none run
+        | inr none ↦ image_known_at_run_end b b' mid steps front rest all at e none run
       ]
 
   pub known_through_no_step : (b : Board) → BoardImageIsKnown first past b → KnownAfterEachStep b []
@@ -126,7 +133,7 @@ module _ (refines : IdleRunsRefineTable) (c : Profile) (first : List ℕ → Typ
       → KnownAfterEachStep b (s ∷ [])
   known_through_power b b' s at at' all [] rest mid e run = subst (λ (x : Board). BoardImageIsKnown first past x) (sym run) at
   known_through_power b b' s at at' all (x ∷ xs) rest mid e run =
-      all_known b b' mid (s ∷ []) (x ∷ xs) rest all at' e (joined_parts_are_empty xs rest (ap steps_behind_first e)).1 run
+      image_known_at_run_end b b' mid (s ∷ []) (x ∷ xs) rest all at' e (joined_parts_are_empty xs rest (ap steps_behind_first e)).1 run
 
   -- The image is known at each step of a call that reaches the board, if each such call keeps the image or puts an offered one in place.
   pub known_through_reached_call : (b b' : Board) (d : DeviceView) (call : Event) (cause : Cause) (steps : List BoardStep) (says :
@@ -139,7 +146,8 @@ module _ (refines : IdleRunsRefineTable) (c : Profile) (first : List ℕ → Typ
   known_through_reached_call b _ d call cause _ _ k known is leads lost = known_through_no_step b (idle_board_image_is_known b d k known)
   known_through_reached_call b b' d call cause steps _ k known is leads (once {a = a} {out = out} serves) =
       let x = leads b' steps (Answers a out) (once serves) in
-      call_known b b' d call cause steps a out k known is serves (idle_board_image_is_known b' x.device x.idle (event_keeps_image_known d
+      known_through_answered_call b b' d call cause steps a out k known is serves
+      (idle_board_image_is_known b' x.device x.idle (event_keeps_image_known d
       b' known x))
   known_through_reached_call b b' d call cause _ _ k known is leads (twice {first = xs} {second = ys} {a = a} {x = a0} {out = out} {said =
       out0} {mid = mid}
@@ -148,8 +156,9 @@ module _ (refines : IdleRunsRefineTable) (c : Profile) (first : List ℕ → Typ
       let y = leads b' (xs ++ ys) (Answers a out) (twice serves more) in
       let there = event_keeps_image_known d mid known x in
       known_through_append b mid xs ys
-      (call_known b mid d call cause xs a0 out0 k known is serves (idle_board_image_is_known mid x.device x.idle there)) serves.run
-      (call_known mid b' x.device call cause ys a out x.idle there is more (idle_board_image_is_known b' y.device y.idle
+      (known_through_answered_call b mid d call cause xs a0 out0 k known is serves (idle_board_image_is_known mid x.device x.idle there))
+      serves.run
+      (known_through_answered_call mid b' x.device call cause ys a out x.idle there is more (idle_board_image_is_known b' y.device y.idle
       (event_keeps_image_known d b' known y)))
 
   -- The image is known at each step of a call within which the power goes.
@@ -171,6 +180,7 @@ module _ (refines : IdleRunsRefineTable) (c : Profile) (first : List ℕ → Typ
       {mid = mid} serves run br) at =
       let x = leads mid xs (Answers a out) (once serves) in
       let there = event_keeps_image_known d mid known x in
-      known_through_append b mid xs ys (call_known b mid d call cause xs a out k known is serves (idle_board_image_is_known mid x.device
+      known_through_append b mid xs ys
+      (known_through_answered_call b mid d call cause xs a out k known is serves (idle_board_image_is_known mid x.device
       x.idle there)) serves.run
       (known_through_broken_call mid b' x.device call cause ys x.idle there is run br at)

@@ -20,8 +20,11 @@ ClosesPassCheck check old steps =
 -- The active image of a board's flash is the one given, or one that the check accepts: all bytes of a download that one of the steps
 -- closed.
 pub record HasAcceptedImage (check : List ℕ → Bool) (image : List ℕ) (old steps : List BoardStep) (b : Board) : Type 0 where
+  -- Active image of the board.
   pub now : List ℕ
+  -- The image is active.
   pub active : Active (medium_on b) now
+  -- The image is the one given, or one that a closed download gave and the check accepts.
   pub whence : (now ≡ image) ⊎ (DownloadOfImageClosed old steps now × (check now ≡ true))
 
 -- After any steps of a board from power on, with any check that its program heeds, the active image is the one at power on, or one that the
@@ -31,28 +34,28 @@ RunKeepsAcceptedImage = (check : List ℕ → Bool) (b b' : Board) (steps : List
     Active (medium_on b) image
     → IsRun b steps b' → ClosesPassCheck check [] steps → HasAcceptedImage check image [] steps b'
 
--- In the stage the image waits to be put in place.
+-- The image waits in this stage to be put in place.
 abbrev pub IsPending : Stage → List ℕ → Type 0
 IsPending (InManifestSync taken) t = taken ≡ t
 IsPending (InManifest taken passed) t = taken ≡ t
 IsPending st t = ⊥
 
--- An image that waited is given up in a stage, and not put in place: the bus was reset or the power went, the program refused it, or the
--- host made a request that was not due.
-abbrev pub ImageAbandoned : Stage → Type 0
-ImageAbandoned InAppIdle = Unit {0}
-ImageAbandoned (InError ErrTarget) = Unit {0}
-ImageAbandoned (InError ErrFile) = Unit {0}
-ImageAbandoned (InError ErrStalledPkt) = Unit {0}
-ImageAbandoned st = ⊥
+-- In this stage an image that waited was given up and not put in place: the bus was reset or the power failed, the program refused it, or
+-- the host made a request that was not allowed.
+abbrev pub IsAbandonedStage : Stage → Type 0
+IsAbandonedStage InAppIdle = Unit {0}
+IsAbandonedStage (InError ErrTarget) = Unit {0}
+IsAbandonedStage (InError ErrFile) = Unit {0}
+IsAbandonedStage (InError ErrStalledPkt) = Unit {0}
+IsAbandonedStage st = ⊥
 
 -- An image that waits before a row passes the check, or waits after the row too, or is given up. A program keeps this if it calls `refuse`
 -- in time for each image that the check refuses.
 abbrev pub RowPassesCheck : (check : List ℕ → Bool) → TableRow → Type 0
 RowPassesCheck check s =
-    (t : List ℕ) → IsPending s.before.stage t → (check t ≡ true) ⊎ IsPending s.after.stage t ⊎ ImageAbandoned s.after.stage
+    (t : List ℕ) → IsPending s.before.stage t → (check t ≡ true) ⊎ IsPending s.after.stage t ⊎ IsAbandonedStage s.after.stage
 
--- Each of the rows keeps `RowPassesCheck`.
+-- Each of the rows passes the check, as `RowPassesCheck` says.
 abbrev pub RowsPassCheck : (check : List ℕ → Bool) → List TableRow → Type 0
 RowsPassCheck check [] = Unit {0}
 RowsPassCheck check (s ∷ rest) = RowPassesCheck check s × RowsPassCheck check rest

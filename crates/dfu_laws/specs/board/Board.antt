@@ -12,7 +12,7 @@ use Rattle.dfu_asks.specs.Lent.{LentDevice, lent}
 use Rattle.dfu_asks.specs.Mapped.{mapped_medium}
 use Rattle.dfu_asks.specs.Asks.{grain_in, device_in}
 
--- A board: what is kept of the device, the bytes in its two memories, and those of its flash.
+-- A board: the record of its device, the bytes in the device's two memories, and those of its flash.
 pub record Board : Type 0 where
   pub asking : Asking
   pub block : List ℕ
@@ -57,7 +57,7 @@ pub data BoardReply : Type 0 where
   WritesDue : BoardReply
   Answers : (a : Answer) (out : List ℕ) → BoardReply
 
--- A step of a board.
+-- A step of a board: the boards before and after it, the event, and the reply.
 pub record BoardStep : Type 0 where
   pub before : Board
   pub event : Event

@@ -1,4 +1,4 @@
--- Results of a step of a board: what the clauses of a call say, and what may become of its flash.
+-- Results of a step of a board: the clauses of its call, and the changes that its flash may have.
 use Rattle.std.specs.Prelude.{◌≡◌, ℕ, Bool, true, false, List, [], ◌∷◌, length, take, Some, None}
 use Rattle.dfu_slots.specs.Medium.{Torn}
 use Rattle.dfu_slots.specs.StoreView.{SlotsState}
@@ -6,12 +6,12 @@ use Rattle.dfu_device.specs.declared.answer.Answer.{Answer}
 use Rattle.dfu_device.specs.declared.answer.Answer.TheVariants as answer
 use Rattle.dfu_device.specs.Stage.{Stage, InAppIdle, InDfuIdle}
 use Rattle.dfu_device.specs.Table.{reset_stage}
-use Rattle.dfu_device.specs.DeviceView.{powered_on}
+use Rattle.dfu_device.specs.DeviceView.{powered_on_device}
 use Rattle.dfu_device.specs.Rows.{Cause, Transfer, Passing, RefusingClose, Refusing, Row}
 use Rattle.dfu_asks.specs.declared.reply.Reply.{Reply}
 use Rattle.dfu_asks.specs.declared.reply.Reply.TheVariants as reply
 use Rattle.dfu_asks.specs.declared.pending_writes.PendingWrites.{PendingWrites}
-use Rattle.dfu_asks.specs.Lent.{SameSetup}
+use Rattle.dfu_asks.specs.Lent.{SameConfig}
 use Rattle.dfu_asks.specs.Steps.{Step}
 use Rattle.dfu_asks.specs.Carried.{IsStepPiece}
 use Rattle.dfu_asks.specs.Asks.{device_of, IsDevice, steps_in}
@@ -27,22 +27,34 @@ reply_of_call (reply.Answered a count) out = Answers a (take count out)
 -- A call of `handle` or `elapse` that is not refused, by the clauses `served` and `outcome`: the row of its cause answers the call, or the
 -- writes of that row are due.
 pub record IsServedBy (b : Board) (cause : Cause) (says : BoardReply) (b' : Board) : Type 0 where
+  -- No writes were due before the call.
   pub idle : b.asking.work ≡ None
+  -- The memory has room for a block.
   pub fits : RoomForBlocks b.asking (length b.block)
+  -- The flash stays.
   pub flash : b'.flash ≡ b.flash
+  -- Reply of the call.
   pub reply : Reply
+  -- If the board is a device, the reply is that of the row, or writes of the row are due.
   pub outcome : IsDeviceOn b.asking b.block b.held b.flash → (out out' : List ℕ)
       × DeviceCalled (lent_on b) b.flash out (λ d x sent d'. Row d cause x sent d') (lent_on b') out' reply
       × (says ≡ reply_of_call reply out')
 
 -- A call of `usb_reset` that is not refused, by its clauses `served`, `row`, `is` and `work`.
 pub record ResetServed (b : Board) (says : BoardReply) (b' : Board) : Type 0 where
+  -- No writes were due before the call.
   pub idle : b.asking.work ≡ None
+  -- The memory has room for a block.
   pub fits : RoomForBlocks b.asking (length b.block)
+  -- The flash stays.
   pub flash : b'.flash ≡ b.flash
+  -- The device changes its stage as at a reset, and nothing else.
   pub row : device_on b' ≡ record (device_on b) { stage = reset_stage (device_on b).stage }
+  -- If the board is a device, it still is.
   pub is : IsDeviceOn b.asking b.block b.held b.flash → IsDeviceOn b'.asking b'.block b'.held b'.flash
+  -- No writes are due after the call.
   pub work : b'.asking.work ≡ None
+  -- The call is acknowledged.
   pub says_is : says ≡ Answers answer.Ack []
 
 -- A call of `refuse_close` or `refuse` that is not refused, by its clauses: the row of its cause, with this answer.
@@ -69,39 +81,51 @@ pub record FlashIsWritten (b : Board) (b' : Board) : Type 0 where
 
 -- A call of `took` that is not refused, by its clauses `taken` and `outcome`.
 pub record TookResult (b : Board) (failed : Bool) (says : BoardReply) (b' : Board) : Type 0 where
+  -- Work whose writes are due.
   pub work : PendingWrites
+  -- Some of these writes are left.
   pub left : HasRemainingWrites (lent_on b) work
+  -- The flash stays.
   pub flash : b'.flash ≡ b.flash
+  -- Reply of the call.
   pub reply : Reply
+  -- Bytes in the buffer before the call.
   pub out : List ℕ
+  -- Bytes in the buffer after the call.
   pub out' : List ℕ
+  -- If the board carries out these writes, the device takes the report on their piece.
   pub outcome : (len : ℕ) (s : SlotsState) (was before : List ℕ) (asks : WritesPending (lent_on b) len s was before) (p : Step)
       → IsStepPiece (steps_in (lent_on b) asks.work) asks.work.done p → Torn before p.write.at p.write.bytes b.flash
       → DevicePieceReported (device_of (lent_on b) s) len s was p.write failed b.flash out (lent_on b') out' reply
+  -- The board gives the reply of the call.
   pub says_is : says ≡ reply_of_call reply out'
 
--- The mode of a device at power on: dfuIDLE if it begins for a host, else appIDLE.
+-- Stage in which a device starts: dfuIDLE if it begins for a host, else appIDLE.
 abbrev pub start_stage : Bool → Stage
 start_stage true = InDfuIdle
 start_stage false = InAppIdle
 
--- A board just got power, by the clauses `device`, `is` and `work` of `power_on`; if it begins for a host, it was put into dfuIDLE.
+-- A board was just powered on, by the clauses `device`, `is` and `work` of `power_on`; if it begins for a host, it was put into dfuIDLE.
 pub record IsPoweredOn (b : Board) : Type 0 where
+  -- True if the board begins for a host.
   pub begins : Bool
-  pub device : device_on b ≡ record (powered_on b.asking.config (medium_on b)) { stage = start_stage begins }
+  -- The device is one just powered on, in the stage in which it starts.
+  pub device : device_on b ≡ record (powered_on_device b.asking.config (medium_on b)) { stage = start_stage begins }
+  -- The board is a device.
   pub is : IsDevice (lent_on b) b.flash
+  -- No writes are due.
   pub work : b.asking.work ≡ None
 
--- A board just got power, and begins for a host or not.
+-- A board was just powered on, and begins for a host or not.
 abbrev pub BoardStarts : Bool → Board → Type 0
 BoardStarts begins b = (on : IsPoweredOn b) × (on.begins ≡ begins)
 
--- A call is refused, which says nothing and changes nothing; or else P holds.
+-- A call is refused, with no reply and no change; otherwise P holds.
 abbrev pub IsRefusedOr : BoardReply → Board → Board → Type 0 → Type 0
 IsRefusedOr Nothing b b' P = b' ≡ b
 IsRefusedOr says b b' P = P
 
--- Result of an event. If the power goes, the flash stays as it is.
+-- Outcome of an event: its call is refused or served, the flash is written, or the board was just powered on, with the flash as it was.
 abbrev pub EventOutcome : Board → Event → BoardReply → Board → Type 0
 EventOutcome b (Handle setup body) says b' = IsRefusedOr says b b' (IsServedBy b (Transfer setup body) says b')
 EventOutcome b (Elapse ms) says b' = IsRefusedOr says b b' (IsServedBy b (Passing ms) says b')
@@ -112,7 +136,7 @@ EventOutcome b Write says b' = (says ≡ Nothing) × FlashIsWritten b b'
 EventOutcome b (Took failed) says b' = IsRefusedOr says b b' (TookResult b failed says b')
 EventOutcome b (Restart begins) says b' = (says ≡ Nothing) × (b'.flash ≡ b.flash) × ((on : IsPoweredOn b') × (on.begins ≡ begins))
 
--- The steps come to a board. Each begins where the one before ended, and leaves the setup of the board as it was.
+-- The steps of a board, one after the other. Each begins where the one before ended, and leaves the setup of the board as it was.
 abbrev pub IsRun : Board → List BoardStep → Board → Type 0
 IsRun b [] b' = b' ≡ b
-IsRun b (s ∷ rest) b' = (s.before ≡ b) × EventOutcome b s.event s.says s.after × SameSetup b.asking s.after.asking × IsRun s.after rest b'
+IsRun b (s ∷ rest) b' = (s.before ≡ b) × EventOutcome b s.event s.says s.after × SameConfig b.asking s.after.asking × IsRun s.after rest b'

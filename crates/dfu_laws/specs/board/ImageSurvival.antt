@@ -22,24 +22,37 @@ accepted_bytes_of taken (s ∷ rest) = accepted_bytes_of (accepted_in_state (sta
 
 -- A step acknowledged a DNLOAD of length 0, which closes a download.
 pub record IsAcknowledgedClose (s : BoardStep) : Type 0 where
+  -- Setup of the DNLOAD.
   pub setup : List ℕ
+  -- The event is a call with this setup and no bytes.
   pub event : s.event ≡ Handle setup []
+  -- The setup is one of a DNLOAD.
   pub dnload : is_dnload setup ≡ true
+  -- The call is acknowledged.
   pub says : s.says ≡ Answers answer.Ack []
 
 -- After the old steps, one of the steps closed a download, and the image is all bytes of that download.
 pub record DownloadOfImageClosed (old steps : List BoardStep) (image : List ℕ) : Type 0 where
+  -- Steps before the close.
   pub first : List BoardStep
+  -- Step that closes the download.
   pub close : BoardStep
+  -- Steps after the close.
   pub rest : List BoardStep
+  -- The steps are these three parts.
   pub steps_are : steps ≡ first ++ close ∷ rest
+  -- The step is a close.
   pub is : IsAcknowledgedClose close
+  -- The image is all bytes that were taken before the close.
   pub image_is : image ≡ accepted_bytes_of [] (old ++ first)
 
 -- The active image of a board's flash is the one given, or all bytes of a download that one of the steps closed.
 pub record ImageKeptOrClosed (image : List ℕ) (old steps : List BoardStep) (b : Board) : Type 0 where
+  -- Active image of the board.
   pub now : List ℕ
+  -- The image is active.
   pub active : Active (medium_on b) now
+  -- The image is the one given, or one that a closed download gave.
   pub whence : (now ≡ image) ⊎ DownloadOfImageClosed old steps now
 
 -- After any steps of a board from power on, its active image is the one at power on, or all bytes of a download closed since.
@@ -47,7 +60,7 @@ abbrev pub RunsKeepImage : Type 0
 RunsKeepImage = (b b' : Board) (steps : List BoardStep) (image : List ℕ) → IsPoweredOn b → Active (medium_on b) image → IsRun b steps b'
     → ImageKeptOrClosed image [] steps b'
 
--- States in which an image may wait to be put in place.
+-- The state is one in which an image may wait to be put in place.
 abbrev pub is_manifesting : State → Bool
 is_manifesting ManifestSync = true
 is_manifesting Manifest = true
@@ -59,7 +72,7 @@ abbrev pub ImageStaysInRun : Type 0
 ImageStaysInRun = (b mid b' : Board) (old steps : List BoardStep) (image : List ℕ) → IsPoweredOn b → IsRun b old mid
     → is_manifesting (state_on mid) ≡ false → Active (medium_on mid) image → IsRun mid steps b' → ImageKeptOrClosed image old steps b'
 
--- States in which manifestation is over without a fault.
+-- The state is one in which manifestation is over without a fault.
 abbrev pub has_manifested : State → Bool
 has_manifested DfuIdle = true
 has_manifested ManifestWaitReset = true

@@ -15,11 +15,17 @@ IsInSlot m image = (at : ℕ) × (other : ℕ) × ArePlaces m.bytes at other × 
 
 -- After some first part of the steps, which may be empty or all of them, the image was active.
 pub record WasActiveMeanwhile (b : Board) (steps : List BoardStep) (image : List ℕ) : Type 0 where
+  -- First steps.
   pub front : List BoardStep
+  -- Steps after them.
   pub rest : List BoardStep
+  -- Board after the first steps.
   pub mid : Board
+  -- The steps are these two parts.
   pub steps_are : front ++ rest ≡ steps
+  -- The first steps lead to this board.
   pub run : IsRun b front mid
+  -- The image is active on it.
   pub active : Active (medium_on mid) image
 
 -- From a board with no writes due to a later one, each image in a slot was in a slot before, or was active meanwhile.

@@ -7,7 +7,7 @@ use Rattle.dfu_asks.specs.declared.reply.Reply.{Reply}
 use Rattle.dfu_laws.specs.board.Board.{Board, BoardReply, Nothing, Answers}
 use Rattle.dfu_laws.specs.board.Happens.{reply_of_call}
 
--- The board of its parts.
+-- The board with this record, these bytes in its memories, and this flash.
 abbrev pub board_of_parts : Asking → (block held flash : List ℕ) → Board
 board_of_parts a block held flash = record { asking = a; block = block; held = held; flash = flash }
 
@@ -16,12 +16,12 @@ abbrev pub reply_of_result : Result Reply Refusal → List ℕ → BoardReply
 reply_of_result (Ok r) out = reply_of_call r out
 reply_of_result (Err e) out = Nothing
 
--- Reply for the result of `usb_reset`.
+-- Reply for the result of `usb_reset` or `refuse`: an acknowledgement, or none if the call is refused.
 abbrev pub reply_of_reset : Result (Unit {0}) Refusal → BoardReply
 reply_of_reset (Ok x) = Answers answer.Ack []
 reply_of_reset (Err e) = Nothing
 
--- Reply for the result of `refuse_close`: a stall if the setup closes a download.
+-- Reply for the result of `refuse_close`: a stall if the setup closes a download, else none.
 abbrev pub reply_of_close : Result Bool Refusal → BoardReply
 reply_of_close (Ok true) = Answers answer.Stall []
 reply_of_close r = Nothing

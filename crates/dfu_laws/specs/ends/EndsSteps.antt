@@ -12,8 +12,8 @@ use Rattle.dfu_laws.specs.link.Marks.{IsMarkedBoard}
 use Rattle.dfu_laws.specs.ends.Sessions.{CoreSession, InSession, WantsAction, IsInEnterPhase, sent_body, HostTakeOk, SeenOfReply, SessionSettles, RestartReported, CoreCallMayBeUnderWay}
 
 -- The next event, with the steps of the board, and the report after it. The program does what dfu_host_next says: send a request (0), wait
--- (1) or reset the bus (2). Then the program tells dfu_host_take the result: what is sent back; 4, that the wait is over; or 5, that the
--- bus was reset.
+-- (1) or reset the bus (2). Then the program passes the result to dfu_host_take: the reply that is sent back; 4 for a wait that is over; or
+-- 5 for a bus that was reset.
 pub data EndsStep (s : CoreSession) (b : Board) : List BoardStep → Answered → CoreSession → Board → Type 0 where
   -- Time passes at the board.
   time_passes : {ms : ℕ} {steps : List BoardStep} {a : Answer} {out : List ℕ} {b' : Board} → CallServed b (Elapse ms) steps a out b'
@@ -52,16 +52,16 @@ pub data EndsStep (s : CoreSession) (b : Board) : List BoardStep → Answered �
   -- The power of the board goes and comes back while a call is under way.
   board_restarts : {call : Event} {steps : List BoardStep} {b' : Board} {said : Answered} {s' : CoreSession} → CoreCallMayBeUnderWay s call
       → CallCutOff call b steps b' → RestartReported s said s' → EndsStep s b steps said s' b'
-  -- An application leaves after DETACH, for its bootloader or not: the board restarts. The session, which resets or waits next, learns
-  -- nothing of it.
+  -- An application leaves after DETACH, for its bootloader or not: the board restarts. The session, which resets or waits next, is not told
+  -- of it.
   leaves_app : {payload : List ℕ} {x : CoreHost} {power : BoardStep} {begins : Bool} {b' : Board} → s ≡ InSession payload x
       → IsInEnterPhase payload x → IsRun b (power ∷ []) b' → power.event ≡ Restart begins → EndsStep s b (power ∷ []) silent s b'
-  -- The session resets the bus, and that makes the board restart: in appIDLE, or into a bootloader as an application leaves. The session
-  -- learns of its reset alone.
+  -- The session resets the bus, and that makes the board restart: in appIDLE, or into a bootloader as an application leaves. The session is
+  -- told only of its reset.
   board_makes_way : {payload bytes : List ℕ} {x x' : CoreHost} {a : DfuAction} {power : BoardStep} {begins : Bool} {b' : Board}
       {said : Answered} {s' : CoreSession} → s ≡ InSession payload x → WantsAction payload x a → a.what ≡ 2
       → (begins ≡ false) ⊎ IsInEnterPhase payload x → IsRun b (power ∷ []) b' → power.event ≡ Restart begins
       → HostTakeOk payload x 5 bytes x'
       → SessionSettles payload x' said s' → EndsStep s b (power ∷ []) said s' b'
-  -- A mark of a trial is set, or torn, or fails. The session learns nothing of it.
+  -- A mark of a trial is set, or torn, or fails. The session is not told of it.
   mark_is_set : {b' : Board} → IsMarkedBoard b b' → EndsStep s b [] silent s b'

@@ -1,4 +1,4 @@
--- Sessions between a host in C and a board in C, and what a report of dfu_host_next says of the board.
+-- Sessions between a host in C and a board in C, and the meaning of a report of dfu_host_next for the board.
 use Rattle.std.specs.Prelude.{◌≡◌, ◌<◌, ℕ, pos, Bool, List, [], ◌∷◌, ◌++◌, length, Option, Some, None}
 use Rattle.dfu_wire.specs.declared.states.State.{State}
 use Rattle.dfu_slots.specs.Image.{Active}
@@ -29,8 +29,8 @@ use Rattle.dfu_laws.specs.ends.EndsSteps.{EndsStep}
 abbrev pub initial_session : (payload : List ℕ) → DfuSession → (buffer : List ℕ) → CoreSession
 initial_session payload r buffer = InSession payload (record { kept = r; buffer = buffer })
 
--- Sessions in C with a board, one after the other, and all that comes to it meanwhile: the steps of the board so far; the payloads offered
--- so far; the images that were active as a trial ended; and the payload with which the last session began, or none.
+-- Sessions in C with a board, one after the other, and all other events meanwhile: the steps of the board so far; the payloads offered so
+-- far; the images that were active as a trial ended; and the payload with which the last session began, or none.
 pub data EndsPlay (b : Board) : List BoardStep → List (List ℕ) → List (List ℕ) → Option (List ℕ) → CoreSession → Board → Type 0 where
   -- No session has begun.
   no_session_yet : EndsPlay b [] [] [] None NoSession b
@@ -39,7 +39,7 @@ pub data EndsPlay (b : Board) : List BoardStep → List (List ℕ) → List (Lis
       (payload buffer : List ℕ) (limits : Limits) (r : DfuSession) → EndsPlay b steps past back last NoSession now → 0 < length payload
       → IsInitialRecord r (host_for_goal now.asking.config.functional (goal_of_purpose purpose payload) limits)
       → EndsPlay b steps (payload ∷ past) back (Some payload) (initial_session payload r buffer) now
-  -- dfu_host_upload begins a session. The bytes that are handed in as its payload are never read.
+  -- dfu_host_upload begins a session. The bytes that are passed as its payload are never read.
   upload_begins : {steps : List BoardStep} {past back : List (List ℕ)} {last : Option (List ℕ)} {now : Board} (unused buffer : List ℕ)
       (limits : Limits) (r : DfuSession) → EndsPlay b steps past back last NoSession now
       → IsInitialRecord r (host_for_goal now.asking.config.functional FetchGoal limits)
@@ -52,49 +52,70 @@ pub data EndsPlay (b : Board) : List BoardStep → List (List ℕ) → List (Lis
   and_then : {steps more : List BoardStep} {past back : List (List ℕ)} {last : Option (List ℕ)} {s s' : CoreSession} {now b' : Board}
       {answer : Answered} → EndsPlay b steps past back last s now → EndsStep s now more answer s' b'
       → EndsPlay b (steps ++ more) past back last s' b'
-  -- A trial ends, and the image is active afterwards. The session learns nothing of it.
+  -- A trial ends, and the image is active afterwards. The session is not told of it.
   trial_is_over : {steps : List BoardStep} {past back : List (List ℕ)} {last : Option (List ℕ)} {s : CoreSession} {now b' : Board}
       {begins : Bool} (image : List ℕ) → EndsPlay b steps past back last s now → CoreTrialMayEnd s (state_on now) begins
       → TrialEnd now begins b'
       → Active (medium_on b') image → EndsPlay b steps past (image ∷ back) last s b'
-  -- In two areas, operations of the copy come after a restart. The session learns nothing of it.
+  -- In two areas, operations of the copy come after a restart. The session is not told of it.
   operations_come : {steps : List BoardStep} {past back : List (List ℕ)} {last : Option (List ℕ)} {s : CoreSession} {now b' : Board}
       → EndsPlay b steps past back last s now → HomeCopy now b' → EndsPlay b steps past back last s b'
 
 -- A board in C, and the session in C that is live.
 pub record CoreEndsLink : Type 0 where
+  -- Board in C.
   pub board : CoreBoard
+  -- Live session in C.
   pub session : CoreSession
 
 -- Sessions in C with a board in C: the steps of the board are runs, between marks and ends of trials, and each step is the step of a board
 -- that plays these sessions.
 pub record CoreEndsPlay (b : CoreBoard) (steps : List CoreStep) (past back : List (List ℕ)) (last : Option (List ℕ)) (l : CoreEndsLink)
     : Type 0 where
+  -- The steps in C are runs.
   pub run : IsCoreRunWithMarks b steps l.board
+  -- Board that plays the sessions, at first.
   pub first : Board
+  -- The first board in C represents it.
   pub is_first : IsBoardOfCore b first
+  -- Steps of that board.
   pub calls : List BoardStep
+  -- The steps in C are these steps.
   pub are : AreBoardStepsOf steps calls
+  -- Board after these steps.
   pub now : Board
+  -- The board in C represents it now.
   pub is_now : IsBoardOfCore l.board now
+  -- The board plays the sessions.
   pub plays : EndsPlay first calls past back last l.session now
 
 -- The next event, as calls in C.
 pub record CoreEndsStep (l : CoreEndsLink) (steps : List CoreStep) (answer : Answered) (l' : CoreEndsLink) : Type 0 where
+  -- The steps in C are runs.
   pub run : IsCoreRunWithMarks l.board steps l'.board
+  -- Board before the event.
   pub before : Board
+  -- The board in C represents it.
   pub is_before : IsBoardOfCore l.board before
+  -- Steps of that board.
   pub calls : List BoardStep
+  -- The steps in C are these steps.
   pub are : AreBoardStepsOf steps calls
+  -- Board after the event.
   pub after : Board
+  -- The board in C represents it then.
   pub is_after : IsBoardOfCore l'.board after
+  -- The event happens to the board and the session.
   pub comes : EndsStep l.session before calls answer l'.session after
 
 -- The sessions are those of a board in C with a host; the live session in C is the live session of that host.
 pub record AreHostSessions (b : CoreBoard) (steps : List CoreStep) (past back : List (List ℕ)) (last : Option (List ℕ)) (l : CoreEndsLink)
     : Type 0 where
+  -- Live session of the host.
   pub session : Session
+  -- The session in C is this session.
   pub is : IsSessionOf l.session session
+  -- The board in C plays sessions with the host.
   pub plays : CorePlays b steps past back last (record { board = l.board; session = session })
 
 -- All sessions between both ends in C are sessions with a host.
@@ -133,36 +154,44 @@ EndsActiveImageKnownWithin = (b mid : CoreBoard) (steps front rest : List CoreSt
     (answer : Answered) (image : List ℕ) → IsCorePoweredOn b → Active (medium_of_core b) image → CoreEndsPlay b steps past back last l
     → CoreEndsStep l (front ++ rest) answer l' → IsCoreRun l.board front mid → HasKnownCoreImage (medium_of_core b) image past back mid
 
--- Sessions between both ends begin on a board in C that just got power, and go on: if no session is live a payload is offered or an upload
--- begins; the live session is given up; the next event comes; a mark of a trial is set; a trial ends; or operations of the copy of two
--- areas come.
+-- Sessions between both ends begin on a board in C that was just powered on, and go on: if no session is live a payload is offered or an
+-- upload begins; the live session is given up; the next event comes; a mark of a trial is set; a trial ends; or operations of the copy of
+-- two areas come.
 pub record EndsContinue : Type 0 where
+  -- No session has begun on a board in C that was just powered on.
   pub starts : (b : CoreBoard) → IsCorePoweredOn b → CoreEndsPlay b [] [] [] None (record { board = b; session = NoSession })
+  -- A payload is offered if no session is live.
   pub offers : (b : CoreBoard) (steps : List CoreStep) (past back : List (List ℕ)) (last : Option (List ℕ)) (on : CoreBoard)
       (purpose : Purpose) (payload buffer : List ℕ) (limits : Limits) (r : DfuSession)
       → CoreEndsPlay b steps past back last (record { board = on; session = NoSession }) → 0 < length payload
       → IsInitialRecord r (host_for_goal (config_setting on.config).functional (goal_of_purpose purpose payload) limits)
       → CoreEndsPlay b steps (payload ∷ past) back (Some payload) (record { board = on; session = initial_session payload r buffer })
+  -- An upload begins if no session is live.
   pub uploads : (b : CoreBoard) (steps : List CoreStep) (past back : List (List ℕ)) (last : Option (List ℕ)) (on : CoreBoard)
       (unused buffer : List ℕ) (limits : Limits) (r : DfuSession)
       → CoreEndsPlay b steps past back last (record { board = on; session = NoSession })
       → IsInitialRecord r (host_for_goal (config_setting on.config).functional FetchGoal limits)
       → CoreEndsPlay b steps past back None (record { board = on; session = initial_session unused r buffer })
+  -- The live session is given up.
   pub aborts : (b : CoreBoard) (steps : List CoreStep) (past back : List (List ℕ)) (last : Option (List ℕ)) (on : CoreBoard)
       (payload : List ℕ) (x x' : CoreHost) → CoreEndsPlay b steps past back last (record { board = on; session = InSession payload x })
       → HostCallResult payload x CoreAbortCall (pos 0) x'
       → CoreEndsPlay b steps past back last (record { board = on; session = InSession payload x' })
+  -- The next event comes.
   pub goes_on : (b : CoreBoard) (steps more : List CoreStep) (past back : List (List ℕ)) (last : Option (List ℕ)) (l l' : CoreEndsLink)
       (answer : Answered) → CoreEndsPlay b steps past back last l → CoreEndsStep l more answer l'
       → CoreEndsPlay b (steps ++ more) past back last l'
+  -- A mark of a trial is set.
   pub marks : (b b' on : CoreBoard) (steps : List CoreStep) (past back : List (List ℕ)) (last : Option (List ℕ)) (s : CoreSession)
       → CoreEndsPlay b steps past back last (record { board = on; session = s }) → IsMarkedCoreBoard on b'
       → CoreEndsPlay b steps past back last (record { board = b'; session = s })
+  -- A trial ends, if it may.
   pub ends : (b b' on : CoreBoard) (steps : List CoreStep) (past back : List (List ℕ)) (last : Option (List ℕ)) (s : CoreSession)
       (state : State)
       (begins : Bool) (image : List ℕ) → CoreEndsPlay b steps past back last (record { board = on; session = s }) → HasBoardState on state
       → CoreTrialMayEnd s state begins → CoreTrialEnd on begins b' → Active (medium_of_core b') image
       → CoreEndsPlay b steps past (image ∷ back) last (record { board = b'; session = s })
+  -- Operations of the copy come.
   pub copies : (b b' on : CoreBoard) (steps : List CoreStep) (past back : List (List ℕ)) (last : Option (List ℕ)) (s : CoreSession)
       → CoreEndsPlay b steps past back last (record { board = on; session = s }) → CoreHomeCopy on b'
       → CoreEndsPlay b steps past back last (record { board = b'; session = s })

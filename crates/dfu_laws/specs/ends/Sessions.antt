@@ -1,4 +1,4 @@
--- A session that a program in C runs: what the calls on its record return, and how they change the record.
+-- A session that a program in C runs: the results of the calls on its record, and their changes to the record.
 use Rattle.std.specs.Prelude.{◌≡◌, ◌≢◌, ◌⊎◌, ℕ, pos, Bool, List, take, drop, Option, Some, None}
 use Rattle.std.specs.Borrow.{Bor}
 use Rattle.dfu_wire.specs.declared.states.State.{State}
@@ -18,7 +18,9 @@ use Rattle.dfu_laws.specs.board.Board.{Event, Elapse, Handle, BoardReply, Answer
 
 -- The session in C that is live: none, or a record with its buffer, over a payload.
 pub data CoreSession : Type 0 where
+  -- No session is live.
   NoSession : CoreSession
+  -- The session of this record is live, over this payload.
   InSession : (payload : List ℕ) (x : CoreHost) → CoreSession
 
 -- The session in C is the session of a host.
@@ -27,7 +29,7 @@ IsSessionOf NoSession NoLiveSession = Unit {0}
 IsSessionOf (InSession payload x) (HostSession h) = CoreHostMatches payload x h
 IsSessionOf s session = ⊥
 
--- dfu_host_next returns 0 and the action, wherever the payload is in memory.
+-- dfu_host_next returns 0 and the action, with the payload at some place in memory.
 abbrev pub WantsAction : (payload : List ℕ) → CoreHost → DfuAction → Type 0
 WantsAction payload x a = (slice : Bor (List ℕ)) × (slice.now ≡ payload) × IsNextAction x.kept slice a
 
@@ -39,12 +41,12 @@ IsInEnterPhase payload x = (h : HostState) → CoreHostMatches payload x h → h
 abbrev pub sent_body : (payload : List ℕ) → DfuAction → List ℕ
 sent_body payload a = take a.length (drop a.from payload)
 
--- dfu_host_take returns 0 for the number of what was seen, and its bytes.
+-- dfu_host_take returns 0 for the number of a result, and its bytes.
 abbrev pub HostTakeOk : (payload : List ℕ) → CoreHost → (seen : ℕ) → (bytes : List ℕ) → CoreHost → Type 0
 HostTakeOk payload x seen bytes x' = HostCallResult payload x (CoreTakeCall seen bytes) (pos 0) x'
 
--- The number and bytes that tell a session what is sent back: 0 for an acknowledgement, 1 for an answer with its bytes, 2 for a stall. The
--- number 3 says that nothing came back, which may be told of any reply because it may be lost.
+-- The number and bytes by which a session is told the reply that is sent back: 0 for an acknowledgement, 1 for an answer with its bytes, 2
+-- for a stall. The number 3 says that nothing came back; it may follow any reply, because a reply may be lost.
 abbrev pub SeenOfReply : BoardReply → (seen : ℕ) → (bytes : List ℕ) → Type 0
 SeenOfReply (Answers answer.Ack out) seen bytes = (seen ≡ 0) ⊎ (seen ≡ 3)
 SeenOfReply (Answers answer.Bytes out) seen bytes = ((seen ≡ 1) × (bytes ≡ out)) ⊎ (seen ≡ 3)
@@ -58,17 +60,21 @@ bytes_of_report report bytes = None
 
 -- After a session was told a result, dfu_host_next says that the session goes on, or that it is over, with its report.
 pub data SessionSettles (payload : List ℕ) (x : CoreHost) : Answered → CoreSession → Type 0 where
+  -- The action is no end, and the session goes on.
   stays_live : (a : DfuAction) → WantsAction payload x a → a.what ≢ 3 → SessionSettles payload x silent (InSession payload x)
+  -- The action is the end (3), and has a report.
   is_over : (a : DfuAction) (report : Report) → WantsAction payload x a → a.what ≡ 3 → report_at a.value a.code ≡ Some report
       → SessionSettles payload x (record { report = Some report; gave = bytes_of_report report (take x.kept.kept x.buffer) }) NoSession
 
 -- A live session is told that the device was restarted, by the number 6.
 pub data RestartReported : CoreSession → Answered → CoreSession → Type 0 where
+  -- No session is live, and none is told.
   no_session_hears_restart : RestartReported NoSession silent NoSession
+  -- The live session takes the number 6.
   session_hears_restart : {payload bytes : List ℕ} {x x' : CoreHost} {said : Answered} {s' : CoreSession} → HostTakeOk payload x 6 bytes x'
       → SessionSettles payload x' said s' → RestartReported (InSession payload x) said s'
 
--- A call of a board may be under way as the bus is reset or the power goes: the call by which the program tells of time that passed, or the
+-- A call of a board may be under way as the bus is reset or the power fails: the call by which the program reports time that passed, or the
 -- session's request.
 abbrev pub CoreCallMayBeUnderWay : CoreSession → Event → Type 0
 CoreCallMayBeUnderWay s (Elapse ms) = Unit {0}
@@ -77,7 +83,7 @@ CoreCallMayBeUnderWay (InSession payload x) (Handle setup body) = (a : DfuAction
     × (body ≡ sent_body payload a)
 CoreCallMayBeUnderWay s call = ⊥
 
--- A trial may end if it may end with the host that the session is.
+-- A trial may end with a session in C if it may end with the host of that session.
 abbrev pub CoreTrialMayEnd : CoreSession → State → (begins : Bool) → Type 0
 CoreTrialMayEnd NoSession state begins = Unit {0}
 CoreTrialMayEnd (InSession payload x) state begins = (h : HostState) → CoreHostMatches payload x h → TrialMayEnd (HostSession h) state begins

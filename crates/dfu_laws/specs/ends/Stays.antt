@@ -2,7 +2,7 @@
 use Rattle.std.specs.Prelude.{ℕ, List, Option}
 use Rattle.dfu_boot.specs.trial.Marks.{AreTries}
 use Rattle.dfu_boot.specs.trial.Calls.{IsStanding}
-use Rattle.dfu_boot.specs.trial.Lists.{TrialStep, TrialCourse}
+use Rattle.dfu_boot.specs.trial.Lists.{TrialStep, IsTrialTrace}
 use Rattle.dfu_boot.specs.declared.trial.standing.Trial.{Trial}
 use Rattle.dfu_boot.specs.declared.trial.standing.Standing.TheVariants.{OnTrial}
 use Rattle.dfu_sim.specs.Play.{Answered}
@@ -20,5 +20,5 @@ EndsReportedTrialStays = (b : CoreBoard) (steps more : List CoreStep) (past back
     CoreEndsLink)
     (answer : Answered) (tries : ℕ) (t : Trial) (list : List TrialStep) → IsCorePoweredOn b → CoreEndsPlay b steps past back last l
     → CoreEndsStep l more answer l' → IsInPlaceReport answer.report → AreTries (medium_of_core l'.board).grain tries
-    → IsStanding (medium_of_core l'.board) tries (OnTrial t) → TrialCourse tries (medium_of_core l'.board) list
+    → IsStanding (medium_of_core l'.board) tries (OnTrial t) → IsTrialTrace tries (medium_of_core l'.board) list
     → PayloadRunsOnTrial tries last (medium_of_core l'.board) t list

@@ -9,7 +9,7 @@ use Rattle.dfu_core.specs.Happens.{IsCorePoweredOn}
 use Rattle.dfu_laws.specs.board.Counts.{operation_bound}
 use Rattle.dfu_laws.specs.in_c.Steps.{CoreStep, IsCoreRun}
 
--- A number answers no call if it is negative and is not DFU_STALL.
+-- The number answers no call: it is negative, and is not DFU_STALL.
 abbrev pub IsUnansweredNumber : ℤ → Type 0
 IsUnansweredNumber n = ((k : ℕ) → n ≢ pos k) × (n ≢ STALL_NUMBER)
 
@@ -19,11 +19,12 @@ IsCoreUnanswered (CoreRestart begins) n = ⊥
 IsCoreUnanswered CoreWrite n = Unit {0}
 IsCoreUnanswered e n = IsUnansweredNumber n
 
+-- No step answers a call, and the power stays.
 abbrev pub AreCoreUnanswered : List CoreStep → Type 0
 AreCoreUnanswered [] = Unit {0}
 AreCoreUnanswered (s ∷ rest) = IsCoreUnanswered s.event s.number × AreCoreUnanswered rest
 
--- 1 for DFU_WRITE_PENDING, and 0 for any other number.
+-- Number of operations of a returned number: 1 for DFU_WRITE_PENDING, and 0 for any other number.
 abbrev pub operations_of_number : ℤ → ℕ
 operations_of_number (pos k) = 0
 operations_of_number (negsuc k) = if k == 10 then 1 else 0

@@ -8,23 +8,29 @@ use Rattle.dfu_core.specs.declared.records.DfuAsk.{DfuAsk}
 use Rattle.dfu_core.specs.declared.config.DfuConfig.{DfuConfig}
 use Rattle.dfu_core.specs.declared.record.DfuRecord.{DfuRecord}
 use Rattle.dfu_core.specs.Config.{config_grain}
-use Rattle.dfu_core.specs.Formats.{FormatStarted, FormatStartRefused, FormatWriteHandedOut, FormatPieceReport}
+use Rattle.dfu_core.specs.Formats.{FormatStarted, FormatStartRefused, FormatWriteHandedOut, FormatReportOutcome}
 use Rattle.dfu_core.specs.Numbers.{WRITE_PENDING_NUMBER, format_number}
 use Rattle.dfu_core.specs.Power.{RefusesPower}
 use Rattle.dfu_core.specs.Writes.{ask_step}
 
 -- A piece of a format: dfu_core_format_next hands out a write, the range of the write gets any bytes, and dfu_core_format_took returns n on
--- the new flash. Any bytes stand for a write that is carried out whole or in part, fails, lies, or is tried several times.
+-- the new flash. The bytes are arbitrary, because the write may be carried out whole or in part, fail, lie, or be tried several times.
 pub record FormatPieceResult (c : DfuConfig) (image flash : List ℕ) (r : DfuRecord) (flash' : List ℕ) (n : ℤ) (r' : DfuRecord) : Type 0 where
+  -- Write that is handed out.
   pub ask : DfuAsk
+  -- dfu_core_format_next hands it out.
   pub handed : FormatWriteHandedOut c r flash image (pos 0) ask
+  -- The range of the write gets any bytes.
   pub torn : Torn flash (ask_step ask).write.at (ask_step ask).write.bytes flash'
+  -- True if the program reports a failure.
   pub failed : Bool
-  pub goes : FormatPieceReport c r flash' image failed n r'
+  -- dfu_core_format_took returns `n`.
+  pub goes : FormatReportOutcome c r flash' image failed n r'
 
 -- A format of the image is under way, and has left the flash and the record as they are.
 pub data IsBeingFormatted (c : DfuConfig) (image : List ℕ) : (flash : List ℕ) → (r : DfuRecord) → Type 0 where
-  -- dfu_core_format_start returned DFU_WRITE_PENDING. The flash may hold anything, for example what a format left when the power failed.
+  -- dfu_core_format_start returned DFU_WRITE_PENDING. The flash may hold anything, for example the bytes that a format left when the power
+  -- failed.
   begins : {flash : List ℕ} {n : ℤ} {r : DfuRecord} → FormatStarted c flash image n r → IsBeingFormatted c image flash r
   -- A piece was carried out, and dfu_core_format_took returned DFU_WRITE_PENDING.
   goes_on : {flash flash' : List ℕ} {n : ℤ} {r r' : DfuRecord} → IsBeingFormatted c image flash r →
@@ -38,7 +44,8 @@ EndedFormatActivatesImage = (c : DfuConfig) (image flash flash' : List ℕ) (r r
     → FormatPieceResult c image flash r flash' n r' → n ≡ pos 0
     → Active (mapped_medium (config_grain c) flash') image × ((k : ℤ) → ¬ RefusesPower c flash' k)
 
--- Wherever a format is broken off, dfu_core_format_start accepts its image again, and refuses another image only because it is too large.
+-- After a format was broken off at any point, dfu_core_format_start accepts its image again, and refuses another image only because it is
+-- too large.
 abbrev pub BrokenFormatCanRestart : Type 0
 BrokenFormatCanRestart = (c : DfuConfig) (image flash flash' : List ℕ) (r : DfuRecord) → IsBeingFormatted c image flash r
     → length flash' ≡ length flash → ((n : ℤ) → ¬ FormatStartRefused c flash' image n)

@@ -4,12 +4,13 @@ use Rattle.dfu_core.specs.declared.config.DfuConfig.{DfuConfig}
 use Rattle.dfu_core.specs.declared.record.DfuRecord.{DfuRecord}
 use Rattle.dfu_laws.specs.in_c.FormatCalls.{IsBeingFormatted, begins, goes_on}
 
--- The most erases and programs of a format of an image of n bytes. With sectors one erase for each gate that is closed, for the header, for
--- the gate that is opened, and for each sector of the image; one program for each 256 bytes, for the header and for that gate, and without
--- sectors for each gate that is closed.
+-- The most erases of a format of an image of n bytes: with sectors, one for each gate that is closed, for the header, for the gate that is
+-- opened, and for each sector of the image.
 abbrev pub format_erases : (n sector : ℕ) → ℕ
 format_erases n sector = if sector == 0 then 0 else 4 + (n + sector - 1) / sector
 
+-- The most programs of a format of an image of n bytes: one for each 256 bytes, for the header and for the gate that is opened, and without
+-- sectors for each gate that is closed.
 abbrev pub format_programs : (n sector : ℕ) → ℕ
 format_programs n sector = (n + 255) / 256 + (if sector == 0 then 4 else 2)
 

@@ -8,7 +8,7 @@ use Rattle.dfu_laws.specs.link.Marks.{OpenGateWasClosed}
 use Rattle.dfu_laws.specs.link.Copies.{HomeOperations}
 use Rattle.dfu_laws.specs.in_c.Steps.{CoreStep, IsCoreRun}
 
--- Only bytes of the flash changed that the slot store does not read. The mark for which dfu_core_trial_start or dfu_core_trial_confirm asks
+-- Only flash bytes that the slot store does not read have changed. The mark for which dfu_core_trial_start or dfu_core_trial_confirm asks
 -- changes such bytes, if it is set, torn or fails.
 pub record IsMarkedCoreBoard (b b' : CoreBoard) : Type 0 where
   pub unread : ChangedUnreadBytes (medium_of_core b) (medium_of_core b')
@@ -20,8 +20,8 @@ pub record CoreTrialEnd (b : CoreBoard) (begins : Bool) (b' : CoreBoard) : Type 
   pub config : b'.config ≡ b.config
   pub powers : PowerOutcome b'.config (start_mode begins) b'.flash (pos 0) b'.kept
 
--- Operations of the copy come to a board in C that got power, before its device begins. The restart before gives the board b, as if
--- dfu_core_power_on had returned 0 at once, or dfu_core_begin; the program calls it only after the operations of dfu_core_home_next.
+-- Operations of the copy are carried out on a board in C after a restart, before its device begins. The restart before gives the board b,
+-- as if dfu_core_power_on had returned 0 at once, or dfu_core_begin; the program calls it only after the operations of dfu_core_home_next.
 pub record CoreHomeCopy (b b' : CoreBoard) : Type 0 where
   pub begins : Bool
   pub power : PowerOutcome b.config (start_mode begins) b.flash (pos 0) b.kept
@@ -29,7 +29,7 @@ pub record CoreHomeCopy (b b' : CoreBoard) : Type 0 where
   pub config : b'.config ≡ b.config
   pub starts : PowerOutcome b'.config (start_mode begins) b'.flash (pos 0) b'.kept
 
--- Any number of marks, ends of trials and copies came to a board in C, or none.
+-- Any number of marks, ends of trials and copies happened on a board in C.
 pub data CoreMarksOrTrialEnds (b : CoreBoard) : CoreBoard → Type 0 where
   no_core_mark_or_end : CoreMarksOrTrialEnds b b
   then_core_mark : {mid b' : CoreBoard} → CoreMarksOrTrialEnds b mid → IsMarkedCoreBoard mid b' → CoreMarksOrTrialEnds b b'
@@ -37,19 +37,21 @@ pub data CoreMarksOrTrialEnds (b : CoreBoard) : CoreBoard → Type 0 where
       CoreMarksOrTrialEnds b b'
   then_core_home_copy : {mid b' : CoreBoard} → CoreMarksOrTrialEnds b mid → CoreHomeCopy mid b' → CoreMarksOrTrialEnds b b'
 
--- The steps come to a board in C one after the other; before, between and after them marks may be set, trials may end, and
--- copies may come.
+-- The steps of a board in C, one after the other; before the first, between two and after the last of them, marks may be set, trials may
+-- end, and copies may be made.
 abbrev pub IsCoreRunWithMarks : CoreBoard → List CoreStep → CoreBoard → Type 0
 IsCoreRunWithMarks b [] b' = CoreMarksOrTrialEnds b b'
 IsCoreRunWithMarks b (s ∷ rest) b' = CoreMarksOrTrialEnds b s.before × CoreEventOutcome s.before s.event s.number s.out s.after
     × IsCoreRunWithMarks s.after rest b'
 
--- Each step begins where the one before ended, so nothing came between them.
+-- Each step begins where the one before ended, so nothing happened between them.
 abbrev pub AreCoreStepsJoined : CoreBoard → List CoreStep → CoreBoard → Type 0
 AreCoreStepsJoined b [] b' = b' ≡ b
 AreCoreStepsJoined b (s ∷ rest) b' = (s.before ≡ b) × AreCoreStepsJoined s.after rest b'
 
 -- The steps are runs with marks and ends of trials between them. If each step begins where the one before ended, they are one run.
 pub record IsCoreRunBetweenMarks (b : CoreBoard) (steps : List CoreStep) (b' : CoreBoard) : Type 0 where
+  -- The steps are runs with marks between them.
   pub marked : IsCoreRunWithMarks b steps b'
+  -- Steps that are joined are one run.
   pub joined : AreCoreStepsJoined b steps b' → IsCoreRun b steps b'

@@ -1,4 +1,4 @@
--- Sessions over a link to a board in C, and what a host's report says of it.
+-- Sessions over a link to a board in C, and the meaning of a host's report for it.
 use Rattle.std.specs.Prelude.{◌≡◌, ◌⊎◌, ◌<◌, ℕ, Bool, List, [], ◌∷◌, ◌++◌, length, Option, Some, None}
 use Rattle.dfu_wire.specs.declared.states.State.{State}
 use Rattle.dfu_wire.specs.declared.states.State.TheVariants.{AppIdle}
@@ -28,14 +28,14 @@ pub record CoreLink : Type 0 where
   pub board : CoreBoard
   pub session : Session
 
--- The board of a link in C stands for the board of a link, and both links have the same session.
+-- The board of a link in C represents the board of a link, and both links have the same session.
 pub record IsLinkOf (l : CoreLink) (x : BoardLink) : Type 0 where
   pub board : IsBoardOfCore l.board x.board
   pub session : x.session ≡ l.session
 
--- Sessions with a board in C, one after the other, and all that comes to it meanwhile, with the payloads offered so far, and the one with
--- which the last session began, or none. The steps in C are runs, between marks and ends of trials. Each step in C is a step of a board
--- that plays such sessions: the number that a call returns and the bytes of its buffer say the reply of that board, which the host hears.
+-- Sessions with a board in C, one after the other, and all other events meanwhile, with the payloads offered so far, and the one with which
+-- the last session began, or none. The steps in C are runs, between marks and ends of trials. Each step in C is a step of a board that
+-- plays such sessions: the number that a call returns and the bytes of its buffer give the reply of that board, which the host hears.
 pub record CorePlays (b : CoreBoard) (steps : List CoreStep) (past back : List (List ℕ)) (last : Option (List ℕ))
     (l : CoreLink) : Type 0 where
   pub run : IsCoreRunWithMarks b steps l.board
@@ -47,8 +47,8 @@ pub record CorePlays (b : CoreBoard) (steps : List CoreStep) (past back : List (
   pub is_link : IsLinkOf l link
   pub plays : BoardPlays first calls past back last link
 
--- The next event over a link to a board in C, with its steps and the report, which is the next event of the board for which the one in C
--- stands.
+-- The next event over a link to a board in C, with its steps and the report, which is the next event of the board that the one in C
+-- represents.
 pub record CoreLinkStep (l : CoreLink) (steps : List CoreStep) (answer : Answered) (l' : CoreLink) : Type 0 where
   pub run : IsCoreRunWithMarks l.board steps l'.board
   pub before : BoardLink
@@ -100,13 +100,13 @@ CoreActiveImageKnownWithin = (b mid : CoreBoard) (steps front rest : List CoreSt
     → CorePlays b steps past back last l
     → CoreLinkStep l (front ++ rest) answer l' → IsCoreRun l.board front mid → HasKnownCoreImage (medium_of_core b) image past back mid
 
--- All steps of a board in C are runs between marks and ends of trials, and one run if there are none. Therefore what holds of runs holds of
+-- All steps of a board in C are runs between marks and ends of trials, and one run if there are none. Therefore the laws of runs hold of
 -- sessions.
 abbrev pub CorePlaysAreRuns : Type 0
 CorePlaysAreRuns = (b : CoreBoard) (steps : List CoreStep) (past back : List (List ℕ)) (last : Option (List ℕ)) (l : CoreLink)
     → CorePlays b steps past back last l → IsCoreRunBetweenMarks b steps l.board
 
--- A session with this goal begins, by the functional descriptor of the configuration.
+-- Link once a session with this goal has begun, by the functional descriptor of the configuration.
 abbrev pub core_link_of_new_session : CoreBoard → Goal → Limits → CoreLink
 core_link_of_new_session b goal limits = record {
   board = b;
@@ -114,29 +114,37 @@ core_link_of_new_session b goal limits = record {
       limits);
 }
 
--- Sessions begin on a board in C that just got power, and go on: if no session is live a payload is offered or an upload begins; the live
--- session is given up; the next event comes; a mark of a trial is set; a trial ends; or operations of the copy of two areas come.
+-- Sessions begin on a board in C that was just powered on, and go on: if no session is live a payload is offered or an upload begins; the
+-- live session is given up; the next event comes; a mark of a trial is set; a trial ends; or operations of the copy of two areas come.
 pub record CorePlaysContinue : Type 0 where
+  -- No session has begun on a board in C that was just powered on.
   pub starts : (b : CoreBoard) → IsCorePoweredOn b → CorePlays b [] [] [] None (record { board = b; session = NoLiveSession })
+  -- A payload is offered if no session is live.
   pub offers : (b : CoreBoard) (steps : List CoreStep) (past back : List (List ℕ)) (last : Option (List ℕ)) (l : CoreLink)
       (purpose : Purpose)
       (payload : List ℕ) (limits : Limits) → CorePlays b steps past back last l → l.session ≡ NoLiveSession → 0 < length payload
       → CorePlays b steps (payload ∷ past) back (Some payload) (core_link_of_new_session l.board (goal_of_purpose purpose payload) limits)
+  -- An upload begins if no session is live.
   pub uploads : (b : CoreBoard) (steps : List CoreStep) (past back : List (List ℕ)) (last : Option (List ℕ)) (l : CoreLink)
       (limits : Limits) → CorePlays b steps past back last l → l.session ≡ NoLiveSession
       → CorePlays b steps past back None (core_link_of_new_session l.board FetchGoal limits)
+  -- The live session is given up.
   pub aborts : (b : CoreBoard) (steps : List CoreStep) (past back : List (List ℕ)) (last : Option (List ℕ)) (l : CoreLink) (h : HostState)
       → CorePlays b steps past back last l → l.session ≡ HostSession h
       → CorePlays b steps past back last (record { board = l.board; session = HostSession (aborted_host h) })
+  -- The next event comes.
   pub goes_on : (b : CoreBoard) (steps more : List CoreStep) (past back : List (List ℕ)) (last : Option (List ℕ)) (l l' : CoreLink)
       (answer : Answered) → CorePlays b steps past back last l → CoreLinkStep l more answer l'
       → CorePlays b (steps ++ more) past back last l'
+  -- A mark of a trial is set.
   pub marks : (b b' : CoreBoard) (steps : List CoreStep) (past back : List (List ℕ)) (last : Option (List ℕ)) (l : CoreLink)
       → CorePlays b steps past back last l → IsMarkedCoreBoard l.board b' → CorePlays b steps past back last (record l { board = b' })
+  -- A trial ends, if it may.
   pub ends : (b b' : CoreBoard) (steps : List CoreStep) (past back : List (List ℕ)) (last : Option (List ℕ)) (l : CoreLink) (state : State)
       (begins : Bool) (image : List ℕ) → CorePlays b steps past back last l → HasBoardState l.board state
       → TrialMayEnd l.session state begins
       → CoreTrialEnd l.board begins b' → Active (medium_of_core b') image
       → CorePlays b steps past (image ∷ back) last (record l { board = b' })
+  -- Operations of the copy come.
   pub copies : (b b' : CoreBoard) (steps : List CoreStep) (past back : List (List ℕ)) (last : Option (List ℕ)) (l : CoreLink)
       → CorePlays b steps past back last l → CoreHomeCopy l.board b' → CorePlays b steps past back last (record l { board = b' })

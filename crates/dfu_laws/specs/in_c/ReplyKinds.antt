@@ -4,7 +4,7 @@ use Rattle.dfu_wire.specs.declared.setups.Setup.{Setup}
 use Rattle.dfu_wire.specs.declared.requests.Request.{Request}
 use Rattle.dfu_wire.specs.declared.requests.Request.TheVariants as request
 use Rattle.dfu_wire.specs.Setup.{IsSetup}
-use Rattle.dfu_wire.specs.Request.{SetupRequest}
+use Rattle.dfu_wire.specs.Request.{SetupAsksFor}
 use Rattle.dfu_device.specs.declared.answer.Answer.TheVariants as answer
 use Rattle.dfu_laws.specs.board.Board.{Event, Handle, BoardReply, Answers, BoardStep}
 
@@ -21,10 +21,10 @@ ReplyFitsRequest q says = Unit {0}
 
 -- The reply that a setup gets at once fits the request for which the setup asks.
 abbrev pub ReplyFitsSetup : Event → BoardReply → Type 0
-ReplyFitsSetup (Handle setup body) says = (p : Setup) (q : Request) → IsSetup p setup → SetupRequest p q → ReplyFitsRequest q says
+ReplyFitsSetup (Handle setup body) says = (p : Setup) (q : Request) → IsSetup p setup → SetupAsksFor p q → ReplyFitsRequest q says
 ReplyFitsSetup event says = Unit {0}
 
--- At each of the steps the reply fits.
+-- The reply of each step fits its setup.
 abbrev pub RepliesFitSetups : List BoardStep → Type 0
 RepliesFitSetups [] = Unit {0}
 RepliesFitSetups (s ∷ rest) = ReplyFitsSetup s.event s.says × RepliesFitSetups rest

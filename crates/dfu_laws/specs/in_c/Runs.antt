@@ -12,36 +12,51 @@ use Rattle.dfu_laws.specs.in_c.Steps.{CoreStep, IsCoreRun, IsBoardOfCore, AreBoa
 use Rattle.dfu_core.specs.Happens.{IsCorePoweredOn}
 use Rattle.dfu_laws.specs.in_c.ReplyKinds.{RepliesFitSetups}
 
--- The steps from b to b' in C are a run of boards: b stands for its first board, b' for its last, and each step in C is the step of a
--- board.
+-- The steps from b to b' in C are a run of boards: b represents its first board, b' its last, and each step in C is the step of a board.
 pub record CoreRunIsBoardRun (b b' : CoreBoard) (steps : List CoreStep) : Type 0 where
+  -- The configuration stays.
   pub config : b'.config ≡ b.config
+  -- First board.
   pub first : Board
+  -- Last board.
   pub last : Board
+  -- Steps of the boards.
   pub run : List BoardStep
+  -- The board `b` in C represents the first board.
   pub is_first : IsBoardOfCore b first
+  -- The board `b'` in C represents the last board.
   pub is_last : IsBoardOfCore b' last
+  -- The steps lead from the first board to the last.
   pub is_run : IsRun first run last
+  -- The steps in C are these steps.
   pub are : AreBoardStepsOf steps run
 
--- The steps in C are a run of a board that just got power, and rows of the device table. If dfu_core_handle returns 0, that is an answer
--- without bytes to GETSTATUS, GETSTATE or UPLOAD, and an acknowledgement of any other request.
+-- The steps in C are a run of a board that was just powered on, and rows of the device table. If dfu_core_handle returns 0, that is an
+-- answer without bytes to GETSTATUS, GETSTATE or UPLOAD, and an acknowledgement of any other request.
 pub record CoreRefinesDeviceTable (b b' : CoreBoard) (steps : List CoreStep) : Type 0 where
+  -- The steps in C are a run of boards.
   pub runs : CoreRunIsBoardRun b b' steps
+  -- The first board was just powered on.
   pub on : IsPoweredOn runs.first
+  -- The run is rows of the device table.
   pub refined : RefinesDeviceTable (device_on runs.first) runs.run runs.last
+  -- Each reply fits the request of its setup.
   pub fit : RepliesFitSetups runs.run
 
--- Any steps that come to a board in C from power on are a run of a board, and rows of the device table.
+-- Any steps of a board in C from power on are a run of a board, and rows of the device table.
 abbrev pub CoreRunsRefineTable : Type 0
 CoreRunsRefineTable = (b b' : CoreBoard) (steps : List CoreStep) → IsCorePoweredOn b → IsCoreRun b steps b' → CoreRefinesDeviceTable b b' steps
 
 -- The flash of a board in C has an active image: the one given, or all bytes of a download that one of the steps closed, after the old
 -- steps.
 pub record CoreImageKeptOrClosed (image : List ℕ) (b mid b' : CoreBoard) (old steps : List CoreStep) : Type 0 where
+  -- The old steps are a run of boards.
   pub past : CoreRunIsBoardRun b mid old
+  -- The steps are a run of boards.
   pub runs : CoreRunIsBoardRun mid b' steps
+  -- The last board has the image that was given, or one that a closed download gave.
   pub kept : ImageKeptOrClosed image past.run runs.run runs.last
+  -- This image is active on the flash in C.
   pub active : Active (medium_of_core b') kept.now
 
 -- After any steps of a board in C from power on, its active image is the one that it had at power on, or all bytes of a download closed
@@ -61,7 +76,9 @@ CoreImageStaysInRun = (b mid b' : CoreBoard) (old steps : List CoreStep) (image 
 
 -- All bytes that the steps took are the active image.
 pub record TakenBytesAreActive (b mid b' : CoreBoard) (steps : List CoreStep) : Type 0 where
+  -- The steps are a run of boards.
   pub runs : CoreRunIsBoardRun b mid steps
+  -- All bytes that this run took are the active image.
   pub active : Active (medium_of_core b') (accepted_bytes_of [] runs.run)
 
 -- All bytes taken are the active image after a step that leads out of manifestation without a fault. A restart by dfu_core_begin does not

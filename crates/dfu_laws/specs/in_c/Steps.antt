@@ -1,11 +1,11 @@
--- Steps of a board in C, lists of them, and which step of a board each is.
+-- Steps of a board in C, and the step of a board that each of them is.
 use Rattle.std.specs.Prelude.{◌≡◌, ◌⊎◌, ◌==◌, not, ℕ, ℤ, pos, List, [], ◌∷◌, take}
 use Rattle.dfu_asks.specs.declared.asking.Asking.{Asking}
 use Rattle.dfu_laws.specs.board.Board.{Board, Event, Handle, Elapse, UsbReset, RefuseClose, Refuse, Write, Took, Restart, BoardReply, Nothing, WritesDue, Answers, BoardStep}
 use Rattle.dfu_core.specs.declared.config.DfuConfig.{DfuConfig}
 use Rattle.dfu_core.specs.declared.numbers.Refusal.{Refusal}
 use Rattle.dfu_asks.specs.Addressed.{addressed_setup}
-use Rattle.dfu_core.specs.RecordMeaning.{IsRecordOf, block_in_memory, tail_memory}
+use Rattle.dfu_core.specs.RecordMeaning.{IsRecordOf, block_in_memory, held_memory}
 use Rattle.dfu_core.specs.Numbers.{WRITE_PENDING_NUMBER, refusal_number, answer_number, NO_ROOM_NUMBER, NOT_LONG_NUMBER, NO_CLOSE_NUMBER, NO_STATUS_NUMBER}
 use Rattle.dfu_core.specs.Refuse.{objection_of_status}
 use Rattle.dfu_core.specs.Happens.{CoreEventOutcome}
@@ -19,16 +19,16 @@ pub record CoreStep : Type 0 where
   pub out : List ℕ
   pub after : CoreBoard
 
--- The steps come to a board in C, and each begins where the one before ended.
+-- The steps of a board in C, one after the other. Each begins where the one before ended.
 abbrev pub IsCoreRun : CoreBoard → List CoreStep → CoreBoard → Type 0
 IsCoreRun b [] b' = b' ≡ b
 IsCoreRun b (s ∷ rest) b' = (s.before ≡ b) × CoreEventOutcome b s.event s.number s.out s.after × IsCoreRun s.after rest b'
 
--- The board for which a board in C stands, if its record is the device a.
+-- The board that a board in C represents, if its record is the device a.
 abbrev pub board_of_core : CoreBoard → Asking → Board
-board_of_core b a = record { asking = a; block = block_in_memory a b.block; held = tail_memory a b.block; flash = b.flash }
+board_of_core b a = record { asking = a; block = block_in_memory a b.block; held = held_memory a b.block; flash = b.flash }
 
--- The board x is what the board b in C stands for.
+-- The board b in C represents the board x.
 pub record IsBoardOfCore (b : CoreBoard) (x : Board) : Type 0 where
   pub kept : IsRecordOf b.config b.kept x.asking
   pub is : x ≡ board_of_core b x.asking
@@ -50,26 +50,26 @@ event_of_core c (CoreRestart begins) = Restart begins
 abbrev pub IsRefusalNumber : ℤ → Type 0
 IsRefusalNumber n = (n ≡ NO_ROOM_NUMBER) ⊎ (n ≡ NOT_LONG_NUMBER) ⊎ ((e : Refusal) × (n ≡ refusal_number e))
 
--- The number of a call and the bytes in its buffer say the reply: nothing if the call was refused; writes are due if it is
--- DFU_WRITE_PENDING; else the answer of that number, whose bytes are at the front of the buffer.
+-- The number of a call and the bytes in its buffer give the reply: none if the call was refused; writes that are due for DFU_WRITE_PENDING;
+-- else the answer of that number, whose bytes are at the front of the buffer.
 abbrev pub NumberTellsReply : ℤ → List ℕ → BoardReply → Type 0
 NumberTellsReply n out Nothing = IsRefusalNumber n
 NumberTellsReply n out WritesDue = n ≡ WRITE_PENDING_NUMBER
 NumberTellsReply n out (Answers a bytes) = (count : ℕ) × (n ≡ answer_number a count) × (bytes ≡ take count out)
 
--- The number of dfu_core_elapse or dfu_core_usb_reset says the reply; the number 0 is an answer.
+-- The number of dfu_core_elapse or dfu_core_usb_reset gives the reply; the number 0 is an answer.
 abbrev pub TimeNumberTellsReply : ℤ → BoardReply → Type 0
 TimeNumberTellsReply n Nothing = IsRefusalNumber n
 TimeNumberTellsReply n WritesDue = n ≡ WRITE_PENDING_NUMBER
 TimeNumberTellsReply n (Answers a bytes) = n ≡ pos 0
 
--- The number of dfu_core_refuse or dfu_core_refuse_close says the reply.
+-- The number of dfu_core_refuse or dfu_core_refuse_close gives the reply.
 abbrev pub ObjectionNumberTellsReply : ℤ → BoardReply → Type 0
 ObjectionNumberTellsReply n Nothing = IsRefusalNumber n ⊎ (n ≡ NO_CLOSE_NUMBER) ⊎ (n ≡ NO_STATUS_NUMBER)
 ObjectionNumberTellsReply n WritesDue = ⊥
 ObjectionNumberTellsReply n (Answers a bytes) = (n ≡ answer_number a 0) × (bytes ≡ [])
 
--- The number of an event, and the bytes in its buffer, say the reply.
+-- The number of an event, and the bytes in its buffer, give the reply.
 abbrev pub EventNumberTellsReply : CoreEvent → ℤ → List ℕ → BoardReply → Type 0
 EventNumberTellsReply (CoreHandle setup body out) n out' says = NumberTellsReply n out' says
 EventNumberTellsReply (CoreElapse ms) n out' says = TimeNumberTellsReply n says

@@ -5,7 +5,7 @@ use Rattle.dfu_wire.specs.declared.requests.Request.{Request as Asked}
 use Rattle.dfu_wire.specs.declared.requests.Request.TheVariants as asked
 use Rattle.dfu_wire.specs.declared.codes.Code.TheVariants.{Ok as NoFault}
 use Rattle.dfu_wire.specs.Setup.{IsSetup}
-use Rattle.dfu_wire.specs.Request.{SetupRequest}
+use Rattle.dfu_wire.specs.Request.{SetupAsksFor}
 use Rattle.dfu_device.specs.declared.answer.Answer.{Answer}
 use Rattle.dfu_device.specs.declared.answer.Answer.TheVariants as answer
 use Rattle.dfu_device.specs.Setting.{IsAllowedSetting}
@@ -23,12 +23,12 @@ use Rattle.dfu_conformance.specs.declared.verdict.Verdict.TheVariants.{Kept}
 use Rattle.dfu_conformance.specs.MayAnswer.{Run}
 use Rattle.dfu_conformance.specs.Verdict.{IsVerdict}
 
--- Number of a bit: 1 if it is set.
+-- Number of a bit: 1 if it is set, else 0.
 abbrev pub attribute_bit : Bool → ℕ
 attribute_bit true = 1
 attribute_bit false = 0
 
--- bmAttributes with the four bits.
+-- bmAttributes with these four bits.
 abbrev pub attributes : (download upload tolerant will_detach : Bool) → ℕ
 attributes d u t w = attribute_bit d + 2 * attribute_bit u + 4 * attribute_bit t + 8 * attribute_bit w
 
@@ -52,13 +52,13 @@ place_of InManifestWaitReset = place.ManifestWaitReset
 place_of (InUploadIdle at number) = place.UploadIdle
 place_of (InError code) = place.Error
 
--- What a judge sees of an answer and its bytes.
+-- An answer and its bytes, as a judge sees them.
 abbrev pub seen : Answer → List ℕ → Shows
 seen answer.Ack out = shows.Bytes 0 0 0
 seen answer.Stall out = shows.Stall
 seen answer.Bytes out = shows.Bytes (length out) (slice_index out 0) (slice_index out 4)
 
--- The events are those of the rest, with the transfer before them; a transfer that is no class request for interface 0 is passed over.
+-- The events are those of the rest, with the transfer before them; a transfer that is no class request for interface 0 is left out.
 abbrev pub TransferAddsEvent : Setup → Asked → List ℕ → Shows → (rest events : List LogEvent) → Type 0
 TransferAddsEvent p asked.NotDfu body a rest events = events ≡ rest
 TransferAddsEvent p q body a rest events = events ≡ event_of p q (length body) a ∷ rest
@@ -67,15 +67,15 @@ TransferAddsEvent p q body a rest events = events ≡ event_of p q (length body)
 -- refuses an image after its close.
 abbrev pub EventsOfStep : Cause → Answer → List ℕ → (rest events : List LogEvent) → Type 0
 EventsOfStep (Transfer setup body) a out rest events =
-    (p : Setup) × (q : Asked) × IsSetup p setup × SetupRequest p q × TransferAddsEvent p q body (seen a out) rest events
+    (p : Setup) × (q : Asked) × IsSetup p setup × SetupAsksFor p q × TransferAddsEvent p q body (seen a out) rest events
 EventsOfStep (Passing ms) a out rest events = events ≡ rest
 EventsOfStep BusReset a out rest events = events ≡ reset_event ∷ rest
 EventsOfStep (RefusingClose setup why) a out rest events =
-    (p : Setup) × (q : Asked) × IsSetup p setup × SetupRequest p q × TransferAddsEvent p q [] (seen a out) rest events
+    (p : Setup) × (q : Asked) × IsSetup p setup × SetupAsksFor p q × TransferAddsEvent p q [] (seen a out) rest events
 EventsOfStep (Refusing why) a out rest events = events ≡ rest
 EventsOfStep PowerOn a out rest events = events ≡ power_event ∷ rest
 
--- The events are what a judge sees of a history.
+-- The events are those that a judge sees of a history.
 abbrev pub EventsOfHistory : List HistoryStep → List LogEvent → Type 0
 EventsOfHistory [] events = events ≡ []
 EventsOfHistory (s ∷ h) events = (rest : List LogEvent) × EventsOfStep s.cause s.answer s.out rest events × EventsOfHistory h rest
@@ -92,8 +92,8 @@ StageInvariant c stage = Unit {0}
 abbrev pub NeedsManifestTime : Profile → Type 0
 NeedsManifestTime c = c.tolerant ≡ false → 1 ≤ c.manifest
 
--- The events that a judge sees of a history are a run of the standard's table with no habit, if the invariant holds of the device; it holds
--- at the end too.
+-- The events that a judge sees of a history are a run of the standard's table with no habit, if the device takes time to put an image in
+-- place unless it is tolerant, and the invariant holds of its stage; the invariant holds at the end too.
 abbrev pub HistoriesConform : Type 0
 HistoriesConform = (h : List HistoryStep) (events : List LogEvent) (w w' : DeviceView) → NeedsManifestTime (profile w)
     → StageInvariant (profile w) w.stage →
@@ -101,7 +101,7 @@ HistoriesConform = (h : List HistoryStep) (events : List LogEvent) (w w' : Devic
     → EventsOfHistory h events → Run (attributes_of (profile w)) 0 (place_of w.stage) events (place_of w'.stage)
     × StageInvariant (profile w') w'.stage
 
--- Each device that begins in appIDLE, as after power on, gives answers that a device of the standard may give.
+-- Each device with an allowed setting that begins in appIDLE, as after power on, gives answers that a device of the standard may give.
 abbrev pub DevicesFromStartConform : Type 0
 DevicesFromStartConform =
     (h : List HistoryStep) (events : List LogEvent) (w w' : DeviceView) → IsAllowedSetting w.config → w.stage ≡ InAppIdle → IsHistory w h w'

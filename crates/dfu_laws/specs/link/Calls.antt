@@ -36,12 +36,12 @@ pub data IsBrokenCall (call : Event) : List BoardStep → Type 0 where
   broken : (s : BoardStep) (rest : List BoardStep) → s.event ≡ call → s.says ≡ WritesDue → WritesCutByPower rest →
       IsBrokenCall call (s ∷ rest)
 
--- A call comes to the board b, is answered, and leaves the board b'.
+-- The board b answers a call, and the board b' is the result.
 pub record CallServed (b : Board) (call : Event) (steps : List BoardStep) (a : Answer) (out : List ℕ) (b' : Board) : Type 0 where
   pub run : IsRun b steps b'
   pub is : AnsweredCall call a out steps
 
--- A call goes to a board over a link: the call gets lost on the way, or is handed in once or twice, and the last answer is sent back.
+-- A call is sent to a board over a link: the call gets lost on the way, or is delivered once or twice, and the last answer is sent back.
 pub data CallReaches (call : Event) (b : Board) : List BoardStep → BoardReply → Board → Type 0 where
   lost : CallReaches call b [] Nothing b
   once : {steps : List BoardStep} {a : Answer} {out : List ℕ} {b' : Board} → CallServed b call steps a out b'
@@ -49,8 +49,8 @@ pub data CallReaches (call : Event) (b : Board) : List BoardStep → BoardReply 
   twice : {first second : List BoardStep} {a x : Answer} {out said : List ℕ} {mid b' : Board} → CallServed b call first x said mid
       → CallServed mid call second a out b' → CallReaches call b (first ++ second) (Answers a out) b'
 
--- A request that closes a download comes to a board, and the board's program refuses the image. The link may then hand in the same request
--- a second time.
+-- A request that closes a download reaches a board, and the board's program refuses the image. The link may then deliver the same request a
+-- second time.
 pub data ImageRefusedAtClose (setup body : List ℕ) (why : Objection) (b : Board) : List BoardStep → BoardReply → Board → Type 0 where
   close_refused_once : {steps : List BoardStep} {a : Answer} {out : List ℕ} {b' : Board} →
       CallServed b (RefuseClose setup why) steps a out b'
@@ -59,7 +59,7 @@ pub data ImageRefusedAtClose (setup body : List ℕ) (why : Objection) (b : Boar
       → CallServed b (RefuseClose setup why) first x said mid → CallServed mid (Handle setup body) second a out b'
       → ImageRefusedAtClose setup body why b (first ++ second) (Answers a out) b'
 
--- A call goes to a board over a link, and the power goes: before the call is handed in, within it, after it, or within its second copy.
+-- A call is sent to a board over a link, and the power fails: before the call is delivered, within it, after it, or within its second copy.
 pub data CallCutOff (call : Event) (b : Board) : List BoardStep → Board → Type 0 where
   behind : {steps : List BoardStep} {says : BoardReply} {mid b' : Board} (power : BoardStep) (begins : Bool)
       → CallReaches call b steps says mid

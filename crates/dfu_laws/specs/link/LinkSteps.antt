@@ -25,7 +25,7 @@ abbrev pub HeardOfReply : Deed → BoardReply → Heard → Type 0
 HeardOfReply d (Answers a out) heard = (heard ≡ NothingHeard) ⊎ HeardOfAnswer d a out heard
 HeardOfReply d says heard = heard ≡ NothingHeard
 
--- A call may be under way as the bus is reset or the power goes: the call by which the program tells of time that passed, or the host's
+-- A call may be under way as the bus is reset or the power fails: the call by which the program reports time that passed, or the host's
 -- request.
 abbrev pub CallMayBeUnderWay : Session → Event → Type 0
 CallMayBeUnderWay session (Elapse ms) = Unit {0}
@@ -41,8 +41,8 @@ pub data BoardLinkStep (l : BoardLink) : List BoardStep → Answered → BoardLi
   -- Time passes at the board.
   passes : {ms : ℕ} {steps : List BoardStep} {a : Answer} {out : List ℕ} {b' : Board} → CallServed l.board (Elapse ms) steps a out b'
       → BoardLinkStep l steps silent (record { board = b'; session = l.session })
-  -- The host sends its request, as the bytes of a setup that asks for it, and takes what it hears. If the request closes a download, the
-  -- board's program may refuse the image. The host lacks memory only in a phase that needs some.
+  -- The host sends its request, as the bytes of a setup that asks for it, and takes the result that it hears. If the request closes a
+  -- download, the board's program may refuse the image. The host lacks memory only in a phase that needs some.
   sends : {h : HostState} {q : Request} {setup body : List ℕ} {steps : List BoardStep} {says : BoardReply} {b' : Board} {heard : Heard}
       → l.session ≡ HostSession h → deed h.task h.phase ≡ Send q body → IsSetupOf q setup
       → CallReaches (Handle setup body) l.board steps says b' ⊎ ((why : Objection)
@@ -70,10 +70,10 @@ pub data BoardLinkStep (l : BoardLink) : List BoardStep → Answered → BoardLi
   -- An application leaves after DETACH, for its bootloader or not: the board restarts. The host, which resets or waits next, hears nothing.
   leaves : {h : HostState} {power : BoardStep} {begins : Bool} {b' : Board} → l.session ≡ HostSession h → h.phase ≡ Enter
       → IsRun l.board (power ∷ []) b' → power.event ≡ Restart begins → BoardLinkStep l (power ∷ []) silent (record l { board = b' })
-  -- The host resets the bus, and that makes the board restart: in appIDLE, or into a bootloader as an application leaves. The host hears of
-  -- its reset alone.
+  -- The host resets the bus, and that makes the board restart: in appIDLE, or into a bootloader as an application leaves. The host hears
+  -- only of its reset.
   restarts_at_reset : {h : HostState} {power : BoardStep} {begins : Bool} {b' : Board} → l.session ≡ HostSession h → deed h.task h.phase ≡ Reset
       → (begins ≡ false) ⊎ (h.phase ≡ Enter) → IsRun l.board (power ∷ []) b' → power.event ≡ Restart begins
       → BoardLinkStep l (power ∷ []) (host_outcome h WasReset).answer (link_after_outcome b' (host_outcome h WasReset))
-  -- A mark of a trial is set, of a start or a confirmation, or torn, or fails. The host hears nothing.
+  -- The mark of a start or of a confirmation of a trial is set or torn, or fails. The host hears nothing.
   marks : {b' : Board} → IsMarkedBoard l.board b' → BoardLinkStep l [] silent (record l { board = b' })

@@ -1,4 +1,5 @@
--- Sessions over a link to a board, and what a host's report says of the board.
+-- Sessions over a link to a board, and the meaning of a host's report for the board. Each law but the last is one of a board that was just
+-- powered on when the sessions began, with a transfer size over 0.
 use Rattle.std.specs.Prelude.{◌≡◌, ◌⊎◌, ℕ, ◌<◌, Bool, List, [], ◌∷◌, ◌++◌, length, Option, Some, None}
 use Rattle.dfu_wire.specs.declared.states.State.TheVariants.{AppIdle}
 use Rattle.dfu_slots.specs.Medium.{MediumState}
@@ -19,8 +20,8 @@ use Rattle.dfu_laws.specs.link.Marks.{TrialEnd, IsRunBetweenMarks}
 use Rattle.dfu_laws.specs.link.Copies.{HomeCopy}
 use Rattle.dfu_laws.specs.link.Trials.{TrialMayEnd}
 
--- Sessions with a board, one after the other, and all that comes to it meanwhile: the steps of the board so far; the payloads offered so
--- far; the images that were active as a trial ended; and the payload with which the last session began, or none.
+-- Sessions with a board, one after the other, and all other events meanwhile: the steps of the board so far; the payloads offered so far;
+-- the images that were active as a trial ended; and the payload with which the last session began, or none.
 pub data BoardPlays (b : Board) : List BoardStep → List (List ℕ) → List (List ℕ) → Option (List ℕ) → BoardLink → Type 0 where
   -- No session has begun.
   starts : BoardPlays b [] [] [] None (record { board = b; session = NoLiveSession })
@@ -92,7 +93,7 @@ ActiveImageIsKnownWithin = (b mid : Board) (steps front rest : List BoardStep) (
     → Active (medium_on b) image → BoardPlays b steps past back last l → BoardLinkStep l (front ++ rest) answer l' → IsRun l.board front mid
     → HasKnownActiveImage (medium_on b) image past back mid
 
--- All steps of the board are runs between marks and ends of trials, and one run if there are none. Therefore what holds of runs holds of
+-- All steps of the board are runs between marks and ends of trials, and one run if there are none. Therefore the laws of runs hold of
 -- sessions.
 abbrev pub PlaysAreRuns : Type 0
 PlaysAreRuns = (b : Board) (steps : List BoardStep) (past back : List (List ℕ)) (last : Option (List ℕ)) (l : BoardLink)

@@ -4,7 +4,7 @@ use Rattle.dfu_slots.specs.Medium.{MediumState}
 use Rattle.dfu_boot.specs.trial.Marks.{AreTries}
 use Rattle.dfu_boot.specs.trial.Trial.{image_at}
 use Rattle.dfu_boot.specs.trial.Calls.{IsStanding}
-use Rattle.dfu_boot.specs.trial.Lists.{TrialStep, TrialCourse, Tried, AllTrusted}
+use Rattle.dfu_boot.specs.trial.Lists.{TrialStep, IsTrialTrace, Tried, AllTrusted}
 use Rattle.dfu_boot.specs.declared.trial.standing.Trial.{Trial}
 use Rattle.dfu_boot.specs.declared.trial.standing.Standing.TheVariants.{OnTrial}
 use Rattle.dfu_sim.specs.Play.{Answered}
@@ -15,11 +15,14 @@ use Rattle.dfu_laws.specs.link.LinkSteps.{BoardLink, BoardLinkStep}
 use Rattle.dfu_laws.specs.link.Plays.{BoardPlays}
 
 -- The payload of the last session is on trial on the medium, beside a confirmed image. By `AllTrusted` of dfu_boot each start runs the
--- payload until its tries are spent, starts before the report included. A start whose mark does not read set runs the confirmed image, and
--- spends no try. Once the confirmed image is back each start runs it, unless another image is confirmed or downloaded.
+-- payload until its tries are spent, starts before the report included. A start whose mark does not read as set runs the confirmed image,
+-- and spends no try. Once the confirmed image is back each start runs it, unless another image is confirmed or downloaded.
 pub record PayloadRunsOnTrial (tries : ℕ) (last : Option (List ℕ)) (m : MediumState) (t : Trial) (list : List TrialStep) : Type 0 where
+  -- Payload of the last session.
   pub payload : List ℕ
+  -- The last session began with it.
   pub offered : last ≡ Some payload
+  -- Each start runs the payload, or the confirmed image.
   pub runs : AllTrusted tries (Tried (image_at m t.base) payload t.starts) m list
 
 -- If Installed or Verified is reported and an image is on trial, that image is the payload, and `PayloadRunsOnTrial` holds of any starts,
@@ -29,5 +32,5 @@ ReportedTrialStays = (b : Board) (steps more : List BoardStep) (past back : List
     (answer : Answered) (tries : ℕ) (t : Trial) (list : List TrialStep) → IsPoweredOn b → 0 < b.asking.config.functional.transfer
     → BoardPlays b steps past back last l → BoardLinkStep l more answer l' → IsInPlaceReport answer.report
     → AreTries (medium_on l'.board).grain tries
-    → IsStanding (medium_on l'.board) tries (OnTrial t) → TrialCourse tries (medium_on l'.board) list
+    → IsStanding (medium_on l'.board) tries (OnTrial t) → IsTrialTrace tries (medium_on l'.board) list
     → PayloadRunsOnTrial tries last (medium_on l'.board) t list

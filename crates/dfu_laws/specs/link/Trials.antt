@@ -1,4 +1,4 @@
--- Times at which a trial may end, by what the host of the live session does next.
+-- Times at which a trial may end, by the next action of the live session's host.
 use Rattle.std.specs.Prelude.{◌≡◌, ◌⊎◌, Bool, true}
 use Rattle.dfu_wire.specs.declared.states.State.{State}
 use Rattle.dfu_wire.specs.declared.states.State.TheVariants.{DfuIdle}

@@ -1,10 +1,10 @@
--- Writing of a text by the code, the line that it expects, and the printing of a text while a line is expected.
+-- Writing of a text by the code, the expected line as the code holds it, and the printing of a text while a line is expected.
 use Rattle.std.specs.Prelude.{◌≡◌, ℕ, List, Option, Some, None, Result, OnOk, OnErr, IfErr}
 use Rattle.std.specs.Io.KnownBytes.{Appends}
 use Rattle.dfu_host.specs.declared.limits.Limits.{Limits}
 use Rattle.dfu_sim.specs.LinkView.{LinkView}
-use Rattle.dfu_suffix.specs.Writing.{IsOutInPart}
-use Rattle.dfu_link.specs.Expecting.{Expectation, MeetsExpectation, expectation_left, FailsToPrint}
+use Rattle.dfu_suffix.specs.Writing.{IsPartlyWritten}
+use Rattle.dfu_link.specs.Expecting.{Expectation, MeetsExpectation, expectation_left, IsPrintFault}
 use Rattle.dfu_link.specs.LineContent.{given_bytes}
 use Rattle.dfu_link.specs.ScriptRun.{ScriptPoint}
 use Rattle.dfu_link.specs.declared.scripting.expectation.Expectation.{Expectation as ExpectationHeld}
@@ -12,10 +12,11 @@ use Rattle.dfu_link.specs.declared.scripting.expectation.ScriptContext.{ScriptCo
 use Rattle.dfu_link.specs.declared.scripting.fault.ScriptFault.{ScriptFault}
 use Rattle.dfu_link.specs.declared.scripting.fault.ScriptFault.TheVariants.{NonePrinted, NoMemory, Write}
 
--- Result of writing a text: with Ok the text is out; with a fault the writer failed, and a prefix of the text is out, but not all of it.
-pub record TextWritten (text : List ℕ) (old new : Option (List ℕ)) (r : Result Unit ScriptFault) : Type 0 where
+-- Result of writing a text: with Ok the text was written; with a fault the writer failed, and a prefix of the text was written, but not all
+-- of it.
+pub record WriteEnds (text : List ℕ) (old new : Option (List ℕ)) (r : Result Unit ScriptFault) : Type 0 where
   pub ok : OnOk r (Appends old new text)
-  pub err : OnErr r (IsOutInPart old new text)
+  pub err : OnErr r (IsPartlyWritten old new text)
   pub fault : IfErr r (λ f. f ≡ Write)
 
 -- The expectation that the code holds, as plain data.
@@ -31,22 +32,22 @@ point_of_parts given check limits next at = record { given = given; check = chec
 abbrev pub point_of_context : ScriptContext → LinkView → ScriptPoint
 point_of_context a at = point_of_parts (given_bytes a.given) a.check.now a.limits (expectation_of a.next) at
 
--- A text was printed as expected: it is out, and the expectation after it is left.
+-- A text was printed as expected: it was written, and `e'` is the expectation after it.
 pub record TextPrinted (e : Option Expectation) (old : Option (List ℕ)) (text : List ℕ) (e' : Option Expectation) (new : Option (List ℕ))
     : Type 0 where
   pub told : Appends old new text
   pub meets : MeetsExpectation e text
   pub left : e' ≡ expectation_left e text
 
--- Result of printing the next text: with Ok the text is out, as expected; with a fault it is not out whole, but a prefix of it is.
-pub record PrintsNext (e : Option Expectation) (old : Option (List ℕ)) (text : List ℕ) (e' : Option Expectation) (new : Option (List ℕ))
+-- Result of printing the next text: with Ok the text was written as expected; with a fault a prefix of it was written, but not all of it.
+pub record PrintEnds (e : Option Expectation) (old : Option (List ℕ)) (text : List ℕ) (e' : Option Expectation) (new : Option (List ℕ))
     (r : Result Unit ScriptFault) : Type 0 where
   pub ok : OnOk r (TextPrinted e old text e' new)
-  pub err : OnErr r (IsOutInPart old new text)
-  pub fault : IfErr r (λ f. FailsToPrint e text old new f)
+  pub err : OnErr r (IsPartlyWritten old new text)
+  pub fault : IfErr r (λ f. IsPrintFault e text old new f)
 
--- Reason for which a line can't be expected: a line is expected already, or there is no memory.
-abbrev pub CannotExpect : Option Expectation → ScriptFault → Type 0
-CannotExpect e NoMemory = Unit {0}
-CannotExpect (Some e) (NonePrinted n) = n ≡ e.number
-CannotExpect e fault = ⊥
+-- The fault is a reason for which a line can't be expected: NonePrinted with the number of the line that expects one already, or NoMemory.
+abbrev pub IsExpectFault : Option Expectation → ScriptFault → Type 0
+IsExpectFault e NoMemory = Unit {0}
+IsExpectFault (Some e) (NonePrinted n) = n ≡ e.number
+IsExpectFault e fault = ⊥

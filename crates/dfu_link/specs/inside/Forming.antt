@@ -19,14 +19,14 @@ pub record FormattedStore (grain : Grain) (capacity : ℕ) (image : List ℕ) (s
   pub image_is : image_of s ≡ image
   pub unarmed : s.medium.fuse ≡ Whole
 
--- No medium can be formatted: the room has no whole units or no whole sectors, or the image is too large.
-pub data CannotForm (grain : Grain) (capacity : ℕ) (image : List ℕ) : Type 0 where
-  capacity_cuts_unit : ¬ IsMultiple grain.unit capacity → CannotForm grain capacity image
-  cuts_sector : 0 < grain.sector → capacity % grain.sector ≢ 0 → CannotForm grain capacity image
-  too_long : capacity < length image → CannotForm grain capacity image
+-- No medium can be formatted: the capacity is no multiple of the unit or of the sector, or it is less than the image.
+pub data IsUnformattable (grain : Grain) (capacity : ℕ) (image : List ℕ) : Type 0 where
+  capacity_cuts_unit : ¬ IsMultiple grain.unit capacity → IsUnformattable grain capacity image
+  cuts_sector : 0 < grain.sector → capacity % grain.sector ≢ 0 → IsUnformattable grain capacity image
+  too_long : capacity < length image → IsUnformattable grain capacity image
 
--- Reason for which no medium is formatted: BadConfig if none can be, NoMemory if there is no memory.
+-- The fault is a reason for which no medium is formatted: BadConfig if none can be, NoMemory if there is no memory.
 abbrev pub FormatFails : Grain → ℕ → List ℕ → ScriptFault → Type 0
-FormatFails grain capacity image BadConfig = CannotForm grain capacity image
+FormatFails grain capacity image BadConfig = IsUnformattable grain capacity image
 FormatFails grain capacity image NoMemory = Unit {0}
 FormatFails grain capacity image fault = ⊥

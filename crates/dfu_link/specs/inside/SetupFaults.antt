@@ -5,7 +5,7 @@ use Rattle.dfu_link.specs.ScriptRun.{Settings}
 use Rattle.dfu_link.specs.declared.scripting.setup_fault.SetupFault.{SetupFault}
 use Rattle.dfu_link.specs.declared.scripting.setup_fault.SetupFault.TheVariants as fault
 
--- The fault holds of the room for images.
+-- The fault is one of the capacity, and the settings have it.
 abbrev pub HasRoomFault : SetupFault → Settings → Type 0
 HasRoomFault fault.Unit s = ¬ IsMultiple s.grain.unit s.capacity
 HasRoomFault fault.Sector s = (0 < s.grain.sector) × (s.capacity % s.grain.sector ≢ 0)

@@ -5,7 +5,7 @@ use Rattle.dfu_link.specs.Words.{has_no_newline, lines_of}
 use Rattle.dfu_link.specs.TextLimit.{ExceedsLimit, ReadingIsStopped, NoLineRead}
 use Rattle.dfu_link.specs.declared.scripting.fault.ScriptFault.{ScriptFault}
 
--- The bytes at hand, and all bytes that are left, if the reader names them.
+-- Bytes that were read and not taken yet, and all bytes that were not taken yet, if the reader names them.
 pub record PiecesState : Type 0 where
   pub ready : List ℕ
   pub left : Option (List ℕ)
@@ -26,8 +26,8 @@ pub record SourceState : Type 0 where
 abbrev pub source_state : Option (List ℕ) → ℕ → ℕ → List ℕ → SourceState
 source_state left room number line = record { left = left; room = room; number = number; line = line }
 
--- A piece was read: `bytes` bytes were taken. If the line ended, the last of them is its 0Ah; the bytes before it came to the end of the
--- line.
+-- A piece of `bytes` bytes was taken from the text. If it ends the line, its last byte is the line's 0Ah; the bytes before that were
+-- appended to the line.
 pub record PieceRead (left : Option (List ℕ)) (line : List ℕ) (bytes : ℕ) (ended : Bool) (left' : Option (List ℕ)) (line' : List ℕ)
     : Type 0 where
   pub piece : List ℕ
@@ -38,14 +38,14 @@ pub record PieceRead (left : Option (List ℕ)) (line : List ℕ) (bytes : ℕ) 
   pub some : 0 < bytes
   pub taken : Consumes left left' (if ended then piece ++ 10 ∷ [] else piece)
 
--- The lines were read from the front of a text, and the room became less by the bytes that they took.
+-- The lines were read from the front of a text, and the room shrank by the bytes that they took.
 pub record LinesRead (text : List ℕ) (room : ℕ) (lines : List (List ℕ)) (left : List ℕ) (room' : ℕ) : Type 0 where
   pub front : List ℕ
   pub split : text ≡ front ++ left
   pub are : lines_of text ≡ lines ++ lines_of left
   pub rooms : room ≡ length front + room'
 
--- The lines were read from a text, if the reader names it.
+-- If the reader names the text, the lines were read from it, and it names the rest.
 abbrev pub LinesReadFrom : Option (List ℕ) → ℕ → List (List ℕ) → Option (List ℕ) → ℕ → Type 0
 LinesReadFrom None room lines left room' = ⊤
 LinesReadFrom (Some text) room lines None room' = ⊥
@@ -56,7 +56,7 @@ pub record SourceLines (s : SourceState) (lines : List (List ℕ)) (s' : SourceS
   pub count : s'.number ≡ s.number + length lines
   pub takes : LinesReadFrom s.left s.room lines s'.left s'.room
 
--- A source gave one line.
+-- A source gave one line, which ends within the limit.
 pub record SourceLine (s s' : SourceState) : Type 0 where
   pub gives : SourceLines s (s'.line ∷ []) s'
   pub ends : IfSome s.left (λ left. ¬ ExceedsLimit s.room left)
@@ -67,7 +67,7 @@ abbrev pub NextLineOrEnd : SourceState → Bool → SourceState → Type 0
 NextLineOrEnd s true s' = SourceLine s s'
 NextLineOrEnd s false s' = IsAtEnd s.left
 
--- A source whose reader names the text gives no line, for a fault.
-abbrev pub StopsSource : (given : Option (List ℕ)) → SourceState → ScriptFault → Type 0
-StopsSource given s fault =
+-- If its reader names the text, a source gives no line of the language because of the fault.
+abbrev pub SourceStops : (given : Option (List ℕ)) → SourceState → ScriptFault → Type 0
+SourceStops given s fault =
     IfSome s.left (λ left. ReadingIsStopped s.room left fault × NoLineRead given (s.number + 1) (lines_of left) fault)

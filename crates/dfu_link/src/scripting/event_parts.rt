@@ -18,7 +18,7 @@ use dfu_sim::{Event, Fate, Purpose};
 use dfu_slots::{Medium, Slots};
 use std::alloc::Global;
 
-/// A file that is offered: in memory of its own, or the bytes that are given to the script.
+/// A file that is offered: bytes in memory of their own, or those that are given to the script.
 #[derive(Drop)]
 pub(crate) enum OfferedFile<'g> {
     Decoded(Vec<u8>),
@@ -37,7 +37,7 @@ impl<'g> OfferedFile<'g> {
     }
 }
 
-/// Returns the file of an offer; other lines have none. The given bytes are not copied.
+/// Returns the file of an offer; an empty one for any other line. The given bytes are not copied.
 pub(crate) fn file_of<'g>(
     alloc: Global,
     given: Option<&'g [u8]>,
@@ -55,7 +55,7 @@ pub(crate) fn file_of<'g>(
     }
 }
 
-/// Returns the fate of an action in which a write is harmed.
+/// Returns the fate of an action in which `writes` writes work, and the next one is harmed.
 pub(crate) fn harmed(harm: HarmKind, writes: u32, tear: &[u8]) -> Fate<'_>
     ensures fate { fate_of result ≡ harm_fate harm }
     ensures harm { harm_of_fate result ≡ harmed writes tear.now }
@@ -67,7 +67,7 @@ pub(crate) fn harmed(harm: HarmKind, writes: u32, tear: &[u8]) -> Fate<'_>
     }
 }
 
-/// Returns the offer of a file.
+/// Returns the event that offers a file, to be installed or to be verified too.
 pub(crate) fn offered<'f>(purpose: Purpose, file: &'f [u8], limits: Limits) -> Event<'f, 'static>
     ensures { happening result ≡ Offers purpose file.now limits }
 {

@@ -1,7 +1,7 @@
 //! The line that a script expects to be printed next.
 
 ghost use Rattle.std.specs.Prelude.{◌≡◌, ◌≢◌, ◌<◌, ◌++◌, ◌∷◌, [], Some, None, true, false, length, OnOk, IfErr};
-ghost use Rattle.dfu_link.specs.inside.Expected.{expectation_of, PrintsNext, CannotExpect};
+ghost use Rattle.dfu_link.specs.inside.Expected.{expectation_of, PrintEnds, IsExpectFault};
 
 use crate::scripting::fault::{ScriptFault, Stopped};
 use crate::scripting::output::write_out;
@@ -10,7 +10,7 @@ use std::alloc::Global;
 use std::io::Write;
 
 /// A line that is expected to be printed next, without its line feed, and the number of the `expect` line. The next printed line is put
-/// into memory first, to compare it.
+/// into memory of `alloc` first, to compare it.
 #[derive(Drop)]
 pub(crate) struct Expectation {
     pub number: u32,
@@ -29,7 +29,7 @@ pub(crate) struct ScriptContext<'g> {
     pub stopped: &'g Stopped,
 }
 
-/// Sets `next` to the expectation of `text` by line `number`, if none is expected.
+/// Sets `next` to the expectation of `text` by line `number`, if no line is expected.
 ///
 /// # Errors
 ///
@@ -42,7 +42,7 @@ pub(crate) fn expect(
 ) -> Result<(), ScriptFault>
     ensures free { OnOk result (expectation_of next.old ≡ None) }
     ensures ok { OnOk result (expectation_of next.new ≡ Some (record { number = number; text = text.now })) }
-    ensures fault { IfErr result (λ f. CannotExpect (expectation_of next.old) f) }
+    ensures fault { IfErr result (λ f. IsExpectFault (expectation_of next.old) f) }
 {
     if let Some(first) = next {
         return Err(ScriptFault::NonePrinted(first.number));
@@ -70,14 +70,14 @@ fn is_line(expected: &[u8], text: &[u8]) -> bool
     }
 }
 
-/// Writes a text: whole if it is the expected line, else without its last byte.
+/// Writes a text: whole if it is the expected line; else without its last byte, and returns Expected.
 fn write_expected<W: Write>(
     writer: &mut W,
     expected: &Expectation,
     text: &[u8],
 ) -> Result<(), ScriptFault>
     requires { 0 < length text.now }
-    ensures { PrintsNext (expectation_of (Some expected.now)) (W.contents writer.old) text.now None (W.contents writer.new) result }
+    ensures { PrintEnds (expectation_of (Some expected.now)) (W.contents writer.old) text.now None (W.contents writer.new) result }
 {
     if is_line(&expected.text, text) {
         return write_out(writer, text);
@@ -89,13 +89,13 @@ fn write_expected<W: Write>(
     Err(ScriptFault::Expected(expected.number))
 }
 
-/// Writes the text that is printed next.
+/// Writes a text, and compares it with the expected line first, if a line is expected.
 pub(crate) fn write_next<W: Write>(
     writer: &mut W,
     next: &mut Option<Expectation>,
     text: &[u8],
 ) -> Result<(), ScriptFault>
-    ensures { PrintsNext (expectation_of next.old) (W.contents writer.old) text.now (expectation_of next.new)
+    ensures { PrintEnds (expectation_of next.old) (W.contents writer.old) text.now (expectation_of next.new)
         (W.contents writer.new) result }
 {
     if text.is_empty() {

@@ -1,23 +1,23 @@
-//! Faults that end a script before its last line is out, or for which a line is not one of the language, and the notes of a run.
+//! Faults that end a script before its last line is written, faults of a line that is not of the language, and the notes of a run.
 
 use crate::scripting::setup_fault::SetupFault;
 use std::cell::Cell;
 use std::fmt;
 use thiserror::Error;
 
-/// Faults that end a script before its last line is out. Lines are counted from 1, and skipped lines count too.
+/// Faults that end a script before its last line is written. Lines are counted from 1, and skipped lines count too.
 #[derive(Clone, Copy, Debug, Error)]
 pub enum ScriptFault {
     /// This line is not one of the language, or has over 65,536 bytes. A line is checked for this before
     /// LateConfig and BadConfig.
     BadLine(u32),
-    /// This line sets something about the device after the first event line or `show`.
+    /// This line sets something about the device after the first event line, `show` or `expect`.
     LateConfig(u32),
     /// No device can be set up with these settings (`ConfigFault`), or the capacity is no multiple of the
-    /// unit or of the sector, or the image has more bytes than the capacity. Checked at the first event line
-    /// or `show`, or at the end.
+    /// unit or of the sector, or the image has more bytes than the capacity. Checked at the first event line,
+    /// `show` or `expect`, or at the end.
     BadConfig,
-    /// This line expects a line, and another one was printed next. That other line is out except its line feed.
+    /// This line expects a line, and another one was printed next. The other line is written except its line feed.
     Expected(u32),
     /// This line expects a line, and the next `expect` came before anything was printed.
     NonePrinted(u32),
@@ -89,7 +89,7 @@ pub enum Field {
 pub enum LineFault {
     /// The line has over 65,536 bytes.
     Long,
-    /// No line begins with the line's first word.
+    /// No line of the language begins with this line's first word.
     Keyword,
     /// No word follows `go`.
     NoFate,
@@ -97,7 +97,7 @@ pub enum LineFault {
     Fate,
     /// Nothing follows `expect` and a space.
     NoText,
-    /// FILE stands in the line, but no bytes are given.
+    /// The line names FILE, but no bytes are given.
     NoFile,
     /// The word with this number does not have the form of this field.
     Word(Field, usize),
@@ -107,26 +107,26 @@ pub enum LineFault {
     Comment,
 }
 
-/// Fault of a script that stopped, beside the fault of its run.
+/// Details of why a script stopped, besides the `ScriptFault` of its run.
 #[derive(Clone, Copy)]
 pub enum Reason {
-    /// Of BadLine: the line has a byte outside 20h to 7Eh. `begins` says that the line begins with a byte order mark, `ends` that it
-    /// ends in a carriage return.
+    /// With BadLine: the line has a byte outside 20h to 7Eh. `begins` says that the line begins with a byte order mark, `ends` that it ends
+    /// in a carriage return.
     Unprintable { begins: bool, ends: bool },
-    /// Of BadLine: the fault of the line, and the number of its words.
+    /// With BadLine: the fault of the line, and the number of its words.
     Line(LineFault, usize),
-    /// Of BadConfig: the reason for which no device can be set up, and the number of the line that sets it.
+    /// With BadConfig: the reason why no device can be set up, and the number of the line that sets it.
     Setup(SetupFault, u32),
 }
 
-/// Notes on why a run of a script stopped; at first there are none. A note cannot change the run, or what is printed of it.
+/// Notes on why a run of a script stopped; at first there are none. A note changes neither the run nor its printed text.
 #[derive(Drop)]
 pub struct Stopped {
     reason: Cell<Option<Reason>>,
 }
 
 impl Stopped {
-    /// Returns a note of nothing.
+    /// Returns the notes of a run that has not stopped.
     pub fn new() -> Stopped {
         Stopped {
             reason: Cell::new(None),

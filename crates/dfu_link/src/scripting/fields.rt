@@ -1,5 +1,5 @@
-//! Meaning of a word of a line: hexadecimal text, a file, 16 bits, attributes, a unit, a sector, an objection; and the next word of a line,
-//! read so.
+//! Readers of the words of a line: hexadecimal text, a file, 16 bits, attributes, a unit, a sector, an objection; and of the next word of a
+//! line.
 
 ghost use Rattle.std.specs.Prelude.{◌≡◌, ◌↔◌, IsTrue, is_some};
 ghost use Rattle.std.specs.List.{AllPass};
@@ -7,7 +7,7 @@ ghost use Rattle.hex.specs.Hex.{is_hex_digit};
 ghost use Rattle.dfu_link.specs.Words.{ReadingMatches, hex_word_bytes, number_of_pair, words_of};
 ghost use Rattle.dfu_link.specs.LineContent.{given_bytes, hex_bytes, offered_bytes};
 ghost use Rattle.dfu_link.specs.Lines.{ReadMatches, number_field, short_at, hex_at, identifier_at};
-ghost use Rattle.dfu_link.specs.Fields.{small_of, named_bytes, attributes_of_word, unit_named, unit_of_word, sector_of, objection_of};
+ghost use Rattle.dfu_link.specs.Fields.{number_at_most, named_bytes, attributes_of_word, unit_of_bytes, unit_of_word, sector_of, objection_of_word};
 
 use crate::scripting::fault::{Field, LineFault};
 use crate::scripting::line::{HexText, Offered, Sector};
@@ -16,7 +16,7 @@ use dfu_device::Objection;
 use dfu_slots::{PAGE, Unit};
 use dfu_wire::identifier;
 
-// Most bytes of a sector in a script. The store takes more, but a script's refusals stay.
+// Most bytes of a sector in a script. The store takes larger sectors, but a script that was refused for its sector must stay refused.
 const MAX_SCRIPT_SECTOR: u32 = 1 << 17;
 
 #[tactic(auto, using(std::proofs::lemmas::Bool::Decides::nat_tests))]
@@ -53,7 +53,7 @@ pub(crate) fn hex_text(word: &[u8]) -> Option<HexText<'_>>
 }
 
 /// Returns the file that a word of an offer means. FILE means the given bytes, which are not copied; any
-/// other word means the bytes that it spells.
+/// other word means the bytes that it spells. None if no bytes are given, or the word spells none.
 #[tactic(auto, unfolding(crate::specs::Fields::named_bytes))]
 pub(crate) fn offered<'l, 'g>(given: Option<&'g [u8]>, word: &'l [u8]) -> Option<Offered<'l, 'g>>
     ensures { ReadingMatches offered_bytes result (named_bytes (given_bytes given.entry) word.now) }
@@ -83,7 +83,7 @@ pub(crate) fn pair(word: &[u8]) -> Option<u8>
 /// Reads `word` as a number of at most 65,535; None if it is anything else.
 #[tactic(auto, using(std::proofs::lemmas::Bool::Decides::nat_tests))]
 pub(crate) fn short(word: &[u8]) -> Option<u16>
-    ensures { ReadingMatches (λ n. n) result (small_of 65535 word.now) }
+    ensures { ReadingMatches (λ n. n) result (number_at_most 65535 word.now) }
 {
     let n = small(word, 65_535)?;
     Some(n as u16)
@@ -99,8 +99,8 @@ pub(crate) fn attributes(word: &[u8]) -> Option<u8>
 }
 
 /// Returns the unit of a number of bytes, if there is one.
-fn unit_named(bytes: u32) -> Option<Unit>
-    ensures { result ≡ unit_named bytes }
+fn unit_of_bytes(bytes: u32) -> Option<Unit>
+    ensures { result ≡ unit_of_bytes bytes }
 {
     match bytes {
         1 => Some(Unit::Byte),
@@ -111,16 +111,16 @@ fn unit_named(bytes: u32) -> Option<Unit>
     }
 }
 
-/// Returns the bytes that the medium writes at a time.
+/// Reads `word` as the unit in which the medium is written, 1, 16, 64 or 256 bytes; None if it is anything else.
 #[tactic(auto, unfolding(crate::specs::Fields::unit_of_word))]
 pub(crate) fn unit(word: &[u8]) -> Option<Unit>
     ensures { result ≡ unit_of_word word.now }
 {
     let n = number(word)?;
-    unit_named(n)
+    unit_of_bytes(n)
 }
 
-/// Returns the bytes that the medium erases at a time.
+/// Reads `word` as the bytes that the medium erases at a time, 0 or a multiple of 256 up to 131,072; None if it is anything else.
 #[tactic(auto, unfolding(crate::specs::Fields::sector_of), using(std::proofs::lemmas::Bool::Decides::nat_tests))]
 pub(crate) fn sector(word: &[u8]) -> Option<Sector>
     ensures { ReadingMatches (λ s. s.bytes) result (sector_of word.now) }
@@ -133,9 +133,9 @@ pub(crate) fn sector(word: &[u8]) -> Option<Sector>
     }
 }
 
-/// Returns the reason for which a program refuses an image, by the word of its status code.
+/// Reads `word` as the reason for which a program refuses an image, `errTARGET` or `errFILE`; None if it is anything else.
 pub(crate) fn objection(word: &[u8]) -> Option<Objection>
-    ensures { result ≡ objection_of word.now }
+    ensures { result ≡ objection_of_word word.now }
 {
     one_of!(word, Objection, None, {
         b"errTARGET" => Target,
@@ -143,7 +143,7 @@ pub(crate) fn objection(word: &[u8]) -> Option<Objection>
     })
 }
 
-/// Reads a field of a line by a function for its word, and gives the line after it.
+/// Reads the next word of a line by a function for its field, and gives its value and the rest of the line; or returns the fault.
 macro_rules! field {
     ($line:ident, $n:expr, $of:expr, $field:ident, $read:path $(, $most:expr)?) => {{
         let Some((word, rest)) = word_at($line) else {

@@ -101,7 +101,7 @@ pub(crate) enum EventLine<'l, 'g> {
         writes: u32,
         tear: HexText<'l>,
     },
-    /// The host takes actions that pass, until it reports or one is refused.
+    /// The host takes actions that pass, until one prints a line: the report of its session, or a refusal.
     GoOn,
     /// This many milliseconds pass.
     Time(u32),
@@ -124,7 +124,7 @@ pub(crate) enum Line<'l, 'g> {
     Limits { actions: u32, restarts: u16 },
     /// An event line.
     Do(EventLine<'l, 'g>),
-    /// `show`.
+    /// The line is `show`.
     Show,
     /// The next line that is printed must be this text.
     Expect(&'l [u8]),

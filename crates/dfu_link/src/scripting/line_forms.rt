@@ -1,9 +1,9 @@
-//! Forms of a line behind its first word, unless that is `go`.
+//! Reads the words of a line after its first word, unless that is `go`.
 
 ghost use Rattle.std.specs.Prelude.{◌≡◌};
 ghost use Rattle.dfu_link.specs.Words.{words_of};
 ghost use Rattle.dfu_link.specs.LineContent.{given_bytes, offered_bytes, content_of_line};
-ghost use Rattle.dfu_link.specs.Lines.{ReadMatches, ids_content, device_content, unit_line, erase_of, pace_line, capacity_content, image_content, check_of, limits_content, no_file, offered_file, offer_of, time_of, refuse_of, expect_of};
+ghost use Rattle.dfu_link.specs.Lines.{ReadMatches, ids_content, device_content, unit_content, erase_content, pace_content, capacity_content, image_content, check_content, limits_content, no_file_fault, offered_file, offer_content, time_of, refuse_content, expect_content};
 
 use crate::scripting::fault::{Field, LineFault};
 use crate::scripting::fields::{field, hex_at, identifier_at, number_at, offered, short_at};
@@ -51,27 +51,27 @@ pub(crate) fn device(line: &[u8]) -> Result<Line<'_, 'static>, LineFault>
 }
 
 /// Reads the words of `unit N` after the first word.
-#[tactic(auto, unfolding(crate::specs::Lines::unit_line))]
+#[tactic(auto, unfolding(crate::specs::Lines::unit_content))]
 pub(crate) fn unit(line: &[u8]) -> Result<Line<'_, 'static>, LineFault>
-    ensures { ReadMatches content_of_line result (unit_line (words_of line.now)) }
+    ensures { ReadMatches content_of_line result (unit_content (words_of line.now)) }
 {
     let (unit, rest) = field!(line, 2, 2, Unit, fields::unit);
     ended(Line::Set(ConfigLine::Unit(unit)), 2, rest)
 }
 
 /// Reads the words of `erase N` after the first word.
-#[tactic(auto, unfolding(crate::specs::Lines::erase_of))]
+#[tactic(auto, unfolding(crate::specs::Lines::erase_content))]
 pub(crate) fn erase(line: &[u8]) -> Result<Line<'_, 'static>, LineFault>
-    ensures { ReadMatches content_of_line result (erase_of (words_of line.now)) }
+    ensures { ReadMatches content_of_line result (erase_content (words_of line.now)) }
 {
     let (sector, rest) = field!(line, 2, 2, Sector, fields::sector);
     ended(Line::Set(ConfigLine::Erase(sector)), 2, rest)
 }
 
 /// Reads the words of `pace ERASE PROGRAM` after the first word.
-#[tactic(auto, unfolding(crate::specs::Lines::pace_line))]
+#[tactic(auto, unfolding(crate::specs::Lines::pace_content))]
 pub(crate) fn pace(line: &[u8]) -> Result<Line<'_, 'static>, LineFault>
-    ensures { ReadMatches content_of_line result (pace_line (words_of line.now)) }
+    ensures { ReadMatches content_of_line result (pace_content (words_of line.now)) }
 {
     let (erase_ms, rest) = short_at(line, 2, 3)?;
     let (program_ms, rest) = short_at(rest, 3, 3)?;
@@ -101,9 +101,9 @@ pub(crate) fn image(line: &[u8]) -> Result<Line<'_, 'static>, LineFault>
 }
 
 /// Reads the words of `check HEX` after the first word.
-#[tactic(auto, unfolding(crate::specs::Lines::check_of))]
+#[tactic(auto, unfolding(crate::specs::Lines::check_content))]
 pub(crate) fn check(line: &[u8]) -> Result<Line<'_, 'static>, LineFault>
-    ensures { ReadMatches content_of_line result (check_of (words_of line.now)) }
+    ensures { ReadMatches content_of_line result (check_content (words_of line.now)) }
 {
     let (front, rest) = hex_at(line, 2, 2)?;
     ended(Line::Set(ConfigLine::Check(front)), 2, rest)
@@ -119,9 +119,9 @@ pub(crate) fn limits(line: &[u8]) -> Result<Line<'_, 'static>, LineFault>
     ended(Line::Limits { actions, restarts }, 3, rest)
 }
 
-/// Returns the fault of a word that names no file.
-fn no_file(word: &[u8], n: usize) -> LineFault
-    ensures { result ≡ no_file word.now n }
+/// Returns the fault of word `n`, which names no file: NoFile for FILE, and the wrong form for any other word.
+fn no_file_fault(word: &[u8], n: usize) -> LineFault
+    ensures { result ≡ no_file_fault word.now n }
 {
     if is_word(word, b"FILE") {
         LineFault::NoFile
@@ -130,7 +130,7 @@ fn no_file(word: &[u8], n: usize) -> LineFault
     }
 }
 
-/// Returns the file that a line offers, by the bytes that FILE means.
+/// Takes word `n`, a file, from the front of `line`. Returns the file, by the bytes that FILE means, and the line after it.
 #[tactic(auto, unfolding(crate::specs::Lines::offered_file))]
 fn file_at<'l, 'g>(
     given: Option<&'g [u8]>,
@@ -145,19 +145,19 @@ fn file_at<'l, 'g>(
     };
     match offered(given, word) {
         Some(file) => Ok((file, rest)),
-        None => Err(no_file(word, n)),
+        None => Err(no_file_fault(word, n)),
     }
 }
 
 /// Reads the words of `offer HEX`, `offer FILE`, `verify HEX` or `verify FILE` after the first word. `given` has the bytes that FILE
 /// means.
-#[tactic(auto, unfolding(crate::specs::Lines::offer_of))]
+#[tactic(auto, unfolding(crate::specs::Lines::offer_content))]
 pub(crate) fn offer<'l, 'g>(
     given: Option<&'g [u8]>,
     purpose: Purpose,
     line: &'l [u8],
 ) -> Result<Line<'l, 'g>, LineFault>
-    ensures { ReadMatches content_of_line result (offer_of (given_bytes given.entry) purpose (words_of line.now)) }
+    ensures { ReadMatches content_of_line result (offer_content (given_bytes given.entry) purpose (words_of line.now)) }
 {
     let (file, rest) = file_at(given, line, 2, 2)?;
     ended(Line::Do(EventLine::Offer { purpose, file }), 2, rest)
@@ -173,9 +173,9 @@ pub(crate) fn time(line: &[u8]) -> Result<Line<'_, 'static>, LineFault>
 }
 
 /// Reads the words of `refuse CODE` after the first word.
-#[tactic(auto, unfolding(crate::specs::Lines::refuse_of))]
+#[tactic(auto, unfolding(crate::specs::Lines::refuse_content))]
 pub(crate) fn refuse(line: &[u8]) -> Result<Line<'_, 'static>, LineFault>
-    ensures { ReadMatches content_of_line result (refuse_of (words_of line.now)) }
+    ensures { ReadMatches content_of_line result (refuse_content (words_of line.now)) }
 {
     let (objection, rest) = field!(line, 2, 2, Objection, fields::objection);
     ended(Line::Do(EventLine::Refuse(objection)), 2, rest)
@@ -186,9 +186,9 @@ pub(crate) fn refuse(line: &[u8]) -> Result<Line<'_, 'static>, LineFault>
 /// # Errors
 ///
 /// NoText if no text follows.
-#[tactic(auto, unfolding(crate::specs::Lines::expect_of), using(std::proofs::lemmas::Bool::Decides::nat_tests))]
+#[tactic(auto, unfolding(crate::specs::Lines::expect_content), using(std::proofs::lemmas::Bool::Decides::nat_tests))]
 pub(crate) fn expect(line: &[u8]) -> Result<Line<'_, 'static>, LineFault>
-    ensures { ReadMatches content_of_line result (expect_of line.now) }
+    ensures { ReadMatches content_of_line result (expect_content line.now) }
 {
     match text_behind(line) {
         Some(text) => {

@@ -1,7 +1,7 @@
-//! Text for a writer, and bytes as hexadecimal text.
+//! Writes texts, and bytes as hexadecimal text.
 
 ghost use Rattle.std.specs.Prelude.{◌++◌, ◌≤◌, ◌∷◌, [], length};
-ghost use Rattle.dfu_link.specs.inside.Expected.{TextWritten};
+ghost use Rattle.dfu_link.specs.inside.Expected.{WriteEnds};
 ghost use Rattle.hex.specs.Hex.{encode_lower};
 ghost use Rattle.dfu_link.specs.Texts.{hex_text};
 
@@ -12,7 +12,7 @@ use std::io::Write;
 /// Writes a whole text, or returns Write at the first error of the writer, or once it takes nothing of the
 /// rest.
 pub(crate) fn write_out<W: Write>(writer: &mut W, text: &[u8]) -> Result<(), ScriptFault>
-    ensures { TextWritten text.now (W.contents writer.old) (W.contents writer.new) result }
+    ensures { WriteEnds text.now (W.contents writer.old) (W.contents writer.new) result }
 {
     match write_whole(writer, text) {
         Ok(()) => Ok(()),
@@ -26,7 +26,7 @@ pub(crate) fn write_two<W: Write>(
     first: &str,
     last: &str,
 ) -> Result<(), ScriptFault>
-    ensures { TextWritten (first.now ++ last.now) (W.contents writer.old) (W.contents writer.new) result }
+    ensures { WriteEnds (first.now ++ last.now) (W.contents writer.old) (W.contents writer.new) result }
 {
     write_out(writer, first.as_bytes())?;
     write_out(writer, last.as_bytes())
@@ -39,7 +39,7 @@ pub(crate) fn write_three<W: Write>(
     middle: &str,
     last: &str,
 ) -> Result<(), ScriptFault>
-    ensures { TextWritten (first.now ++ middle.now ++ last.now) (W.contents writer.old) (W.contents writer.new) result }
+    ensures { WriteEnds (first.now ++ middle.now ++ last.now) (W.contents writer.old) (W.contents writer.new) result }
 {
     write_two(writer, first, middle)?;
     write_out(writer, last.as_bytes())
@@ -51,7 +51,7 @@ pub(crate) const SHOWN_BYTES: usize = 256;
 /// Writes at most 256 bytes as digits.
 pub(crate) fn write_digits<W: Write>(writer: &mut W, bytes: &[u8]) -> Result<(), ScriptFault>
     requires { length bytes.now ≤ 256 }
-    ensures { TextWritten (encode_lower bytes.now) (W.contents writer.old) (W.contents writer.new) result }
+    ensures { WriteEnds (encode_lower bytes.now) (W.contents writer.old) (W.contents writer.new) result }
 {
     let len = bytes.len();
     let mut digits = [0; 2 * SHOWN_BYTES];
@@ -63,7 +63,7 @@ pub(crate) fn write_digits<W: Write>(writer: &mut W, bytes: &[u8]) -> Result<(),
 
 /// Writes bytes as digits, piece by piece.
 fn write_all_digits<W: Write>(writer: &mut W, bytes: &[u8]) -> Result<(), ScriptFault>
-    ensures { TextWritten (encode_lower bytes.now) (W.contents writer.old) (W.contents writer.new) result }
+    ensures { WriteEnds (encode_lower bytes.now) (W.contents writer.old) (W.contents writer.new) result }
 {
     let all = bytes.len();
     let mut at = 0;
@@ -77,7 +77,7 @@ fn write_all_digits<W: Write>(writer: &mut W, bytes: &[u8]) -> Result<(), Script
 
 /// Writes bytes as a script prints them, and ends the line.
 pub(crate) fn write_bytes<W: Write>(writer: &mut W, bytes: &[u8]) -> Result<(), ScriptFault>
-    ensures { TextWritten (hex_text bytes.now ++ 10 ∷ []) (W.contents writer.old) (W.contents writer.new) result }
+    ensures { WriteEnds (hex_text bytes.now ++ 10 ∷ []) (W.contents writer.old) (W.contents writer.new) result }
 {
     if bytes.is_empty() {
         return write_two(writer, "-", "\n");

@@ -9,7 +9,7 @@ ghost use Rattle.dfu_link.specs.ScriptRun.{is_accepted, checked_event, checked_f
 ghost use Rattle.dfu_sim.specs.LinkView.{IsLive};
 ghost use Rattle.dfu_link.specs.LineContent.{Does, GoesOn, Offer, content_of_event, harmed_line};
 ghost use Rattle.dfu_link.specs.inside.Expected.{expectation_of, point_of_parts, point_of_context};
-ghost use Rattle.dfu_link.specs.inside.Moving.{PlaysEvents, LineOutcome, offered_file_of};
+ghost use Rattle.dfu_link.specs.inside.Moving.{PlayEnds, LineOutcome, offered_file_of};
 
 use crate::scripting::event_parts::{begins, harmed, offered};
 use crate::scripting::expectation::{Expectation, ScriptContext};
@@ -25,7 +25,7 @@ use dfu_slots::{Faulty, Medium};
 use std::alloc::Global;
 use std::io::Write;
 
-/// Performs `event`, which is no action of the host, on `world`, and writes the line that is printed of it to `writer`.
+/// Performs `event`, which is no action of the host, on `world`, and writes the line that it prints, if it prints one, to `writer`.
 fn play<'f, M: Faulty, W: Write>(
     world: &mut World<'f, M>,
     event: Event<'f, '_>,
@@ -33,15 +33,15 @@ fn play<'f, M: Faulty, W: Write>(
     writer: &mut W,
 ) -> Result<(), ScriptFault>
     ensures { (check : List ℕ) → checked_event check world.old.bench (happening event.entry) ≡ happening event.entry →
-        PlaysEvents check world.old.bench (expectation_of next.old) (happening event.entry ∷ []) (W.contents writer.old) world.new.bench
+        PlayEnds check world.old.bench (expectation_of next.old) (happening event.entry ∷ []) (W.contents writer.old) world.new.bench
         (expectation_of next.new) (W.contents writer.new) result }
 {
     let answer = world.step(event);
     say_next(writer, next, answer, world.uploaded())
 }
 
-/// Returns whether a program that takes only images that begin with `check` accepts what the device has taken: an image that begins so, or
-/// none. An empty check takes every image, and looks at none.
+/// Returns whether a program that takes only images that begin with `check` accepts the image that the device has taken: if it begins so,
+/// or if there is none. With an empty check every image is accepted without a look at it.
 fn is_accepted<M: Medium>(device: &Device<M>, check: &[u8]) -> bool
     ensures { result ≡ is_accepted check.now (candidate_in device.now.stage) }
 {
@@ -54,7 +54,7 @@ fn is_accepted<M: Medium>(device: &Device<M>, check: &[u8]) -> bool
     }
 }
 
-/// Makes an event of an action, for a device whose program takes only images that begin with `check`.
+/// Makes an event of an action with `fate`, in which the device's program refuses a closed image that does not begin with `check`.
 fn checked<'f, 't, M: Medium>(device: &Device<M>, check: &[u8], fate: Fate<'t>) -> Event<'f, 't>
     ensures { happening result ≡ Goes (checked_fate check.now device.now (fate_of fate.entry)) (harm_of_fate fate.entry) }
 {
@@ -89,7 +89,7 @@ fn take<'f, T: Tracer<M>, M: Faulty>(
     answer
 }
 
-/// Returns whether an event prints nothing.
+/// Returns whether an event with this answer prints nothing.
 fn is_silent(answer: Result<Option<Report>, LinkFault>) -> bool
     ensures silent { result ≡ true → answer ≡ Ok None }
     ensures told { result ≡ false → answer ≢ Ok None }
@@ -100,7 +100,7 @@ fn is_silent(answer: Result<Option<Report>, LinkFault>) -> bool
     }
 }
 
-/// Takes `times` actions of the host with `fate`, and writes the line that is printed of each to `writer`.
+/// Takes `times` actions of the host with `fate`, and writes the line of each that prints one to `writer`.
 fn play_actions<'f, T: Tracer<M>, M: Faulty, W: Write>(
     world: &mut World<'f, M>,
     fate: Fate<'_>,
@@ -110,7 +110,7 @@ fn play_actions<'f, T: Tracer<M>, M: Faulty, W: Write>(
     writer: &mut W,
     tracer: &mut T,
 ) -> Result<(), ScriptFault>
-    ensures { PlaysEvents check.now world.old.bench (expectation_of next.old)
+    ensures { PlayEnds check.now world.old.bench (expectation_of next.old)
         (replicate times (Goes (fate_of fate.entry) (harm_of_fate fate.entry)))
         (W.contents writer.old) world.new.bench (expectation_of next.new) (W.contents writer.new) result }
 {
@@ -144,8 +144,8 @@ fn pass_on<'f, T: Tracer<M>, M: Faulty, W: Write>(
     }
 }
 
-/// Takes an action of the host in which the write after `writes` others is harmed, as `harm` and `tear` say, and writes the line that is
-/// printed of it. The tear takes memory.
+/// Takes an action of the host in which the write after `writes` others is harmed, as `harm` and `tear` say, and writes the line that it
+/// prints, if it prints one. The tear takes memory.
 fn play_harmed<'f, T: Tracer<M>, M: Faulty, W: Write>(
     alloc: Global,
     world: &mut World<'f, M>,
@@ -167,7 +167,7 @@ fn play_harmed<'f, T: Tracer<M>, M: Faulty, W: Write>(
     play_actions::<T, M, W>(world, fate, 1, check, next, writer, tracer)
 }
 
-/// Plays `events`, the events of a line, and writes the lines that are printed of them to `writer`. A tear takes memory.
+/// Plays `events`, the events of a line, and writes the lines that they print to `writer`. A tear takes memory.
 pub(crate) fn play_events<'f, T: Tracer<M>, M: Faulty, W: Write>(
     alloc: Global,
     world: &mut World<'f, M>,
@@ -208,7 +208,7 @@ pub(crate) fn play_events<'f, T: Tracer<M>, M: Faulty, W: Write>(
     }
 }
 
-/// Refuses an offer because a session is live, and writes the refusal.
+/// Refuses an offer because a session is live, and writes the line of the refusal.
 pub(crate) fn refuse_offer<'f, M: Faulty, W: Write>(
     world: &World<'f, M>,
     context: &mut ScriptContext<'_>,
@@ -219,7 +219,7 @@ pub(crate) fn refuse_offer<'f, M: Faulty, W: Write>(
         LineOutcome (point_of_context context.old world.now.bench) (Does (Offer purpose file)) (W.contents writer.old)
         (point_of_context context.new world.now.bench) (W.contents writer.new) result }
 {
-    // Calls `device` for its clause `active`, which a refusal's bench needs.
+    // Calls `device` for its clause `active`, which the contract needs of the link.
     let _ = world.device();
     say_next(writer, &mut context.next, Err(LinkFault::HostBusy), &[])
 }

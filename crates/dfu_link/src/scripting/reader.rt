@@ -1,4 +1,4 @@
-//! The bytes of a reader, a piece at a time.
+//! The bytes of a reader, piece by piece.
 
 ghost use Rattle.std.specs.Prelude.{◌≡◌, ◌≤◌, [], length, take, drop, OnOk, IfErr, IfSome};
 ghost use Rattle.std.specs.Io.KnownBytes.{Keeps, Consumes, IsAtEnd, prepend_known};
@@ -8,7 +8,7 @@ use dfu_suffix::READ_BYTES;
 use std::io::Read;
 use std::marker::Model;
 
-/// A reader, and the bytes that it gave and that were not taken yet.
+/// A reader, and the bytes that were read from it and not taken yet.
 ///
 /// Contracts see it as a `PiecesState`.
 #[derive(Drop)]

@@ -3,7 +3,7 @@
 ghost use Rattle.dfu_link.specs.Words.{ReadingMatches, words_of};
 ghost use Rattle.dfu_sim.specs.Happening.{fate_of, harm_of_fate};
 ghost use Rattle.dfu_link.specs.LineContent.{given_bytes, content_of_line, Go, Does, harm_fate};
-ghost use Rattle.dfu_link.specs.Lines.{ReadMatches, line_ends, pass_of, slip_of, harmed_of, until_of, content_by_fate, go_of, by_keyword, read_line, line_of};
+ghost use Rattle.dfu_link.specs.Lines.{ReadMatches, line_ends, pass_content, slip_content, harmed_content, until_content, content_by_fate, go_content, by_keyword, read_line, line_of};
 
 use crate::scripting::fault::{Field, LineFault, Reason, Stopped};
 use crate::scripting::fields::{field, hex_at, number_at};
@@ -21,16 +21,16 @@ use dfu_sim::{Fate, Purpose};
 pub(crate) const MAX_LINE: usize = 65_536;
 
 /// Reads the words of `go pass N` after the second word.
-#[tactic(auto, unfolding(crate::specs::Lines::pass_of))]
+#[tactic(auto, unfolding(crate::specs::Lines::pass_content))]
 fn pass(line: &[u8]) -> Result<Line<'_, 'static>, LineFault>
-    ensures { ReadMatches content_of_line result (pass_of (words_of line.now)) }
+    ensures { ReadMatches content_of_line result (pass_content (words_of line.now)) }
 {
     let (times, rest) = field!(line, 3, 3, Times, words::count, 1_000_000);
     let fate = Fate::Pass;
     ended(Line::Do(EventLine::Go { fate, times }), 3, rest)
 }
 
-/// Makes the line of one action.
+/// Returns the line of one action with `fate`, if no further word follows.
 fn once<'l>(fate: Fate<'l>, of: usize, rest: &[u8]) -> Result<Line<'l, 'static>, LineFault>
     ensures { ReadMatches content_of_line result (line_ends (Does (Go (fate_of fate.entry) (harm_of_fate fate.entry) 1)) of
         (words_of rest.now)) }
@@ -39,18 +39,18 @@ fn once<'l>(fate: Fate<'l>, of: usize, rest: &[u8]) -> Result<Line<'l, 'static>,
 }
 
 /// Reads the words of `go slip MS` after the second word.
-#[tactic(auto, unfolding(crate::specs::Lines::slip_of))]
+#[tactic(auto, unfolding(crate::specs::Lines::slip_content))]
 fn slip(line: &[u8]) -> Result<Line<'_, 'static>, LineFault>
-    ensures { ReadMatches content_of_line result (slip_of (words_of line.now)) }
+    ensures { ReadMatches content_of_line result (slip_content (words_of line.now)) }
 {
     let (ms, rest) = number_at(line, 3, 3)?;
     once(Fate::Slip(ms), 3, rest)
 }
 
-/// Reads the words of `go cut W HEX` or `go fail W HEX`, as `harm` says, after the second word.
-#[tactic(auto, unfolding(crate::specs::Lines::harmed_of))]
+/// Reads the words of `go cut W HEX`, `go fail W HEX` or `go lie W HEX`, as `harm` says, after the second word.
+#[tactic(auto, unfolding(crate::specs::Lines::harmed_content))]
 fn harmed(harm: HarmKind, line: &[u8]) -> Result<Line<'_, 'static>, LineFault>
-    ensures { ReadMatches content_of_line result (harmed_of (harm_fate harm) (words_of line.now)) }
+    ensures { ReadMatches content_of_line result (harmed_content (harm_fate harm) (words_of line.now)) }
 {
     let (writes, rest) = number_at(line, 3, 4)?;
     let (tear, rest) = hex_at(rest, 4, 4)?;
@@ -59,9 +59,9 @@ fn harmed(harm: HarmKind, line: &[u8]) -> Result<Line<'_, 'static>, LineFault>
 }
 
 /// Reads the words of `go until report` after the second word.
-#[tactic(auto, unfolding(crate::specs::Lines::until_of))]
+#[tactic(auto, unfolding(crate::specs::Lines::until_content))]
 fn until(line: &[u8]) -> Result<Line<'_, 'static>, LineFault>
-    ensures { ReadMatches content_of_line result (until_of (words_of line.now)) }
+    ensures { ReadMatches content_of_line result (until_content (words_of line.now)) }
 {
     let Some((word, rest)) = word_at(line) else {
         return Err(LineFault::Count(3));
@@ -91,9 +91,9 @@ fn by_fate(keyword: FateKeyword, rest: &[u8]) -> Result<Line<'_, 'static>, LineF
 }
 
 /// Reads the words of a `go` line after the first word: a fate or `until`, and the words that belong to it.
-#[tactic(auto, unfolding(crate::specs::Lines::go_of))]
+#[tactic(auto, unfolding(crate::specs::Lines::go_content))]
 fn go(line: &[u8]) -> Result<Line<'_, 'static>, LineFault>
-    ensures { ReadMatches content_of_line result (go_of (words_of line.now)) }
+    ensures { ReadMatches content_of_line result (go_content (words_of line.now)) }
 {
     let Some((word, rest)) = word_at(line) else {
         return Err(LineFault::NoFate);
@@ -186,7 +186,7 @@ fn count_words(line: &[u8]) -> usize {
     words
 }
 
-/// Notes the fault of a line that is not one of the language.
+/// Notes the fault of a line that is not one of the language, or that it has a byte outside 20h to 7Eh.
 pub(crate) fn note_line(stopped: &Stopped, given: Option<&[u8]>, line: &[u8]) {
     if !line.iter().all(|byte| matches!(*byte, b' '..=b'~')) {
         stopped.note_reason(Reason::Unprintable {

@@ -1,6 +1,6 @@
 //! The lines of a script once the device is started.
 //!
-//! A `World` borrows the file that it was offered, so each file has a world of its own, and so have the lines without a file before and
+//! A `World` borrows the file that it was offered, so each file has a world of its own, as have the lines without a file before and
 //! after it. A world is made over the device and taken apart again for each of these, but not for each line, because a world has
 //! kilobytes.
 
@@ -11,7 +11,7 @@ ghost use Rattle.dfu_link.specs.Falls.{LineFails};
 ghost use Rattle.dfu_link.specs.ScriptRun.{link_at_rest};
 ghost use Rattle.dfu_link.specs.inside.Expected.{point_of_context};
 ghost use Rattle.dfu_link.specs.inside.Source.{NextLineOrEnd, SourceLine, SourceState};
-ghost use Rattle.dfu_link.specs.inside.Moving.{LineEnds, LineDoneOrDeferred, LinkOutcome, IsOfferedFileOf, SourceExhausted, IsUnarmed, LineDonePlainly, LineFailsPlainly, MovesThenFails};
+ghost use Rattle.dfu_link.specs.inside.Moving.{LineEnds, LineDoneOrDeferred, LinkOutcome, IsOfferedFileOf, SourceExhausted, IsUnarmed, LineDoneButEvents, LineFailsBeforeEvents, LinesDoneThenFailure};
 
 use crate::scripting::event_parts::file_of;
 use crate::scripting::expectation::{ScriptContext, expect};
@@ -38,9 +38,9 @@ fn plain_line<'l, 'g, M: Medium, W: Write>(
     context: &mut ScriptContext<'g>,
     writer: &mut W,
 ) -> Result<Option<EventLine<'l, 'g>>, ScriptFault>
-    ensures ok { IfOk result (λ events. LineDonePlainly device.now context.old number line.now (W.contents writer.old) events context.new
+    ensures ok { IfOk result (λ events. LineDoneButEvents device.now context.old number line.now (W.contents writer.old) events context.new
         (W.contents writer.new)) }
-    ensures fault { IfErr result (λ f. LineFailsPlainly device.now context.old number line.now (W.contents writer.old)
+    ensures fault { IfErr result (λ f. LineFailsBeforeEvents device.now context.old number line.now (W.contents writer.old)
         (W.contents writer.new) f) }
 {
     match parse(context.given, line) {
@@ -89,7 +89,8 @@ fn first_line<'f, T: Tracer<M>, M: Faulty, W: Write>(
     }
 }
 
-/// Performs `line`, a later one. Returns true if the line is left, because it offers a file and no session is live.
+/// Performs `line`, which is not the first on its link. Returns true if the line is deferred, because it offers a file and no session is
+/// live.
 fn later_line<'f, T: Tracer<M>, M: Faulty, W: Write>(
     alloc: Global,
     world: &mut World<'f, M>,
@@ -130,9 +131,9 @@ fn is_over<M: Faulty>(world: &World<'_, M>, file: &[u8]) -> bool
     !world.is_live() && !file.is_empty()
 }
 
-/// Performs the line that `source` gave, on the link `world` that was made for it, and the lines after it, until one offers a file while
-/// no session is live. A link that holds a file is left once its session is over. If no line is left, the line of the image is written.
-/// Returns true if the source has given a line that is left.
+/// Performs the line that `source` gave, on the link `world` that was made for it, and the lines after it, until one offers a file while no
+/// session is live. A link that holds a file is left once its session is over. If no line is left, the line of the image is written.
+/// Returns true if the line that the source gave last is deferred.
 fn run_link<'f, T: Tracer<M>, R: Read + Drop, M: Faulty, W: Write>(
     alloc: Global,
     world: &mut World<'f, M>,
@@ -147,7 +148,7 @@ fn run_link<'f, T: Tracer<M>, R: Read + Drop, M: Faulty, W: Write>(
     ensures rest { result ≡ Ok true → world.new.bench.session ≡ NoLiveSession }
     ensures ok { IfOk result (λ left. (s : SourceState) → SourceLine s source.old → LinkOutcome (point_of_context context.old world.old.bench) s
         (W.contents writer.old) (point_of_context context.new world.new.bench) source.new (W.contents writer.new) left) }
-    ensures fault { IfErr result (λ f. (s : SourceState) → SourceLine s source.old → MovesThenFails (point_of_context context.old world.old.bench) s
+    ensures fault { IfErr result (λ f. (s : SourceState) → SourceLine s source.old → LinesDoneThenFailure (point_of_context context.old world.old.bench) s
         (W.contents writer.old) (W.contents writer.new) f) }
 {
     first_line::<T, M, W>(
@@ -196,7 +197,7 @@ fn run_links<T: Tracer<M>, R: Read + Drop, M: Faulty, W: Write>(
     ensures ok { OnOk result ((s : SourceState) → SourceLine s source.old → SourceExhausted (point_of_context context.old (link_at_rest device)) s
         (W.contents writer.old) (W.contents writer.new)) }
     ensures fault { IfErr result (λ f. (s : SourceState) → SourceLine s source.old
-        → MovesThenFails (point_of_context context.old (link_at_rest device)) s (W.contents writer.old) (W.contents writer.new) f) }
+        → LinesDoneThenFailure (point_of_context context.old (link_at_rest device)) s (W.contents writer.old) (W.contents writer.new) f) }
 {
     let mut device = device;
     'links: loop {
@@ -228,7 +229,7 @@ pub(crate) fn run_on<T: Tracer<M>, R: Read + Drop, M: Faulty, W: Write>(
         → SourceExhausted (point_of_context context.entry (link_at_rest device)) s
         (W.contents writer.old) (W.contents writer.new)) }
     ensures fault { IfErr result (λ f. (s : SourceState) → NextLineOrEnd s given source.old
-        → MovesThenFails (point_of_context context.entry (link_at_rest device)) s
+        → LinesDoneThenFailure (point_of_context context.entry (link_at_rest device)) s
         (W.contents writer.old) (W.contents writer.new) f) }
 {
     let mut context = context;

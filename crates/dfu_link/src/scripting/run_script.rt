@@ -1,10 +1,10 @@
-//! Whole scripts.
+//! Runs whole scripts.
 
 ghost use Rattle.std.specs.Prelude.{IfOk, IfErr, IfSome, None};
 ghost use Rattle.dfu_link.specs.LineContent.{given_bytes};
 ghost use Rattle.dfu_link.specs.Falls.{ScriptEnding};
 ghost use Rattle.dfu_link.specs.Printed.{HasPrinted};
-ghost use Rattle.dfu_link.specs.inside.Moving.{LinesConfigured, CannotConfigure};
+ghost use Rattle.dfu_link.specs.inside.Moving.{LinesConfigured, IsConfigureFault};
 ghost use Rattle.dfu_link.specs.inside.SetupView.{settings_of};
 
 use crate::scripting::expectation::ScriptContext;
@@ -22,7 +22,7 @@ use dfu_slots::SimMedium;
 use std::alloc::Global;
 use std::io::{Read, Write};
 
-/// Performs the lines of `source` up to the first event line or `show`. Returns true if there is one.
+/// Performs the lines of `source` before the first event line, `show` or `expect`. Returns true if there is such a line.
 fn configure<R: Read + Drop>(
     alloc: Global,
     setup: &mut ScriptConfig<'_>,
@@ -30,7 +30,7 @@ fn configure<R: Read + Drop>(
     stopped: &Stopped,
 ) -> Result<bool, ScriptFault>
     ensures ok { IfOk result (λ more. LinesConfigured (settings_of setup.old) source.old (settings_of setup.new) more source.new) }
-    ensures fault { IfErr result (λ f. CannotConfigure (settings_of setup.old) source.old f) }
+    ensures fault { IfErr result (λ f. IsConfigureFault (settings_of setup.old) source.old f) }
 {
     'settings: loop {
         if !source.next()? {
@@ -79,25 +79,25 @@ pub(super) fn run_lines<T: Tracer<SimMedium>, R: Read + Drop, W: Write>(
     run_on::<T, R, SimMedium, W>(alloc, device, &mut source, more, context, writer, tracer)
 }
 
-/// Runs a script: reads it line by line, and does each line before the next one is read. Lines that
-/// set set up a device, event lines let events come to a link of that device and a host, and what
-/// is printed of them is written; last comes the line of the device's image.
+/// Runs a script: reads it line by line, and performs each line before the next one is read. Configuration
+/// lines set up a device, event lines bring events to a link of that device and a host, and the texts that
+/// they print are written; the line of the device's image comes last.
 ///
 /// In `offer` and `verify` the word FILE means the given bytes, which are not copied. If none are given, FILE
 /// is no word of the language.
 ///
 /// The fault of the script is noted in `stopped` if it stops at BadLine or BadConfig.
 ///
-/// The call keeps one line, one piece of 65,536 bytes that was read, and the file of the session that is
+/// The call keeps one line, one piece of 16,384 bytes that was read, and the file of the session that is
 /// live, however long the text is.
 ///
 /// # Errors
 ///
-/// `ScriptFault` has them. The first one in the order of the lines is answered, and the text of the
-/// lines before it is out whole. TooLarge comes if the byte 16,777,217 comes before the end of a
-/// line, and before the byte of that line that is one too many; no read is made after that byte was
-/// read. Read comes at the first error of the reader, with no second try. With BadConfig nothing is
-/// written; with Write a prefix of the text.
+/// `ScriptFault` has them. The first one in the order of the lines is returned, and the text of the lines
+/// before it is written whole. TooLarge is returned if the byte 16,777,217 comes before the end of a line,
+/// and before the byte of that line that is one too many; no read is made after that byte was read. Read is
+/// returned at the first error of the reader, with no second try. With BadConfig nothing is written; with
+/// Write a prefix of the text.
 pub fn script_with<R: Read + Drop, W: Write>(
     alloc: Global,
     given: Option<&[u8]>,
@@ -105,12 +105,12 @@ pub fn script_with<R: Read + Drop, W: Write>(
     writer: &mut W,
     stopped: &Stopped,
 ) -> Result<(), ScriptFault>
-    // With Ok the written text is a run of the read text; a fault says where the run stopped, and what is out then.
+    // With Ok the written text is a run of the read text; a fault says where the run stopped, and which text was written by then.
     ensures ended { IfSome (R.remaining reader)
         (λ text. ScriptEnding (given_bytes given.entry) text (W.contents writer.old) (W.contents writer.new) result) }
-    // The headline, of all that is printed or as far as the script goes: each image is the factory image or a payload offered so far. If
+    // The headline, for all of the text or as far as the script goes: each image is the factory image or a payload offered so far. If
     // `report installed` or `report verified` is printed, the device is in appIDLE and exactly the payload of the last session is active.
-    // Of the language only what a line brings is read.
+    // This clause relies only on the effect of each line.
     ensures printed { IfSome (R.remaining reader)
         (λ text. HasPrinted (given_bytes given.entry) text (W.contents writer.old) (W.contents writer.new) result) }
 {
@@ -120,11 +120,11 @@ pub fn script_with<R: Read + Drop, W: Write>(
     run_lines::<NoTrace, R, W>(alloc, given, reader, writer, &mut NoTrace, stopped)
 }
 
-/// Runs a script as `script_with` does, and writes a line for each action of the host to `trace`, before what is
-/// printed of it. The line has the number of the action, the phase of the host, what it asks for, the fate, what
-/// the device answers, the state of the device before and after, the writes of the medium, and the milliseconds
-/// since the start, once it is over. Such a line begins with `# `, and no line of `script_with` begins with `#`.
-/// The call also returns whether each line of the trace is out.
+/// Runs a script as `script_with` does, and writes a line for each action of the host to `trace`, before the
+/// text that the action prints. The line has the number of the action, the phase of the host, its request, wait
+/// or reset, the fate, the answer of the device, the state of the device before and after, the writes of the
+/// medium, and the milliseconds since the start, once it is over. Such a line begins with `# `, and no line of
+/// `script_with` begins with `#`. The call also returns whether each line of the trace was written.
 ///
 /// One line of the trace at a time takes memory. If there is none for a line, or `trace` fails, the script goes
 /// on, and no further line is written.
@@ -170,12 +170,12 @@ pub fn script<R: Read + Drop, W: Write>(
     reader: R,
     writer: &mut W,
 ) -> Result<(), ScriptFault>
-    // With Ok the written text is a run of the read text; a fault says where the run stopped, and what is out then.
+    // With Ok the written text is a run of the read text; a fault says where the run stopped, and which text was written by then.
     ensures ended { IfSome (R.remaining reader)
         (λ text. ScriptEnding None text (W.contents writer.old) (W.contents writer.new) result) }
-    // The headline, of all that is printed or as far as the script goes: each image is the factory image or a payload offered so far. If
+    // The headline, for all of the text or as far as the script goes: each image is the factory image or a payload offered so far. If
     // `report installed` or `report verified` is printed, the device is in appIDLE and exactly the payload of the last session is active.
-    // Of the language only what a line brings is read.
+    // This clause relies only on the effect of each line.
     ensures printed { IfSome (R.remaining reader)
         (λ text. HasPrinted None text (W.contents writer.old) (W.contents writer.new) result) }
 {

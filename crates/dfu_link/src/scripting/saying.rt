@@ -1,7 +1,7 @@
 //! The lines of reports and of refused events.
 
 ghost use Rattle.std.specs.Prelude.{◌≡◌};
-ghost use Rattle.dfu_link.specs.inside.Expected.{expectation_of, TextWritten, PrintsNext};
+ghost use Rattle.dfu_link.specs.inside.Expected.{expectation_of, WriteEnds, PrintEnds};
 ghost use Rattle.dfu_link.specs.Texts.{offer_fault_name, uploaded_line, report_line, refusal_line, outcome_line};
 
 use crate::scripting::expectation::{Expectation, write_next};
@@ -21,15 +21,15 @@ fn offer_fault_name(fault: OfferFault) -> &'static str
 }
 
 fn say_uploaded<W: Write>(writer: &mut W, bytes: &[u8]) -> Result<(), ScriptFault>
-    ensures { TextWritten (uploaded_line bytes.now) (W.contents writer.old) (W.contents writer.new) result }
+    ensures { WriteEnds (uploaded_line bytes.now) (W.contents writer.old) (W.contents writer.new) result }
 {
     write_out(writer, b"report uploaded ")?;
     write_bytes(writer, bytes)
 }
 
-/// Writes the line of a report. The uploaded bytes are shown only with Uploaded.
+/// Writes the line of a report, with the uploaded bytes only if the report is Uploaded.
 fn say_report<W: Write>(writer: &mut W, report: Report, uploaded: &[u8]) -> Result<(), ScriptFault>
-    ensures { TextWritten (report_line report uploaded.now) (W.contents writer.old) (W.contents writer.new) result }
+    ensures { WriteEnds (report_line report uploaded.now) (W.contents writer.old) (W.contents writer.new) result }
 {
     match report {
         Report::Refused(code) => write_three(writer, "report refused ", code.name(), "\n"),
@@ -47,7 +47,7 @@ fn say_report<W: Write>(writer: &mut W, report: Report, uploaded: &[u8]) -> Resu
 }
 
 fn say_refusal<W: Write>(writer: &mut W, fault: LinkFault) -> Result<(), ScriptFault>
-    ensures { TextWritten (refusal_line fault) (W.contents writer.old) (W.contents writer.new) result }
+    ensures { WriteEnds (refusal_line fault) (W.contents writer.old) (W.contents writer.new) result }
 {
     match fault {
         LinkFault::HostBusy => write_out(writer, b"refused HostBusy\n"),
@@ -59,14 +59,14 @@ fn say_refusal<W: Write>(writer: &mut W, fault: LinkFault) -> Result<(), ScriptF
     }
 }
 
-/// Writes the text of an event's answer; `uploaded` are the bytes of the last upload.
-#[tactic(auto, using(crate::proofs::WriteLaws::no_text_written))]
+/// Writes the text of an event's answer, which may be empty; `uploaded` are the bytes of the last upload.
+#[tactic(auto, using(crate::proofs::WriteLaws::no_text_is_written))]
 pub(crate) fn say<W: Write>(
     writer: &mut W,
     answer: Result<Option<Report>, LinkFault>,
     uploaded: &[u8],
 ) -> Result<(), ScriptFault>
-    ensures { TextWritten (outcome_line answer uploaded.now) (W.contents writer.old) (W.contents writer.new) result }
+    ensures { WriteEnds (outcome_line answer uploaded.now) (W.contents writer.old) (W.contents writer.new) result }
 {
     match answer {
         Ok(None) => Ok(()),
@@ -75,14 +75,15 @@ pub(crate) fn say<W: Write>(
     }
 }
 
-/// Writes the text of an event's answer next. If a line is expected, the text is put into memory first.
+/// Writes the text of an event's answer, and compares it with the expected line, if there is one. For that the text is put into memory
+/// first.
 pub(crate) fn say_next<W: Write>(
     writer: &mut W,
     next: &mut Option<Expectation>,
     answer: Result<Option<Report>, LinkFault>,
     uploaded: &[u8],
 ) -> Result<(), ScriptFault>
-    ensures { PrintsNext (expectation_of next.old) (W.contents writer.old) (outcome_line answer uploaded.now) (expectation_of next.new)
+    ensures { PrintEnds (expectation_of next.old) (W.contents writer.old) (outcome_line answer uploaded.now) (expectation_of next.new)
         (W.contents writer.new) result }
 {
     let Some(expected) = next else {

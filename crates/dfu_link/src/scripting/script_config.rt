@@ -1,4 +1,4 @@
-//! Settings before the first event line or `show`.
+//! Settings before the first event line, `show` or `expect`.
 
 ghost use Rattle.std.specs.Prelude.{◌≡◌, OnOk, IfErr};
 ghost use Rattle.dfu_link.specs.LineContent.{config_line_of, given_bytes};
@@ -13,7 +13,7 @@ use dfu_slots::Unit;
 use dfu_wire::{Functional, Ids};
 use std::alloc::Global;
 
-/// The numbers of the last lines that set something, each 0 if no line does.
+/// The number of the last line that sets each of these, 0 if no line does.
 #[derive(Clone, Copy)]
 pub(crate) struct SetLines {
     pub device: u32,
@@ -24,9 +24,9 @@ pub(crate) struct SetLines {
 }
 
 /// Settings of a script: the numbers that `Config::new` takes, the unit in which the medium is written and the sectors in which it is
-/// erased, how many milliseconds an erase and a program of 256 bytes take, and how many bytes an image may have. Set are also the image at
-/// first (the byte 00 if there is none), the bytes with which an image begins that the program takes (any if there are none), and the
-/// limits of sessions. The bytes that FILE means are given, and the lines that set are known by their numbers.
+/// erased, the milliseconds of an erase and of a program of 256 bytes, the most bytes of an image, the image at first (the byte 00 if there
+/// is none), the first bytes of each image that the program takes (any if there are none), the limits of sessions, the bytes that FILE
+/// means, and the numbers of the lines that set something.
 #[derive(Drop)]
 pub(crate) struct ScriptConfig<'g> {
     pub ids: Ids,
@@ -82,7 +82,8 @@ pub(crate) fn beginning(given: Option<&[u8]>) -> ScriptConfig<'_>
     }
 }
 
-/// Sets in `setup` what the configuration line `setting` with number `number` says. An image and the bytes of a check take memory.
+/// Sets the values of the configuration line `setting`, whose number is `number`, in `setup`. An image and the bytes of a check take
+/// memory.
 pub(crate) fn set(
     alloc: Global,
     setup: &mut ScriptConfig<'_>,

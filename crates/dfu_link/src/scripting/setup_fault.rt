@@ -30,7 +30,7 @@ pub enum SetupFault {
     Image,
 }
 
-/// Returns the fault of a device's settings.
+/// Returns the fault of the settings for which `Config::new` gives `fault`.
 fn device_fault(setup: &ScriptConfig<'_>, fault: ConfigFault) -> SetupFault {
     match fault {
         ConfigFault::BadTransfer => SetupFault::Transfer,
@@ -45,7 +45,7 @@ fn device_fault(setup: &ScriptConfig<'_>, fault: ConfigFault) -> SetupFault {
     }
 }
 
-/// Returns the fault of the room for images, if it has one.
+/// Returns the first fault of the capacity, if it has one.
 fn room_fault(setup: &ScriptConfig<'_>) -> Option<SetupFault>
     ensures { IfSome result (λ fault. HasRoomFault fault (settings_of setup.now)) }
 {
@@ -70,7 +70,7 @@ pub(crate) fn setup_fault(setup: &ScriptConfig<'_>) -> Option<SetupFault> {
     }
 }
 
-/// Returns the number of the line that sets the fault: of two lines the later one, and 0 if no line sets it.
+/// Returns the number of the line that sets a value with this fault: of two lines the later one, and 0 if no line sets one.
 pub(crate) fn line_of_fault(setup: &ScriptConfig<'_>, fault: SetupFault) -> u32 {
     let lines = setup.lines;
     match fault {

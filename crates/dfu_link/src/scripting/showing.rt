@@ -3,7 +3,7 @@
 ghost use Rattle.std.specs.Prelude.{◌+◌, ◌≤◌, ◌++◌, ◌∷◌, [], length, slice_range};
 ghost use Rattle.hex.specs.Hex.{encode_lower};
 ghost use Rattle.dfu_slots.specs.StoreView.{image_of};
-ghost use Rattle.dfu_link.specs.inside.Expected.{expectation_of, TextWritten, PrintsNext};
+ghost use Rattle.dfu_link.specs.inside.Expected.{expectation_of, WriteEnds, PrintEnds};
 ghost use Rattle.dfu_link.specs.Texts.{hex_text, image_line, state_text, show_line};
 
 use crate::scripting::expectation::{Expectation, write_next};
@@ -13,7 +13,7 @@ use dfu_device::Device;
 use dfu_slots::{Medium, Slots};
 use std::io::Write;
 
-/// Writes the bytes of the image from `at` on, at most `len` of them.
+/// Writes `len` bytes of the image from `at` on as digits.
 fn write_piece<M: Medium, W: Write>(
     writer: &mut W,
     slots: &Slots<M>,
@@ -22,7 +22,7 @@ fn write_piece<M: Medium, W: Write>(
 ) -> Result<(), ScriptFault>
     requires piece { len ≤ 256 }
     requires within { at + len ≤ length (image_of slots.now) }
-    ensures { TextWritten (encode_lower (slice_range (image_of slots.now) at (at + len))) (W.contents writer.old)
+    ensures { WriteEnds (encode_lower (slice_range (image_of slots.now) at (at + len))) (W.contents writer.old)
         (W.contents writer.new) result }
 {
     let len = len as usize;
@@ -31,9 +31,9 @@ fn write_piece<M: Medium, W: Write>(
     write_digits(writer, &bytes[..len])
 }
 
-/// Writes an image as hexadecimal text, piece by piece.
+/// Writes the digits of an image, piece by piece.
 fn write_pieces<M: Medium, W: Write>(writer: &mut W, slots: &Slots<M>) -> Result<(), ScriptFault>
-    ensures { TextWritten (encode_lower (image_of slots.now)) (W.contents writer.old) (W.contents writer.new) result }
+    ensures { WriteEnds (encode_lower (image_of slots.now)) (W.contents writer.old) (W.contents writer.new) result }
 {
     let all = slots.active_len();
     let mut at = 0;
@@ -45,9 +45,9 @@ fn write_pieces<M: Medium, W: Write>(writer: &mut W, slots: &Slots<M>) -> Result
     Ok(())
 }
 
-/// Writes the image of a slot store, and ends the line.
+/// Writes the image of a slot store as a script prints bytes, and ends the line.
 fn write_hex<M: Medium, W: Write>(writer: &mut W, slots: &Slots<M>) -> Result<(), ScriptFault>
-    ensures { TextWritten (hex_text (image_of slots.now) ++ 10 ∷ []) (W.contents writer.old) (W.contents writer.new) result }
+    ensures { WriteEnds (hex_text (image_of slots.now) ++ 10 ∷ []) (W.contents writer.old) (W.contents writer.new) result }
 {
     if slots.active_len() == 0 {
         return write_two(writer, "-", "\n");
@@ -61,7 +61,7 @@ pub(crate) fn write_image<M: Medium, W: Write>(
     writer: &mut W,
     device: &Device<M>,
 ) -> Result<(), ScriptFault>
-    ensures { TextWritten (image_line device.now) (W.contents writer.old) (W.contents writer.new) result }
+    ensures { WriteEnds (image_line device.now) (W.contents writer.old) (W.contents writer.new) result }
 {
     write_out(writer, b"image ")?;
     write_hex(writer, device.slots())
@@ -69,7 +69,7 @@ pub(crate) fn write_image<M: Medium, W: Write>(
 
 /// Writes the device's state and its status code.
 fn write_state<M: Medium, W: Write>(writer: &mut W, device: &Device<M>) -> Result<(), ScriptFault>
-    ensures { TextWritten (state_text device.now) (W.contents writer.old) (W.contents writer.new) result }
+    ensures { WriteEnds (state_text device.now) (W.contents writer.old) (W.contents writer.new) result }
 {
     let state = device.state();
     let code = device.code();
@@ -82,19 +82,20 @@ pub(crate) fn write_show<M: Medium, W: Write>(
     writer: &mut W,
     device: &Device<M>,
 ) -> Result<(), ScriptFault>
-    ensures { TextWritten (show_line device.now) (W.contents writer.old) (W.contents writer.new) result }
+    ensures { WriteEnds (show_line device.now) (W.contents writer.old) (W.contents writer.new) result }
 {
     write_state(writer, device)?;
     write_image(writer, device)
 }
 
-/// Writes the line of the device's image next. If a line is expected, the line is put into memory first.
+/// Writes the line of the device's image, and compares it with the expected line, if there is one. For that the line is put into memory
+/// first.
 pub(crate) fn image_next<M: Medium, W: Write>(
     writer: &mut W,
     next: &mut Option<Expectation>,
     device: &Device<M>,
 ) -> Result<(), ScriptFault>
-    ensures { PrintsNext (expectation_of next.old) (W.contents writer.old) (image_line device.now) (expectation_of next.new)
+    ensures { PrintEnds (expectation_of next.old) (W.contents writer.old) (image_line device.now) (expectation_of next.new)
         (W.contents writer.new) result }
 {
     let Some(expected) = next else {
@@ -107,13 +108,13 @@ pub(crate) fn image_next<M: Medium, W: Write>(
     write_next(writer, next, &line)
 }
 
-/// Writes the line of `show` next. If a line is expected, the line is put into memory first.
+/// Writes the line of `show`, and compares it with the expected line, if there is one. For that the line is put into memory first.
 pub(crate) fn show_next<M: Medium, W: Write>(
     writer: &mut W,
     next: &mut Option<Expectation>,
     device: &Device<M>,
 ) -> Result<(), ScriptFault>
-    ensures { PrintsNext (expectation_of next.old) (W.contents writer.old) (show_line device.now) (expectation_of next.new)
+    ensures { PrintEnds (expectation_of next.old) (W.contents writer.old) (show_line device.now) (expectation_of next.new)
         (W.contents writer.new) result }
 {
     let Some(expected) = next else {

@@ -4,7 +4,7 @@ ghost use Rattle.std.specs.Prelude.{◌≡◌, ◌≤◌, ◌<◌, ◌+◌, ◌+
 ghost use Rattle.std.specs.Io.KnownBytes.{prepend_known};
 ghost use Rattle.std.specs.List.{position};
 ghost use Rattle.dfu_link.specs.Words.{is_newline};
-ghost use Rattle.dfu_link.specs.inside.Source.{NextLineOrEnd, StopsSource, PieceRead, source_state};
+ghost use Rattle.dfu_link.specs.inside.Source.{NextLineOrEnd, SourceStops, PieceRead, source_state};
 
 use crate::scripting::fault::ScriptFault;
 use crate::scripting::reader::Pieces;
@@ -40,7 +40,7 @@ impl<R: Read + Drop> Model for Source<R> {
     ghost invariant = { λ s. (s.number + s.room ≤ 16777216) × (65537 ≤ vec_capacity s.line) };
 }
 
-/// Returns the place of the first newline.
+/// Returns the place of the first newline; None if there is none.
 fn newline_at(text: &[u8]) -> Option<usize>
     ensures { result ≡ position is_newline text.now }
 {
@@ -66,8 +66,8 @@ fn put(line: &mut Vec<u8>, piece: &[u8])
     };
 }
 
-/// Takes the bytes of the line among those at hand, up to its 0Ah: at most `most`, and at most one more than
-/// a line may have.
+/// Takes the bytes of the line among those at hand, up to its 0Ah: at most `most`, and no more than make the line
+/// one byte longer than a line may be.
 fn take_piece<R: Read + Drop>(pieces: &mut Pieces<R>, most: u32, line: &mut Vec<u8>) -> Taken
     requires ready { 0 < length pieces.old.ready }
     requires most { 0 < most }
@@ -102,7 +102,7 @@ fn take_piece<R: Read + Drop>(pieces: &mut Pieces<R>, most: u32, line: &mut Vec<
     }
 }
 
-/// Reads the line after `before` others, and returns whether there was one.
+/// Reads the line after `before` others into `line`, and returns whether there was one.
 fn read_line<R: Read + Drop>(
     pieces: &mut Pieces<R>,
     room: &mut u32,
@@ -115,7 +115,7 @@ fn read_line<R: Read + Drop>(
     ensures ok { IfOk result (λ more. NextLineOrEnd (source_state pieces.old.left room.old before line.old.items) more
         (source_state pieces.new.left room.new (before + 1) line.new.items)) }
     ensures fault { IfErr result (λ f. (given : Option (List ℕ))
-        → StopsSource given (source_state pieces.old.left room.old before line.old.items) f) }
+        → SourceStops given (source_state pieces.old.left room.old before line.old.items) f) }
     ensures room { room.new ≤ room.old }
     ensures less { result ≡ Ok true → room.new < room.old }
     ensures capacity { vec_capacity line.old ≤ vec_capacity line.new }
@@ -178,7 +178,7 @@ impl<R: Read + Drop> Source<R> {
     /// Read if the reader fails.
     pub(crate) fn next(&mut self) -> Result<bool, ScriptFault>
         ensures ok { IfOk result (λ more. NextLineOrEnd self.old more self.new) }
-        ensures fault { IfErr result (λ f. (given : Option (List ℕ)) → StopsSource given self.old f) }
+        ensures fault { IfErr result (λ f. (given : Option (List ℕ)) → SourceStops given self.old f) }
         ensures room { self.new.room ≤ self.old.room }
     {
         self.line.clear();

@@ -2,7 +2,7 @@
 
 ghost use Rattle.std.specs.Prelude.{◌≡◌, ◌≢◌, ◌<◌, ◌+◌, ◌*◌, ◌%◌, IfOk, IfErr, true, false};
 ghost use Rattle.dfu_slots.specs.Units.{gate_room, IsMultiple};
-ghost use Rattle.dfu_device.specs.Setting.{FirstFault, IsAllowedSetting, functional_of_this_version};
+ghost use Rattle.dfu_device.specs.Setting.{IsFirstFault, IsAllowedSetting, functional_of_this_version};
 ghost use Rattle.dfu_link.specs.LineContent.{hex_bytes};
 ghost use Rattle.dfu_link.specs.ScriptRun.{DeviceStarts};
 ghost use Rattle.dfu_link.specs.Falls.{StartFails};
@@ -51,7 +51,7 @@ fn medium_len(unit: Unit, sector: Sector, room: Room) -> u32
     2 * (2 * unit.size().max(16).max(sector.bytes) + room.bytes)
 }
 
-/// Returns whether a room has no whole sectors.
+/// Returns whether the medium has sectors, and the room is no multiple of them.
 pub(crate) fn cuts_sector(sector: Sector, room: Room) -> bool
     ensures cuts { result ≡ true → (0 < sector.bytes) × (room.bytes % sector.bytes ≢ 0) }
     ensures whole { result ≡ false → 0 < sector.bytes → room.bytes % sector.bytes ≡ 0 }
@@ -59,7 +59,8 @@ pub(crate) fn cuts_sector(sector: Sector, room: Room) -> bool
     sector.bytes > 0 && room.bytes % sector.bytes != 0
 }
 
-/// Makes a medium in memory, formatted with the image.
+/// Makes a medium in memory, formatted with the image; BadConfig if the room is no multiple of the unit or of the sector, or the image is
+/// longer than the room.
 fn form(
     alloc: Global,
     unit: Unit,
@@ -90,7 +91,7 @@ fn form(
     }
 }
 
-/// Returns the times of the flash of the device.
+/// Returns the pace of the device's flash: its times, its unit and its sectors.
 fn pace_of(setup: &ScriptConfig<'_>) -> Pace
     ensures { result ≡ pace_of setup.now }
 {
@@ -106,7 +107,7 @@ fn pace_of(setup: &ScriptConfig<'_>) -> Pace
 pub(crate) fn device_config(setup: &ScriptConfig<'_>) -> Result<Config, ConfigFault>
     ensures ok { IfOk result (λ c. c ≡ record (setting_of_device setup.now) { functional = functional_of_this_version setup.now.functional }) }
     ensures allowed { IfOk result (λ c. IsAllowedSetting c) }
-    ensures err { IfErr result (λ e. FirstFault e (setting_of_device setup.now)) }
+    ensures err { IfErr result (λ e. IsFirstFault e (setting_of_device setup.now)) }
 {
     let config = Config::new(
         setup.ids,

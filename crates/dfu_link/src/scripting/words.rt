@@ -6,20 +6,20 @@ ghost use Rattle.std.specs.Str.{bytes_eq};
 ghost use Rattle.dfu_link.specs.Words.{ReadingMatches, is_space, is_no_space, words_of, first_word, text_behind, number_of};
 ghost use Rattle.dfu_link.specs.LineContent.{content_of_line};
 ghost use Rattle.dfu_link.specs.Lines.{ReadMatches, is_comment, line_ends};
-ghost use Rattle.dfu_link.specs.Fields.{small_of, count_of};
+ghost use Rattle.dfu_link.specs.Fields.{number_at_most, count_of};
 ghost use Rattle.dfu_link.specs.Keywords.{keyword_of, later_keyword_of, fate_keyword_of};
 
 use crate::scripting::fault::LineFault;
 use crate::scripting::line::Line;
 
-/// Returns the place of the first space.
+/// Returns the place of the first space; None if there is none.
 fn space_at(line: &[u8]) -> Option<usize>
     ensures { result ≡ position is_space line.now }
 {
     line.iter().position(|byte| *byte == b' ')
 }
 
-/// Returns the place of the first byte that isn't a space.
+/// Returns the place of the first byte that isn't a space; None if there is none.
 fn start_at(line: &[u8]) -> Option<usize>
     ensures { result ≡ position is_no_space line.now }
 {
@@ -38,7 +38,7 @@ pub(crate) fn word_at(line: &[u8]) -> Option<(&[u8], &[u8])>
     }
 }
 
-/// Returns the text behind the first word and one space.
+/// Returns the text behind the first word and one space; None if the line has no word, or no space after it.
 #[tactic(auto, unfolding(crate::specs::Words::text_behind))]
 pub(crate) fn text_behind(line: &[u8]) -> Option<&[u8]>
     ensures { ReadingMatches (λ x. x.now) result (text_behind line.now) }
@@ -88,7 +88,7 @@ pub(crate) fn ended<'l, 'g>(
     }
 }
 
-/// Returns the number of 1 to 10 decimal digits, at most 4,294,967,295.
+/// Reads `word` as a number of 1 to 10 decimal digits, at most 4,294,967,295; None if it is anything else.
 pub(crate) fn number(word: &[u8]) -> Option<u32>
     ensures { ReadingMatches (λ n. n) result (number_of word.now) }
 {
@@ -108,17 +108,17 @@ pub(crate) fn number(word: &[u8]) -> Option<u32>
     }
 }
 
-/// Returns a number of at most `most`.
-#[tactic(auto, unfolding(crate::specs::Fields::small_of), using(std::proofs::lemmas::Bool::Decides::nat_tests))]
+/// Reads `word` as a number of at most `most`; None if it is anything else.
+#[tactic(auto, unfolding(crate::specs::Fields::number_at_most), using(std::proofs::lemmas::Bool::Decides::nat_tests))]
 pub(crate) fn small(word: &[u8], most: u32) -> Option<u32>
-    ensures read { ReadingMatches (λ n. n) result (small_of most word.now) }
+    ensures read { ReadingMatches (λ n. n) result (number_at_most most word.now) }
     ensures most { IfSome result (λ n. n ≤ most) }
 {
     let n = number(word)?;
     if n <= most { Some(n) } else { None }
 }
 
-/// Returns a number from 1 to `most`.
+/// Reads `word` as a number from 1 to `most`; None if it is anything else.
 #[tactic(auto, unfolding(crate::specs::Fields::count_of), using(std::proofs::lemmas::Bool::Decides::nat_tests))]
 pub(crate) fn count(word: &[u8], most: u32) -> Option<u32>
     ensures read { ReadingMatches (λ n. n) result (count_of most word.now) }
@@ -129,7 +129,7 @@ pub(crate) fn count(word: &[u8], most: u32) -> Option<u32>
     if n > 0 { Some(n) } else { None }
 }
 
-/// Gives the variant of a word, in the order of the table, or else the last value.
+/// Gives the first variant of the table whose text equals the word; `$none` if no text does.
 macro_rules! one_of {
     ($word:ident, $of:ident, $none:expr, { $text:literal => $variant:ident, $($texts:literal => $variants:ident,)* }) => {
         if is_word($word, $text) {
@@ -184,9 +184,9 @@ pub(crate) enum FateKeyword {
     Until,
 }
 
-/// Reads `word`, the first word of a line that says nothing of the device and its medium; None for any other word.
+/// Returns the keyword that `word` is, if it is one from `limits` on; else None, as for `ids`.
 #[tactic(auto, unfolding(crate::specs::Keywords::later_keyword_of))]
-fn read_later(word: &[u8]) -> Option<Keyword>
+fn read_later_keyword(word: &[u8]) -> Option<Keyword>
     ensures { result ≡ later_keyword_of word.now }
 {
     one_of!(word, Keyword, None, {
@@ -206,12 +206,12 @@ fn read_later(word: &[u8]) -> Option<Keyword>
     })
 }
 
-/// Returns the keyword that the first word of a line is, if it is one.
+/// Returns the keyword that `word` is, the first word of a line; None if it is no keyword.
 #[tactic(auto, unfolding(crate::specs::Keywords::keyword_of))]
 pub(crate) fn read_keyword(word: &[u8]) -> Option<Keyword>
     ensures { result ≡ keyword_of word.now }
 {
-    one_of!(word, Keyword, read_later(word), {
+    one_of!(word, Keyword, read_later_keyword(word), {
         b"ids" => Ids,
         b"device" => Device,
         b"unit" => Unit,
@@ -222,7 +222,7 @@ pub(crate) fn read_keyword(word: &[u8]) -> Option<Keyword>
     })
 }
 
-/// Returns the keyword that the word after `go` is, if it is one.
+/// Returns the keyword that `word` is, the word after `go`; None if it is no keyword.
 #[tactic(auto, unfolding(crate::specs::Keywords::fate_keyword_of))]
 pub(crate) fn read_fate(word: &[u8]) -> Option<FateKeyword>
     ensures { result ≡ fate_keyword_of word.now }

@@ -1,4 +1,4 @@
-//! A trace of a script has a line for each action of the host. Its writer cannot change the run, or what is printed of it.
+//! A trace of a script has a line for each action of the host. Its writer changes neither the run nor its printed text.
 
 use crate::trace::words::Words;
 use dfu_device::Answer;
@@ -10,7 +10,7 @@ use dfu_wire::{Request, Setup, State};
 use std::alloc::Global;
 use std::io::Write;
 
-/// Returns the milliseconds that pass in an action.
+/// Returns the milliseconds that pass in an action: those of a slip, or else of a wait; 0 for any other action.
 fn time_of(action: Action<'_>, fate: Fate<'_>) -> u32 {
     match (action, fate) {
         (_, Fate::Slip(ms)) => ms,
@@ -19,7 +19,7 @@ fn time_of(action: Action<'_>, fate: Fate<'_>) -> u32 {
     }
 }
 
-/// Numbers of a line of the trace: the number of its action, and the milliseconds since the start.
+/// Numbers of a line of the trace: the number of its action, from 1 on, and the milliseconds since the start.
 #[derive(Clone, Copy)]
 pub(crate) struct Count {
     pub number: u64,
@@ -44,7 +44,7 @@ fn request_in(action: Action<'_>) -> Request {
     }
 }
 
-/// Adds the bytes of an answer to a request.
+/// Adds the bytes of an answer: a status for GETSTATUS, a state for GETSTATE, and only their number for any other request.
 fn push_bytes(line: &mut Words, request: Request, out: &[u8]) {
     match request {
         Request::GetStatus { .. } => line.push_status(out),
@@ -59,8 +59,8 @@ fn push_bytes(line: &mut Words, request: Request, out: &[u8]) {
     }
 }
 
-/// Adds the response to the action.
-fn push_back(line: &mut Words, action: Action<'_>, answered: Option<(Answer, &[u8])>) {
+/// Adds the device's answer to an action: `ack`, `stall`, the bytes, or `-` for none.
+fn push_device_answer(line: &mut Words, action: Action<'_>, answered: Option<(Answer, &[u8])>) {
     match answered {
         Some((Answer::Ack, _)) => line.push("ack"),
         Some((Answer::Stall, _)) => line.push("stall"),
@@ -69,7 +69,7 @@ fn push_back(line: &mut Words, action: Action<'_>, answered: Option<(Answer, &[u
     }
 }
 
-/// Adds the answer of the device.
+/// Adds the answer of the device; after a cut of the power there is none.
 fn push_answer(
     line: &mut Words,
     action: Action<'_>,
@@ -78,18 +78,18 @@ fn push_answer(
 ) {
     match fate {
         Fate::Cut { .. } => line.push("-"),
-        _ => push_back(line, action, answered),
+        _ => push_device_answer(line, action, answered),
     }
 }
 
-/// Adds the name of a state, after the text that precedes it.
+/// Adds `; ` and the name of a state.
 fn push_state_name(line: &mut Words, state: State) {
     line.push("; ");
     line.push(state.name());
 }
 
 /// Adds the action: its number, the phase of the host, its request, wait or reset, and the fate.
-fn push_asked(line: &mut Words, number: u64, before: &Snapshot<'_>, fate: Fate<'_>) {
+fn push_asked_action(line: &mut Words, number: u64, before: &Snapshot<'_>, fate: Fate<'_>) {
     line.push_number("# ", number);
     line.push(" ");
     line.push_phase(before.phase);
@@ -101,7 +101,7 @@ fn push_asked(line: &mut Words, number: u64, before: &Snapshot<'_>, fate: Fate<'
 
 /// Adds the result of the action: the answer, the state of the device before and after, the writes of its medium, and
 /// the time.
-fn push_told(
+fn push_result(
     line: &mut Words,
     ms: u64,
     before: &Snapshot<'_>,
@@ -128,12 +128,12 @@ fn step_line(
     world: &World<'_, SimMedium>,
 ) -> Option<String> {
     let mut line = Words::new(alloc);
-    push_asked(&mut line, count.number, before, fate);
-    push_told(&mut line, count.ms, before, fate, world);
+    push_asked_action(&mut line, count.number, before, fate);
+    push_result(&mut line, count.ms, before, fate, world);
     line.into_text()
 }
 
-/// A tracer of a run.
+/// Tracer of a run, which sees the link before and after each action of the host.
 pub(crate) trait Tracer<M: Faulty> {
     /// Returns the state of a link before an action of its host, if a session is live.
     fn snapshot<'f>(&self, world: &World<'f, M>) -> Option<Snapshot<'f>>;
@@ -159,7 +159,7 @@ impl<M: Faulty> Tracer<M> for NoTrace {
     fn add_time(&mut self, _: u32) {}
 }
 
-/// A trace writes a line for each action. Once a line could not be written, no further line is.
+/// A tracer that writes a line for each action. Once a line could not be written, no further line is.
 #[derive(Drop)]
 pub(crate) struct TraceWriter<'n, N> {
     pub writer: &'n mut N,

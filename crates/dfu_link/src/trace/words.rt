@@ -7,15 +7,15 @@ use dfu_wire::{Request, Setup, State, Status};
 use std::alloc::{AllocError, Global};
 
 /// Returns the name of `request` in the standard (USB DFU 1.1, section 3), or `other`.
-fn asked_text(request: Request) -> &'static str {
+fn request_text(request: Request) -> &'static str {
     match request {
         Request::OtherClass | Request::NotDfu => "other",
         _ => request.name(),
     }
 }
 
-/// Returns the text before a write that comes after another one or not, and erases or not.
-fn before_write(is_behind: bool, erases: bool) -> &'static str {
+/// Returns the text before a write: a comma if another write is in front of it, and `erased` if the write erases.
+fn text_before_write(is_behind: bool, erases: bool) -> &'static str {
     match (is_behind, erases) {
         (false, false) => "",
         (false, true) => "erased ",
@@ -64,7 +64,7 @@ fn phase_text(phase: Phase) -> &'static str {
     }
 }
 
-/// Returns the number of a phase's block or part.
+/// Returns the number of a phase's block or part; None if it has none.
 fn part_of(phase: Phase) -> Option<u64> {
     match phase {
         Phase::Block(number) => Some(number as u64),
@@ -156,12 +156,12 @@ impl Words {
 
     /// Adds a request, with wValue and wLength.
     fn push_request(&mut self, setup: &Setup) {
-        self.push(asked_text(setup.request()));
+        self.push(request_text(setup.request()));
         self.push_number(" ", u64::from(setup.value));
         self.push_number(" ", u64::from(setup.length));
     }
 
-    /// Adds an action of the host: a request, a wait with its milliseconds, or a reset.
+    /// Adds an action of the host: a request, a wait with its milliseconds, a reset, or `-` if it is done.
     pub(crate) fn push_action(&mut self, action: Action<'_>) {
         match action {
             Action::Send { setup, .. } => self.push_request(&Setup::decode(&setup)),
@@ -227,12 +227,15 @@ impl Words {
 
     /// Adds a write; `is_behind` says that another write is before it.
     fn push_write(&mut self, is_behind: bool, note: WriteNote) {
-        self.push_number(before_write(is_behind, note.erases), u64::from(note.len));
+        self.push_number(
+            text_before_write(is_behind, note.erases),
+            u64::from(note.len),
+        );
         self.push_number(" at ", u64::from(note.at));
         self.push(end_text(note.end));
     }
 
-    /// Adds the writes that a medium made since its count was `since`: the last 16 of them.
+    /// Adds the writes that a medium made since its count was `since`: the last 16 of them, or `-` if it made none.
     pub(crate) fn push_writes(&mut self, noted: &LastWrites, since: u64) {
         let made = noted.count.saturating_sub(since);
         if made == 0 {

@@ -8,51 +8,67 @@ use Rattle.dfu_conformance.specs.MayAnswer.{CanAnswer}
 use Rattle.dfu_conformance.specs.Verdict.{ArePlacesAfter}
 use Rattle.dfu_output.specs.judge.Texts.{departure_text, is_single}
 
--- Course of the judging of a log: the number of lines that were ended, the line that is not, the events that came, those since the last
--- departure, the number of events after which one state was left, and what is printed.
+-- Course of judging a log up to a byte: the number of lines that have ended, the open line, all events, the events since the last
+-- departure, the number of events after which a single state was possible, and the printed text.
 pub record LogCourse : Type 0 where
+  -- Number of lines that have ended.
   pub number : ℕ
+  -- Bytes of the open line.
   pub line : List ℕ
+  -- All events.
   pub events : List LogEvent
+  -- Events since the last departure, or since the start if there is none.
   pub since : List LogEvent
+  -- Number of events after which a single state was possible.
   pub single : ℕ
+  -- Text printed so far: the lines of the departures.
   pub out : List ℕ
 
--- No byte was judged.
+-- Course before the first byte.
 abbrev pub course_at_start : LogCourse
 course_at_start = record { number = 0; line = []; events = []; since = []; single = 0; out = [] }
 
--- A line is ended.
-abbrev pub course_line_ended : LogCourse → LogCourse
-course_line_ended c = record c { number = c.number + 1; line = [] }
+-- Course once the open line has ended: the line is counted, and the next one is empty. Its event, if any, comes after that.
+abbrev pub course_after_line : LogCourse → LogCourse
+course_after_line c = record c { number = c.number + 1; line = [] }
 
--- Course after an event that a device without habits may have answered, with all events since the last departure; the event counts if one
--- state is left.
+-- Course after an event that a device without habits may have answered, with all events since the last departure. The event is counted in
+-- `single` if a single state is possible after it.
 abbrev pub course_after_event : LogCourse → LogEvent → List Bool → LogCourse
 course_after_event c e at = record c { events = c.events ++ e ∷ []; since = c.since ++ e ∷ []; single = c.single + cond (is_single at) 1 0 }
 
--- Course after a departure: its lines are printed, and from then on the device may be anywhere.
+-- Course after a departure: its event joins all events, and its lines are printed. No event has come since, so the device may be anywhere.
 abbrev pub course_after_departure : LogCourse → Departure → LogCourse
 course_after_departure c d = record c { events = c.events ++ d.event ∷ []; since = []; out = c.out ++ departure_text c.number d }
 
--- An event at the line that was ended last leads to the course `d`.
-pub data EventLeads (c : LogCourse) (e : LogEvent) : LogCourse → Type 0 where
+-- The event `e` of the line that has just ended leads from the course `c` to the next: a device without habits may have answered it and all
+-- events since the last departure; or none may have, and the event is a departure.
+pub data EventLeadsTo (c : LogCourse) (e : LogEvent) : LogCourse → Type 0 where
+  -- A device without habits may have answered the event, and `at` are the places where such a device may then be.
   goes_on : (at : List Bool) → CanAnswer 0 (c.since ++ e ∷ []) → ArePlacesAfter 0 (c.since ++ e ∷ []) at
-      → EventLeads c e (course_after_event c e at)
+      → EventLeadsTo c e (course_after_event c e at)
+  -- No device without habits may have answered the event and all since the last departure, so the event is a departure.
   departs : (d : Departure) → d.event ≡ e → (CanAnswer 0 (c.since ++ e ∷ []) → ⊥) → ArePlacesAfter 0 c.since d.before
-      → EventLeads c e (course_after_departure c d)
+      → EventLeadsTo c e (course_after_departure c d)
 
--- The end of a line leads to the next course: the line says nothing, or something of another interface or class, or that an event came.
-pub data LineEndLeads (interface : ℕ) (c : LogCourse) : LogCourse → Type 0 where
-  line_says_nothing : LineMeaning interface c.line (Some Blank) → LineEndLeads interface c (course_line_ended c)
-  line_is_for_another : LineMeaning interface c.line (Some Elsewhere) → LineEndLeads interface c (course_line_ended c)
-  line_says_event : {d : LogCourse} (e : LogEvent) → LineMeaning interface c.line (Some (Came e)) → EventLeads (course_line_ended c) e d →
-      LineEndLeads interface c d
+-- The end of the open line leads from the course `c` to the next: the line is blank, is about another interface or class, or has an event,
+-- which leads on from the end of the line.
+pub data LineEndLeadsTo (interface : ℕ) (c : LogCourse) : LogCourse → Type 0 where
+  -- The line is empty or a comment.
+  line_says_nothing : LineMeaning interface c.line (Some Blank) → LineEndLeadsTo interface c (course_after_line c)
+  -- The line is a request to another interface, or no class request.
+  line_is_for_another : LineMeaning interface c.line (Some Elsewhere) → LineEndLeadsTo interface c (course_after_line c)
+  -- The line has an event, which leads on from the end of the line.
+  line_says_event : {d : LogCourse} (e : LogEvent) → LineMeaning interface c.line (Some (Came e)) → EventLeadsTo (course_after_line c) e d →
+      LineEndLeadsTo interface c d
 
--- A text is judged so far: each byte goes to its line, which has at most 262,158, and each 0Ah ends one.
+-- Course of judging a text: each byte is added to the open line, which has at most 262,158 bytes, and each 0Ah ends the line.
 pub data CourseOfText (interface : ℕ) : List ℕ → LogCourse → Type 0 where
+  -- Nothing is judged before the first byte.
   begins : CourseOfText interface [] course_at_start
+  -- A byte other than 0Ah is added to the open line, which has room for it.
   goes : {text : List ℕ} {c : LogCourse} (byte : ℕ) → CourseOfText interface text c → byte ≢ 10 → length c.line < 262158
       → CourseOfText interface (text ++ byte ∷ []) (record c { line = c.line ++ byte ∷ [] })
-  ends : {text : List ℕ} {c d : LogCourse} → CourseOfText interface text c → LineEndLeads interface c d
+  -- 0Ah ends the open line.
+  ends : {text : List ℕ} {c d : LogCourse} → CourseOfText interface text c → LineEndLeadsTo interface c d
       → CourseOfText interface (text ++ 10 ∷ []) d

@@ -1,8 +1,8 @@
--- Text that `dfu judge` writes of a log.
+-- Text that `dfu judge` writes about a log.
 use Rattle.std.specs.Prelude.{◌≡◌, ◌⊎◌, ℕ, ◌+◌, Bool, List, [], ◌∷◌, ◌++◌, length, Option, Some, None, IfSome, codes}
 use Rattle.std.specs.Fmt.{decimal}
 use Rattle.std.specs.Io.KnownBytes.{Appends}
-use Rattle.dfu_suffix.specs.Writing.{IsOutInPart}
+use Rattle.dfu_suffix.specs.Writing.{IsPartlyWritten}
 use Rattle.dfu_suffix.specs.declared.fault.SuffixFault.TheVariants as suffix
 use Rattle.dfu_output.specs.declared.exit.Exit.{Exit}
 use Rattle.dfu_output.specs.declared.exit.Exit.TheVariants.{Done, Refused, Fault}
@@ -17,80 +17,96 @@ use Rattle.dfu_output.specs.judge.Lines.{IsBadLine}
 use Rattle.dfu_output.specs.judge.Course.{LogCourse, CourseOfText}
 use Rattle.dfu_output.specs.judge.Texts.{verdict_text}
 
--- The next byte of a text isn't judged, for this fault.
-abbrev pub CannotJudge : (interface : ℕ) (front : List ℕ) → LogCourse → (rest : List ℕ) → LogFault → Type 0
-CannotJudge interface front c rest (BadLine n why) = (n ≡ c.number + 1) × IsBadLine interface c.line rest why
-CannotJudge interface front c rest TooLarge = length front ≡ 1099511627776
-CannotJudge interface front c rest fault = ⊥
+-- The byte of a log after `front` can't be judged because of this fault: its line is bad, or the log is too large.
+abbrev pub CannotJudgeByte : (interface : ℕ) (front : List ℕ) → LogCourse → (rest : List ℕ) → LogFault → Type 0
+CannotJudgeByte interface front c rest (BadLine n why) = (n ≡ c.number + 1) × IsBadLine interface c.line rest why
+CannotJudgeByte interface front c rest TooLarge = length front ≡ 1099511627776
+CannotJudgeByte interface front c rest fault = ⊥
 
--- Text that is written when judging stopped: the text so far, or a prefix of it if the writer failed.
-abbrev pub StopsWith : (interface : ℕ) (front : List ℕ) → LogCourse → (rest : List ℕ) (old new : Option (List ℕ)) → LogFault → Type 0
-StopsWith interface front c rest old new NoMemory = Appends old new c.out
-StopsWith interface front c rest old new Read = Appends old new c.out
-StopsWith interface front c rest old new Write = IsOutInPart old new c.out
-StopsWith interface front c rest old new fault = Appends old new c.out × CannotJudge interface front c rest fault
+-- Judging stopped at this fault: the text printed so far is written, or a part of it if the writer failed; for BadLine and TooLarge, the
+-- next byte can't be judged.
+abbrev pub HasOutputAtStop : (interface : ℕ) (front : List ℕ) → LogCourse → (rest : List ℕ) (old new : Option (List ℕ)) → LogFault → Type 0
+HasOutputAtStop interface front c rest old new NoMemory = Appends old new c.out
+HasOutputAtStop interface front c rest old new Read = Appends old new c.out
+HasOutputAtStop interface front c rest old new Write = IsPartlyWritten old new c.out
+HasOutputAtStop interface front c rest old new fault = Appends old new c.out × CannotJudgeByte interface front c rest fault
 
--- Judging of a text stopped: a front of it was judged, and the fault says why no more was.
+-- Judging of a text stopped at the fault: a prefix of the text was judged, and the output and the next byte are as at a stop at this fault.
 pub record LogStops (interface : ℕ) (old new : Option (List ℕ)) (text : List ℕ) (fault : LogFault) : Type 0 where
+  -- Prefix that was judged.
   pub front : List ℕ
+  -- Bytes that were not judged.
   pub rest : List ℕ
+  -- The prefix and those bytes are the text.
   pub split : text ≡ front ++ rest
+  -- Course after the prefix.
   pub course : LogCourse
+  -- Judging the prefix leads to this course.
   pub judged : CourseOfText interface front course
-  pub stops : StopsWith interface front course rest old new fault
+  -- The output, and the next byte, are as at a stop at this fault.
+  pub stops : HasOutputAtStop interface front course rest old new fault
 
--- The line of a log that can't be read is `refused BadLine N`, with its number.
+-- Line for a bad line of a log: `refused BadLine N`, N being the number of the bad line.
 unfoldable pub bad_line : ℕ → List ℕ
 bad_line n = codes "refused BadLine " ++ decimal n ++ 10 ∷ []
 
--- Behind what judging wrote until it stopped comes a line, and no more if the writer failed. If there is no memory for the line of a bad
--- line, it is the line of NoMemory.
-abbrev pub WritesLogStop : LogFault → Option (List ℕ) → Option (List ℕ) → Exit → Type 0
-WritesLogStop (BadLine n why) old new result =
+-- The line for the fault at which judging stopped is written, or nothing if the writer failed. If there is no memory for `refused BadLine
+-- N`, the line is `refused NoMemory`.
+abbrev pub WritesLineOfStop : LogFault → Option (List ℕ) → Option (List ℕ) → Exit → Type 0
+WritesLineOfStop (BadLine n why) old new result =
     TextIsOut old new (bad_line n) Refused result ⊎ TextIsOut old new (fault_line suffix.NoMemory) Refused result
-WritesLogStop TooLarge old new result = TextIsOut old new (fault_line suffix.TooLarge) Refused result
-WritesLogStop NoMemory old new result = TextIsOut old new (fault_line suffix.NoMemory) Refused result
-WritesLogStop Read old new result = TextIsOut old new (fault_line suffix.Read) Fault result
-WritesLogStop Write old new result = (new ≡ old) × (result ≡ Fault)
+WritesLineOfStop TooLarge old new result = TextIsOut old new (fault_line suffix.TooLarge) Refused result
+WritesLineOfStop NoMemory old new result = TextIsOut old new (fault_line suffix.NoMemory) Refused result
+WritesLineOfStop Read old new result = TextIsOut old new (fault_line suffix.Read) Fault result
+WritesLineOfStop Write old new result = (new ≡ old) × (result ≡ Fault)
 
--- The habits of a verdict.
+-- Number of the set of habits of a verdict: that of `KeptBy`, and 0, no habits, for any other verdict.
 abbrev pub readings_of : Verdict → ℕ
 readings_of (KeptBy readings) = readings
 readings_of verdict = 0
 
--- The command ends with Done if the device is kept without habits, and else with Refused.
+-- Exit for a verdict: Done for `Kept`, and Refused for any other.
 abbrev pub exit_of : Verdict → Exit
 exit_of Kept = Done
 exit_of verdict = Refused
 
--- The verdict on the events is written behind what is printed of them, with the states in which the device may be; or the line that there
--- was no memory for that of the verdict.
+-- The verdict on the events, with the states in which the device may be, is written after the departures; or `refused NoMemory`, if there
+-- was no memory for the line of the verdict.
 pub record WritesVerdict (c : LogCourse) (old new : Option (List ℕ)) (result : Exit) : Type 0 where
+  -- Verdict on all events.
   pub verdict : Verdict
+  -- The verdict is right for the events.
   pub is : IsVerdict verdict c.events
+  -- Places where a device with the habits of the verdict may be.
   pub at : List Bool
+  -- The list of these places is exact.
   pub places : ArePlacesAfter (readings_of verdict) c.events at
+  -- Output before the line of the verdict.
   pub mid : Option (List ℕ)
+  -- The output before it has the lines of the departures.
   pub told : Appends old mid c.out
+  -- The line of the verdict follows, or `refused NoMemory`.
   pub wrote : TextIsOut mid new (verdict_text verdict at (length c.events) c.single) (exit_of verdict) result
       ⊎ TextIsOut mid new (fault_line suffix.NoMemory) Refused result
 
--- A log was judged to its end, which ends its last line too, and the verdict is written; or judging stopped at a fault, and the line of the
--- fault is written behind what was printed.
+-- A log was judged to its end, which also ends its last line, and the verdict is written; or judging stopped at a fault, and the line of
+-- the fault is written after the departures.
 pub data WritesJudgment (interface : ℕ) (given old new : Option (List ℕ)) (result : Exit) (stop : Option LogFault) : Type 0 where
+  -- All bytes were judged, and the end of the last line; the verdict is written.
   judged_to_end : IfSome given (λ text. (c : LogCourse) × CourseOfText interface (text ++ 10 ∷ []) c × WritesVerdict c old new result)
       → stop ≡ None
       → WritesJudgment interface given old new result stop
+  -- Judging stopped at a fault, and the line for the fault is written.
   judged_to_stop : (mid : Option (List ℕ)) (fault : LogFault) → IfSome given (λ text. LogStops interface old mid (text ++ 10 ∷ []) fault)
-      → WritesLogStop fault mid new result → stop ≡ Some fault → WritesJudgment interface given old new result stop
+      → WritesLineOfStop fault mid new result → stop ≡ Some fault → WritesJudgment interface given old new result stop
 
--- Text that is written of a log, with a fault or none.
-abbrev pub WritesOfLog : (interface : ℕ) (given old new : Option (List ℕ)) → Exit → Type 0
-WritesOfLog interface given old new result = (stop : Option LogFault) × WritesJudgment interface given old new result stop
+-- Text about a log is written: its departures, and then the verdict, or the line for the fault at which judging stopped.
+abbrev pub WritesAboutLog : (interface : ℕ) (given old new : Option (List ℕ)) → Exit → Type 0
+WritesAboutLog interface given old new result = (stop : Option LogFault) × WritesJudgment interface given old new result stop
 
--- A departure wasn't written, for this fault: there was no memory for its lines, and none is out; or the writer failed, and a prefix of
--- them is.
-abbrev pub CannotReport : (text : List ℕ) (old new : Option (List ℕ)) → LogFault → Type 0
-CannotReport text old new NoMemory = new ≡ old
-CannotReport text old new Write = IsOutInPart old new text
-CannotReport text old new fault = ⊥
+-- A departure wasn't written because of this fault: NoMemory, and none of its text is written; or Write, and a prefix of the text is
+-- written, not all of it.
+abbrev pub DepartureUnwritten : (text : List ℕ) (old new : Option (List ℕ)) → LogFault → Type 0
+DepartureUnwritten text old new NoMemory = new ≡ old
+DepartureUnwritten text old new Write = IsPartlyWritten old new text
+DepartureUnwritten text old new fault = ⊥

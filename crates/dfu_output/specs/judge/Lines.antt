@@ -1,4 +1,4 @@
--- The lines of a log, a byte at a time.
+-- Lines of a log, read a byte at a time.
 use Rattle.std.specs.Prelude.{◌≡◌, ◌≢◌, ℕ, ◌+◌, ◌<◌, ◌≤◌, ◌==◌, Bool, true, false, List, [], ◌∷◌, ◌++◌, length, Option, Some, None}
 use Rattle.std.specs.List.{list_any}
 use Rattle.dfu_conformance.specs.declared.log.Line.{Line}
@@ -8,57 +8,75 @@ use Rattle.dfu_conformance.specs.Line.{LineMeaning, why_unread}
 use Rattle.dfu_output.specs.declared.judge.fault.LogFault.{LogFault}
 use Rattle.dfu_output.specs.declared.judge.fault.LogFault.TheVariants.{BadLine, TooLarge}
 
--- State of the lines: the line that is not ended, the number of bytes that may still come, and the number of lines that were ended.
+-- State of reading lines: the open line, the number of bytes that may still come, and the number of lines that have ended.
 pub record LinesState : Type 0 where
+  -- Bytes of the open line.
   pub line : List ℕ
+  -- Number of bytes that the log may still have.
   pub room : ℕ
+  -- Number of lines that have ended.
   pub number : ℕ
 
--- A byte goes to its line: it is no 0Ah, and there is room for it in the log and in the line, which has at most 262,158.
+-- A byte is added to the open line: it isn't 0Ah, and there is room for it in the log and in the line, which has at most 262,158 bytes.
 pub record ByteInLine (s t : LinesState) (byte : ℕ) : Type 0 where
+  -- The log has room for the byte, and for one less after it.
   pub room : t.room + 1 ≡ s.room
+  -- The byte isn't 0Ah.
   pub inner : byte ≢ 10
+  -- The line has room for the byte.
   pub short : length s.line < 262158
+  -- The byte is the last of the line.
   pub line : t.line ≡ s.line ++ byte ∷ []
+  -- The number of ended lines stays.
   pub number : t.number ≡ s.number
 
--- A byte is a 0Ah.
+-- The byte is 0Ah, which ends a line.
 abbrev pub is_end : ℕ → Bool
 is_end byte = byte == 10
 
--- Bytes go to their line: none is a 0Ah, and there is room for them in the log and in the line.
+-- Bytes are added to the open line: none is 0Ah, and there is room for them in the log and in the line.
 pub record BytesInLine (s t : LinesState) (bytes : List ℕ) : Type 0 where
+  -- The log has room for the bytes, and for as many less after them.
   pub room : t.room + length bytes ≡ s.room
+  -- None of the bytes is 0Ah.
   pub inner : list_any is_end bytes ≡ false
+  -- The line has room for the bytes.
   pub short : length s.line + length bytes ≤ 262158
+  -- The bytes are the last of the line.
   pub line : t.line ≡ s.line ++ bytes
+  -- The number of ended lines stays.
   pub number : t.number ≡ s.number
 
--- A byte ends its line, which says this.
+-- A byte ends the open line: it is 0Ah, there is room for it in the log, the meaning of the line is `says`, and the next line is empty.
 pub record ByteEndsLine (interface : ℕ) (s t : LinesState) (byte : ℕ) (says : Line) : Type 0 where
+  -- The log has room for the byte, and for one less after it.
   pub room : t.room + 1 ≡ s.room
+  -- The byte is 0Ah.
   pub end : byte ≡ 10
+  -- The line has the meaning `says`.
   pub said : LineMeaning interface s.line (Some says)
+  -- The next line is empty.
   pub line : t.line ≡ []
+  -- The line is counted.
   pub number : t.number ≡ s.number + 1
 
--- The byte was accepted: it went to its line, or ended it.
+-- The byte was accepted: it was added to the open line, or it ended the line, whose meaning is `says`.
 abbrev pub ByteAccepted : (interface : ℕ) (s t : LinesState) (byte : ℕ) → Option Line → Type 0
 ByteAccepted interface s t byte None = ByteInLine s t byte
 ByteAccepted interface s t byte (Some says) = ByteEndsLine interface s t byte says
 
--- The next byte is a 0Ah.
+-- The first byte is a line feed, 0Ah; false if there are no bytes.
 abbrev pub next_is_line_feed : List ℕ → Bool
 next_is_line_feed [] = false
 next_is_line_feed (byte ∷ bytes) = byte == 10
 
--- The line is no line of a log: it is ended and can't be read, or it has 262,158 bytes and goes on.
+-- The open line isn't a line of a log: it ends here and can't be read, or it has 262,158 bytes and doesn't end here.
 abbrev pub IsBadLine : (interface : ℕ) (line rest : List ℕ) → LineFault → Type 0
 IsBadLine interface line rest Long = (length line ≡ 262158) × (next_is_line_feed rest ≡ false)
 IsBadLine interface line rest why = LineMeaning interface line None × (why ≡ why_unread line) × (next_is_line_feed rest ≡ true)
 
--- The first of the bytes isn't taken, for this fault: the log has no room for it, or its line can't be one of a log.
-abbrev pub CannotRead : (interface : ℕ) → LinesState → (rest : List ℕ) → LogFault → Type 0
-CannotRead interface s rest (BadLine n why) = (n ≡ s.number + 1) × IsBadLine interface s.line rest why
-CannotRead interface s rest TooLarge = s.room ≡ 0
-CannotRead interface s rest fault = ⊥
+-- The first byte of `rest` isn't accepted because of this fault: the log has no room for it, or its line is bad.
+abbrev pub ByteRefused : (interface : ℕ) → LinesState → (rest : List ℕ) → LogFault → Type 0
+ByteRefused interface s rest (BadLine n why) = (n ≡ s.number + 1) × IsBadLine interface s.line rest why
+ByteRefused interface s rest TooLarge = s.room ≡ 0
+ByteRefused interface s rest fault = ⊥

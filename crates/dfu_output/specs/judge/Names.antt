@@ -13,7 +13,7 @@ use Rattle.dfu_conformance.specs.declared.row.Reading.TheVariants as reading
 use Rattle.dfu_conformance.specs.declared.row.When.{When}
 use Rattle.dfu_conformance.specs.declared.row.When.TheVariants.{Always, CanDownload, CanUpload, Tolerant, NotTolerant, WillDetach, By}
 
--- Name of the state of the standard at a place.
+-- Name of a place: that of its state in the standard.
 abbrev pub place_name : StandardState → List ℕ
 place_name place.AppIdle = codes "appIDLE"
 place_name place.AppDetach = codes "appDETACH"
@@ -28,21 +28,21 @@ place_name place.UploadIdle = codes "dfuUPLOAD-IDLE"
 place_name place.Error = codes "dfuERROR"
 place_name place.Fresh = codes "dfuIDLE"
 
--- The name of what came to a device.
-abbrev pub asked_name : EventKind → List ℕ
-asked_name asked.Detach = codes "DETACH"
-asked_name asked.Block = codes "DNLOAD"
-asked_name asked.Close = codes "DNLOAD-0"
-asked_name asked.Upload = codes "UPLOAD"
-asked_name asked.GetStatus = codes "GETSTATUS"
-asked_name asked.ClrStatus = codes "CLRSTATUS"
-asked_name asked.GetState = codes "GETSTATE"
-asked_name asked.Abort = codes "ABORT"
-asked_name asked.Other = codes "other"
-asked_name asked.Reset = codes "reset"
-asked_name asked.Power = codes "power"
+-- Name of an event's kind: a request, a reset or a power cycle.
+abbrev pub event_kind_name : EventKind → List ℕ
+event_kind_name asked.Detach = codes "DETACH"
+event_kind_name asked.Block = codes "DNLOAD"
+event_kind_name asked.Close = codes "DNLOAD-0"
+event_kind_name asked.Upload = codes "UPLOAD"
+event_kind_name asked.GetStatus = codes "GETSTATUS"
+event_kind_name asked.ClrStatus = codes "CLRSTATUS"
+event_kind_name asked.GetState = codes "GETSTATE"
+event_kind_name asked.Abort = codes "ABORT"
+event_kind_name asked.Other = codes "other"
+event_kind_name asked.Reset = codes "reset"
+event_kind_name asked.Power = codes "power"
 
--- The name of an answer that a row gives.
+-- Name of an answer that a row allows.
 abbrev pub answer_name : Gives → List ℕ
 answer_name answer.Ack = codes "ack"
 answer_name answer.Stall = codes "stall"
@@ -53,13 +53,13 @@ answer_name answer.Full = codes "full"
 answer_name answer.Short = codes "short"
 answer_name answer.Silent = codes "nothing"
 
--- Name of the part of the standard that has a row.
+-- Name of the source of a row: appendix A, one way to read it (`open`), or a habit.
 abbrev pub source_name : Source → List ℕ
 source_name source.A = codes "appendix-A"
 source_name source.Open = codes "open"
 source_name source.Habit = codes "habit"
 
--- The name of a habit.
+-- Name of a habit.
 abbrev pub reading_name : Reading → List ℕ
 reading_name reading.Bootloader = codes "bootloader"
 reading_name reading.RuntimeMute = codes "runtime-mute"
@@ -68,7 +68,7 @@ reading_name reading.DetachAtOnce = codes "detach-at-once"
 reading_name reading.DetachLeaves = codes "detach-leaves"
 reading_name reading.ErrorWithoutCode = codes "error-without-code"
 
--- The devices for which a row is, with a space before their name; nothing if the row is for every device.
+-- Name of the devices to which a row applies, with a space before it; empty if the row applies to every device.
 abbrev pub when_name : When → List ℕ
 when_name Always = []
 when_name CanDownload = codes " download"

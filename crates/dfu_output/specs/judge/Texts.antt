@@ -15,72 +15,72 @@ use Rattle.dfu_conformance.specs.declared.standard.TheConstants.{STANDARD}
 use Rattle.dfu_conformance.specs.RowMatches.{place_number, asks}
 use Rattle.dfu_conformance.specs.Candidates.{reading_bit}
 use Rattle.dfu_output.specs.declared.judge.names.TheConstants.{STATES, READINGS}
-use Rattle.dfu_output.specs.judge.Names.{answer_name, asked_name, place_name, reading_name, source_name, when_name}
+use Rattle.dfu_output.specs.judge.Names.{answer_name, event_kind_name, place_name, reading_name, source_name, when_name}
 
--- The texts of the elements of a list, one after the other.
+-- Texts of the elements of a list, joined in order.
 unfoldable pub texts_of_each : {X : Type 0} → (X → List ℕ) → List X → List ℕ
 texts_of_each text [] = []
 texts_of_each text (x ∷ xs) = text x ++ texts_of_each text xs
 
--- The device may be in this state, by the places at which it may be. dfuIDLE has two places.
-abbrev pub may_be_in : List Bool → StandardState → Bool
-may_be_in at DfuIdle = slice_index_or at (place_number DfuIdle) false || slice_index_or at (place_number Fresh) false
-may_be_in at p = slice_index_or at (place_number p) false
+-- A device may be in this state, by `at`, the list of places where it may be: at the place of the state, or for dfuIDLE at one of its two.
+abbrev pub may_be_in_state : List Bool → StandardState → Bool
+may_be_in_state at DfuIdle = slice_index_or at (place_number DfuIdle) false || slice_index_or at (place_number Fresh) false
+may_be_in_state at p = slice_index_or at (place_number p) false
 
--- Name of a state in which the device may be, with a space before it; nothing for another state.
+-- Name of a state in which the device may be, with a space before it; empty for any other state.
 abbrev pub spaced_state : List Bool → StandardState → List ℕ
-spaced_state at p = if may_be_in at p then codes " " ++ place_name p else []
+spaced_state at p = if may_be_in_state at p then codes " " ++ place_name p else []
 
--- The states in which a device may be, by number.
+-- Names of the states in which a device may be, in the order of their numbers.
 abbrev pub states_text : List Bool → List ℕ
 states_text at = texts_of_each (spaced_state at) STATES
 
--- There is one state in which a device may be.
+-- There is exactly one state in which a device may be.
 unfoldable pub is_single : List Bool → Bool
-is_single at = length (filter (may_be_in at) STATES) == 1
+is_single at = length (filter (may_be_in_state at) STATES) == 1
 
--- Name of a habit of the set, with a space before it; nothing for another habit.
+-- Name of a habit of the set, with a space before it; empty for any other habit.
 abbrev pub reading_text : (readings : ℕ) → Reading → List ℕ
 reading_text r reading = if bit_at r (reading_bit reading) == 1 then codes " " ++ reading_name reading else []
 
--- The habits of a set, by number.
+-- Names of the habits of a set, in the order of their numbers.
 abbrev pub readings_text : (readings : ℕ) → List ℕ
 readings_text r = texts_of_each (reading_text r) READINGS
 
--- The line of a row: `allowed STATE REQUEST ANSWER STATE SOURCE`, and a word behind it if the row is not for every device.
+-- Line of a row: `allowed STATE REQUEST ANSWER STATE SOURCE`, and a word behind it if the row is not for every device.
 unfoldable pub row_line : Row → List ℕ
 row_line row =
-    codes "allowed " ++ place_name row.from ++ (codes " " ++ asked_name row.asked) ++ (codes " " ++ answer_name row.gives)
+    codes "allowed " ++ place_name row.from ++ (codes " " ++ event_kind_name row.asked) ++ (codes " " ++ answer_name row.gives)
     ++ (codes " " ++ place_name row.next) ++ (codes " " ++ source_name row.source) ++ when_name row.when ++ 10 ∷ []
 
--- The row says what was allowed: it begins at a place where the device might be, and is about what came.
-abbrev pub row_allows : Departure → Row → Bool
-row_allows d row = slice_index_or d.before (place_number row.from) false && asks row.asked d.event
+-- The row gives an answer that was allowed at the departure: it begins at a place where the device might be, and applies to the event.
+abbrev pub gives_allowed_answer : Departure → Row → Bool
+gives_allowed_answer d row = slice_index_or d.before (place_number row.from) false && asks row.asked d.event
 
--- The line of a row that says what was allowed; no line for another row.
+-- Line of a row that gives an allowed answer; empty for another row.
 abbrev pub allowed_text : Departure → Row → List ℕ
-allowed_text d row = if row_allows d row then row_line row else []
+allowed_text d row = if gives_allowed_answer d row then row_line row else []
 
--- Text that a request may be stalled with no change, if it is not as section 3 has it.
-abbrev pub unchanged_text : LogEvent → List ℕ
-unchanged_text e = if e.is_plain then [] else codes "allowed any other stall unchanged open" ++ 10 ∷ []
+-- Line that allows a request that deviates from section 3 of USB DFU 1.1 to be stalled with no change; empty for any other request.
+abbrev pub stall_unchanged_text : LogEvent → List ℕ
+stall_unchanged_text e = if e.is_plain then [] else codes "allowed any other stall unchanged open" ++ 10 ∷ []
 
--- The first line of a departure is `departs LINE REQUEST in STATE..`, with the number of the line of the log and the states in which the
--- device might be.
-unfoldable pub departs_text : (number : ℕ) → Departure → List ℕ
-departs_text n d =
-    codes "departs " ++ decimal n ++ (codes " " ++ asked_name d.event.asked) ++ codes " in" ++ states_text d.before ++ 10 ∷ []
+-- First line of a departure: `departs LINE REQUEST in STATE..`, with the number of the line of the log and the states in which the device
+-- might be.
+unfoldable pub departure_first_line : (number : ℕ) → Departure → List ℕ
+departure_first_line n d =
+    codes "departs " ++ decimal n ++ (codes " " ++ event_kind_name d.event.asked) ++ codes " in" ++ states_text d.before ++ 10 ∷ []
 
--- The lines of a departure: the first one, and a line for each row that says what was allowed.
+-- Lines of a departure: the first one, a line for each row that gives an allowed answer, and `stall_unchanged_text` of the event.
 unfoldable pub departure_text : (number : ℕ) → Departure → List ℕ
-departure_text n d = departs_text n d ++ texts_of_each (allowed_text d) STANDARD ++ unchanged_text d.event
+departure_text n d = departure_first_line n d ++ texts_of_each (allowed_text d) STANDARD ++ stall_unchanged_text d.event
 
--- Text of the number of events that came, and of the number after which one state was left.
+-- Text of the number of events, and of the number of events after which a single state was possible.
 abbrev pub counts_text : (events single : ℕ) → List ℕ
 counts_text events single = codes " events " ++ decimal events ++ (codes " single " ++ decimal single)
 
--- The line of a verdict is `kept events N single N states STATE..`, `kept by HABIT.. events N single N states STATE..`, or
--- `not kept events N single N`.
+-- Line of a verdict: `kept events N single N states STATE..`, `kept by HABIT.. events N single N states STATE..`, or `not kept events N
+-- single N`.
 unfoldable pub verdict_text : Verdict → (at : List Bool) → (events single : ℕ) → List ℕ
 verdict_text Kept at events single = codes "kept" ++ counts_text events single ++ (codes " states" ++ states_text at) ++ 10 ∷ []
 verdict_text (KeptBy r) at events single =

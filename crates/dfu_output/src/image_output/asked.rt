@@ -1,24 +1,24 @@
-//! Options that `--format` and `--fill` ask for.
+//! Values of the options `--format` and `--fill`.
 
 ghost use Rattle.std.specs.Prelude.{◌≡◌, ◌≤◌, codes, None, Some};
-ghost use Rattle.dfu_output.specs.FormatOptions.{IsNoFormat, fill_in};
+ghost use Rattle.dfu_output.specs.FormatOptions.{IsUnknownFormat, fill_in};
 
 use dfu_formats::images::{Format, hex_digit};
 
-/// Choice of the format of which FILE is taken.
+/// Choice of the format in which FILE is read.
 #[derive(Clone, Copy)]
 pub enum FormatChoice {
-    /// Without a word: as it is, with a reason if it looks like a file of a format.
+    /// No `--format`: FILE is taken as it is, with a reason if it looks like a file of a format.
     Unsaid,
     /// FILE is taken as it is.
     Raw,
-    /// As a file of the format that it looks like, or as it is if nothing is known against a raw image; else not at all.
+    /// FILE is taken as a file of the format that it looks like, or as it is if nothing speaks against a raw image; else it is refused.
     Auto,
     /// FILE is taken as a file of this format.
     As(Format),
 }
 
-/// Returns the byte that `word` says in two hexadecimal digits of either case; None if `word` is anything else.
+/// Returns the byte that `word` spells in two hexadecimal digits of either case; None if `word` is anything else.
 #[tactic(auto, using(std::proofs::lemmas::Bool::Decides::nat_tests))]
 pub fn fill_in(word: &str) -> Option<u8>
     ensures { result ≡ fill_in word.now }
@@ -37,15 +37,15 @@ pub fn fill_in(word: &str) -> Option<u8>
     }
 }
 
-/// Returns the choice by the word of `--format`.
-pub fn format_in(word: &str) -> Option<FormatChoice>
+/// Returns the choice that `word`, the value of `--format`, names; None if it names none.
+pub fn format_choice_in(word: &str) -> Option<FormatChoice>
     ensures raw { word.now ≡ codes "raw" → result ≡ Some FormatChoice.Raw }
     ensures auto { word.now ≡ codes "auto" → result ≡ Some FormatChoice.Auto }
     ensures ihex { word.now ≡ codes "ihex" → result ≡ Some (FormatChoice.As Format.IntelHex) }
     ensures srec { word.now ≡ codes "srec" → result ≡ Some (FormatChoice.As Format.SRecord) }
     ensures uf2 { word.now ≡ codes "uf2" → result ≡ Some (FormatChoice.As Format.Uf2) }
     ensures elf { word.now ≡ codes "elf" → result ≡ Some (FormatChoice.As Format.Elf) }
-    ensures other { IsNoFormat word.now → result ≡ None }
+    ensures other { IsUnknownFormat word.now → result ≡ None }
 {
     match word {
         "raw" => Some(FormatChoice::Raw),

@@ -1,9 +1,9 @@
-//! The lines for files that make no image.
+//! Lines for files that give no image.
 
 ghost use Rattle.std.specs.Prelude.{◌≡◌, ◌++◌, IfOk};
 ghost use Rattle.std.specs.String.{string_bytes};
 ghost use Rattle.dfu_output.specs.Fields.{value_text};
-ghost use Rattle.dfu_output.specs.ImageLines.{ending_name, fault_text, not_image_line, not_image_word, refused_line, unlaid_text, unread_text};
+ghost use Rattle.dfu_output.specs.ImageLines.{ending_name, fault_text, not_image_line, not_image_word, refused_line, lay_fault_text, image_fault_text};
 
 use crate::fields::Value::{Hex8, Number, Text};
 use crate::fields::{Field, line_of, text_of};
@@ -11,10 +11,10 @@ use crate::image_output::lines::format_name;
 use dfu_formats::images::{Ending, ImageFault, ImageFileFault, LayFault, NotImage};
 use std::alloc::{AllocError, Global};
 
-/// Returns the field of `fault`: the name of the fault, with its line, block, segment or address.
-#[tactic(auto, unfolding(crate::specs::ImageLines::unread_text))]
-fn unread_field(fault: ImageFault) -> Field<'static>
-    ensures { result.0.now ++ value_text result.1 ≡ unread_text fault }
+/// Returns the field of `fault`: the name of the fault, with its line, block, segment or address, if it has one.
+#[tactic(auto, unfolding(crate::specs::ImageLines::image_fault_text))]
+fn image_fault_field(fault: ImageFault) -> Field<'static>
+    ensures { result.0.now ++ value_text result.1 ≡ image_fault_text fault }
 {
     match fault {
         ImageFault::NoMemory => ("NoMemory", Text("")),
@@ -43,10 +43,10 @@ fn unread_field(fault: ImageFault) -> Field<'static>
     }
 }
 
-/// Returns the name of the fault for which elements don't make one piece.
-#[tactic(auto, unfolding(crate::specs::ImageLines::unlaid_text))]
-fn unlaid_text(alloc: Global, fault: LayFault) -> Result<String, AllocError>
-    ensures { IfOk result (λ t. string_bytes t ≡ unlaid_text fault) }
+/// Returns the name of the fault that keeps elements from being one piece; for a gap its addresses follow.
+#[tactic(auto, unfolding(crate::specs::ImageLines::lay_fault_text))]
+fn lay_fault_text(alloc: Global, fault: LayFault) -> Result<String, AllocError>
+    ensures { IfOk result (λ t. string_bytes t ≡ lay_fault_text fault) }
 {
     match fault {
         LayFault::NoMemory => String::from_str(alloc, "NoMemory"),
@@ -55,18 +55,18 @@ fn unlaid_text(alloc: Global, fault: LayFault) -> Result<String, AllocError>
     }
 }
 
-/// Returns the name of the fault for which there is no image of a file.
+/// Returns the text of the fault that keeps a file from giving an image: its name, and its place or addresses, if it has them.
 fn fault_text(alloc: Global, fault: ImageFileFault) -> Result<String, AllocError>
     ensures { IfOk result (λ t. string_bytes t ≡ fault_text fault) }
 {
     match fault {
-        ImageFileFault::Unread(fault) => text_of(alloc, &[unread_field(fault)]),
+        ImageFileFault::Unread(fault) => text_of(alloc, &[image_fault_field(fault)]),
         ImageFileFault::NoData => String::from_str(alloc, "NoData"),
-        ImageFileFault::Unlaid(fault) => unlaid_text(alloc, fault),
+        ImageFileFault::Unlaid(fault) => lay_fault_text(alloc, fault),
     }
 }
 
-/// Returns the line for a file that makes no image because of `fault`: `refused NAME`, and after some names a number or addresses in eight
+/// Returns the line for a file that gives no image because of `fault`: `refused NAME`, and after some names a number or addresses in eight
 /// hexadecimal digits.
 ///
 /// # Errors
@@ -80,7 +80,7 @@ pub fn refused_line(alloc: Global, fault: ImageFileFault) -> Result<String, Allo
     line_of(alloc, "refused ", &[("", Text(&text))])
 }
 
-/// Returns the word for `ending`: the name of its format, or `dfu`.
+/// Returns the word for `ending`, that of a file's name: the name of its format, or `dfu`.
 pub(crate) fn ending_name(ending: Ending) -> &'static str
     ensures { result.now ≡ ending_name ending }
 {
@@ -90,7 +90,7 @@ pub(crate) fn ending_name(ending: Ending) -> &'static str
     }
 }
 
-/// Returns the field with the word for `other`, a file of which no image is taken.
+/// Returns the field with the word for `other`, a kind of file that isn't an image.
 fn not_image_field(other: NotImage) -> Field<'static>
     ensures { result.0.now ++ value_text result.1 ≡ not_image_word other }
 {
@@ -103,8 +103,8 @@ fn not_image_field(other: NotImage) -> Field<'static>
     }
 }
 
-/// Returns the line for a file of which no image is taken: `refused NotAnImage WORD`, with the word dfuse, zip, gzip, text, named-dfu, or
-/// named- and the name of a format.
+/// Returns the line for a file that isn't an image: `refused NotAnImage WORD`, with the word dfuse, zip, gzip, text, named-dfu, or named-
+/// and the name of a format.
 ///
 /// # Errors
 ///

@@ -1,10 +1,10 @@
-//! Reasons, in words.
+//! Reasons for refusing image files, in words.
 
 use crate::image_output::lines::format_name;
 use dfu_formats::images::{Ending, Format, ImageFault, ImageFileFault, LayFault, NotImage, Place};
 use std::alloc::{AllocError, Global};
 
-/// Returns the advice on a file that makes no image; nothing if the reason says it.
+/// Returns the advice on a file that gives no image; empty for NoMemory.
 fn advice(fault: ImageFileFault) -> &'static str {
     match fault {
         ImageFileFault::Unread(ImageFault::NoMemory) | ImageFileFault::Unlaid(LayFault::NoMemory) =>
@@ -20,8 +20,7 @@ fn advice(fault: ImageFileFault) -> &'static str {
     }
 }
 
-/// Returns the reason for which a file makes no image, with the place of its first byte that no record has there, if there is one, and what
-/// to do.
+/// Returns the reason for which a file gives no image, with the place of its first wrong character, if there is one, and what to do.
 pub fn why(alloc: Global, fault: ImageFileFault, bad: Option<Place>) -> Result<String, AllocError> {
     let advice = advice(fault);
     match bad {
@@ -32,7 +31,7 @@ pub fn why(alloc: Global, fault: ImageFileFault, bad: Option<Place>) -> Result<S
     }
 }
 
-/// Returns the words for a file of which no image is taken, and what to do.
+/// Returns the reason for which a file isn't an image, and what to do.
 pub fn why_not(alloc: Global, other: NotImage) -> Result<String, AllocError> {
     let said = match other {
         NotImage::DfuSe =>
@@ -52,8 +51,8 @@ pub fn why_not(alloc: Global, other: NotImage) -> Result<String, AllocError> {
     String::from_str(alloc, said)
 }
 
-/// Returns the words for the way in which a file was taken that looks like one of a format.
-pub fn looks_like(alloc: Global, format: Format) -> Result<String, AllocError> {
+/// Returns the hint that a file looks like one of `format`, and was taken as it is.
+pub fn looks_like_hint(alloc: Global, format: Format) -> Result<String, AllocError> {
     let name = format_name(format);
     format!(in alloc;
         "it looks like {name}, and was taken as it is; --format {name} takes the image out of it"

@@ -1,21 +1,21 @@
-//! The lines of a departure from DfuSe.
+//! Lines of a departure from DfuSe.
 
 ghost use Rattle.std.specs.Prelude.{◌≡◌, ◌++◌, IfOk, OnOk};
 ghost use Rattle.std.specs.String.{string_bytes};
 ghost use Rattle.dfu_conformance.specs.declared.standard.TheConstants.{STANDARD};
 ghost use Rattle.dfu_conformance.specs.declared.habits.TheConstants.{HABITS};
 ghost use Rattle.dfu_conformance.specs.declared.dfuse.rows.TheConstants.{DFUSE};
-ghost use Rattle.dfu_output.specs.judge.Dfuse.{dfuse_allowed_text, dfuse_departure_text, may_stall_text, event_request_name, stalled_text};
+ghost use Rattle.dfu_output.specs.judge.Dfuse.{dfuse_allowed_text, dfuse_departure_text, may_stall_text, event_request_name, stall_text_if_allowed};
 ghost use Rattle.dfu_output.specs.judge.Texts.{texts_of_each};
 
 use crate::fields::{field, push};
-use crate::judge::names::asked_name;
+use crate::judge::names::event_kind_name;
 use crate::judge::texts::{departs_line, push_if_allowed};
 use dfu_conformance::dfuse::{DFUSE, is_of_dfuse, is_told};
 use dfu_conformance::{Departure, HABITS, LogEvent, Row, STANDARD};
 use std::alloc::{AllocError, Global};
 
-/// Adds the line of a row that is for a DfuSe device and says what was allowed.
+/// Adds the line of a row, if the row is for a DfuSe device and gives an allowed answer.
 fn push_if_dfuse(line: &mut String, departure: &Departure, row: &Row) -> Result<(), AllocError>
     ensures { OnOk result (string_bytes line.new ≡ string_bytes line.old ++ dfuse_allowed_text departure.now row.now) }
 {
@@ -25,7 +25,7 @@ fn push_if_dfuse(line: &mut String, departure: &Departure, row: &Row) -> Result<
     push_if_allowed(line, departure, row)
 }
 
-/// Adds to `line` a line for each of `rows` that is for a DfuSe device and says what was allowed.
+/// Adds to `line` a line for each of `rows` that is for a DfuSe device and gives an allowed answer.
 fn push_rows(line: &mut String, departure: &Departure, rows: &[Row]) -> Result<(), AllocError>
     ensures { OnOk result (string_bytes line.new ≡ string_bytes line.old ++ texts_of_each (dfuse_allowed_text departure.now) rows.now) }
 {
@@ -35,18 +35,18 @@ fn push_rows(line: &mut String, departure: &Departure, rows: &[Row]) -> Result<(
     Ok(())
 }
 
-/// Returns the name of what `event` asked for; `other` if its request is not as section 3 has it.
+/// Returns the name of the request of `event`; `other` if the request deviates from section 3 of USB DFU 1.1.
 fn request_name(event: &LogEvent) -> &'static str
     ensures { result.now ≡ event_request_name event.now }
 {
     if event.is_plain {
-        asked_name(event.asked)
+        event_kind_name(event.asked)
     } else {
         "other"
     }
 }
 
-/// Adds that a request may be stalled with no change.
+/// Adds the line that allows the request of `event` to be stalled with no change.
 fn push_may_stall(line: &mut String, event: &LogEvent) -> Result<(), AllocError>
     ensures { OnOk result (string_bytes line.new ≡ string_bytes line.old ++ may_stall_text event.now) }
 {
@@ -55,9 +55,9 @@ fn push_may_stall(line: &mut String, event: &LogEvent) -> Result<(), AllocError>
     Ok(())
 }
 
-/// Adds it of a request that doesn't have to be answered.
+/// Adds the line that allows the request of `event` to be stalled with no change, unless the request must be answered.
 fn push_stalled(line: &mut String, event: &LogEvent) -> Result<(), AllocError>
-    ensures { OnOk result (string_bytes line.new ≡ string_bytes line.old ++ stalled_text event.now) }
+    ensures { OnOk result (string_bytes line.new ≡ string_bytes line.old ++ stall_text_if_allowed event.now) }
 {
     if is_told(event) {
         return Ok(());
@@ -65,11 +65,11 @@ fn push_stalled(line: &mut String, event: &LogEvent) -> Result<(), AllocError>
     push_may_stall(line, event)
 }
 
-/// Adds all that a DfuSe device was allowed.
+/// Adds the lines of all answers that a DfuSe device might have given at `departure`.
 fn push_dfuse(line: &mut String, departure: &Departure) -> Result<(), AllocError>
     ensures { OnOk result (string_bytes line.new ≡ string_bytes line.old ++ texts_of_each (dfuse_allowed_text departure.now) STANDARD
         ++ texts_of_each (dfuse_allowed_text departure.now) HABITS ++ texts_of_each (dfuse_allowed_text departure.now) DFUSE
-        ++ stalled_text departure.now.event) }
+        ++ stall_text_if_allowed departure.now.event) }
 {
     push_rows(line, departure, &STANDARD)?;
     push_rows(line, departure, &HABITS)?;

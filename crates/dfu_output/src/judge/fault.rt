@@ -1,8 +1,8 @@
-//! Fault for which a log was judged no further, and its line.
+//! Fault at which judging a log stopped, and its line.
 
 ghost use Rattle.std.specs.Prelude.{◌≡◌, IfOk};
 ghost use Rattle.std.specs.String.{string_bytes};
-ghost use Rattle.dfu_output.specs.judge.Judging.{WritesLogStop, bad_line};
+ghost use Rattle.dfu_output.specs.judge.Judging.{WritesLineOfStop, bad_line};
 
 use crate::exit::{Exit, fault_text, write_out};
 use crate::fields::Value::Number;
@@ -12,10 +12,10 @@ use dfu_suffix::SuffixFault;
 use std::alloc::{AllocError, Global};
 use std::io::Write;
 
-/// The fault for which a log was judged no further.
+/// Fault at which judging a log stopped.
 #[derive(Clone, Copy)]
 pub enum LogFault {
-    /// A line is not a line of a log.
+    /// A line is not valid in a log.
     BadLine {
         /// Number of the line, counted from 1.
         number: u64,
@@ -32,6 +32,7 @@ pub enum LogFault {
     Write,
 }
 
+/// Returns the line for a bad line of a log: `refused BadLine N`, N being `number`, that of the bad line.
 #[tactic(auto, unfolding(crate::specs::judge::Judging::bad_line))]
 fn bad_line(alloc: Global, number: u64) -> Result<String, AllocError>
     ensures { IfOk result (λ t. string_bytes t ≡ bad_line number) }
@@ -39,9 +40,9 @@ fn bad_line(alloc: Global, number: u64) -> Result<String, AllocError>
     line_of(alloc, "refused BadLine ", &[("", Number(number))])
 }
 
-/// Writes the line for a log that was judged no further. If the writer failed, nothing more is written.
+/// Writes the line for `fault`, at which judging a log stopped, and returns the exit; for Write, the writer's own fault, writes nothing.
 pub fn stop_text<W: Write>(alloc: Global, fault: LogFault, writer: &mut W) -> Exit
-    ensures { WritesLogStop fault (W.contents writer.old) (W.contents writer.new) result }
+    ensures { WritesLineOfStop fault (W.contents writer.old) (W.contents writer.new) result }
 {
     match fault {
         LogFault::BadLine { number, .. } => match bad_line(alloc, number) {

@@ -1,9 +1,9 @@
-//! A log that is judged, as its bytes come.
+//! Judging of a log, a byte at a time.
 
 ghost use Rattle.std.specs.Prelude.{◌≡◌, ◌+◌, ◌<◌, ◌≤◌, ◌++◌, ◌∷◌, [], IfErr, IfOk, IfSome, List, None, OnOk, length, take, ℕ};
 ghost use Rattle.dfu_conformance.specs.Verdict.{IsVerdict, ArePlacesAfter};
 ghost use Rattle.dfu_output.specs.judge.Course.{LogCourse, CourseOfText, course_at_start};
-ghost use Rattle.dfu_output.specs.judge.Judging.{CannotJudge, readings_of};
+ghost use Rattle.dfu_output.specs.judge.Judging.{CannotJudgeByte, readings_of};
 ghost use Rattle.dfu_output.specs.judge.inside.JudgeState.{LogEventResult, IsStateAfter, JudgedText};
 
 use crate::judge::fault::LogFault;
@@ -13,14 +13,18 @@ use dfu_conformance::{Departure, Judge, Line, LogEvent, Verdict};
 use std::alloc::Global;
 use std::marker::Model;
 
-/// A log that is judged.
+/// State of judging a log.
 ///
 /// Contracts see it as a `JudgingState`.
 #[derive(Drop)]
 pub(crate) struct Judging {
+    // Judge of the device.
     judge: Judge,
+    // Reader of the lines.
     lines: LogLines,
+    // Number of events.
     events: u64,
+    // Number of events after which a single state was possible.
     single: u64,
 }
 
@@ -42,7 +46,7 @@ impl Model for Judging {
 }
 
 impl Judging {
-    /// Returns the judging of a log before its first byte; None if an allocation was refused.
+    /// Returns the state before the first byte of a log; None if an allocation was refused.
     pub(crate) fn new(alloc: Global) -> Option<Judging>
         ensures { IfSome result (λ s. IsStateAfter s [] course_at_start) }
     {
@@ -55,14 +59,14 @@ impl Judging {
         })
     }
 
-    /// Returns the number of lines that were ended.
+    /// Returns the number of lines that have ended.
     pub(crate) fn number(&self) -> u64
         ensures { result ≡ self.now.lines.number }
     {
         self.lines.number()
     }
 
-    /// Takes the next event of the log. Returns the departure if the device departs from the standard at `event`.
+    /// Takes `event`, the next of the log. Returns the departure if the device departs from the standard at it.
     fn come(&mut self, event: &LogEvent) -> Option<Departure>
         requires slack { self.old.events + self.old.lines.room < 1099511627776 }
         ensures came { (text : List ℕ) (c : LogCourse) → IsStateAfter self.old text c → LogEventResult text c event.now result self.new }
@@ -80,7 +84,7 @@ impl Judging {
         }
     }
 
-    /// Takes the first bytes of `bytes`, up to a 0Ah and without it, as far as there is room for them. Returns the number of bytes taken.
+    /// Takes the bytes before the first 0Ah of `bytes`, as far as there is room for them. Returns the number of bytes taken.
     pub(crate) fn take_inner(&mut self, bytes: &[u8]) -> usize
         ensures within { result ≤ length bytes.now }
         ensures goes { (interface : ℕ) (text : List ℕ) (c : LogCourse) → IsStateAfter self.old text c → CourseOfText interface text c
@@ -90,17 +94,17 @@ impl Judging {
         self.lines.take_inner(bytes)
     }
 
-    /// Takes the next byte of the log, at `interface`. Returns the departure if `byte` ends a line at which the device departs from the
-    /// standard.
+    /// Takes `byte`, the next of the log of a device with DFU at `interface`. Returns the departure if `byte` ends a line at which the
+    /// device departs from the standard.
     ///
     /// # Errors
     ///
-    /// TooLarge if 1,099,511,627,776 bytes came before it; BadLine if it makes a line too long, or ends one that can't be read.
+    /// TooLarge if 1,099,511,627,776 bytes came before `byte`; BadLine if `byte` makes a line too long, or ends a line that can't be read.
     pub(crate) fn take(&mut self, interface: u8, byte: u8) -> Result<Option<Departure>, LogFault>
         ensures ok { (text : List ℕ) (c : LogCourse) → IsStateAfter self.old text c → CourseOfText interface text c
             → IfOk result (λ o. JudgedText interface (text ++ byte ∷ []) c o self.new) }
         ensures err { (text : List ℕ) (c : LogCourse) → IsStateAfter self.old text c
-            → IfErr result (λ f. (tail : List ℕ) → CannotJudge interface text c (byte ∷ tail) f) }
+            → IfErr result (λ f. (tail : List ℕ) → CannotJudgeByte interface text c (byte ∷ tail) f) }
         ensures room { OnOk result (self.new.lines.room + 1 ≡ self.old.lines.room) }
     {
         match self.lines.take(interface, byte) {
@@ -114,7 +118,7 @@ impl Judging {
         }
     }
 
-    /// Returns the verdict on all events that were taken, and for each place whether the device may be there by the verdict.
+    /// Returns the verdict on all events that were taken, and for each place, true if a device with the habits of the verdict may be there.
     pub(crate) fn verdict(&self) -> (Verdict, [bool; 12])
         ensures { (text : List ℕ) (c : LogCourse) → IsStateAfter self.now text c
             → IsVerdict result.0 c.events × ArePlacesAfter (readings_of result.0) c.events result.1 }
@@ -127,7 +131,7 @@ impl Judging {
         }
     }
 
-    /// Returns the number of events that came, and after how many of them one state was left.
+    /// Returns the number of events, and the number of events after which a single state was possible.
     pub(crate) fn counts(&self) -> (u64, u64)
         ensures events { result.0 ≡ self.now.events }
         ensures single { result.1 ≡ self.now.single }

@@ -1,28 +1,30 @@
-//! The lines of a log, as its bytes come.
+//! Lines of a log, read a byte at a time.
 
 ghost use Rattle.std.specs.Prelude.{◌≡◌, ◌≢◌, false, ◌+◌, ◌<◌, ◌≤◌, ◌++◌, ◌∷◌, [], IfErr, IfOk, IfSome, List, OnErr, OnOk, length, take, vec_capacity, ℕ};
 ghost use Rattle.std.specs.List.{list_any};
-ghost use Rattle.dfu_output.specs.judge.Lines.{CannotRead, ByteEndsLine, BytesInLine, ByteInLine, ByteAccepted, is_end};
+ghost use Rattle.dfu_output.specs.judge.Lines.{ByteRefused, ByteEndsLine, BytesInLine, ByteInLine, ByteAccepted, is_end};
 
 use crate::judge::fault::LogFault;
 use dfu_conformance::{Line, LineFault, read_line, why_unread};
 use std::alloc::Global;
 use std::marker::Model;
 
-/// Largest number of bytes of a line, without its 0Ah: no line that is read has more, but a comment.
+/// Largest number of bytes of a line, without its 0Ah. Of the valid lines, only a comment could have more.
 const MAX_LINE: usize = 262_158;
 
 /// Largest number of bytes of a log, with the end of its last line.
 const MAX_LOG: u64 = 1_099_511_627_776;
 
-/// A log that is read. It holds a line, in a buffer that is reserved once.
+/// Reader of a log's lines. It holds one line, in a buffer that is reserved once.
 ///
 /// Contracts see it as a `LinesState`.
 #[derive(Drop)]
 pub struct LogLines {
+    // Bytes of the open line.
     line: Vec<u8>,
-    // Bytes that may still come.
+    // Number of bytes that the log may still have.
     room: u64,
+    // Number of lines that have ended.
     number: u64,
 }
 
@@ -42,7 +44,7 @@ impl Model for LogLines {
         × (length s.line.items ≤ 262158) × (262158 ≤ vec_capacity s.line) };
 }
 
-/// Puts a byte to the end of a line that has room for it.
+/// Appends a byte to a line that has room for it.
 fn put(line: &mut Vec<u8>, byte: u8)
     requires room { length line.old.items < 262158 }
     requires capacity { 262158 ≤ vec_capacity line.old }
@@ -54,7 +56,7 @@ fn put(line: &mut Vec<u8>, byte: u8)
     };
 }
 
-/// Puts bytes to the end of a line that has room for them.
+/// Appends bytes to a line that has room for them.
 fn put_all(line: &mut Vec<u8>, bytes: &[u8])
     requires room { length line.old.items + length bytes.now ≤ 262158 }
     requires capacity { 262158 ≤ vec_capacity line.old }
@@ -82,7 +84,7 @@ fn inner_length(bytes: &[u8], most: usize) -> usize
 }
 
 impl LogLines {
-    /// Returns the lines of a log before its first byte; None if an allocation was refused.
+    /// Returns the reader before the first byte of a log; None if an allocation was refused.
     pub fn new(alloc: Global) -> Option<LogLines>
         ensures { IfSome result (λ s. s ≡ record { line = []; room = 1099511627776; number = 0 }) }
     {
@@ -96,14 +98,14 @@ impl LogLines {
         })
     }
 
-    /// Returns the number of lines that were ended.
+    /// Returns the number of lines that have ended.
     pub fn number(&self) -> u64
         ensures { result ≡ self.now.number }
     {
         self.number
     }
 
-    /// Takes the next byte of the line, which is not 0Ah.
+    /// Takes `byte`, which is not 0Ah, as the next of the line.
     ///
     /// # Errors
     ///
@@ -112,7 +114,7 @@ impl LogLines {
         requires some { 0 < self.old.room }
         requires inner { byte ≢ 10 }
         ensures ok { OnOk result (ByteInLine self.old self.new byte) }
-        ensures err { (interface : ℕ) → IfErr result (λ f. (tail : List ℕ) → CannotRead interface self.old (byte ∷ tail) f) }
+        ensures err { (interface : ℕ) → IfErr result (λ f. (tail : List ℕ) → ByteRefused interface self.old (byte ∷ tail) f) }
         ensures room { OnOk result (self.new.room + 1 ≡ self.old.room) }
         ensures stays { OnErr result (self.new ≡ self.old) }
     {
@@ -127,7 +129,7 @@ impl LogLines {
         Ok(())
     }
 
-    /// Takes the first bytes of `bytes`, up to a 0Ah and without it, as far as there is room for them. Returns the number of bytes taken.
+    /// Takes the bytes before the first 0Ah of `bytes`, as far as there is room for them. Returns the number of bytes taken.
     pub(crate) fn take_inner(&mut self, bytes: &[u8]) -> usize
         ensures within { result ≤ length bytes.now }
         ensures goes { BytesInLine self.old self.new (take result bytes.now) }
@@ -140,7 +142,7 @@ impl LogLines {
         count
     }
 
-    /// Ends the line. Returns what the line says, for a device at `interface`.
+    /// Ends the line. Returns the meaning of the line for a device at `interface`.
     ///
     /// # Errors
     ///
@@ -148,7 +150,7 @@ impl LogLines {
     fn end_line(&mut self, interface: u8) -> Result<Line, LogFault>
         requires some { 0 < self.old.room }
         ensures ok { IfOk result (λ says. ByteEndsLine interface self.old self.new 10 says) }
-        ensures err { IfErr result (λ f. (tail : List ℕ) → CannotRead interface self.old (10 ∷ tail) f) }
+        ensures err { IfErr result (λ f. (tail : List ℕ) → ByteRefused interface self.old (10 ∷ tail) f) }
         ensures room { OnOk result (self.new.room + 1 ≡ self.old.room) }
         ensures stays { OnErr result (self.new ≡ self.old) }
     {
@@ -164,14 +166,14 @@ impl LogLines {
         Ok(line)
     }
 
-    /// Takes the next byte of the log. Returns what the line says if `byte` ends a line, for a device at `interface`.
+    /// Takes the next byte of the log. If `byte` ends a line, returns the meaning of the line for a device at `interface`.
     ///
     /// # Errors
     ///
-    /// TooLarge if 1,099,511,627,776 bytes came before it; BadLine if it makes a line too long, or ends one that can't be read.
+    /// TooLarge if 1,099,511,627,776 bytes came before `byte`; BadLine if `byte` makes a line too long, or ends a line that can't be read.
     pub fn take(&mut self, interface: u8, byte: u8) -> Result<Option<Line>, LogFault>
         ensures ok { IfOk result (λ o. ByteAccepted interface self.old self.new byte o) }
-        ensures err { IfErr result (λ f. (tail : List ℕ) → CannotRead interface self.old (byte ∷ tail) f) }
+        ensures err { IfErr result (λ f. (tail : List ℕ) → ByteRefused interface self.old (byte ∷ tail) f) }
         ensures room { OnOk result (self.new.room + 1 ≡ self.old.room) }
         ensures stays { OnErr result (self.new ≡ self.old) }
     {

@@ -1,11 +1,11 @@
-//! The names that a line has.
+//! Names in the lines of `dfu judge`.
 
 ghost use Rattle.std.specs.Prelude.{◌≡◌};
-ghost use Rattle.dfu_output.specs.judge.Names.{answer_name, asked_name, place_name, reading_name, source_name, when_name};
+ghost use Rattle.dfu_output.specs.judge.Names.{answer_name, event_kind_name, place_name, reading_name, source_name, when_name};
 
 use dfu_conformance::{EventKind, Gives, Reading, Source, StandardState, When};
 
-/// The states of the standard, by number.
+/// States of the standard, in the order of their numbers.
 pub(crate) static STATES: [StandardState; 11] = [
     StandardState::AppIdle,
     StandardState::AppDetach,
@@ -20,7 +20,7 @@ pub(crate) static STATES: [StandardState; 11] = [
     StandardState::Error,
 ];
 
-/// The readings, by number.
+/// Habits, in the order of their numbers.
 pub(crate) static READINGS: [Reading; 6] = [
     Reading::Bootloader,
     Reading::RuntimeMute,
@@ -30,6 +30,7 @@ pub(crate) static READINGS: [Reading; 6] = [
     Reading::ErrorWithoutCode,
 ];
 
+/// Returns the name of `place`: that of its state in the standard.
 pub(crate) fn place_name(place: StandardState) -> &'static str
     ensures { result.now ≡ place_name place }
 {
@@ -41,8 +42,9 @@ pub(crate) fn place_name(place: StandardState) -> &'static str
     )
 }
 
-pub(crate) fn asked_name(asked: EventKind) -> &'static str
-    ensures { result.now ≡ asked_name asked }
+/// Returns the name of a kind of event: of a request, `reset` or `power`.
+pub(crate) fn event_kind_name(asked: EventKind) -> &'static str
+    ensures { result.now ≡ event_kind_name asked }
 {
     named!(asked, EventKind,
         Detach "DETACH", Block "DNLOAD", Close "DNLOAD-0", Upload "UPLOAD", GetStatus "GETSTATUS",
@@ -51,6 +53,7 @@ pub(crate) fn asked_name(asked: EventKind) -> &'static str
     )
 }
 
+/// Returns the name of an answer that a row allows.
 pub(crate) fn answer_name(gives: Gives) -> &'static str
     ensures { result.now ≡ answer_name gives }
 {
@@ -60,12 +63,14 @@ pub(crate) fn answer_name(gives: Gives) -> &'static str
     )
 }
 
+/// Returns the name of the source of a row: appendix A, one way to read it (`open`), or a habit.
 pub(crate) fn source_name(source: Source) -> &'static str
     ensures { result.now ≡ source_name source }
 {
     named!(source, Source, A "appendix-A", Open "open", Habit "habit")
 }
 
+/// Returns the name of the habit `reading`.
 pub(crate) fn reading_name(reading: Reading) -> &'static str
     ensures { result.now ≡ reading_name reading }
 {
@@ -76,6 +81,7 @@ pub(crate) fn reading_name(reading: Reading) -> &'static str
     )
 }
 
+/// Returns the name of the devices to which a row with `when` applies, with a space before it; empty if it applies to every device.
 pub(crate) fn when_name(when: When) -> &'static str
     ensures { result.now ≡ when_name when }
 {

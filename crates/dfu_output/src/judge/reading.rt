@@ -1,8 +1,8 @@
-//! `dfu judge`: what is written of a log.
+//! `dfu judge`: judges a log, and writes its departures and the verdict.
 
 ghost use Rattle.std.specs.Prelude.{◌≡◌, ◌+◌, ◌<◌, ◌≤◌, ◌++◌, ◌∷◌, [], IfErr, IfOk, IfSome, List, OnOk, Option, length, take, ℕ};
 ghost use Rattle.std.specs.Io.KnownBytes.{Appends};
-ghost use Rattle.dfu_output.specs.judge.Judging.{CannotReport, LogStops, WritesJudgment, WritesOfLog, WritesVerdict, exit_of};
+ghost use Rattle.dfu_output.specs.judge.Judging.{DepartureUnwritten, LogStops, WritesJudgment, WritesAboutLog, WritesVerdict, exit_of};
 ghost use Rattle.dfu_output.specs.judge.Texts.{departure_text};
 ghost use Rattle.dfu_output.specs.judge.inside.JudgeState.{JudgedSoFar};
 
@@ -15,7 +15,7 @@ use dfu_suffix::{READ_BYTES, SuffixFault, write_whole};
 use std::alloc::Global;
 use std::io::{Read, Write};
 
-/// Writes the lines of a departure.
+/// Writes the lines of `departure`, at line `number` of a log.
 fn tell<W: Write>(
     alloc: Global,
     number: u64,
@@ -23,7 +23,8 @@ fn tell<W: Write>(
     writer: &mut W,
 ) -> Result<(), LogFault>
     ensures ok { OnOk result (Appends (W.contents writer.old) (W.contents writer.new) (departure_text number departure.now)) }
-    ensures err { IfErr result (λ f. CannotReport (departure_text number departure.now) (W.contents writer.old) (W.contents writer.new) f) }
+    ensures err { IfErr result
+        (λ f. DepartureUnwritten (departure_text number departure.now) (W.contents writer.old) (W.contents writer.new) f) }
 {
     match departure_text(alloc, number, departure) {
         Ok(text) => match write_whole(writer, text.as_bytes()) {
@@ -34,7 +35,8 @@ fn tell<W: Write>(
     }
 }
 
-/// Takes the next byte of the log, at `interface`, and writes a departure at the line that `byte` ends to `writer`.
+/// Takes `byte`, the next of the log of a device with DFU at `interface`. If it ends a line at which the device departs from the standard,
+/// writes the departure to `writer`.
 fn step<W: Write>(
     alloc: Global,
     interface: u8,
@@ -58,8 +60,8 @@ fn step<W: Write>(
     }
 }
 
-/// Takes the first bytes of `rest`, the next bytes of the log: those before a 0Ah, and the 0Ah. Writes a departure to `writer`. Returns
-/// the number of bytes taken, at least 1.
+/// Takes bytes of `rest`, the next bytes of the log, up to the first 0Ah and with it, and writes the departure at that line, if any, to
+/// `writer`. Returns the number of bytes taken, at least 1.
 fn advance<W: Write>(
     alloc: Global,
     interface: u8,
@@ -109,7 +111,7 @@ fn feed<W: Write>(
     Ok(())
 }
 
-/// Takes all bytes that `reader` gives, and the end of the last line, and writes the departures to `writer`.
+/// Judges all bytes of `reader`, ends the last line, and writes each departure to `writer`.
 fn judge_all<R: Read + Drop, W: Write>(
     alloc: Global,
     interface: u8,
@@ -139,6 +141,7 @@ fn judge_all<R: Read + Drop, W: Write>(
     }
 }
 
+/// Returns the exit for `verdict`: Done for `Kept`, and Refused for any other.
 fn exit_of(verdict: Verdict) -> Exit
     ensures { result ≡ exit_of verdict }
 {
@@ -148,7 +151,7 @@ fn exit_of(verdict: Verdict) -> Exit
     }
 }
 
-/// Writes the verdict on all events that came.
+/// Writes the line of the verdict on all events of the log, or `refused NoMemory`, and returns the exit.
 fn verdict_out<W: Write>(alloc: Global, judging: &Judging, writer: &mut W) -> Exit
     ensures { (interface : ℕ) (old : Option (List ℕ)) (text : List ℕ)
         (g : JudgedSoFar interface old (W.contents writer.old) text judging.now)
@@ -162,7 +165,7 @@ fn verdict_out<W: Write>(alloc: Global, judging: &Judging, writer: &mut W) -> Ex
     }
 }
 
-/// Does what `judge_text` does, and returns the end, and the fault at which judging stopped, if there is one.
+/// Judges a log as `judge_text` does. Returns the exit, and the fault at which judging stopped, if there is one.
 pub fn judge_with_fault<R: Read + Drop, W: Write>(
     alloc: Global,
     interface: u8,
@@ -181,20 +184,20 @@ pub fn judge_with_fault<R: Read + Drop, W: Write>(
     }
 }
 
-/// Judges the log that the reader gives, of a device whose DFU interface has this number: requests to other interfaces are passed over.
-/// Departures are written as they come, each with what was allowed, and at the end the verdict, whose forms docs/JUDGE.md has. The end is
-/// Done if the device is kept without habits, and else Refused.
+/// Judges the log of the reader, of a device whose DFU interface has the number `interface`; requests to other interfaces are ignored.
+/// Writes each departure as it comes, with the answers that were allowed, and the verdict at the end; docs/FILES.md has the lines. The exit
+/// is Done if the verdict is `kept` without habits, and Refused otherwise.
 ///
-/// For a log that was judged no further the line is `refused BadLine N` or `refused NAME` with Refused, or `fault Read` with Fault; what
-/// was written before precedes it. Memory is taken for a line and for what is written: if it is refused, the line is `refused
-/// NoMemory`. If the writer fails, it returns Fault; a prefix of the text is out, not all of it, and nothing more is written.
+/// If judging stops early, the last line is `refused BadLine N` or `refused NAME` with Refused, or `fault Read` with Fault, after the lines
+/// of the departures before. Memory is allocated for a line of the log and for the lines written: if that is refused, the line is `refused
+/// NoMemory`. If the writer fails, the exit is Fault; a prefix of the text is written, not all of it, and nothing more.
 pub fn judge_text<R: Read + Drop, W: Write>(
     alloc: Global,
     interface: u8,
     reader: R,
     writer: &mut W,
 ) -> Exit
-    ensures { WritesOfLog interface (R.remaining reader) (W.contents writer.old) (W.contents writer.new) result }
+    ensures { WritesAboutLog interface (R.remaining reader) (W.contents writer.old) (W.contents writer.new) result }
 {
     let (exit, _) = judge_with_fault(alloc, interface, reader, writer);
     exit

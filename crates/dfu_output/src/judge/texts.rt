@@ -4,19 +4,20 @@ ghost use Rattle.std.specs.Prelude.{◌≡◌, ◌<◌, ◌≤◌, ◌++◌, ◌
 ghost use Rattle.std.specs.String.{string_bytes};
 ghost use Rattle.dfu_conformance.specs.Candidates.{reading_bit};
 ghost use Rattle.dfu_output.specs.Fields.{text_with_fields};
-ghost use Rattle.dfu_output.specs.judge.Texts.{allowed_text, departs_text, departure_text, texts_of_each, is_single, may_be_in, reading_text, readings_text, row_line, spaced_state, states_text, unchanged_text, verdict_text};
+ghost use Rattle.dfu_output.specs.judge.Texts.{allowed_text, departure_first_line, departure_text, texts_of_each, is_single, may_be_in_state, reading_text, readings_text, row_line, spaced_state, states_text, stall_unchanged_text, verdict_text};
 
 use crate::fields::Value::{Number, Text};
 use crate::fields::{Field, field, line_of, push, push_fields, text_of};
 use crate::judge::names::{
-    READINGS, STATES, answer_name, asked_name, place_name, reading_name, source_name, when_name,
+    READINGS, STATES, answer_name, event_kind_name, place_name, reading_name, source_name,
+    when_name,
 };
 use dfu_conformance::{Departure, LogEvent, Reading, Row, STANDARD, StandardState, Verdict};
 use std::alloc::{AllocError, Global};
 
-/// Returns true if a device may be in the state of `place`, if `at` has the places at which it may be.
-pub(crate) fn may_be_in(at: &[bool; 12], place: StandardState) -> bool
-    ensures { result ≡ may_be_in at.now place }
+/// Returns true if a device may be in the state of `place`, by `at`, the places where it may be.
+pub(crate) fn may_be_in_state(at: &[bool; 12], place: StandardState) -> bool
+    ensures { result ≡ may_be_in_state at.now place }
 {
     match place {
         StandardState::DfuIdle => at[2] || at[11],
@@ -24,37 +25,37 @@ pub(crate) fn may_be_in(at: &[bool; 12], place: StandardState) -> bool
     }
 }
 
-/// Returns 1 if `yes`, and else 0.
-fn one_if(yes: bool) -> usize
+/// Returns 1 if `yes` is true, and 0 otherwise.
+fn count_if(yes: bool) -> usize
     ensures value { result ≡ cond yes 1 0 }
     ensures fits { result ≤ 1 }
 {
     if yes { 1 } else { 0 }
 }
 
-/// Returns whether there is one state in which a device may be.
+/// Returns true if there is exactly one state in which a device may be.
 #[tactic(auto, unfolding(crate::specs::judge::Texts::is_single))]
 pub fn is_single(at: &[bool; 12]) -> bool
     ensures { result ≡ is_single at.now }
 {
     let mut count = 0usize;
     for place in &STATES {
-        count += one_if(may_be_in(at, *place));
+        count += count_if(may_be_in_state(at, *place));
     }
     count == 1
 }
 
-/// Adds the name of a state in which a device may be.
+/// Adds the name of the state of `place`, if a device may be in it.
 fn push_state(line: &mut String, at: &[bool; 12], place: StandardState) -> Result<(), AllocError>
     ensures { OnOk result (string_bytes line.new ≡ string_bytes line.old ++ spaced_state at.now place) }
 {
-    if !may_be_in(at, place) {
+    if !may_be_in_state(at, place) {
         return Ok(());
     }
     field(line, " ", place_name(place))
 }
 
-/// Adds the states in which a device may be.
+/// Adds the names of the states in which a device may be.
 fn push_states(line: &mut String, at: &[bool; 12]) -> Result<(), AllocError>
     ensures { OnOk result (string_bytes line.new ≡ string_bytes line.old ++ states_text at.now) }
 {
@@ -64,7 +65,7 @@ fn push_states(line: &mut String, at: &[bool; 12]) -> Result<(), AllocError>
     Ok(())
 }
 
-/// Adds the name of a habit that is in the set.
+/// Adds the name of a habit, if it is in the set.
 fn push_reading(line: &mut String, readings: u8, reading: Reading) -> Result<(), AllocError>
     ensures { OnOk result (string_bytes line.new ≡ string_bytes line.old ++ reading_text readings reading) }
 {
@@ -74,7 +75,7 @@ fn push_reading(line: &mut String, readings: u8, reading: Reading) -> Result<(),
     field(line, " ", reading_name(reading))
 }
 
-/// Returns the index of the bit of `reading` in the number of a set of habits, 0 to 5.
+/// Returns the index, 0 to 5, of the bit of `reading` in the number of a set of habits.
 fn reading_bit(reading: Reading) -> u8
     ensures value { result ≡ reading_bit reading }
     ensures fits { result < 6 }
@@ -89,7 +90,7 @@ fn reading_bit(reading: Reading) -> u8
     }
 }
 
-/// Adds the habits of a set.
+/// Adds the names of the habits of the set `readings`.
 fn push_readings(line: &mut String, readings: u8) -> Result<(), AllocError>
     ensures { OnOk result (string_bytes line.new ≡ string_bytes line.old ++ readings_text readings) }
 {
@@ -105,14 +106,14 @@ fn push_row(line: &mut String, row: &Row) -> Result<(), AllocError>
     ensures { OnOk result (string_bytes line.new ≡ string_bytes line.old ++ row_line row.now) }
 {
     field(line, "allowed ", place_name(row.from))?;
-    field(line, " ", asked_name(row.asked))?;
+    field(line, " ", event_kind_name(row.asked))?;
     field(line, " ", answer_name(row.gives))?;
     field(line, " ", place_name(row.next))?;
     field(line, " ", source_name(row.source))?;
     field(line, when_name(row.when), "\n")
 }
 
-/// Adds the line of a row that says what was allowed.
+/// Adds the line of a row, if the row gives an allowed answer.
 pub(crate) fn push_if_allowed(
     line: &mut String,
     departure: &Departure,
@@ -126,7 +127,7 @@ pub(crate) fn push_if_allowed(
     push_row(line, row)
 }
 
-/// Adds a line for each row that says what was allowed.
+/// Adds a line for each row of the standard that gives an allowed answer.
 fn push_allowed(line: &mut String, departure: &Departure) -> Result<(), AllocError>
     ensures { OnOk result (string_bytes line.new ≡ string_bytes line.old ++ texts_of_each (allowed_text departure.now) STANDARD) }
 {
@@ -136,9 +137,9 @@ fn push_allowed(line: &mut String, departure: &Departure) -> Result<(), AllocErr
     Ok(())
 }
 
-/// Adds, of a request that is not as section 3 has it, that it may be stalled with no change.
+/// Adds the line that allows a request to be stalled with no change, if the request deviates from section 3 of USB DFU 1.1.
 fn push_unchanged(line: &mut String, event: &LogEvent) -> Result<(), AllocError>
-    ensures { OnOk result (string_bytes line.new ≡ string_bytes line.old ++ unchanged_text event.now) }
+    ensures { OnOk result (string_bytes line.new ≡ string_bytes line.old ++ stall_unchanged_text event.now) }
 {
     if event.is_plain {
         return Ok(());
@@ -156,15 +157,15 @@ fn end_states(line: &mut String, label: &str, at: &[bool; 12]) -> Result<(), All
 }
 
 /// Returns the first line of `departure` at line `number` of a log.
-#[tactic(auto, using(std::proofs::lemmas::List::append_assoc), unfolding(crate::specs::judge::Texts::departs_text))]
+#[tactic(auto, using(std::proofs::lemmas::List::append_assoc), unfolding(crate::specs::judge::Texts::departure_first_line))]
 pub(crate) fn departs_line(
     alloc: Global,
     number: u64,
     departure: &Departure,
 ) -> Result<String, AllocError>
-    ensures { IfOk result (λ t. string_bytes t ≡ departs_text number departure.now) }
+    ensures { IfOk result (λ t. string_bytes t ≡ departure_first_line number departure.now) }
 {
-    let asked = asked_name(departure.event.asked);
+    let asked = event_kind_name(departure.event.asked);
     let mut line = text_of(alloc, &[("departs ", Number(number)), (" ", Text(asked))])?;
     end_states(&mut line, " in", &departure.before)?;
     Ok(line)
@@ -190,7 +191,7 @@ pub(crate) fn departure_text(
 }
 
 /// Adds habits, counts and the states in which a device may be, and ends the line.
-fn end_kept(
+fn finish_kept_line(
     alloc: Global,
     line: &mut String,
     readings: u8,
@@ -205,8 +206,8 @@ fn end_kept(
     end_states(line, " states", at)
 }
 
-/// Returns the line of a device that keeps to the standard with the habits of `readings`: `first`, the habits, `counts`, and the places of
-/// `at`.
+/// Returns the line of a device that keeps to the standard with the habits of `readings`: `first`, the habits, `counts`, and the states in
+/// which the device may be, by the places `at`.
 fn kept_line(
     alloc: Global,
     first: &str,
@@ -218,7 +219,7 @@ fn kept_line(
         ≡ text_with_fields (first.now ++ readings_text readings) counts.now ++ ((codes " states" ++ states_text at.now) ++ 10 ∷ [])) }
 {
     let mut line = String::from_str(alloc, first)?;
-    end_kept(alloc, &mut line, readings, counts, at)?;
+    finish_kept_line(alloc, &mut line, readings, counts, at)?;
     Ok(line)
 }
 

@@ -40,7 +40,7 @@ seen_after_action CutsPower s = seen.Restarted
 seen_after_action FailsWrite s = s
 seen_after_action LiesInWrite s = s
 
--- A host took the response that came back. It is told of missing memory only if its phase needs memory.
+-- A host took the response that came back. It hears NoRoom only if its phase needs memory.
 pub record HostTakesResponse (h : HostState) (b : Response) (out : List ℕ) (h' : HostState) : Type 0 where
   pub heard : Heard
   pub hears : HeardOfResponse (deed h.task h.phase) b out heard
@@ -53,17 +53,17 @@ report_of_phase (Over report) = Some report
 report_of_phase (OverUploaded kept) = Some Uploaded
 report_of_phase phase = None
 
--- A session goes on, or ends with its report.
+-- Outcome of a session by its host's phase: it stays live, or ends with its report; without a session there is no report.
 abbrev pub session_outcome : Session → HostOutcome
 session_outcome NoLiveSession = record { session = NoLiveSession; answer = silent }
 session_outcome (HostSession h) = settled_session h h.phase
 
--- Answer of an abort: NoHost if no session is live.
+-- Answer of an abort: no report, or NoHost if no session is live.
 abbrev pub abort_answer : Session → Result (Option Report) LinkFault
 abort_answer NoLiveSession = Err NoHost
 abort_answer (HostSession h) = Ok None
 
--- A session begins with the offer of a file for a purpose.
+-- The host begins a session for the payload of a file that was offered for a purpose to a device with this setting, which takes the file.
 pub record SessionOpened (s : Setting) (purpose : Purpose) (file : List ℕ) (limits : Limits) (h : HostState) : Type 0 where
   pub content : Content
   pub offered : IsOffered s purpose file content.payload

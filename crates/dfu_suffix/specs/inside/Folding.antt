@@ -2,7 +2,7 @@
 use Rattle.std.specs.Prelude.{ℕ, List, [], ◌∷◌, take, bit_xor}
 use Rattle.dfu_suffix.specs.Register.{after_bits, bits_of}
 
--- A number is combined with the number of each place in turn.
+-- Combines a number by xor with the number of each place in turn.
 unfoldable pub combined_numbers : (ℕ → ℕ) → ℕ → List ℕ → ℕ
 combined_numbers at number [] = number
 combined_numbers at number (place ∷ places) = combined_numbers at (bit_xor number (at place)) places

@@ -1,10 +1,10 @@
--- Answer of making a file in memory.
+-- Result of making a file in memory.
 use Rattle.std.specs.Prelude.{◌≤◌, ◌<◌, ℕ, List, [], ◌++◌, length, Result, Ok, Err, ⊤, Vec}
 use Rattle.std.specs.Int.{w32, to_le_bytes}
 use Rattle.std.specs.declared.alloc.Global.{Global}
 use Rattle.dfu_suffix.specs.Register.{register}
 use Rattle.dfu_suffix.specs.Grammar.{fields_before_crc}
-use Rattle.dfu_suffix.specs.Adding.{HasSuffix, NeedsSuffix, IsFileWithSuffix}
+use Rattle.dfu_suffix.specs.Adding.{HasSuffix, CanGetSuffix, IsFileWithSuffix}
 use Rattle.dfu_wire.specs.declared.ids.Ids.{Ids}
 use Rattle.dfu_suffix.specs.declared.gathering.GatherFault.{GatherFault}
 use Rattle.dfu_suffix.specs.declared.gathering.GatherFault.TheVariants as gather
@@ -19,17 +19,17 @@ added_fields ids = fields_before_crc ids 0x0100 []
 abbrev pub added_suffix : List ℕ → Ids → List ℕ
 added_suffix payload ids = added_fields ids ++ to_le_bytes w32 (register (payload ++ added_fields ids))
 
--- At `Ok` the file was made in memory; `TooLarge` and `AlreadySuffixed` say why no file is made; `Read` and `NoMemory` say nothing of the
--- bytes.
+-- After `Ok` the bytes can get a suffix, and the file is in memory. `TooLarge` and `AlreadySuffixed` are faults of the bytes; `Read` and
+-- `NoMemory` say nothing about them. No other fault is returned.
 abbrev pub MakeResult : List ℕ → Ids → Result (Vec ℕ Global) SuffixFault → Type 0
-MakeResult all ids (Ok v) = NeedsSuffix all × IsFileWithSuffix all ids v.items
+MakeResult all ids (Ok v) = CanGetSuffix all × IsFileWithSuffix all ids v.items
 MakeResult all ids (Err TooLarge) = 16777200 < length all
 MakeResult all ids (Err AlreadySuffixed) = (length all ≤ 16777200) × HasSuffix all
 MakeResult all ids (Err Read) = ⊤
 MakeResult all ids (Err NoMemory) = ⊤
 MakeResult all ids (Err fault) = ⊥
 
--- A fault of gathering is a fault of adding, under the same name.
+-- Fault of adding for a fault of gathering: the fault of the same name.
 abbrev pub gathering_fault : GatherFault → SuffixFault
 gathering_fault gather.TooLarge = TooLarge
 gathering_fault gather.NoMemory = NoMemory

@@ -1,4 +1,4 @@
--- Result of reading from the end. The grammar says what it means.
+-- Result of reading a file from its end, which agrees with the grammar (proofs/OneReading.antt).
 use Rattle.std.specs.Prelude.{ℕ, ◌-◌, List, length, take, drop, slice_index, find, Option, Some, None, Result, Ok, Err}
 use Rattle.byteorder.specs.Endian.{little_number}
 use Rattle.dfu_suffix.specs.Grammar.{Content, tail_of, has_fault, fault_order}
@@ -13,7 +13,7 @@ tail_ids tail = record {
   vendor = little_number 2 (drop 4 tail);
 }
 
--- Content that the last 16 bytes give of bytes without a fault.
+-- Content of bytes without a fault, by their last 16.
 abbrev pub content_of : List ℕ → Content
 content_of bytes = record {
   payload = take (length bytes - slice_index (tail_of bytes) 11) bytes;
@@ -22,11 +22,11 @@ content_of bytes = record {
   suffix = slice_index (tail_of bytes) 11;
 }
 
--- The fault if there is one, and else the content.
-abbrev pub content_or : Option SuffixFault → Content → Result Content SuffixFault
-content_or (Some fault) content = Err fault
-content_or None content = Ok content
+-- The fault if there is one, or else the content.
+abbrev pub content_unless_fault : Option SuffixFault → Content → Result Content SuffixFault
+content_unless_fault (Some fault) content = Err fault
+content_unless_fault None content = Ok content
 
 -- The content of the bytes, or their first fault.
 unfoldable pub read_content : List ℕ → Result Content SuffixFault
-read_content bytes = content_or (find (has_fault bytes) fault_order) (content_of bytes)
+read_content bytes = content_unless_fault (find (has_fault bytes) fault_order) (content_of bytes)

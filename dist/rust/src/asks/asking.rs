@@ -26,6 +26,6 @@ pub struct Asking {
     pub put_end: u32,
     /// Notes of the active image.
     pub noted: Noted,
-    /// Writes that are left of a row, if any are.
+    /// Pending writes of a row, if any are pending.
     pub work: Option<PendingWrites>,
 }

@@ -1,12 +1,12 @@
 // Of crates/dfu_asks/src/blank.rt, whose contracts are taken away.
 
-//! Look at a flash that may never have been written, by which a program can tell a new board from a damaged one.
+//! Check for flash that was never written, so that a program can tell a new board from a damaged one.
 
 use crate::asks::Mapped;
 use crate::asks::gates::gate_room;
 use crate::slots::{flash_byte_at, is_sized};
 
-// Returns whether so many bytes from there on are FFh.
+// Returns whether the `len` bytes from `at` on are FFh.
 fn is_erased(flash: &[u8], at: usize, len: usize) -> bool {
     let mut rest = &flash[at..at + len];
     while !rest.is_empty() {
@@ -20,9 +20,9 @@ fn is_erased(flash: &[u8], at: usize, len: usize) -> bool {
 
 impl<'m> Mapped<'m> {
     /// Returns whether the flash reads as if it was never written: true if every byte that the gates and the headers of both slots take up
-    /// is FFh, and then there is no active image; false if one is not. The data of the slots does not matter.
+    /// is FFh, in which case there is no active image; false if another byte is found. The data of the slots does not matter.
     ///
-    /// None exactly if the flash has not as many bytes as two slots can have.
+    /// None exactly if the size of the flash cannot be divided into two slots.
     pub fn is_blank(&self) -> Option<bool> {
         if !is_sized(self) {
             return None;

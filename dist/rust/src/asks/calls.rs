@@ -1,14 +1,14 @@
 // Of crates/dfu_asks/src/calls.rt, whose contracts are taken away.
 
-//! The calls for a device that asks.
+//! The calls for a device that asks for its writes.
 
 use crate::asks::noted::{View, look};
 use crate::asks::{Asking, Mapped, Refusal, Reply};
 use crate::device::{asked_row, decide_time};
 use crate::wire::{Code, State};
 
-/// Returns `setup` as a device takes it whose interface has number `interface` (bInterfaceNumber): with wIndex 0 if the setup has that
-/// number as its wIndex (USB DFU 1.1, section 3), and else with another wIndex, so that the device stalls the request and stays as it is.
+/// Returns `setup` for a device whose interface has number `interface` (bInterfaceNumber): with wIndex 0 if the setup has that number as
+/// its wIndex (USB DFU 1.1, section 3), and else with another wIndex, so that the device stalls the request and stays as it is.
 /// A program whose interface is not number 0 must pass each setup through this call before it hands the setup to `handle` or to the calls
 /// that ask or refuse beforehand.
 pub fn addressed(interface: u8, setup: &[u8; 8]) -> [u8; 8] {
@@ -28,7 +28,7 @@ impl Asking {
         self.mode.code()
     }
 
-    // The view of the flash, if what is kept goes with it.
+    // Returns the flash as a medium with its view, if the kept fields fit the flash.
     fn see<'f>(&self, room: usize, flash: &'f [u8]) -> Result<(Mapped<'f>, View), Refusal> {
         let Some(medium) = Mapped::with_sector(flash, self.unit, self.sector) else {
             return Err(Refusal::NoMedium);
@@ -36,13 +36,13 @@ impl Asking {
         let Some(view) = look(&medium, &self.noted) else {
             return Err(Refusal::NoMedium);
         };
-        if !self.is_fit(room, &medium, &view) {
+        if !self.kept_fields_fit(room, &medium, &view) {
             return Err(Refusal::NoDevice);
         }
         Ok((medium, view))
     }
 
-    // Returns the answer to a setup with its body: the rules before the table, then the table.
+    // Answers a setup with its body: by its row if the table serves it, else with a stall. If the row writes, asks for the first write.
     fn respond(
         &mut self,
         block: &mut [u8],

@@ -1,6 +1,6 @@
 // Of crates/dfu_asks/src/candidate.rt, whose contracts are taken away.
 
-//! Place of a received image that is not in place yet, in the flash of a device that asks.
+//! Place of a received image that is not active yet, in the flash of a device that asks for its writes.
 
 use crate::asks::noted::look;
 use crate::asks::{Asking, Mapped, Refusal};

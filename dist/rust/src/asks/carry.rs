@@ -7,7 +7,7 @@ use crate::asks::{Asking, Mapped, Reply};
 use crate::device::{Answer, Decision, DeviceState, status_in};
 use crate::slots::read_data;
 
-// Returns the bytes of a status that are asked for.
+// Returns the number of bytes of a status that are asked for: wLength of the GETSTATUS, or 0 without one.
 fn wanted(asked: Option<u16>) -> u16 {
     match asked {
         Some(len) => len,
@@ -15,14 +15,14 @@ fn wanted(asked: Option<u16>) -> u16 {
     }
 }
 
-// Puts the first of some bytes at the front of a buffer, at most `asked`, and returns their number.
+// Copies the first `asked` of `bytes`, or all if there are fewer, to the front of `out`, and returns their number.
 fn put_front(bytes: &[u8], asked: u16, out: &mut [u8]) -> usize {
     let count = usize::from(asked).min(bytes.len());
     out[..count].copy_from_slice(&bytes[..count]);
     count
 }
 
-// Puts the bytes of the active image at the front of a buffer, from `place` on, at most `size`, and returns their number.
+// Copies the bytes of the active image from `place` on, at most `size`, to the front of `out`, and returns their number.
 fn put_image(medium: &Mapped<'_>, view: &View, place: u32, size: u16, out: &mut [u8]) -> usize {
     let rest = view.len.saturating_sub(place);
     let count = (rest as usize).min(usize::from(size)).min(out.len());
@@ -33,7 +33,7 @@ fn put_image(medium: &Mapped<'_>, view: &View, place: u32, size: u16, out: &mut 
 }
 
 impl Asking {
-    /// Writes `reply` to the front of `out`, if `asked` bytes of a status or of a state are asked for.
+    /// Writes the bytes of `reply` to the front of `out`, at most `asked`, and returns the answer and their number.
     pub(crate) fn give(
         &self,
         reply: crate::device::Reply,
@@ -54,8 +54,8 @@ impl Asking {
         }
     }
 
-    /// Performs `decision`, on a request with `body` that asks for `asked` bytes of a status or of a state, or on a time; or if that
-    /// writes, asks for its first write.
+    /// Performs `decision`, on a request with `body` that asks for `asked` bytes of a status or of a state, or on elapsed time; or if the
+    /// decision writes, asks for its first write.
     pub(crate) fn carry_out(
         &mut self,
         decision: Decision,
@@ -74,7 +74,7 @@ impl Asking {
                 Reply::Answered(answer, count)
             }
             Decision::Holds { mode } => {
-                // There is room for the body of a block.
+                // The body of a block always fits; the limits keep the slices within bounds.
                 let len = body.len().min(block.len()).min(4096);
                 block[..len].copy_from_slice(&body[..len]);
                 self.block_len = len;

@@ -1,6 +1,6 @@
 // Of crates/dfu_asks/src/closes.rt, whose contracts are taken away.
 
-//! The calls that tell, before a setup is handed in, if it closes a download, because the program's own check of the image comes then.
+//! The calls that tell whether a setup closes a download before the setup is handled, so that the program can check the image first.
 
 use crate::asks::{Asking, Refusal};
 use crate::device::{Config, DeviceState, is_close};
@@ -15,9 +15,9 @@ pub fn mode_closes(config: &Config, mode: DeviceState, setup: &[u8; 8]) -> bool 
 
 impl Asking {
     /// Returns true if `setup` closes a download: a DNLOAD with wLength 0 in dfuDNLOAD-IDLE, once as many bytes were taken as an image has
-    /// at least (USB DFU 1.1, section 6.1.1.1). If true, `handle` would acknowledge the setup, and from then on all bytes taken wait to be
-    /// put in place, so a program that checks images must check now, and `refuse_close` would refuse the image; if false, `handle` would
-    /// do nothing of the kind.
+    /// at least (USB DFU 1.1, section 6.1.1.1). If true, `handle` would acknowledge the setup, and the image of all bytes taken would be
+    /// pending, so a program that checks images must check now, and `refuse_close` would refuse the image; if false, `handle` would close
+    /// no download.
     ///
     /// # Errors
     ///

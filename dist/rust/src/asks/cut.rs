@@ -1,6 +1,6 @@
 // Of crates/dfu_asks/src/cut.rt, whose contracts are taken away.
 
-//! The piece that is found, and its bytes: in runs, as they lie in memory one after the other, in place, and read back.
+//! The piece that a search finds, and its bytes: as runs of memory, copied to a buffer, and compared with the flash.
 
 use crate::asks::next_piece::{MAX_PROGRAM, next_piece};
 use crate::asks::pending_writes::WriteInputs;
@@ -12,11 +12,11 @@ use crate::slots::{OPEN_GATE, Source, flash_byte_at};
 pub(crate) struct Cut<'a> {
     /// Inputs of the writes.
     pub(crate) stock: WriteInputs<'a>,
-    /// Bytes that are carried out of the writes that were not looked at yet.
+    /// Number of carried-out bytes that belong to the writes not searched yet.
     pub(crate) rest: usize,
     /// The header, if one is written.
     pub(crate) front: [u8; 16],
-    /// The piece that is found.
+    /// The piece, once it is found.
     pub(crate) piece: FlashOp,
     /// Source of its bytes, if it programs.
     pub(crate) source: Source,
@@ -24,7 +24,7 @@ pub(crate) struct Cut<'a> {
     pub(crate) from: usize,
 }
 
-/// Returns the search for what comes after `done` bytes of the writes that are made of `stock`.
+/// Returns a search for the next piece after `done` bytes of the writes with the inputs `stock`.
 pub(crate) fn cut_at<'a>(stock: WriteInputs<'a>, done: u32) -> Cut<'a> {
     Cut {
         stock,
@@ -47,20 +47,20 @@ struct Runs<'a> {
     front: &'a [u8],
     /// The bytes of the second slice.
     back: &'a [u8],
-    /// Number of bytes that come then.
+    /// Number of bytes of one value after the slices.
     rest: usize,
-    /// Value of each of these.
+    /// Value of each of these bytes.
     pad: u8,
 }
 
-// At most so many bytes of a slice, without its first ones.
+// Returns at most `most` bytes of a slice, after its first `skip`.
 fn run<'a>(bytes: &'a [u8], skip: usize, most: usize) -> &'a [u8] {
     let skip = skip.min(bytes.len());
     let len = most.min(bytes.len() - skip);
     &bytes[skip..skip + len]
 }
 
-// So many bytes of two slices, one after the other, and of zeros after both, without the first ones.
+// Returns `len` bytes of two slices, one after the other, and of zeros after both, after the first `skip`.
 fn runs_in<'a>(front: &'a [u8], back: &'a [u8], skip: usize, len: usize) -> Runs<'a> {
     let first = run(front, skip, len);
     let left = len - first.len();
@@ -73,8 +73,8 @@ fn runs_in<'a>(front: &'a [u8], back: &'a [u8], skip: usize, len: usize) -> Runs
     }
 }
 
-// The two slices that the source of a piece is, one after the other, if this is an open gate.
-fn sides_of<'a>(cut: &'a Cut<'_>, gate: &'a [u8; 1]) -> (&'a [u8], &'a [u8]) {
+// Returns the two slices that make up the source of a piece, in order; `gate` is the byte of an open gate.
+fn source_slices<'a>(cut: &'a Cut<'_>, gate: &'a [u8; 1]) -> (&'a [u8], &'a [u8]) {
     match cut.source {
         Source::Joined => (cut.stock.held, cut.stock.block),
         Source::Held => (cut.stock.held, &[]),
@@ -95,11 +95,11 @@ fn runs_of<'a>(cut: &'a Cut<'_>, gate: &'a [u8; 1]) -> Runs<'a> {
             pad: 0xff,
         };
     }
-    let (front, back) = sides_of(cut, gate);
+    let (front, back) = source_slices(cut, gate);
     runs_in(front, back, cut.from, len)
 }
 
-// Returns whether bytes of flash are those of a slice: that is less code than `==`.
+// Returns whether bytes of flash equal those of a slice. A loop takes less code than `==`.
 fn are_same(one: &[u8], other: &[u8]) -> bool {
     for i in 0..one.len() {
         if flash_byte_at(one, i) != other[i] {
@@ -109,7 +109,7 @@ fn are_same(one: &[u8], other: &[u8]) -> bool {
     true
 }
 
-// Returns whether each of these bytes of flash is this one.
+// Returns whether each of these bytes of flash is `byte`.
 fn are_all(bytes: &[u8], byte: u8) -> bool {
     for i in 0..bytes.len() {
         if flash_byte_at(bytes, i) != byte {
@@ -156,7 +156,7 @@ pub(crate) fn stands(flash: &[u8], cut: &Cut<'_>) -> bool {
 }
 
 impl Asking {
-    /// Returns the bytes held back, of `held`, the memory that they are in.
+    /// Returns the bytes that are held back, from the front of their memory `held`.
     pub(crate) fn held_in<'a>(&self, held: &'a [u8]) -> &'a [u8] {
         &held[..self.held_len.min(held.len())]
     }

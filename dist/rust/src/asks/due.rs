@@ -5,7 +5,7 @@
 use crate::asks::Asking;
 use crate::device::{Config, DeviceState, poll_ms};
 
-// Returns the milliseconds that are left, at least 1.
+// Returns the milliseconds that are left until `limit`, at least 1.
 fn left(limit: u32, passed: u32) -> u32 {
     limit.saturating_sub(passed).max(1)
 }

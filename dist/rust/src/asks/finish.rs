@@ -1,13 +1,13 @@
 // Of crates/dfu_asks/src/finish.rt, whose contracts are taken away.
 
-//! Next steps of a device with the writes that are left of a row, and its state at the end of the row.
+//! Next write of a row, and the state of a device at the end of the row.
 
 use crate::asks::{Asking, Noted, Reply, Sector};
 use crate::device::{Answer, Config, DeviceState};
 use crate::slots::{Unit, WriteFault};
 use crate::wire::Code;
 
-// Returns whether a block is written in a mode.
+// Returns whether the row that is due in a mode writes a block.
 fn is_block(mode: DeviceState) -> bool {
     match mode {
         DeviceState::DownloadSync { .. } | DeviceState::DownloadBusy { .. } => true,
@@ -15,7 +15,7 @@ fn is_block(mode: DeviceState) -> bool {
     }
 }
 
-// The next mode of a device once all is written, with a block of so many bytes.
+// Returns the mode of a device after all writes of a row worked; `len` is the length of its block.
 fn done_mode(config: Config, mode: DeviceState, len: u32) -> DeviceState {
     match mode {
         DeviceState::DownloadSync { written, number } => DeviceState::DownloadIdle {
@@ -42,7 +42,7 @@ fn done_mode(config: Config, mode: DeviceState, len: u32) -> DeviceState {
     }
 }
 
-// The next mode of a device after a write had this fault.
+// Returns the mode of a device after a write of a row had this fault: dfuERROR with the fault's code.
 fn failed_mode(mode: DeviceState, fault: WriteFault) -> DeviceState {
     let block = is_block(mode);
     let code = match fault {
@@ -52,7 +52,7 @@ fn failed_mode(mode: DeviceState, fault: WriteFault) -> DeviceState {
     DeviceState::Error { code }
 }
 
-// Keeps those of the bytes held and a block after them that make no whole unit, and returns their number.
+// Keeps the last bytes of `held` followed by `block` that fill no whole unit, and returns their number.
 fn keep_rest(unit: Unit, held: &mut [u8], held_len: usize, block: &[u8]) -> usize {
     let size = unit.size() as usize;
     let all = held_len + block.len();
@@ -69,7 +69,7 @@ fn keep_rest(unit: Unit, held: &mut [u8], held_len: usize, block: &[u8]) -> usiz
     rest
 }
 
-// Notes the active image after a row in this mode: after a commit the images are read, and after a block it stays the one that was noted.
+// Updates the note of the active image after a row in this mode: a commit reads the images, and a block keeps the note.
 fn note(noted: &mut Noted, mode: DeviceState, flash: &[u8], unit: Unit, sector: Sector) {
     if is_block(mode) {
         return;
@@ -80,7 +80,7 @@ fn note(noted: &mut Noted, mode: DeviceState, flash: &[u8], unit: Unit, sector: 
 }
 
 impl Asking {
-    // Returns how many bytes are held back after a row whose writes worked, and where the puts end. These bytes are kept in their memory.
+    // Keeps the bytes that are held back after a row whose writes worked. Returns their number, and the place at which the puts end.
     fn rest_after(&self, block: &[u8], held: &mut [u8]) -> (usize, u32) {
         if !is_block(self.mode) {
             return (0, 0);
@@ -91,7 +91,7 @@ impl Asking {
         (rest, self.put_end.saturating_add(len as u32))
     }
 
-    /// Ends the writes, all of which were made.
+    /// Ends a row whose writes all worked.
     pub(crate) fn finish(&mut self, block: &[u8], held: &mut [u8], flash: &[u8]) {
         note(&mut self.noted, self.mode, flash, self.unit, self.sector);
         let (held_len, put_end) = self.rest_after(block, held);
@@ -102,7 +102,7 @@ impl Asking {
         self.work = None;
     }
 
-    /// Ends the writes, of which one had `fault`.
+    /// Ends a row of which a write had `fault`.
     pub(crate) fn break_off(&mut self, fault: WriteFault, flash: &[u8]) {
         note(&mut self.noted, self.mode, flash, self.unit, self.sector);
         self.held_len = 0;
@@ -111,7 +111,8 @@ impl Asking {
         self.work = None;
     }
 
-    /// Writes the answer to the GETSTATUS that asked for `asked` bytes, if one did, to the front of `out`.
+    /// Returns the answer at the end of a row, and the number of its bytes, which are at the front of `out`: the status if a GETSTATUS
+    /// asked for `asked` bytes of it, else an acknowledgement.
     pub(crate) fn answer(&self, asked: Option<u16>, out: &mut [u8]) -> (Answer, usize) {
         match asked {
             None => self.give(crate::device::Reply::Ack, 0, out),
@@ -119,7 +120,7 @@ impl Asking {
         }
     }
 
-    /// Asks for the next write of what is left to be written, or comes to the end of the row.
+    /// Asks for the next write of the row, or ends the row if no write is left.
     pub(crate) fn advance(
         &mut self,
         block: &[u8],
@@ -130,7 +131,7 @@ impl Asking {
         let Some(work) = self.work else {
             return Reply::Answered(Answer::Ack, 0);
         };
-        // (Without a flash it says whether a piece is left.)
+        // (An empty flash is enough to learn whether a piece is left.)
         let (len, _) = self.look_at(&work, block, held, &[]);
         if len > 0 {
             return Reply::Asks;
@@ -140,7 +141,7 @@ impl Asking {
         Reply::Answered(answer, count)
     }
 
-    /// Ends the row with `fault`, that of one of its writes, and writes the answer to `out`.
+    /// Ends the row with the `fault` of one of its writes, and writes the answer to `out`.
     pub(crate) fn fail(
         &mut self,
         fault: WriteFault,

@@ -36,14 +36,14 @@ pub enum FormatStep {
     Header,
     /// The gate of the first slot is opened.
     Gate,
-    /// Nothing is left.
+    /// No part is left.
     Ended,
 }
 
-/// Result of a piece of a format that was carried out, or was not.
+/// Progress of a format after the report of a piece.
 #[derive(Clone, Copy, Debug, PartialEq, Eq)]
 pub enum FormatProgress {
-    /// More writes are due: `next`, carry it out, `took`, until `took` answers otherwise.
+    /// More writes are due: call `next`, carry the piece out, call `took`, until `took` answers otherwise.
     Asks,
     /// All is written: the image is the active one.
     Formatted,

@@ -1,12 +1,12 @@
 // Of crates/dfu_asks/src/gates.rt, whose contracts are taken away.
 
-//! Bytes of the gate of a slot, by how the flash is written.
+//! Size of the gate of a slot, which depends on the unit and the sector of the flash.
 
 use crate::asks::Sector;
 use crate::slots::Unit;
 
-/// Returns the number of bytes that the gate of a slot has for itself, and its header as many, in flash that is written in units of `unit`
-/// and erased in sectors of `sector`: the largest of 16, the unit and the sector.
+/// Returns the number of bytes that the gate of a slot takes up, and its header as many, in flash that is written in units of `unit` and
+/// erased in sectors of `sector`: the largest of 16, the unit and the sector.
 pub(crate) fn gate_room(unit: Unit, sector: Sector) -> u32 {
     unit.size().max(16).max(sector.size())
 }

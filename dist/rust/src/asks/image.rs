@@ -1,6 +1,6 @@
 // Of crates/dfu_asks/src/image.rt, whose contracts are taken away.
 
-//! Place of the active image, which a program is to run.
+//! Place of the active image, which a program runs.
 
 use crate::asks::gates::gate_room;
 use crate::asks::{Asking, Noted, Sector};
@@ -15,7 +15,7 @@ pub struct ImagePlace {
     pub len: u32,
 }
 
-// Returns the place at which a slot begins in flash of so many bytes.
+// Returns the place at which a slot begins in flash of `size` bytes.
 fn slot_at(second: bool, size: usize) -> usize {
     if second { size / 2 } else { 0 }
 }
@@ -36,7 +36,7 @@ impl ImagePlace {
 }
 
 impl Asking {
-    /// Returns the place of the active image in `flash`, as `ImagePlace::find`; whatever the device noted of it.
+    /// Returns the place of the active image in `flash`, as `ImagePlace::find`, regardless of the device's note.
     ///
     /// None exactly if the flash has no active image, or 2^32 bytes or more.
     pub fn image(&self, flash: &[u8]) -> Option<ImagePlace> {

@@ -1,10 +1,10 @@
 // Of crates/dfu_asks/src/next_and_took.rt, whose contracts are taken away.
 
-//! The calls for the writes that are due: `next` gives the next piece, and `took` takes the report of what became of it.
+//! The calls for the writes that are due: `next` returns the next piece, and `took` takes the report of its outcome.
 
 use crate::asks::cut::{cut_at, fill};
 use crate::asks::next_piece::next_piece;
-use crate::asks::sector::behind_edge;
+use crate::asks::sector::offset_in_sector;
 use crate::asks::{Asking, FlashOp, MAX_PROGRAM, Mapped, PendingWrites, Refusal, Reply, Sector};
 use crate::slots::{OPEN_GATE, Unit, WriteFault, check, flash_byte_at};
 
@@ -13,7 +13,7 @@ fn slot_start(at: u64, size: u64) -> u64 {
     if at < size { 0 } else { size }
 }
 
-// Returns whether a range lies within the spare slot of this flash.
+// Returns whether a range lies within a slot whose gate is not open, or within the spare slot of an active image.
 fn is_spare(flash: &[u8], unit: Unit, sector: Sector, at: u64, len: u64) -> bool {
     let half = flash.len() as u64 / 2;
     let slot = slot_start(at, half);
@@ -40,15 +40,15 @@ pub(crate) fn is_sound(sector: Sector, piece: FlashOp) -> bool {
         return true;
     }
     let size = sector.size();
-    size > 0 && piece.len == size as usize && behind_edge(size, piece.at) == 0
+    size > 0 && piece.len == size as usize && offset_in_sector(size, piece.at) == 0
 }
 
-// Returns whether a piece did not fail, and is on the flash.
+// Returns whether a piece did not fail, and its bytes are on the flash.
 fn went_well(failed: bool, stands: bool) -> bool {
     !failed && stands
 }
 
-// The fault of a piece that failed, or that is not on the flash.
+// Returns the fault of a piece that failed, or whose bytes are not on the flash.
 fn fault_of(failed: bool) -> WriteFault {
     if failed {
         WriteFault::Failed
@@ -59,7 +59,7 @@ fn fault_of(failed: bool) -> WriteFault {
 
 impl Asking {
     /// Returns the next piece that is asked for: at most 256 bytes to be programmed, or one sector to be erased. The piece lies within the
-    /// spare slot of the flash as it is now, if that has an active image, also if the kept state was damaged. The bytes of a program are
+    /// spare slot of the flash as it is now, if that has an active image, even if the kept state was damaged. The bytes of a program are
     /// at the front of `out` then.
     ///
     /// None if no write is due, if its range is not within that slot, if the slot's gate is open and no image is active, or if the kept
@@ -96,7 +96,7 @@ impl Asking {
     ///
     /// # Errors
     ///
-    /// `NoRoom` if `out` has less than 6 bytes; else `NoDevice` if no write is due. Nothing changes then.
+    /// `NoRoom` if `out` has fewer than 6 bytes; else `NoDevice` if no write is due. Nothing changes then.
     ///
     /// # What the caller must keep to
     ///

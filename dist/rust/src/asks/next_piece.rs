@@ -10,7 +10,7 @@ use crate::slots::{MAX_OPERATIONS, Op, Sequence, Source, VERSION, make_header};
 /// Largest number of bytes that are programmed at a time.
 pub const MAX_PROGRAM: usize = 256;
 
-// An erase of so many bytes there is found.
+// Makes an erase of `len` bytes at `at` the found piece.
 fn find_erase(at: u64, len: usize, cut: &mut Cut<'_>) {
     cut.piece = FlashOp {
         erases: true,
@@ -19,7 +19,8 @@ fn find_erase(at: u64, len: usize, cut: &mut Cut<'_>) {
     };
 }
 
-// Returns whether the next piece is one of the erase of the sector that begins there. Then it is found; else the search goes on after it.
+// Returns whether the next piece is one of the erase of the sector at `at`. `cut` has found it then; else the search goes on after the
+// erase.
 fn erase_piece(at: u64, cut: &mut Cut<'_>) -> bool {
     let sector = cut.stock.sector.size() as usize;
     if cut.rest < sector {
@@ -30,8 +31,8 @@ fn erase_piece(at: u64, cut: &mut Cut<'_>) -> bool {
     false
 }
 
-// Returns whether the next piece is one of a write of `len` bytes there, or of its erases: of the bytes of this source, without the first
-// `skip`. Then it is found; else the search goes on after the write.
+// Returns whether the next piece is one of a write of `len` bytes at `at`, or of its erases. The write has the bytes of `source` after the
+// first `skip`. `cut` has found the piece then; else the search goes on after the write.
 fn write_piece(at: u64, source: Source, skip: usize, len: usize, cut: &mut Cut<'_>) -> bool {
     match locate(cut.stock.sector, at, len, cut.rest) {
         Position::Erase { place, len } => {
@@ -83,14 +84,14 @@ pub(crate) fn sequence_piece(sequence: Sequence, cut: &mut Cut<'_>) -> bool {
     false
 }
 
-// Returns whether the next piece is one of those that close the gate of the slot that begins there, if that is to be closed.
-fn shut_piece(spare: u32, close: bool, cut: &mut Cut<'_>) -> bool {
+// Returns whether the next piece is one that closes the gate of the slot at `spare`; false if `close` is false.
+fn close_piece(spare: u32, close: bool, cut: &mut Cut<'_>) -> bool {
     close && sequence_piece(Sequence::Close { slot: spare }, cut)
 }
 
-// Returns whether the next piece is one that a block writes.
+// Returns whether the next piece is one of the writes of a block.
 fn block_piece(spare: u32, close: bool, cut: &mut Cut<'_>) -> bool {
-    if shut_piece(spare, close, cut) {
+    if close_piece(spare, close, cut) {
         return true;
     }
     let sequence = Sequence::Put {
@@ -102,7 +103,7 @@ fn block_piece(spare: u32, close: bool, cut: &mut Cut<'_>) -> bool {
     sequence_piece(sequence, cut)
 }
 
-// Returns whether the next piece is one that a commit writes.
+// Returns whether the next piece is one of the writes of a commit.
 fn commit_piece(spare: u32, generation: u8, register: u32, cut: &mut Cut<'_>) -> bool {
     let end = cut.stock.put_end;
     cut.front = make_header(VERSION, generation, end, register);

@@ -1,6 +1,6 @@
 // Of crates/dfu_asks/src/noted.rt, whose contracts are taken away.
 
-//! Flash that a device reads as memory, and what is noted of its active image.
+//! Flash that a device reads as memory, and the note of its active image.
 
 use crate::asks::{Asking, Sector};
 use crate::device::{PutSoFar, is_filled};
@@ -9,7 +9,7 @@ use crate::slots::{
     length_in, read_flash,
 };
 
-/// Flash that is mapped into memory: it is read there, and no write or erase through this works. Its owner writes it, in this unit,
+/// Flash that is mapped into memory, where it is read; every write or erase through this type fails. Its owner writes it, in its unit,
 /// in place or in sectors that it erases before.
 #[derive(Debug, PartialEq, Eq)]
 pub struct Mapped<'m> {
@@ -24,8 +24,8 @@ impl<'m> Mapped<'m> {
         Mapped::with_sector(bytes, unit, Sector::none())
     }
 
-    /// Returns the medium of `bytes`, which is written in units of `unit`, in sectors of `sector` bytes that are erased before, or if
-    /// `sector` is 0 in place.
+    /// Returns the medium of `bytes`, which is written in units of `unit`, in sectors of `sector` bytes that are erased before, or in place
+    /// if `sector` is 0.
     ///
     /// None if `sector` is neither 0 nor a multiple of 256 up to 262,144, or if there are 2^32 bytes or more.
     pub fn with_sectors(bytes: &'m [u8], unit: Unit, sector: u32) -> Option<Mapped<'m>> {
@@ -58,7 +58,7 @@ impl<'m> Medium for Mapped<'m> {
         self.sector.size()
     }
 
-    // A library that goes into a bootloader is to be small.
+    // True, because a library in a bootloader must be small.
     fn has_small_tables(&self) -> bool {
         true
     }
@@ -77,7 +77,7 @@ impl<'m> Medium for Mapped<'m> {
     }
 }
 
-/// Notes of the active image: which slot has it, and that slot's header as it was. A call that finds it there reads no image.
+/// Note of the active image: its slot, and that slot's header. A call that finds the header unchanged in that slot reads no image.
 #[derive(Clone, Copy, Debug, PartialEq, Eq)]
 pub struct Noted {
     /// True if the second slot has the image.
@@ -87,7 +87,7 @@ pub struct Noted {
 }
 
 impl Noted {
-    /// Returns the notes of `flash`. The call reads the image of each open slot.
+    /// Returns the note of the active image of `flash`. The call reads the image of each open slot.
     ///
     /// None exactly if the flash has no active image, or 2^32 bytes or more.
     pub fn find(flash: &[u8], unit: Unit, sector: Sector) -> Option<Noted> {
@@ -104,7 +104,7 @@ impl Noted {
     }
 }
 
-/// View that a call has of its flash by what is noted.
+/// View of a call's flash: places and lengths that follow from the note of the active image.
 #[derive(Clone, Copy, Debug, PartialEq, Eq)]
 pub(crate) struct View {
     /// Place at which the active slot begins.
@@ -117,7 +117,7 @@ pub(crate) struct View {
     pub(crate) len: u32,
 }
 
-// Returns whether a header of flash is this one, byte by byte: that is less code than `==`.
+// Returns whether a header of flash equals `other`. A loop takes less code than `==`.
 fn are_same(one: &[u8], other: &[u8; 16]) -> bool {
     for i in 0..16 {
         if flash_byte_at(one, i) != other[i] {
@@ -154,21 +154,21 @@ pub(crate) fn look(medium: &Mapped<'_>, noted: &Noted) -> Option<View> {
     })
 }
 
-// Returns whether puts that end there fit in this room, and leave so many bytes held back. It reads nothing.
-fn may_end(unit: Unit, held: usize, end: u32, room: u32) -> bool {
+// Returns whether puts that end at `end` fit in `room`, and leave `held` bytes held back. Reads no flash.
+fn puts_may_end_at(unit: Unit, held: usize, end: u32, room: u32) -> bool {
     end <= room && held == (end % unit.size()) as usize
 }
 
 impl Asking {
-    /// Returns true if the record goes with `medium` and `view`, and with a block's memory of `room` bytes.
+    /// Returns true if the kept fields fit `medium` and `view`, and a block memory of `room` bytes.
     #[inline(never)]
-    pub(crate) fn is_fit(&self, room: usize, medium: &Mapped<'_>, view: &View) -> bool {
+    pub(crate) fn kept_fields_fit(&self, room: usize, medium: &Mapped<'_>, view: &View) -> bool {
         if self.block_len > room
             || usize::from(self.config.functional().transfer) > room.min(4096)
         {
             return false;
         }
-        if !may_end(self.unit, self.held_len, self.put_end, view.room) {
+        if !puts_may_end_at(self.unit, self.held_len, self.put_end, view.room) {
             return false;
         }
         let seen = PutSoFar {

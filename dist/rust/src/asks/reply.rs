@@ -1,20 +1,20 @@
 // Of crates/dfu_asks/src/reply.rt, whose contracts are taken away.
 
-//! Result of a call of a device that asks: a reply, an operation on its flash, or a refusal.
+//! Results of the calls for a device that asks for its writes: a reply, an operation on its flash, or a refusal.
 
 use crate::device::Answer;
 
-/// Result of a call of a device that asks.
+/// Reply of a device to a call.
 #[derive(Clone, Copy, Debug, PartialEq, Eq)]
 pub enum Reply {
-    /// Writes are due: `next`, carry it out, `took`, until `took` answers otherwise.
+    /// Writes are due: call `next`, carry the piece out, call `took`, until `took` answers otherwise.
     Asks,
     /// The answer, and the number of its bytes at the front of the buffer.
     Answered(Answer, usize),
 }
 
-/// An operation on the flash: `len` bytes are to be programmed at `at`, or to be erased there. The call that gives it puts the
-/// bytes of a program at the front of the buffer that it is handed.
+/// An operation on the flash: `len` bytes are to be programmed at `at`, or to be erased there. The call that returns it writes the
+/// bytes of a program to the front of its buffer.
 #[derive(Clone, Copy, Debug, PartialEq, Eq)]
 pub struct FlashOp {
     /// True if the piece is an erase, after which the `len` bytes from `at` on are FFh; false for a program.
@@ -25,14 +25,14 @@ pub struct FlashOp {
     pub len: usize,
 }
 
-/// Reasons for which a call of a device that asks is refused. Nothing changes then.
+/// Reasons for which a call for a device is refused. A refused call changes nothing.
 #[derive(Clone, Copy, Debug, PartialEq, Eq)]
 pub enum Refusal {
-    /// Writes are due: they come first.
+    /// Writes are due, and must be carried out first.
     Asked,
-    /// The noted header is not in an open slot of the flash, or the flash is not two slots, as one of 2^32 bytes or more.
+    /// The noted header is not in an open slot of the flash, or the flash is not two slots, for example because it has 2^32 bytes or more.
     NoMedium,
-    /// The record is not a device on that flash, or the block's memory has less room than the transfer size. Of `took`: no write is due.
+    /// The record is not a device on that flash, or the block's memory has less room than the transfer size. For `took`: no write is due.
     NoDevice,
     /// The buffer of the answer has less room than an answer may need.
     NoRoom,

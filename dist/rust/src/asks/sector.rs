@@ -1,17 +1,17 @@
 // Of crates/dfu_asks/src/sector.rt, whose contracts are taken away.
 
-//! The sectors of a flash, and how far a write has come with the erases before it.
+//! Sectors of a flash, and the position that a search reaches in a write and the erases before it.
 
 use crate::slots::{MAX_SECTOR, PAGE};
 
-/// The number of bytes of flash that are erased at a time: 0 if the flash is written over in place, else a multiple of 256 up to 262,144.
+/// The number of bytes of flash that are erased at a time: 0 if the flash is overwritten in place, else a multiple of 256 up to 262,144.
 #[derive(Clone, Copy, Debug, PartialEq, Eq)]
 pub struct Sector {
     size: u32,
 }
 
 impl Sector {
-    /// Returns the sector of a flash that is written over in place, and never erased.
+    /// Returns the sector of a flash that is overwritten in place, and never erased.
     pub fn none() -> Sector {
         Sector { size: 0 }
     }
@@ -25,7 +25,7 @@ impl Sector {
         }
     }
 
-    /// Returns the bytes of the sector.
+    /// Returns the number of bytes of the sector.
     pub fn size(self) -> u32 {
         self.size
     }
@@ -53,18 +53,18 @@ pub(crate) enum Position {
     },
 }
 
-/// Returns the number of bytes that a place is after the first one of its sector. It takes two divisions of 32 bits for one of 64, which a
-/// small processor does by a call.
-pub(crate) fn behind_edge(sector: u32, at: u64) -> u32 {
+/// Returns the offset of a place in its sector. Two divisions of 32 bits replace one of 64 bits, for which a small processor needs a
+/// library call.
+pub(crate) fn offset_in_sector(sector: u32, at: u64) -> u32 {
     let high = (at / 16_384) as u32 % sector;
     (high * 16_384 + (at % 16_384) as u32) % sector
 }
 
-// The position after so many bytes of the erases that begin in a range.
+// Returns the position after `done` bytes of the erases of the sectors that begin in a range.
 fn locate_erase(sector: u32, at: u64, len: usize, done: usize) -> Position {
     let size = u64::from(sector);
     let end = at + len as u64;
-    let behind = u64::from(behind_edge(sector, at));
+    let behind = u64::from(offset_in_sector(sector, at));
     let mut place = if behind == 0 {
         at
     } else {
@@ -86,7 +86,7 @@ fn locate_erase(sector: u32, at: u64, len: usize, done: usize) -> Position {
     }
 }
 
-// The position after so many bytes of a write of `len` bytes, past its erases.
+// Returns the position after `rest` bytes of a write of `len` bytes, behind its erases.
 fn locate_write(len: usize, rest: usize) -> Position {
     if rest < len {
         Position::Program { from: rest }

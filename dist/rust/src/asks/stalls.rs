@@ -1,6 +1,6 @@
 // Of crates/dfu_asks/src/stalls.rt, whose contracts are taken away.
 
-//! The calls that tell, before the body of a setup is there, if a device will stall the setup.
+//! The calls that tell whether a device will stall a setup, before the body of the setup arrives.
 
 use crate::asks::gates::gate_room;
 use crate::asks::{Asking, Refusal, Sector};
@@ -18,12 +18,12 @@ fn stalls(decision: Decision) -> bool {
     }
 }
 
-// Returns whether a device of this profile stalls this request of the class in this mode, whatever body of the right length comes with it.
+// Returns whether a device of this profile stalls this request of the class in this mode, with every body of the right length.
 fn will_stall(profile: &Profile, mode: DeviceState, request: Request) -> bool {
     stalls(decide(profile, mode, request))
 }
 
-// Returns the bytes of data of a slot in flash of this size.
+// Returns the number of bytes of a slot's data in flash of `size` bytes.
 fn room_in(unit: Unit, sector: Sector, size: usize) -> u64 {
     (size as u64 / 2).saturating_sub(2 * u64::from(gate_room(unit, sector)))
 }

@@ -1,33 +1,33 @@
 // Of crates/dfu_asks/src/start.rt, whose contracts are taken away.
 
-//! Writes of a row that begins, and the test that flash is erased where it is programmed with no erase before.
+//! Start of the writes of a row, and the test that flash is erased where it is programmed without an erase before.
 
 use crate::asks::noted::View;
-use crate::asks::sector::behind_edge;
+use crate::asks::sector::offset_in_sector;
 use crate::asks::{Asking, Mapped, PendingWrites, Reply, Sector, SlotWrite};
 use crate::device::DeviceState;
 use crate::slots::{WriteFault, crc_of_flash, data_at, is_flash_erased, is_open};
 
-// Returns the end of so many bytes from there on, or the place at which the first sector begins among them.
-fn stretch_end(size: u32, at: u64, len: u64) -> u64 {
-    let behind = behind_edge(size, at);
+// Returns the place at which the first sector begins among the `len` bytes from `at` on, or their end if none begins there.
+fn end_before_sector(size: u32, at: u64, len: u64) -> u64 {
+    let behind = offset_in_sector(size, at);
     if behind == 0 {
         return at;
     }
     at + len.min(u64::from(size - behind))
 }
 
-// Returns whether so many bytes from there on are FFh, up to the sector that begins next; flash without sectors is written over.
-fn is_clear(flash: &[u8], sector: Sector, at: u64, len: u64) -> bool {
+// Returns whether the `len` bytes from `at` on are FFh, up to the next sector. True for flash without sectors, which is overwritten.
+fn is_erased_to_sector(flash: &[u8], sector: Sector, at: u64, len: u64) -> bool {
     let size = sector.size();
     if size == 0 {
         return true;
     }
-    let end = stretch_end(size, at, len).min(flash.len() as u64);
+    let end = end_before_sector(size, at, len).min(flash.len() as u64);
     is_flash_erased(flash, at as usize, end as usize)
 }
 
-// The register over bytes of flash, and these after them.
+// Returns the register over `size` bytes of flash followed by `held`.
 fn register_of(flash: &[u8], from: usize, size: usize, held: &[u8]) -> u32 {
     let mut crc = crc_of_flash(&flash[from..from + size]);
     crc.update_small(held);
@@ -35,7 +35,7 @@ fn register_of(flash: &[u8], from: usize, size: usize, held: &[u8]) -> u32 {
 }
 
 impl Asking {
-    // The job of a commit of all that was put.
+    // Returns the job that commits all bytes that were put.
     fn commit_job(&self, held: &[u8], medium: &Mapped<'_>, view: &View) -> SlotWrite {
         let from = data_at(medium, view.spare) as usize;
         let size = self.put_end as usize - self.held_len;
@@ -46,8 +46,8 @@ impl Asking {
         }
     }
 
-    // The job of a block after so many bytes, how many bytes are held back then, and where the puts end. The bytes that were put before a
-    // first block are forgotten.
+    // Returns the job of a block after `written` bytes, the number of bytes held back before it, and the place at which the puts end. A
+    // first block discards the bytes that were put before.
     fn block_job(&self, written: u32, medium: &Mapped<'_>, view: &View) -> (SlotWrite, usize, u32) {
         if written == 0 {
             let job = SlotWrite::Block {
@@ -63,7 +63,7 @@ impl Asking {
         (job, self.held_len, self.put_end)
     }
 
-    // The job of the row that is due, and what is held back and put then.
+    // Returns the job of the due row, the number of bytes held back before it, and the place at which the puts end.
     fn begin_job(&self, held: &[u8], medium: &Mapped<'_>, view: &View) -> (SlotWrite, usize, u32) {
         match self.mode {
             DeviceState::DownloadSync { written, .. } => self.block_job(written, medium, view),
@@ -76,18 +76,18 @@ impl Asking {
         }
     }
 
-    // Returns whether the flash that the due row programs behind the puts with no erase before is erased, if its puts end there.
+    // Returns whether the flash after the puts, which the due row programs without an erase before, is erased. True if `end` is 0.
     fn is_ahead(&self, end: u32, medium: &Mapped<'_>, view: &View) -> bool {
         if end == 0 {
             return true;
         }
         let at = data_at(medium, view.spare) + (self.put_end - self.held_len as u32);
         let len = self.held_len + self.block_len;
-        is_clear(medium.bytes, self.sector, u64::from(at), len as u64)
+        is_erased_to_sector(medium.bytes, self.sector, u64::from(at), len as u64)
     }
 
-    /// Begins the work of the row that is due. Nothing is written, and the row ends with NotVerified, if the flash behind the bytes put so
-    /// far is not erased: for example because somebody else has written there.
+    /// Begins the writes of the due row. Nothing is written, and the row ends with NotVerified, if the flash behind the bytes put so far is
+    /// not erased: for example because another program has written there.
     pub(crate) fn start(
         &mut self,
         asked: Option<u16>,

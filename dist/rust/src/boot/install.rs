@@ -1,7 +1,7 @@
 // Of crates/dfu_boot/src/install.rt, whose contracts are taken away.
 
-//! A run area beside a slot store: flash of its own, to which images are linked. It is brought to the image that is to be started by
-//! operations that the caller carries out one by one. Nothing is written here, and nothing allocated.
+//! A run area beside a slot store: flash of its own, for which images are linked. Operations that the caller carries out one by one bring
+//! the image to be started to it. These calls write nothing and allocate nothing.
 
 mod area;
 mod compare;

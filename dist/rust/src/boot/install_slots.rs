@@ -1,12 +1,11 @@
 // Of crates/dfu_boot/src/install_slots.rt, whose contracts are taken away.
 
-//! A run area beside a slot store is brought to the active image of the store: what is due next.
+//! The next operation that brings the active image of a slot store to a run area.
 
 use crate::boot::install::{Due, next};
 use crate::slots::{Medium, Slots};
 
-/// Returns the operation that is due next, so that the run area comes to hold the active image of the store: `install::next`, with that
-/// image.
+/// Returns the next operation that brings the active image of the store to the run area: `install::next` with that image.
 ///
 /// `memory` has the bytes of the store's medium, as it is mapped for reading. The store is not changed.
 ///

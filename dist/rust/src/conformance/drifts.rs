@@ -11,8 +11,8 @@ use crate::conformance::StandardState::{
 use crate::conformance::row::Source::{A, Habit};
 use crate::conformance::row::When::{Always, By, NotTolerant, Tolerant, WillDetach};
 
-/// Moves that a device makes by itself: an enumeration ends, a timer ends, a device detaches, a block or an image is in place, or could not
-/// be put there. Two moves one after the other are one move, too.
+/// Moves that a device makes by itself: an enumeration ends, a timer ends, the device detaches, or a block or an image was written or
+/// failed. One move, or none, reaches every place that two moves in a row reach.
 #[rustfmt::skip]
 pub static DRIFTS: [Drift; 12] = [
     drift!(Fresh, Always, DfuIdle, A),

@@ -1,6 +1,6 @@
 // Of crates/dfu_conformance/src/habits.rt, whose contracts are taken away.
 
-//! Habits of devices that are not in the standard.
+//! Habits of devices that the standard doesn't allow.
 
 use crate::conformance::EventKind::{Detach, GetState, GetStatus, Power, Reset};
 use crate::conformance::Reading::{Bootloader, DetachAtOnce, DetachLeaves, ErrorWithoutCode, RuntimeMute};
@@ -13,10 +13,10 @@ use crate::conformance::row::Gives::{Ack, NoCode, Silent, Stall};
 use crate::conformance::row::Source::Habit;
 use crate::conformance::row::When::By;
 
-/// The rows of each habit.
+/// Rows that habits add to the table of the standard. SelfReset adds no row, but moves, in `DRIFTS`.
 #[rustfmt::skip]
 pub static HABITS: [Row; 28] = [
-    // Bootloader: a reset and power lead to dfuIDLE.
+    // Bootloader: a reset and a return of power lead to dfuIDLE.
     row!(AppIdle, Reset, By(Bootloader), Silent, Fresh, Habit),
     row!(DfuIdle, Reset, By(Bootloader), Silent, Fresh, Habit),
     row!(DownloadSync, Reset, By(Bootloader), Silent, Fresh, Habit),
@@ -38,7 +38,7 @@ pub static HABITS: [Row; 28] = [
     row!(ManifestWaitReset, Power, By(Bootloader), Silent, Fresh, Habit),
     row!(UploadIdle, Power, By(Bootloader), Silent, Fresh, Habit),
     row!(Error, Power, By(Bootloader), Silent, Fresh, Habit),
-    // RuntimeMute: the application stalls what it is asked.
+    // RuntimeMute: the application stalls GETSTATUS and GETSTATE.
     row!(AppIdle, GetStatus, By(RuntimeMute), Stall, AppIdle, Habit),
     row!(AppIdle, GetState, By(RuntimeMute), Stall, AppIdle, Habit),
     row!(AppDetach, GetStatus, By(RuntimeMute), Stall, AppDetach, Habit),

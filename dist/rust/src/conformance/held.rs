@@ -1,18 +1,18 @@
 // Of crates/dfu_conformance/src/held.rt, whose contracts are taken away.
 
-//! Devices that may be at each place.
+//! Candidates: the devices that may be at each place, as bits of words.
 
 use crate::conformance::drifts::DRIFTS;
-use crate::conformance::event::{may_stay, speaks_of};
+use crate::conformance::event::{may_stay, row_fits_event};
 use crate::conformance::habits::HABITS;
 use crate::conformance::marks::MARKS;
 use crate::conformance::standard::STANDARD;
 use crate::conformance::{Drift, LogEvent, Reading, Row, StandardState, When};
 
-/// Sets of readings for each bmAttributes: bit r of word a is the device of bmAttributes a whose readings are the bits of r.
+/// A set of devices: bit r of word a is 1 if it has the device with bmAttributes a and the set of habits (readings) r.
 pub(crate) type Devices = [u64; 16];
 
-/// Returns the sets of readings for which a row with `when` is, in a device of bmAttributes `attributes`, 0 to 15.
+/// Returns the sets of habits to which a row with `when` applies, for devices with bmAttributes `attributes`, 0 to 15.
 fn word(when: When, attributes: usize) -> u64 {
     match when {
         When::Always => all_if(true),
@@ -25,12 +25,12 @@ fn word(when: When, attributes: usize) -> u64 {
     }
 }
 
-/// Returns all 64 sets of readings if `yes`, and else none.
+/// Returns all 64 sets of habits if `yes`, and else no set.
 fn all_if(yes: bool) -> u64 {
     if yes { u64::MAX } else { 0 }
 }
 
-/// For each reading, by its number, the sets of readings that have it.
+/// For each habit, by its number, the sets of habits that contain it.
 const SETS_WITH: [u64; 6] = [
     0xaaaa_aaaa_aaaa_aaaa,
     0xcccc_cccc_cccc_cccc,
@@ -45,12 +45,12 @@ fn number_of(reading: Reading) -> usize {
     reading as usize
 }
 
-/// Returns the sets of readings that have `reading`.
+/// Returns the sets of habits that contain `reading`.
 fn readings_with(reading: Reading) -> u64 {
     SETS_WITH[number_of(reading)]
 }
 
-/// Returns the devices of `to`, and those of `from` for which a row with `when` is.
+/// Returns the devices of `to`, and the devices of `from` to which a row with `when` applies.
 fn join(to: &Devices, from: &Devices, when: When) -> Devices {
     let mut after = *to;
     for a in 0..16 {
@@ -59,7 +59,7 @@ fn join(to: &Devices, from: &Devices, when: When) -> Devices {
     after
 }
 
-/// Returns the sets of readings of all devices in `devices`, whatever their bmAttributes.
+/// Returns the sets of habits of all devices in `devices`, whatever their bmAttributes.
 fn readings_of(devices: &Devices) -> u64 {
     let mut all = 0;
     for a in 0..16 {
@@ -73,13 +73,13 @@ fn is_empty(devices: &Devices) -> bool {
     readings_of(devices) == 0
 }
 
-/// For each place the devices that may be there.
+/// Candidates: for each place, by its number, the devices that may be there.
 pub(crate) type Places = [Devices; 12];
 
-/// For each place, by its number, true if devices may be there. A row from a place without devices leads none.
+/// For each place, by its number, false only if no device may be there. Rows from such a place lead no device, and are skipped.
 type Taken = [bool; 12];
 
-/// Returns the places where a device may be by `places`.
+/// Returns the places at which `places` has a device.
 fn taken(places: &Places) -> Taken {
     let mut at = [true; 12];
     for n in 0..12 {
@@ -88,41 +88,41 @@ fn taken(places: &Places) -> Taken {
     at
 }
 
-/// Adds to place `to` of `after` the devices that may be at `from` by `before` and for which a row with `when` is.
+/// Adds to place `to` of `after` the devices at `from` in `before` to which a row with `when` applies.
 fn lead(before: &Places, from: StandardState, when: When, after: &mut Places, to: StandardState) {
     let to = to.number();
     after[to] = join(&after[to], &before[from.number()], when);
 }
 
-/// Adds to `after` the devices of `before` that go by `row` at `event`.
+/// Adds to `after` the devices of `before` to which `row` applies at `event`, at the place to which it leads.
 fn go(row: &Row, before: &Places, at: &Taken, event: &LogEvent, after: &mut Places) {
-    if at[row.from.number()] && speaks_of(row, event) {
+    if at[row.from.number()] && row_fits_event(row, event) {
         lead(before, row.from, row.when, after, row.next);
     }
 }
 
-/// Adds to `after` the devices of `before` that go by one of `rows` at `event`.
+/// Adds to `after`, for each of `rows`, the devices of `before` to which the row applies at `event`.
 fn pass(rows: &[Row], before: &Places, at: &Taken, event: &LogEvent, after: &mut Places) {
     for row in rows {
         go(row, before, at, event, after);
     }
 }
 
-/// Adds the devices that go by a row of a reset or of power, because no such row is about a request.
+/// Adds to `after` the devices of `before` to which a row of `MARKS` applies. Skips requests, because no row of `MARKS` is for one.
 fn pass_marks(before: &Places, at: &Taken, event: &LogEvent, after: &mut Places) {
     if event.asked.number() > 8 {
         pass(&MARKS, before, at, event, after);
     }
 }
 
-/// Adds to `after` the devices of `before` that make the move `one` by themselves.
+/// Adds to `after` the devices of `before` that make the move `one`.
 fn slide(one: &Drift, before: &Places, at: &Taken, after: &mut Places) {
     if at[one.from.number()] {
         lead(before, one.from, one.when, after, one.next);
     }
 }
 
-/// Returns the devices of `before`, and those of them that make one of `moves` by themselves, at the place to which the move leads.
+/// Returns the devices of `before`, and each of them that makes one of `moves` also at the place to which the move leads.
 fn drift(moves: &[Drift], before: &Places) -> Places {
     let mut after = *before;
     let at = taken(before);
@@ -132,7 +132,7 @@ fn drift(moves: &[Drift], before: &Places) -> Places {
     after
 }
 
-/// Returns the devices that may be where they were by `before` after `event`.
+/// Returns the devices of `before` that may stay at their places at `event`: all of them, or none.
 fn rest(before: &Places, event: &LogEvent) -> Places {
     if may_stay(event) {
         *before
@@ -141,7 +141,7 @@ fn rest(before: &Places, event: &LogEvent) -> Places {
     }
 }
 
-/// Returns the devices that may be at each place after `event`, if `before` has those that may be there before it.
+/// Returns the candidates after `event`, if `before` are the candidates before it.
 pub(crate) fn step(before: &Places, event: &LogEvent) -> Places {
     let at = taken(before);
     let mut after = rest(before, event);
@@ -156,12 +156,12 @@ fn has_bit(word: u64, bit: u8) -> bool {
     word >> bit & 1 == 1
 }
 
-/// Returns true if a device with the set `readings` is held, with any bmAttributes.
+/// Returns true if `devices` has a device with the set of habits `readings`, and with some bmAttributes.
 fn is_held(devices: &Devices, readings: u8) -> bool {
     has_bit(readings_of(devices), readings)
 }
 
-/// Returns for each place whether a device with the set `readings` may be there by `places`.
+/// Returns, for each place, true if `places` has a device with the set of habits `readings` there.
 pub(crate) fn places_of(places: &Places, readings: u8) -> [bool; 12] {
     let mut at = [false; 12];
     for n in 0..12 {
@@ -170,7 +170,7 @@ pub(crate) fn places_of(places: &Places, readings: u8) -> [bool; 12] {
     at
 }
 
-/// Returns true if a device with the set `readings` may be at any place by `places`.
+/// Returns true if `places` has a device with the set of habits `readings` at some place.
 pub(crate) fn is_any_held(places: &Places, readings: u8) -> bool {
     let mut is_some = false;
     for n in 0..12 {
@@ -179,18 +179,18 @@ pub(crate) fn is_any_held(places: &Places, readings: u8) -> bool {
     is_some
 }
 
-/// Returns the least set of readings below number `sets` with which a device may be somewhere by `places`: a set with the fewest readings,
-/// and of several the one with the least number. None if there is no such set.
+/// Returns the smallest set of habits, of those with a number below `sets`, with which `places` has a device: the set with the fewest
+/// habits, and among equals the lowest number. None if there is no such set.
 pub(crate) fn least_held(places: &Places, sets: u8) -> Option<u8> {
     let mut least = None;
     for readings in 0..sets {
-        least = better(is_any_held(places, readings), readings, least);
+        least = smaller_set(is_any_held(places, readings), readings, least);
     }
     least
 }
 
-/// Returns the better set of two: `readings`, if it is held and has fewer readings than `least`, and else `least`.
-fn better(held: bool, readings: u8, least: Option<u8>) -> Option<u8> {
+/// Returns the smaller of two sets: `readings`, if `held`, and `least` is None or has more habits than `readings`; else `least`.
+fn smaller_set(held: bool, readings: u8, least: Option<u8>) -> Option<u8> {
     if !held {
         return least;
     }

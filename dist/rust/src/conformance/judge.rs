@@ -1,20 +1,22 @@
 // Of crates/dfu_conformance/src/judge.rt, whose contracts are taken away.
 
-//! The judge of a device of the standard.
+//! The judge of one device, by the tables of the standard and of the habits.
 
 use crate::conformance::held::{Places, is_any_held, least_held, places_of, step};
 use crate::conformance::{Departure, LogEvent, Verdict};
 
-/// Every device, at every place.
+/// Candidates before the first event: every device, at every place.
 const EVERY: Places = [[u64::MAX; 16]; 12];
 
-/// A judge of one device, about which nothing is known at first: it follows every device at once, with each set of habits, and takes no
-/// memory beyond its own 3,080 bytes.
+/// A judge of one device, about which nothing is known at first: it follows every possible device at once, with each set of habits, and
+/// allocates no memory beyond its own 3,080 bytes.
 #[derive(Debug, PartialEq, Eq)]
 pub struct Judge {
-    // Up to the first departure both lists are the same, and `since` is not used.
+    // True after the first departure. Until then `since` is not used, because `whole` has the candidates since the start.
     has_departed: bool,
+    // Candidates by the events since the last departure.
     since: Places,
+    // Candidates by all events.
     whole: Places,
 }
 
@@ -30,7 +32,7 @@ fn departure(before: &Places, after: &Places, event: &LogEvent) -> Option<Depart
 }
 
 impl Judge {
-    /// Returns a judge before the first event, of a device about which nothing is known, and which may be at every place.
+    /// Returns a judge before the first event: nothing is known about the device, which may be at any place.
     pub fn new() -> Judge {
         Judge {
             has_departed: false,
@@ -39,8 +41,8 @@ impl Judge {
         }
     }
 
-    /// Takes the next event. Returns the departure if no device of the standard is left after `event`, and from then on the device may be
-    /// anywhere again, for departures; for the verdict nothing changes.
+    /// Takes the next event. Returns a departure if no device that keeps the standard could have answered all events since the last
+    /// departure and `event`. The search for departures then starts again from every place; the verdict remains on all events.
     pub fn take(&mut self, event: &LogEvent) -> Option<Departure> {
         let whole = step(&self.whole, event);
         if self.has_departed {
@@ -73,7 +75,7 @@ impl Judge {
         }
     }
 
-    /// Returns the verdict on all events that were taken.
+    /// Returns the verdict on all events that the judge took.
     pub fn verdict(&self) -> Verdict {
         if is_any_held(&self.whole, 0) {
             return Verdict::Kept;
@@ -84,14 +86,14 @@ impl Judge {
         }
     }
 
-    /// Returns for each place whether the device may be there now if it has the set `readings`, 0 to 63. The places are in the order of
-    /// `StandardState`.
+    /// Returns, for each place, true if a device with the set of habits `readings`, 0 to 63, may be there after all events. The places are
+    /// in the order of `StandardState`.
     pub fn places(&self, readings: u8) -> [bool; 12] {
         places_of(&self.whole, readings)
     }
 
-    /// Returns for each place whether a device without habits may be there now, by the events since the last departure. The places are in
-    /// the order of `StandardState`.
+    /// Returns, for each place, true if a device without habits may be there, by the events since the last departure. The places are in the
+    /// order of `StandardState`.
     pub fn standing(&self) -> [bool; 12] {
         if self.has_departed {
             places_of(&self.since, 0)

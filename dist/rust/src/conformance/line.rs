@@ -33,7 +33,7 @@ fn are_digits(text: &[u8]) -> bool {
     text.iter().all(|byte| value_of(*byte) < 16)
 }
 
-/// Returns true if `text` is bytes, pairs of hexadecimal digits, at most 65,535 of them.
+/// Returns true if `text` is pairs of hexadecimal digits, for at most 65,535 bytes.
 fn is_bytes(text: &[u8]) -> bool {
     if text.len() > 131_070 {
         return false;
@@ -44,7 +44,7 @@ fn is_bytes(text: &[u8]) -> bool {
     are_digits(text)
 }
 
-/// Returns the byte that pair `n` of the hexadecimal digits of `text` makes, or 0 if `text` ends before it does.
+/// Returns the byte that pair `n` of hexadecimal digits in `text` makes, or 0 if `text` ends before the pair does.
 fn byte_at(text: &[u8], n: usize) -> u8 {
     if 2 * n + 1 >= text.len() {
         return 0;
@@ -54,12 +54,12 @@ fn byte_at(text: &[u8], n: usize) -> u8 {
     ((16 * high + low) % 256) as u8
 }
 
-/// Returns the number that the pairs `n` and `n` + 1 of `text` make, the low byte first.
+/// Returns the number that pairs `n` and `n` + 1 of `text` make, the low byte first.
 fn number_at(text: &[u8], n: usize) -> u16 {
     byte_at(text, n) as u16 + 256 * byte_at(text, n + 1) as u16
 }
 
-/// Returns the setup that `text` says in sixteen hexadecimal digits; None if `text` is anything else.
+/// Returns the setup that `text` encodes in sixteen hexadecimal digits; None for any other text.
 pub(crate) fn setup_of(text: &[u8]) -> Option<Setup> {
     if !is_bytes(text) || text.len() != 16 {
         return None;
@@ -73,7 +73,7 @@ pub(crate) fn setup_of(text: &[u8]) -> Option<Setup> {
     })
 }
 
-/// Returns the number of bytes of the body `text`: half as many as it has digits, or 0 for a dash; None if it is no body.
+/// Returns the number of bytes of the body `text`: half the number of its hexadecimal digits, or 0 for a dash; None for any other text.
 pub(crate) fn body_of(text: &[u8]) -> Option<usize> {
     if text == b"-".as_slice() {
         return Some(0);
@@ -84,7 +84,7 @@ pub(crate) fn body_of(text: &[u8]) -> Option<usize> {
     Some(text.len() / 2)
 }
 
-/// Reads `text` as an answer: a word, or the bytes that came; None if it is neither.
+/// Reads `text` as an answer: `ack`, `stall`, `nothing`, or the bytes of the device; None for any other text.
 pub(crate) fn answer_of(text: &[u8]) -> Option<Response> {
     if text == b"ack".as_slice() {
         return Some(Response::Bytes {

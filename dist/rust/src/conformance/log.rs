@@ -9,35 +9,35 @@ use crate::wire::Setup;
 /// Content of a line of a log.
 #[derive(Clone, Copy, Debug, PartialEq, Eq)]
 pub enum Line {
-    /// The line says nothing, because it is empty or begins with `#`.
+    /// An empty line, or a comment, which begins with `#`.
     Blank,
-    /// A request that is no request of the class, or one for another interface.
+    /// A request that is no class request, or a request to another interface.
     Elsewhere,
-    /// An event that came to the device.
+    /// An event at the device.
     Came(LogEvent),
 }
 
-/// Fault of a line that is not a line of a log.
+/// Reason why a line is no valid line of a log.
 #[derive(Clone, Copy, Debug, PartialEq, Eq)]
 pub enum LineFault {
-    /// The line has over 262,158 bytes: only a comment may be longer.
+    /// The line has over 262,158 bytes, more than any valid line but a comment.
     Long,
     /// The first field is no setup.
     Setup,
     /// The second field is no body.
     Body,
-    /// The rest behind the second field is no answer.
+    /// The text behind the second field is no answer.
     Answer,
 }
 
-/// Answer to a reset or to power: none.
+/// Answer in the event of a reset or power: no bytes.
 const SILENT: Response = Response::Bytes {
     count: 0,
     first: 0,
     fifth: 0,
 };
 
-/// Returns the first field of `line`, and the bytes after the space that ends it.
+/// Returns the first field of `line`, and the bytes after the space that ends it; none if no space does.
 fn parts(line: &[u8]) -> (&[u8], &[u8]) {
     let end = field_end(line);
     let rest = if end < line.len() {
@@ -48,10 +48,10 @@ fn parts(line: &[u8]) -> (&[u8], &[u8]) {
     (&line[..end], rest)
 }
 
-/// Returns the content of a line for a device whose DFU interface has this number, wIndex of its requests:
+/// Returns the content of `line`, for a device whose DFU interface has the number `interface`, the wIndex of its requests:
 ///
 /// - `SETUP BODY ANSWER`, with one space between them: the sixteen hexadecimal digits of a setup; the bytes of its body in such digits, or
-///   `-`; and `ack`, `stall`, `nothing`, or the bytes that were answered;
+///   `-`; and `ack`, `stall`, `nothing`, or the bytes of the answer in such digits;
 /// - `reset` and `power`;
 /// - an empty line, or one that begins with `#`.
 ///
@@ -84,7 +84,7 @@ pub fn why_unread(line: &[u8]) -> LineFault {
     LineFault::Answer
 }
 
-/// Returns true if `line` says nothing.
+/// Returns true if `line` is empty or begins with `#`.
 fn begins_blank(line: &[u8]) -> bool {
     match line {
         [] => true,
@@ -92,7 +92,7 @@ fn begins_blank(line: &[u8]) -> bool {
     }
 }
 
-/// Returns the event of a line of a reset or of power, as `asked` says.
+/// Returns the event of kind `asked` of a `reset` or `power` line.
 fn mark(asked: EventKind) -> LogEvent {
     LogEvent {
         asked,
@@ -102,7 +102,7 @@ fn mark(asked: EventKind) -> LogEvent {
     }
 }
 
-/// Returns the line of a request, by its fields `setup`, `body` and `answer`; None if one of them can't be read.
+/// Returns the line of a request with the fields `setup`, `body` and `answer`, for a device at `interface`; None if a field is None.
 fn request_of(
     interface: u8,
     setup: Option<Setup>,
@@ -121,7 +121,7 @@ fn request_of(
     }
 }
 
-/// Returns the line of a request with `setup`, a body of `body` bytes and `answer`: Elsewhere if it is none of the class for interface 0.
+/// Returns the line of a request with `setup`, a body of `body` bytes and `answer`: Elsewhere if it is no class request to interface 0.
 fn line_of(setup: &Setup, body: usize, answer: Response) -> Line {
     match LogEvent::exchange(setup, body, answer) {
         Some(event) => Line::Came(event),

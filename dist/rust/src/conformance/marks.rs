@@ -1,6 +1,6 @@
 // Of crates/dfu_conformance/src/marks.rt, whose contracts are taken away.
 
-//! Places to which a reset of the bus and power lead (USB DFU 1.1, appendix A).
+//! Rows of a reset of the bus and of a return of power (USB DFU 1.1, appendix A).
 
 use crate::conformance::EventKind::{Power, Reset};
 use crate::conformance::Row;
@@ -12,17 +12,17 @@ use crate::conformance::row::Gives::Silent;
 use crate::conformance::row::Source::{A, Open};
 use crate::conformance::row::When::Always;
 
-// The rows of a device at a place, at a reset of the bus or power: one for each place in which it may come up.
+// Expands each line, for one place and for a reset or power, to a row for each place in which the device may come up.
 macro_rules! marks {
     ($($from:ident, $asked:ident => $($next:ident)|+, $source:ident;)+) => {
         [$($(row!($from, $asked, Always, Silent, $next, $source),)+)+]
     };
 }
 
-/// Places to which a reset of the bus and power lead.
+/// Places to which a reset of the bus and a return of power lead.
 #[rustfmt::skip]
 pub static MARKS: [Row; 43] = marks!(
-    // A reset of the bus: a device that detaches comes up in dfuIDLE, any other in its application, or in dfuERROR if that is broken.
+    // A reset of the bus: a device that detaches comes up in dfuIDLE, any other in its application, or in dfuERROR if that is corrupt.
     AppIdle, Reset => AppIdle, A;
     AppDetach, Reset => Fresh, A;
     Fresh, Reset => Fresh, Open;
@@ -35,7 +35,7 @@ pub static MARKS: [Row; 43] = marks!(
     ManifestWaitReset, Reset => AppIdle | Error, A;
     UploadIdle, Reset => AppIdle | Error, A;
     Error, Reset => AppIdle | Error, A;
-    // Power that comes back: the application, or dfuERROR if that is broken.
+    // A return of power: the device comes up in its application, or in dfuERROR if that is corrupt.
     AppIdle, Power => AppIdle | Error, A;
     AppDetach, Power => AppIdle | Error, A;
     DfuIdle, Power => AppIdle | Error, A;

@@ -1,34 +1,33 @@
 // Of crates/dfu_conformance/src/row.rt, whose contracts are taken away.
 
-//! A row of the table, and the words in which it is written.
+//! Rows of the tables, and the types of their fields.
 
-/// Place at which a device may be: a state of the standard (USB DFU 1.1, section 6.1.2), or dfuIDLE that a reset of the bus has just
-/// entered.
+/// Place at which a device may be: a state of the standard (USB DFU 1.1, section 6.1.2), or dfuIDLE right after a reset of the bus.
 #[derive(Clone, Copy, Debug, PartialEq, Eq)]
 pub enum StandardState {
-    /// 0.
+    /// appIDLE, state 0.
     AppIdle,
-    /// 1.
+    /// appDETACH, state 1.
     AppDetach,
-    /// 2.
+    /// dfuIDLE, state 2.
     DfuIdle,
-    /// 3.
+    /// dfuDNLOAD-SYNC, state 3.
     DownloadSync,
-    /// 4.
+    /// dfuDNBUSY, state 4.
     DownloadBusy,
-    /// 5.
+    /// dfuDNLOAD-IDLE, state 5.
     DownloadIdle,
-    /// 6.
+    /// dfuMANIFEST-SYNC, state 6.
     ManifestSync,
-    /// 7.
+    /// dfuMANIFEST, state 7.
     Manifest,
-    /// 8.
+    /// dfuMANIFEST-WAIT-RESET, state 8.
     ManifestWaitReset,
-    /// 9.
+    /// dfuUPLOAD-IDLE, state 9.
     UploadIdle,
-    /// 10.
+    /// dfuERROR, state 10.
     Error,
-    /// dfuIDLE, entered by a reset: a second reset may belong to the same enumeration.
+    /// dfuIDLE right after a reset: a second reset may belong to the same enumeration.
     Fresh,
 }
 
@@ -39,30 +38,30 @@ impl StandardState {
     }
 }
 
-/// Event that came to a device: one of the requests of the class (USB DFU 1.1, section 3), or what happened to its bus or its power.
+/// Kind of an event at a device: a request of the class (USB DFU 1.1, section 3), a reset of the bus, or a return of power.
 #[derive(Clone, Copy, Debug, PartialEq, Eq)]
 pub enum EventKind {
-    /// DETACH.
+    /// A DETACH request.
     Detach,
-    /// DNLOAD with wLength over 0: a block.
+    /// A DNLOAD request with wLength over 0: a block.
     Block,
-    /// DNLOAD with wLength 0: the end of the image.
+    /// A DNLOAD request with wLength 0: the end of the image.
     Close,
-    /// UPLOAD.
+    /// An UPLOAD request.
     Upload,
-    /// GETSTATUS.
+    /// A GETSTATUS request.
     GetStatus,
-    /// CLRSTATUS.
+    /// A CLRSTATUS request.
     ClrStatus,
-    /// GETSTATE.
+    /// A GETSTATE request.
     GetState,
-    /// ABORT.
+    /// An ABORT request.
     Abort,
     /// Any other request of the class.
     Other,
     /// A reset of the bus.
     Reset,
-    /// Power that went and came back.
+    /// A loss and return of power.
     Power,
 }
 
@@ -73,10 +72,11 @@ impl EventKind {
     }
 }
 
-/// A habit of some devices that is not in the standard. A judge gives the least set of habits with which a device is kept.
+/// A habit of some devices that the standard doesn't allow. The verdict of a judge has the smallest set of habits with which a device may
+/// have given the answers.
 #[derive(Clone, Copy, Debug, PartialEq, Eq)]
 pub enum Reading {
-    /// 0: after a reset or power the device is in dfuIDLE, as a bootloader with no application is.
+    /// 0: after a reset or a return of power the device is in dfuIDLE, like a bootloader without an application.
     Bootloader,
     /// 1: in appIDLE and appDETACH the device stalls GETSTATUS and GETSTATE.
     RuntimeMute,
@@ -90,26 +90,26 @@ pub enum Reading {
     ErrorWithoutCode,
 }
 
-/// For which devices a row is: the bits are those of bmAttributes (USB DFU 1.1, section 4.1.3).
+/// Devices to which a row applies, by a bit of bmAttributes (USB DFU 1.1, section 4.1.3) or by a habit.
 #[derive(Clone, Copy, Debug, PartialEq, Eq)]
 pub enum When {
     /// Every device.
     Always,
-    /// bitCanDnload is 1.
+    /// Devices whose bitCanDnload is 1.
     CanDownload,
-    /// bitCanUpload is 1.
+    /// Devices whose bitCanUpload is 1.
     CanUpload,
-    /// bitManifestationTolerant is 1.
+    /// Devices whose bitManifestationTolerant is 1.
     Tolerant,
-    /// bitManifestationTolerant is 0.
+    /// Devices whose bitManifestationTolerant is 0.
     NotTolerant,
-    /// bitWillDetach is 1.
+    /// Devices whose bitWillDetach is 1.
     WillDetach,
-    /// Devices with this habit: the standard has no such row.
+    /// Devices with this habit, for which the standard has no such row.
     By(Reading),
 }
 
-/// Answer that a device gives by a row.
+/// Answer that a row allows.
 #[derive(Clone, Copy, Debug, PartialEq, Eq)]
 pub enum Gives {
     /// The device acknowledges, or sends no bytes.
@@ -117,43 +117,43 @@ pub enum Gives {
     /// The device stalls.
     Stall,
     /// Six bytes, or as many of them as were asked for (section 6.1.2): the code is OK outside dfuERROR, and another code in it; the state
-    /// is the one that is entered.
+    /// is the one that the device enters.
     Status,
     /// As `Status`, but with the code OK in dfuERROR.
     NoCode,
-    /// One byte, or none if none was asked for: the state as it is.
+    /// One byte, or none if none was asked for: the state of the device before the request.
     State,
     /// As many bytes of an image as were asked for.
     Full,
-    /// Fewer bytes of an image.
+    /// Fewer bytes of an image than were asked for; also no bytes if none were asked for.
     Short,
-    /// Nothing, after a reset or power.
+    /// No answer, because a reset or a return of power has none.
     Silent,
 }
 
 /// Source of a row in the standard.
 #[derive(Clone, Copy, Debug, PartialEq, Eq)]
 pub enum Source {
-    /// Appendix A, in the table of the state where the row begins; section 6.1.2 has the bytes of an answer.
+    /// Appendix A, in the table of the state where the row begins; section 6.1.2 defines the bytes of the answer.
     A,
-    /// Appendix A can be read so, and otherwise too: both readings have rows.
+    /// Appendix A is ambiguous here: each way to read it has a row.
     Open,
     /// The standard has no such row.
     Habit,
 }
 
-/// A row of the table: the answer that a device may give at a place, and where it is then.
+/// A row of a table: the place of a device, an event, the answer that the device may give, and the place that it enters.
 #[derive(Clone, Copy, Debug, PartialEq, Eq)]
 pub struct Row {
-    /// Place of the device before the event or the move.
+    /// Place of the device before the event.
     pub from: StandardState,
-    /// Event that comes to the device.
+    /// Kind of the event.
     pub asked: EventKind,
-    /// For which devices the row is.
+    /// Devices to which the row applies.
     pub when: When,
     /// Answer of the device.
     pub gives: Gives,
-    /// Place of the device afterwards.
+    /// Place of the device after the event.
     pub next: StandardState,
     /// Source of the row in the standard.
     pub source: Source,
@@ -162,11 +162,11 @@ pub struct Row {
 /// A move that a device makes by itself, between two events.
 #[derive(Clone, Copy, Debug, PartialEq, Eq)]
 pub struct Drift {
-    /// Place of the device before the event or the move.
+    /// Place of the device before the move.
     pub from: StandardState,
     /// Devices that make the move.
     pub when: When,
-    /// Place of the device afterwards.
+    /// Place of the device after the move.
     pub next: StandardState,
     /// Source of the move in the standard.
     pub source: Source,

@@ -33,7 +33,7 @@ impl<M: Medium> DeviceCore<M> {
         let _ = self.slots.held();
         let medium = self.slots.medium();
         let half = medium.len() / 2;
-        // Both slots have their data at the same distance from their begin.
+        // Both slots have their data at the same distance from their start.
         let image = self.slots.image_at();
         let at = if image < half {
             image + half

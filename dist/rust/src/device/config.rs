@@ -7,8 +7,8 @@ use crate::wire::{Functional, Ids};
 use core::fmt;
 use thiserror::Error;
 
-/// Times of the flash of a device, and the steps in which it is written. With it a status says the time of its own block or image: of the
-/// erases and programs that are due, beside `busy_ms` or `manifest_ms`.
+/// Pace of a device's flash: the times of an erase and of a program, and the sizes in which the flash is written and erased. With a pace a
+/// status has the time of its own block or image: `busy_ms` or `manifest_ms`, and the time of the erases and programs that are due.
 #[derive(Clone, Copy, Debug, PartialEq, Eq)]
 pub struct Pace {
     /// Milliseconds to erase a sector.
@@ -128,7 +128,7 @@ impl Config {
         })
     }
 
-    /// Returns the settings with the times of the flash by `pace`.
+    /// Returns the settings with `pace` as the pace of the flash.
     pub fn with_pace(self, pace: Pace) -> Config {
         Config { pace, ..self }
     }
@@ -163,12 +163,12 @@ impl Config {
         self.manifest_ms
     }
 
-    /// Returns the times of the device's flash.
+    /// Returns the pace of the device's flash.
     pub(crate) fn pace(&self) -> Pace {
         self.pace
     }
 
-    /// Returns the profile that the table reads of a device with the settings and with room for images of `capacity` bytes.
+    /// Returns the profile that the table reads, for a device with the settings and with room for images of `capacity` bytes.
     pub fn profile(&self, capacity: u64) -> Profile {
         Profile {
             functional: self.functional(),

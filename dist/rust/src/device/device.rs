@@ -11,8 +11,8 @@ use crate::wire::{Code, Functional, Ids, State};
 
 /// A device: its configuration, a slot store, and a state of the standard with what it keeps.
 ///
-/// No call takes memory, and only `power_on` refuses. A bootloader reports what happens to it, and
-/// carries out its answers:
+/// No call allocates memory, and only `power_on` refuses. A bootloader reports each event to the
+/// device, and carries out its answers:
 ///
 /// ```text
 /// match happened {
@@ -32,7 +32,7 @@ use crate::wire::{Code, Functional, Ids, State};
 ///   stage before it asks, and a body that it cut short is stalled with nothing changed.
 /// - On `Ack` the status stage is acknowledged. On `Bytes` the bytes in `out` are the data stage, which
 ///   may have none. On `Stall` endpoint 0 is stalled; that is an answer like the others, and the device
-///   goes on from the state that it is in then.
+///   continues from its state after the call.
 /// - Time is reported as it passes, for example at each tick of a timer: a call with the milliseconds
 ///   since the last one. Only appDETACH, dfuDNBUSY and dfuMANIFEST count it; other states need no call. The
 ///   medium is written within the call that reaches the end of the busy or the manifestation time, or, if
@@ -40,7 +40,7 @@ use crate::wire::{Code, Functional, Ids, State};
 /// - A reset of the bus is reported once per enumeration: one in dfuIDLE ends the upgrade mode, as in the
 ///   table. At power on a device begins in appIDLE; a bootloader that is to begin in dfuIDLE gives it a
 ///   DETACH and a reset of its own.
-/// - The state then says what runs: the application in appIDLE and appDETACH, else the upgrade. A
+/// - The state tells which program runs: the application in appIDLE and appDETACH, else the upgrade. A
 ///   device with bitWillDetach goes from appDETACH to dfuIDLE by a tick, and there its maker detaches it
 ///   from the bus. In dfuMANIFEST-WAIT-RESET it waits for its maker or the host to reset it.
 #[derive(Debug, PartialEq, Eq)]
@@ -66,24 +66,24 @@ impl<M: Medium> Device<M> {
     /// has no active image. They are checked in this order:
     ///
     /// 1. `WrongSize`: its length is not 2 * (2 * G + C) with C from 1 to 16,777,216 and a multiple of
-    ///    the unit's size and the sector's; G is the most of 16, the unit's size and the sector's.
+    ///    the unit's size and the sector's; G is the largest of 16, the unit's size and the sector's.
     /// 2. `NoImage`: neither slot counts: its gate is closed, or its header is of version 2 and not well formed.
-    /// 3. `TwoImages`: both do, and neither generation is the other's plus 1 modulo 256.
+    /// 3. `TwoImages`: both slots count, and neither generation is the other's plus 1 modulo 256.
     /// 4. `BadHeader`: the active slot's header is not well formed.
     pub fn power_on(config: Config, medium: M) -> Result<Device<M>, (OpenFault, M)> {
         let slots = Slots::open(medium)?;
         Ok(Device::start(config, slots))
     }
 
-    /// Lets the power go and come back: the device starts anew in place, on its medium as it is, just as `power_on` starts one on what
-    /// `into_medium` gives back. A restart is never refused.
+    /// Cycles the power: the device starts anew in place, on its unchanged medium, as `power_on` starts a device on the medium that
+    /// `into_medium` returns. A restart is never refused.
     pub fn restart(&mut self) {
         self.core.mode = DeviceState::AppIdle;
         self.core.slots.reopen();
     }
 
     /// Answers a setup with its body (USB DFU 1.1, appendix A). `out` is emptied first. If the
-    /// answer is `Bytes`, it has them, at most wLength.
+    /// answer is `Bytes`, `out` has them afterwards, at most wLength.
     pub fn handle(&mut self, setup: &[u8; 8], body: &[u8], out: &mut ArrayVec<u8, 4096>) -> Answer {
         self.core.handle(setup, body, out)
     }
@@ -129,8 +129,8 @@ impl<M: Medium> Device<M> {
     }
 
     /// Returns the slot store. Until the bytes taken are put in place they are at the front of the data of its spare slot, except for a
-    /// block that is not written yet. The store's view is meant: if the medium's unit is over 1 byte, the last of them may be held in
-    /// memory until their unit is full.
+    /// block that is not written yet. This is true of the store's view: if the medium's unit is over 1 byte, the last of them may be
+    /// held in memory until their unit is full.
     pub fn slots(&self) -> &Slots<M> {
         &self.core.slots
     }

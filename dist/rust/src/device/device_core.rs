@@ -1,6 +1,6 @@
 // Of crates/dfu_device/src/device_core.rt, whose contracts are taken away.
 
-//! The core of a device.
+//! Core of a device: its parts, and how a decision changes them.
 
 use crate::device::answer::{PendingAnswer, pending_answer_of};
 use crate::device::config::Profile;
@@ -12,7 +12,7 @@ use crate::device::Config;
 use arrayvec::ArrayVec;
 use crate::slots::{Medium, Slots};
 
-// Replaces the bytes of the block.
+// Makes `bytes` the bytes of the block.
 fn hold(block: &mut ArrayVec<u8, 4096>, bytes: &[u8]) {
     block.clear();
     let _ = block.try_extend_from_slice(bytes);
@@ -45,7 +45,7 @@ impl<M: Medium> DeviceCore<M> {
         self.config.profile(u64::from(self.slots.capacity()))
     }
 
-    /// Returns the answer to `setup` with its `body`: the three rules before the table, then the table.
+    /// Returns the answer to `setup` with its `body`: that of its row if the table serves it, else a stall.
     pub(crate) fn pending_answer(&mut self, setup: &[u8; 8], body: &[u8]) -> PendingAnswer {
         let (decision, asked) = asked_row(&self.profile(), self.mode, setup, body);
         self.carry_out(decision, asked, body)

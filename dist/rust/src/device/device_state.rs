@@ -1,17 +1,17 @@
 // Of crates/dfu_device/src/device_state.rt, whose contracts are taken away.
 
-//! The mode of a device: its state with what it keeps there, and the status that it reports (USB DFU 1.1, section 6.1.2).
+//! Mode of a device: its state with the values that it keeps there, and the status that it reports (USB DFU 1.1, section 6.1.2).
 
 use crate::device::objection::Objection;
 use crate::device::time_table::poll_ms;
 use crate::device::Config;
 use crate::wire::{Code, State, Status};
 
-/// The mode of a device: a state of the standard (USB DFU 1.1, section 6.1.2), with what the device keeps there beside its slot store and
-/// the block that is not written. A variant forgets, when it is entered, all that it does not name.
+/// Mode of a device: a state of the standard (USB DFU 1.1, section 6.1.2), with the values that the device keeps there beside its slot
+/// store and the block that is not written. A device that enters a variant forgets all values that the variant does not name.
 ///
-/// `written` is how many bytes of a download were put in the spare slot of the store; `number` is that of the next
-/// block; `passed` is how many milliseconds passed in this state.
+/// `written` is the number of bytes of a download that were put in the spare slot of the store; `number` is the number
+/// of the next block; `passed` is the number of milliseconds that passed in this state.
 #[derive(Clone, Copy, Debug, PartialEq, Eq)]
 pub enum DeviceState {
     /// appIDLE: the application runs.
@@ -24,7 +24,7 @@ pub enum DeviceState {
         /// Milliseconds in this state.
         passed: u32,
     },
-    /// dfuIDLE: nothing is taken.
+    /// dfuIDLE: no bytes are taken.
     DfuIdle,
     /// dfuDNLOAD-SYNC: the block is kept beside the mode, and is not written yet.
     DownloadSync {
@@ -79,7 +79,7 @@ pub enum DeviceState {
         /// The next part's number.
         number: u16,
     },
-    /// dfuERROR.
+    /// dfuERROR: the status code reports the cause.
     Error {
         /// The status code.
         code: Code,

@@ -36,8 +36,7 @@ impl<M: Medium> DeviceCore<M> {
         }
     }
 
-    /// Makes the bytes taken the active image, and goes on to the next state. Returns the fault if a write
-    /// had one.
+    /// Makes the bytes taken the active image, and enters `next`. Returns the fault if a write had one.
     pub(crate) fn commit_taken(&mut self, written: u32, next: DeviceState) -> Result<(), WriteFault> {
         match self.slots.commit(written) {
             Ok(()) => {
@@ -79,7 +78,7 @@ fn commit_code(fault: WriteFault) -> Code {
     }
 }
 
-/// Writes a block after the bytes written, the first one after a `begin`.
+/// Writes a block after the `written` bytes; calls `begin` before the first block.
 fn put_block<M: Medium>(slots: &mut Slots<M>, written: u32, block: &[u8]) -> Result<(), PutFault> {
     if written > 0 {
         return slots.put(written, block);

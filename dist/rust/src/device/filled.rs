@@ -1,6 +1,6 @@
 // Of crates/dfu_device/src/filled.rt, whose contracts are taken away.
 
-//! Fit of a mode with what was put in a slot store.
+//! Check that a mode fits the bytes that were put in a slot store.
 
 use crate::device::device_state::DeviceState;
 
@@ -15,24 +15,24 @@ pub struct PutSoFar {
     pub end: u32,
 }
 
-// Returns whether exactly `written` bytes were put in the closed spare.
+// Returns whether exactly `written` bytes were put in the closed spare slot.
 fn is_put(seen: PutSoFar, written: u32) -> bool {
     seen.begun && seen.end == written
 }
 
-// Returns whether all bytes taken are written, at least one.
+// Returns whether exactly `written` bytes were put in the closed spare slot, at least one, and fit in the room.
 fn is_written(seen: PutSoFar, written: u32) -> bool {
     0 < written && written <= seen.room && is_put(seen, written)
 }
 
-// Returns whether a block of `block` bytes has room after the bytes that are written.
+// Returns whether a block of `block` bytes is not empty, has room after the `written` bytes, and these, if any, were put.
 fn is_next(seen: PutSoFar, written: u32, block: usize) -> bool {
     0 < block
         && u64::from(written) + block as u64 <= u64::from(seen.room)
         && (written == 0 || is_put(seen, written))
 }
 
-/// Returns whether a mode, with a block of `block` bytes that is not written, fits what was put in the slot store.
+/// Returns whether a mode, with a block of `block` bytes that is not written, fits the bytes that were put in the slot store.
 ///
 /// # What the caller must keep to
 ///

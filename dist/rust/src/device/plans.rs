@@ -44,8 +44,8 @@ pub(crate) fn tell(mode: DeviceState) -> Decision {
     }
 }
 
-/// Decides on a DNLOAD with wBlockNum `number` and wLength `size`, over 0, after `written` bytes, with `expected` as the number that is
-/// due: the errors in their order, else the block is kept and counts as taken, not as written.
+/// Decides on a DNLOAD with wBlockNum `number` and wLength `size`, over 0, after `written` bytes; `expected` is the next block's number.
+/// Checks the errors in their order, else the block is kept and counts as taken, not as written.
 fn block(profile: &Profile, written: u32, expected: u16, number: u16, size: u16) -> Decision {
     if size > profile.functional.transfer {
         return error(Code::StalledPkt);
@@ -90,8 +90,8 @@ pub(crate) fn further(
     ack(DeviceState::ManifestSync { written })
 }
 
-/// Decides on an UPLOAD with wBlockNum `number` and wLength `size`, after `place` bytes, with `expected` as the number that is due: the
-/// errors in their order, else the next bytes of the image.
+/// Decides on an UPLOAD with wBlockNum `number` and wLength `size`, after `place` bytes; `expected` is the next part's number. Checks the
+/// errors in their order, else sends the next bytes of the image.
 pub(crate) fn upload(
     profile: &Profile,
     place: u32,

@@ -1,8 +1,8 @@
 // Of crates/dfu_device/src/table.rt, whose contracts are taken away.
 
-//! The device table as a value: what a request comes to, by the mode of a device and its fixed settings only (USB DFU 1.1,
+//! The device table as a function: the decision on a request, from the mode of a device and its fixed settings alone (USB DFU 1.1,
 //! appendix A). Nothing is carried out here. `crates/dfu_device/specs/Table.antt` has the same rows in the same words. Before them come the rules by
-//! which a setup goes by the table.
+//! which a setup reaches the table.
 
 use crate::device::config::Profile;
 use crate::device::decision::{Decision, Reply};
@@ -10,7 +10,7 @@ use crate::device::device_state::DeviceState;
 use crate::device::plans::{ack, error, first, further, report, stall, tell, upload};
 use crate::wire::{Code, Request, Setup};
 
-// Returns the bytes of a status or of a state that a request asks for: wLength.
+// Returns the number of bytes of a status or a state that a request asks for: wLength; 0 for any other request.
 fn asked_length(request: Request) -> u16 {
     match request {
         Request::GetStatus { length } | Request::GetState { length } => length,
@@ -18,7 +18,7 @@ fn asked_length(request: Request) -> u16 {
     }
 }
 
-// Returns whether a body fits its setup: wLength bytes if the host sends, and none if it reads.
+// Returns whether a body fits its setup: wLength bytes if bmRequestType is 21h, so that the host sends, else none.
 fn goes_with(setup: &Setup, body: &[u8]) -> bool {
     let len = if setup.kind == 0x21 {
         setup.length as usize
@@ -28,7 +28,7 @@ fn goes_with(setup: &Setup, body: &[u8]) -> bool {
     body.len() == len
 }
 
-// Returns whether a request goes by the table: a request of the class, whose body fits its setup.
+// Returns whether the table serves a request: one of the class, whose body fits its setup.
 fn is_served(setup: &Setup, request: Request, body: &[u8]) -> bool {
     match request {
         Request::NotDfu => false,
@@ -49,7 +49,7 @@ fn in_app_idle(profile: &Profile, request: Request) -> Decision {
     }
 }
 
-// appDETACH. Any other request, a second DETACH too, goes back to the application.
+// appDETACH. Any other request, a second DETACH too, is stalled and leads back to the application.
 fn in_app_detach(timer: u32, passed: u32, request: Request) -> Decision {
     match request {
         Request::GetStatus { .. } => report(DeviceState::AppDetach { timer, passed }),
@@ -58,7 +58,7 @@ fn in_app_detach(timer: u32, passed: u32, request: Request) -> Decision {
     }
 }
 
-// dfuIDLE. A device that can't download or upload takes DNLOAD or UPLOAD as any other request.
+// dfuIDLE. A device that can't download or upload treats DNLOAD or UPLOAD as any other request.
 fn in_dfu_idle(profile: &Profile, request: Request) -> Decision {
     match request {
         Request::Dnload { block, length } => first(profile, block, length),
@@ -91,7 +91,7 @@ fn in_download_sync(profile: &Profile, written: u32, number: u16, request: Reque
     }
 }
 
-// dfuDNLOAD-SYNC, block written.
+// dfuDNLOAD-SYNC, block written. GETSTATUS leads to dfuDNLOAD-IDLE.
 fn in_download_sync_written(written: u32, number: u16, request: Request) -> Decision {
     match request {
         Request::GetStatus { .. } => report(DeviceState::DownloadIdle { written, number }),
@@ -100,7 +100,7 @@ fn in_download_sync_written(written: u32, number: u16, request: Request) -> Deci
     }
 }
 
-// dfuDNLOAD-IDLE
+// dfuDNLOAD-IDLE. DNLOAD brings the next block or closes the download, and ABORT ends it.
 fn in_download_idle(profile: &Profile, written: u32, number: u16, request: Request) -> Decision {
     match request {
         Request::Dnload { block, length } => further(profile, written, number, block, length),
@@ -125,7 +125,7 @@ fn in_manifest_sync(profile: &Profile, written: u32, request: Request) -> Decisi
     }
 }
 
-// dfuMANIFEST-SYNC, complete
+// dfuMANIFEST-SYNC, complete. GETSTATUS leads to dfuIDLE.
 fn in_manifest_sync_complete(request: Request) -> Decision {
     match request {
         Request::GetStatus { .. } => report(DeviceState::DfuIdle),
@@ -134,7 +134,7 @@ fn in_manifest_sync_complete(request: Request) -> Decision {
     }
 }
 
-// dfuUPLOAD-IDLE
+// dfuUPLOAD-IDLE. UPLOAD asks for the next bytes of the image, and ABORT ends the upload.
 fn in_upload_idle(profile: &Profile, place: u32, number: u16, request: Request) -> Decision {
     match request {
         Request::Upload { block, length } => upload(profile, place, number, block, length),
@@ -145,7 +145,7 @@ fn in_upload_idle(profile: &Profile, place: u32, number: u16, request: Request) 
     }
 }
 
-// dfuERROR
+// dfuERROR. CLRSTATUS leads to dfuIDLE. Other requests but GETSTATUS and GETSTATE are stalled, and the device stays.
 fn in_error(code: Code, request: Request) -> Decision {
     match request {
         Request::ClrStatus => ack(DeviceState::DfuIdle),
@@ -179,8 +179,8 @@ pub fn decide(profile: &Profile, mode: DeviceState, request: Request) -> Decisio
 }
 
 /// Returns the decision on `setup` with its `body` in `mode`, and the number of bytes of a status or of a state that it asks for. A
-/// request that is not one of the class for interface 0, or whose body does not go with it, is stalled and changes nothing; any other one
-/// goes by the table (USB DFU 1.1, section 3 and appendix A).
+/// request that is not one of the class for interface 0, or whose body does not fit it, is stalled and changes nothing; any other
+/// request has its row of the table (USB DFU 1.1, section 3 and appendix A).
 pub fn asked_row(
     profile: &Profile,
     mode: DeviceState,

@@ -1,6 +1,6 @@
 // Of crates/dfu_device/src/time_table.rt, whose contracts are taken away.
 
-//! The rows of time that passes, as values (USB DFU 1.1, appendix A): a time makes at most one change, and the rest of the time
+//! The rows of time that passes, as decisions (USB DFU 1.1, appendix A): a call makes at most one change, and the rest of its time
 //! is dropped. A block and an image take the time of the erases and programs that are due for them.
 
 use crate::device::config::{Config, Pace, Profile};
@@ -18,7 +18,7 @@ fn edges(sector: u32, at: u32, count: u32) -> u32 {
     (count - rest - 1) / sector + 1
 }
 
-// Returns the time to erase the sectors that begin in `count` bytes from `at` on, and `others` more.
+// Returns the milliseconds to erase the sectors that begin in `count` bytes from `at` on, and `others` more; 0 without sectors.
 fn erases_ms(pace: Pace, at: u32, count: u32, others: u32) -> u32 {
     if pace.sector == 0 {
         return 0;
@@ -26,20 +26,20 @@ fn erases_ms(pace: Pace, at: u32, count: u32, others: u32) -> u32 {
     (edges(pace.sector, at, count) + others) * u32::from(pace.erase_ms)
 }
 
-// Returns the time to program `count` bytes.
+// Returns the milliseconds to program `count` bytes, rounded up.
 fn programs_ms(pace: Pace, count: u32) -> u32 {
     (count * u32::from(pace.program_ms) + 255) / 256
 }
 
-// Returns the time to write `count` bytes from `at` on in a slot's data, and `others` gates and headers; at most what fits in
-// bwPollTimeout.
+// Returns the milliseconds to write `count` bytes from `at` on in a slot's data, and `others` gates and headers, with `base` added; at most
+// what fits in bwPollTimeout.
 fn writes_ms(pace: Pace, base: u32, at: u32, count: u32, others: u32) -> u32 {
     let erases = erases_ms(pace, at, count, others);
     let programs = programs_ms(pace, count + 256 * others);
     base.saturating_add(erases + programs).min(0xff_ffff)
 }
 
-// Returns the time of a block of `block_len` bytes after `written` ones.
+// Returns the milliseconds to write a block of `block_len` bytes after `written` bytes, with `base` added.
 fn block_ms(pace: Pace, base: u32, written: u32, block_len: usize) -> u32 {
     let unit = pace.unit.size();
     let behind = written % unit;
@@ -48,7 +48,7 @@ fn block_ms(pace: Pace, base: u32, written: u32, block_len: usize) -> u32 {
     writes_ms(pace, base, written - behind, all - all % unit, others)
 }
 
-// Returns the time to put an image of `written` bytes in place.
+// Returns the milliseconds to put an image of `written` bytes in place, with `base` added.
 fn image_ms(pace: Pace, base: u32, written: u32) -> u32 {
     let unit = pace.unit.size();
     let behind = written % unit;
@@ -135,8 +135,8 @@ fn in_manifest(profile: &Profile, written: u32, passed: u32, ms: u32) -> Decisio
     })
 }
 
-/// Returns the decision on `ms` milliseconds in a mode with a block of `block_len` bytes: their row of the table. In the other modes
-/// nothing comes of them.
+/// Returns the decision on `ms` milliseconds in a mode with a block of `block_len` bytes: their row of the table. Modes that count no time
+/// stay.
 pub fn decide_time(profile: &Profile, mode: DeviceState, block_len: usize, ms: u32) -> Decision {
     match mode {
         DeviceState::AppDetach { timer, passed } => in_app_detach(profile, timer, passed, ms),

@@ -1,10 +1,10 @@
 // Of crates/dfu_formats/src/dfuse.rt, whose contracts are taken away.
 
-//! DfuSe files (ST's UM0391): what goes where in a device's memory, as elements of an address and bytes.
+//! DfuSe files (ST's UM0391): elements of an address and bytes, for the memory of a device.
 //!
-//! `read` takes a whole file apart. `File::image` lists the elements of one alternate setting by their addresses, as `dfuse::session` wants
-//! them; `read_raw` makes an element of a file without addresses, and `list` takes the elements that `formats` reads. No call
-//! takes memory.
+//! `read` parses a whole file. `File::image` lists the elements of one alternate setting, sorted by address, as `dfuse::session` needs them;
+//! `read_raw` makes an element of a file without addresses, and `list` takes the elements that `formats` reads. No call
+//! allocates memory.
 
 mod element;
 mod elements;

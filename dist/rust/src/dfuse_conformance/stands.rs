@@ -1,30 +1,30 @@
 // Of crates/dfu_conformance/src/dfuse/stands.rt, whose contracts are taken away.
 
-//! Places at which a device may be.
+//! Places at which a DfuSe device may be.
 
 use crate::dfuse_conformance::rows::DFUSE;
-use crate::dfuse_conformance::speaks::{is_of_dfuse, may_rest};
+use crate::dfuse_conformance::speaks::{is_of_dfuse, may_dfuse_stay};
 use crate::conformance::{
-    DRIFTS, Drift, HABITS, LogEvent, MARKS, Row, STANDARD, StandardState, When, speaks_of,
+    DRIFTS, Drift, HABITS, LogEvent, MARKS, Row, STANDARD, StandardState, When, row_fits_event,
 };
 
-/// For each place, by its number, true if a device may be there.
+/// For each place, by its number, true if a DfuSe device may be there.
 pub(crate) type Places = [bool; 12];
 
-/// Adds place `to` to `after`, if a device may be at `from` by `before` and `when` is true for a DfuSe device.
+/// Adds place `to` to `after`, if `before` has place `from`, and a row or a move with `when` applies to a DfuSe device.
 fn lead(before: &Places, from: StandardState, when: When, after: &mut Places, to: StandardState) {
     let to = to.number();
     after[to] = after[to] || before[from.number()] && is_of_dfuse(when);
 }
 
-/// Adds to `after` the place to which `row` leads from `before` by `event`.
+/// Adds to `after` the place to which `row` leads at `event` from a place of `before`.
 fn go(row: &Row, before: &Places, event: &LogEvent, after: &mut Places) {
-    if speaks_of(row, event) {
+    if row_fits_event(row, event) {
         lead(before, row.from, row.when, after, row.next);
     }
 }
 
-/// Adds to `after` the places to which `rows` lead from `before` by `event`.
+/// Adds to `after` the places to which `rows` lead at `event` from the places of `before`.
 fn pass(rows: &[Row], before: &Places, event: &LogEvent, after: &mut Places) {
     for row in rows {
         go(row, before, event, after);
@@ -40,16 +40,16 @@ fn drift(moves: &[Drift], before: &Places) -> Places {
     after
 }
 
-/// Returns the places of `before` where a device may have stayed at `event`.
+/// Returns the places of `before` where a DfuSe device may have stayed at `event`: all of them, or none.
 fn rest(before: &Places, event: &LogEvent) -> Places {
-    if may_rest(event) {
+    if may_dfuse_stay(event) {
         *before
     } else {
         [false; 12]
     }
 }
 
-/// Returns the places where a device may be after `event`, if it was at one of those of `before`.
+/// Returns the places where a DfuSe device may be after `event`, if those of `before` are its places before it.
 pub(crate) fn step(before: &Places, event: &LogEvent) -> Places {
     let mut after = rest(before, event);
     pass(&STANDARD, before, event, &mut after);
@@ -59,7 +59,7 @@ pub(crate) fn step(before: &Places, event: &LogEvent) -> Places {
     drift(&DRIFTS, &after)
 }
 
-/// Returns true if a device may be at any place, by `at`.
+/// Returns true if `at` has any place.
 pub(crate) fn is_anywhere(at: &Places) -> bool {
     let mut is_some = false;
     for n in 0..12 {

@@ -1,6 +1,6 @@
 // Of crates/dfu_formats/src/images/digits.rt, whose contracts are taken away.
 
-//! Bytes in two hexadecimal digits each.
+//! Bytes that are spelled in two hexadecimal digits each.
 
 use crate::formats::fault::ImageFault;
 use crate::formats::limits::MAX_RECORD;
@@ -16,7 +16,7 @@ pub fn hex_digit(byte: u8) -> u8 {
     }
 }
 
-/// Returns the bytes that the hexadecimal `digits` spell, two digits for each; None if they spell none.
+/// Returns the bytes that the hexadecimal `digits` spell, two digits for each; None if `digits` aren't pairs of digits.
 fn pairs(digits: &[u8]) -> Option<ArrayVec<u8, MAX_RECORD>> {
     let mut bytes = ArrayVec::new();
     let mut at = 0;

@@ -1,10 +1,10 @@
 // Of crates/dfu_formats/src/images/element.rt, whose contracts are taken away.
 
-//! A part of an image.
+//! Elements of an image.
 
 use crate::memory::Vec;
 
-/// Bytes that follow one another, and the address of the first. There is at least one byte, and the last has an address of 32 bits.
+/// Consecutive bytes, and the address of the first. There is at least one byte, and the last has an address of 32 bits.
 #[derive(Debug, PartialEq, Eq)]
 pub struct Element {
     address: u32,
@@ -12,7 +12,7 @@ pub struct Element {
 }
 
 impl Element {
-    /// Returns the element of `bytes`, 1 or more, at `address`. It must end at 2^32 or before.
+    /// Returns the element of `bytes`, 1 or more, at `address`. The element must end at 2^32 or before.
     pub(crate) fn new(address: u64, bytes: Vec<u8>) -> Element {
         Element {
             address: address as u32,

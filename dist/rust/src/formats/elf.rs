@@ -1,6 +1,6 @@
 // Of crates/dfu_formats/src/images/elf.rt, whose contracts are taken away.
 
-//! ELF files of 32 bits, little endian: what their segments load.
+//! ELF files of 32 bits, little endian: the bytes that their segments load.
 
 use crate::formats::element::Element;
 use crate::formats::fault::ImageFault;
@@ -14,7 +14,7 @@ fn is_elf(file: &[u8]) -> bool {
     file.len() >= 52 && le32(file, 0) == 0x464c_457f && file[4] == 1 && file[5] == 1 && file[6] == 1
 }
 
-/// File that has the segments.
+/// An ELF file, read segment by segment.
 #[derive(Debug, PartialEq, Eq)]
 struct Segments<'t> {
     file: &'t [u8],

@@ -4,7 +4,7 @@
 
 use crate::formats::format::Format;
 
-/// Format that the ending of a file's name says.
+/// Format by the ending of a file's name.
 #[derive(Clone, Copy, Debug, PartialEq, Eq)]
 pub enum Ending {
     /// A file of a format that builds produce.
@@ -13,8 +13,8 @@ pub enum Ending {
     Dfu,
 }
 
-/// Returns whether a name ends in `ending`, in letters of either case.
-fn ends_in(ending: &[u8], name: &[u8]) -> bool {
+/// Returns true if `name` ends in `ending`, in letters of either case.
+fn name_ends_in(ending: &[u8], name: &[u8]) -> bool {
     if name.len() < ending.len() {
         return false;
     }
@@ -22,26 +22,26 @@ fn ends_in(ending: &[u8], name: &[u8]) -> bool {
     last.eq_ignore_ascii_case(ending)
 }
 
-/// Returns the format that the ending of a name says, or `None`.
+/// Returns the format by the ending of `name`; None for an ending of no format.
 pub(crate) fn name_ending(name: &[u8]) -> Option<Ending> {
-    if ends_in(b".dfu", name) {
+    if name_ends_in(b".dfu", name) {
         Some(Ending::Dfu)
-    } else if ends_in(b".hex", name)
-        || ends_in(b".ihex", name)
-        || ends_in(b".ihx", name)
-        || ends_in(b".mcs", name)
+    } else if name_ends_in(b".hex", name)
+        || name_ends_in(b".ihex", name)
+        || name_ends_in(b".ihx", name)
+        || name_ends_in(b".mcs", name)
     {
         Some(Ending::Of(Format::IntelHex))
-    } else if ends_in(b".s19", name)
-        || ends_in(b".s28", name)
-        || ends_in(b".s37", name)
-        || ends_in(b".srec", name)
-        || ends_in(b".mot", name)
+    } else if name_ends_in(b".s19", name)
+        || name_ends_in(b".s28", name)
+        || name_ends_in(b".s37", name)
+        || name_ends_in(b".srec", name)
+        || name_ends_in(b".mot", name)
     {
         Some(Ending::Of(Format::SRecord))
-    } else if ends_in(b".uf2", name) {
+    } else if name_ends_in(b".uf2", name) {
         Some(Ending::Of(Format::Uf2))
-    } else if ends_in(b".elf", name) || ends_in(b".axf", name) {
+    } else if name_ends_in(b".elf", name) || name_ends_in(b".axf", name) {
         Some(Ending::Of(Format::Elf))
     } else {
         None

@@ -10,11 +10,11 @@ use thiserror::Error;
 pub enum ImageFault {
     /// An allocation was refused.
     NoMemory,
-    /// The line doesn't begin as a record does.
+    /// The line doesn't begin with `:` in Intel HEX, or with `S` and a digit in S-records.
     NoMark(usize),
     /// The line has something other than pairs of hexadecimal digits.
     BadDigit(usize),
-    /// The record has another length than it says, or than its type has.
+    /// The length of the record differs from its count, or from the length of its type.
     BadLength(usize),
     /// The checksum doesn't fit the record.
     BadChecksum(usize),
@@ -24,7 +24,7 @@ pub enum ImageFault {
     BadCount(usize),
     /// The data goes past the end of its segment, or past address FFFFFFFFh.
     PastSegment(usize),
-    /// Something other than blank lines follows the end record.
+    /// A line that isn't blank follows the end record.
     Trailing(usize),
     /// There is no end record, nor a count of S-records after the last data.
     NoEnd,
@@ -32,9 +32,9 @@ pub enum ImageFault {
     BadSize,
     /// The block lacks one of its three marks.
     BadMagic(usize),
-    /// The block says that it has over 476 bytes of data.
+    /// The block claims over 476 bytes of data.
     BadBlock(usize),
-    /// The block does not have its own number, or the count of all blocks.
+    /// The block doesn't have its own number, or the count of all blocks.
     BadNumber(usize),
     /// The block is for a file of the device, and not for its flash.
     FileContainer(usize),
@@ -59,7 +59,7 @@ pub enum ImageFault {
 /// Row of Overlaps in the tables; its number is an address.
 const OVERLAPS: usize = 22;
 
-/// Words of each fault, without a place or an address, in the order of the enum.
+/// Text of each fault, without its place or address, in the order of the enum.
 static WORDS: [&str; 23] = [
     "an allocation was refused",
     "no record begins so",
@@ -86,7 +86,7 @@ static WORDS: [&str; 23] = [
     "two records have a byte at address ",
 ];
 
-/// Kind of place that the number of each fault counts, if the fault has one, in the order of the enum.
+/// Kind of place that the number of each fault counts, in the order of the enum; empty if the fault has no such number.
 #[rustfmt::skip]
 static PLACES: [&str; 23] = [
     "", "line", "line", "line", "line", "line", "line", "line", "line", "", "", "block", "block", "block", "block", "block", "",

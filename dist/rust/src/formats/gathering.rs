@@ -7,7 +7,7 @@ use crate::formats::fault::ImageFault;
 use crate::formats::limits::{MAX_ELEMENTS, MAX_IMAGE};
 use crate::memory::{Global, Vec};
 
-/// Elements that are complete, by address, and the one that still grows.
+/// Complete elements, sorted by address, and the element that still grows.
 #[derive(Debug, PartialEq, Eq)]
 pub(crate) struct Gathering {
     complete: Vec<Element>,
@@ -28,8 +28,8 @@ fn place_of(address: u32, elements: &[Element]) -> usize {
     count
 }
 
-/// Puts `element` among `elements` by its address, and returns all.
-fn placed(mut elements: Vec<Element>, element: Element) -> Result<Vec<Element>, ImageFault> {
+/// Inserts `element` into `elements` by its address, after those with the same one.
+fn insert_element(mut elements: Vec<Element>, element: Element) -> Result<Vec<Element>, ImageFault> {
     let place = place_of(element.address(), &elements);
     match elements.insert(place, element) {
         Ok(()) => Ok(elements),
@@ -37,8 +37,8 @@ fn placed(mut elements: Vec<Element>, element: Element) -> Result<Vec<Element>, 
     }
 }
 
-/// Adds the element of `bytes` at `address` to `elements`, unless it has no byte, and returns all.
-fn completed(
+/// Returns `elements` with the element of `bytes` at `address` inserted, unless `bytes` is empty.
+fn insert_grown(
     elements: Vec<Element>,
     address: u64,
     bytes: Vec<u8>,
@@ -46,11 +46,11 @@ fn completed(
     if bytes.len() == 0 {
         return Ok(elements);
     }
-    placed(elements, Element::new(address, bytes))
+    insert_element(elements, Element::new(address, bytes))
 }
 
-/// Begins an element with `bytes` at `address`, after the `complete` elements.
-fn begun(
+/// Begins an element with `bytes` at `address` beside the `complete` elements, unless these are at least 1,024.
+fn begin_element(
     alloc: Global,
     at: usize,
     total: usize,
@@ -85,7 +85,7 @@ fn shared(elements: &[Element]) -> Option<u32> {
 }
 
 impl Gathering {
-    /// Returns a gathering of no element.
+    /// Returns a gathering without elements.
     pub(crate) fn new(alloc: Global) -> Gathering {
         Gathering {
             complete: Vec::new(alloc),
@@ -95,7 +95,7 @@ impl Gathering {
         }
     }
 
-    /// Adds `bytes` at `address`: they go on where the last ones end, or begin an element.
+    /// Adds `bytes` at `address`: to the growing element if they begin at its end, and otherwise as a new element.
     fn grow(
         self,
         alloc: Global,
@@ -121,13 +121,13 @@ impl Gathering {
                 Err(_) => Err(ImageFault::NoMemory),
             };
         }
-        match completed(complete, from, growing) {
-            Ok(complete) => begun(alloc, at, total, complete, address, bytes),
+        match insert_grown(complete, from, growing) {
+            Ok(complete) => begin_element(alloc, at, total, complete, address, bytes),
             Err(fault) => Err(fault),
         }
     }
 
-    /// Adds `bytes` at `address`, of line, block or segment number `at`.
+    /// Adds `bytes`, if there are any, at `address`; they are of line, block or segment number `at`, which a fault names.
     pub(crate) fn add(
         self,
         alloc: Global,
@@ -144,7 +144,7 @@ impl Gathering {
         self.grow(alloc, at, address, bytes)
     }
 
-    /// Returns the elements of all that was gathered.
+    /// Completes the growing element, and returns all elements.
     ///
     /// # Errors
     ///
@@ -156,7 +156,7 @@ impl Gathering {
             bytes,
             ..
         } = self;
-        let elements = match completed(complete, address, bytes) {
+        let elements = match insert_grown(complete, address, bytes) {
             Ok(elements) => elements,
             Err(fault) => return Err(fault),
         };

@@ -3,9 +3,9 @@
 //! Intel HEX, records 00 to 05.
 //!
 //! A line ends with a line feed, and the last one needs none. A byte order mark, blank lines and the blanks at either end of a line, such
-//! as a carriage return, are passed over. Digits have either case. There is one end record, and only blank lines follow it. The data of a
-//! record may go on past the 65,536 bytes of a linear base (type 04, or none), but not past those of a segment (type 02). The address at
-//! which a program begins says nothing of the image.
+//! as a carriage return, are ignored. Digits have either case. There is one end record, and only blank lines follow it. The data of a
+//! record may continue past the 65,536 bytes of a linear base (type 04, or none), but not past those of a segment (type 02). The start
+//! address of a program is ignored.
 
 use crate::formats::digits::{bytes_at, sum_of};
 use crate::formats::element::Element;
@@ -15,7 +15,7 @@ use crate::formats::lines::{State, TextFormat, elements_by_line};
 use arrayvec::ArrayVec;
 use crate::memory::{Global, Vec};
 
-/// Returns the bytes of the record in `line`, which has number `at`: the bytes that the digits behind `:` spell.
+/// Returns the bytes of the record in `line`, which has number `at`: the bytes that the digits after `:` spell.
 fn spelled(at: usize, line: &[u8]) -> Result<ArrayVec<u8, MAX_RECORD>, ImageFault> {
     match line {
         [b':', digits @ ..] => bytes_at(at, digits),
@@ -31,8 +31,8 @@ struct Record<'t> {
     content: &'t [u8],
 }
 
-/// Returns the record that `bytes` are, in line number `at`.
-fn framed(at: usize, bytes: &[u8]) -> Result<Record<'_>, ImageFault> {
+/// Splits `bytes`, the record in line number `at`, into its fields, or returns its fault of length or checksum.
+fn split_record(at: usize, bytes: &[u8]) -> Result<Record<'_>, ImageFault> {
     if bytes.len() == 0 {
         return Err(ImageFault::BadLength(at));
     }
@@ -52,13 +52,13 @@ fn framed(at: usize, bytes: &[u8]) -> Result<Record<'_>, ImageFault> {
     })
 }
 
-/// Returns whether the data of a record goes past the end of its segment, if it has one.
+/// Returns true if the base of `state` is a segment, and the data of record `said` goes past its end.
 fn leaves_segment(state: &State, said: &Record<'_>) -> bool {
     state.is_segment && said.offset as usize + said.content.len() > 65_536
 }
 
-/// Takes the data of record `said`, in line number `at`, at its offset from the base of `state`.
-fn data_at(alloc: Global, at: usize, state: State, said: &Record<'_>) -> Result<State, ImageFault> {
+/// Adds the data of record `said`, in line number `at`, at its offset from the base of `state`.
+fn add_data(alloc: Global, at: usize, state: State, said: &Record<'_>) -> Result<State, ImageFault> {
     let address = state.base + said.offset as u64;
     if leaves_segment(&state, said) || address + said.content.len() as u64 > 0x1_0000_0000 {
         return Err(ImageFault::PastSegment(at));
@@ -69,8 +69,8 @@ fn data_at(alloc: Global, at: usize, state: State, said: &Record<'_>) -> Result<
     }
 }
 
-/// Sets a new base, in units of `unit` addresses.
-fn based(at: usize, unit: u64, state: State, said: &Record<'_>) -> Result<State, ImageFault> {
+/// Sets the base to the two bytes of record `said`, in units of `unit` addresses. Other than two bytes are BadLength.
+fn with_base(at: usize, unit: u64, state: State, said: &Record<'_>) -> Result<State, ImageFault> {
     match said.content {
         [high, low] => Ok(State {
             base: unit * (256 * *high as u64 + *low as u64),
@@ -81,24 +81,24 @@ fn based(at: usize, unit: u64, state: State, said: &Record<'_>) -> Result<State,
     }
 }
 
-/// Returns the state after record `said` in line number `at`.
-fn meant(alloc: Global, at: usize, state: State, said: &Record<'_>) -> Result<State, ImageFault> {
+/// Carries out record `said`, in line number `at`, by its type. Returns the state after it, or its fault.
+fn do_record(alloc: Global, at: usize, state: State, said: &Record<'_>) -> Result<State, ImageFault> {
     match said.kind {
-        0 => data_at(alloc, at, state, said),
+        0 => add_data(alloc, at, state, said),
         1 if said.content.len() == 0 => Ok(State {
             is_whole: true,
             is_ended: true,
             ..state
         }),
-        2 => based(at, 16, state, said),
-        4 => based(at, 65_536, state, said),
+        2 => with_base(at, 16, state, said),
+        4 => with_base(at, 65_536, state, said),
         3 | 5 if said.content.len() == 4 => Ok(state),
         1 | 3 | 5 => Err(ImageFault::BadLength(at)),
         _ => Err(ImageFault::BadType(at)),
     }
 }
 
-/// The format.
+/// Intel HEX, as a format that is read line by line.
 struct IntelHex;
 
 impl TextFormat for IntelHex {
@@ -107,11 +107,11 @@ impl TextFormat for IntelHex {
             Ok(bytes) => bytes,
             Err(fault) => return Err(fault),
         };
-        let said = match framed(at, &bytes) {
+        let said = match split_record(at, &bytes) {
             Ok(said) => said,
             Err(fault) => return Err(fault),
         };
-        meant(alloc, at, state, &said)
+        do_record(alloc, at, state, &said)
     }
 }
 

@@ -8,12 +8,12 @@ use crate::memory::{Global, Vec};
 use core::fmt;
 use thiserror::Error;
 
-/// A fault of elements that do not make an image.
+/// A fault of elements that don't make one piece.
 #[derive(Clone, Copy, Debug, PartialEq, Eq, Error)]
 pub enum LayFault {
     /// An allocation was refused.
     NoMemory,
-    /// Nothing has the addresses from the first up to before the second, and no filling is given.
+    /// No element has the addresses from the first up to before the second, and no filling is given.
     Gap(u64, u32),
     /// With the filling of the gaps, the image has over 16,777,216 bytes.
     TooLarge,
@@ -34,7 +34,7 @@ impl fmt::Display for LayFault {
     }
 }
 
-/// Puts an element after bytes that end at the address `end`.
+/// Appends an element to bytes that end at address `end`, after those that fill the gap; or returns the fault.
 fn with_part(
     mut bytes: Vec<u8>,
     fill: Option<u8>,
@@ -58,7 +58,7 @@ fn with_part(
     }
 }
 
-/// Returns the lowest address of `elements`, or 0 if there are none.
+/// Returns the lowest address of `elements`, which are sorted by address; 0 if there are none.
 pub fn lowest(elements: &[Element]) -> u32 {
     match elements.first() {
         Some(element) => element.address(),
@@ -70,7 +70,7 @@ pub fn lowest(elements: &[Element]) -> u32 {
 ///
 /// # Errors
 ///
-/// The first from the front: Gap if no filling is given, or TooLarge. NoMemory if an allocation was refused.
+/// The first fault from the front: Gap if no filling is given, or TooLarge. NoMemory if an allocation was refused.
 ///
 /// # What the caller must keep to
 ///

@@ -74,7 +74,7 @@ fn line_read<F: TextFormat>(
     F::step(alloc, at, state, line)
 }
 
-/// Reads all lines of `text`. Returns the state after them.
+/// Reads all lines of `text`. Returns the state after them, or the first fault; NoEnd is one.
 fn lines_read<F: TextFormat>(alloc: Global, text: &[u8]) -> Result<State, ImageFault> {
     let mut state = State {
         gathering: Gathering::new(alloc),
@@ -101,7 +101,7 @@ fn lines_read<F: TextFormat>(alloc: Global, text: &[u8]) -> Result<State, ImageF
     }
 }
 
-/// Reads the elements of `text`, behind its byte order mark, line by line.
+/// Reads the elements of `text` line by line, without its byte order mark.
 pub(crate) fn elements_by_line<F: TextFormat>(
     alloc: Global,
     text: &[u8],

@@ -1,6 +1,6 @@
 // Of crates/dfu_formats/src/images/looks.rt, whose contracts are taken away.
 
-//! Looks of a file without a DFU suffix.
+//! Looks of a file without a DFU suffix: the format that it seems to have.
 
 use crate::formats::digits::hex_digit;
 use crate::formats::endings::{Ending, name_ending};
@@ -8,7 +8,7 @@ use crate::formats::format::Format;
 use crate::formats::places::{Place, bad_place};
 use crate::formats::text::{is_text, unblanked, unmarked};
 
-/// Kinds of a file of which no image is taken.
+/// Kinds of files from which no image is made.
 #[derive(Clone, Copy, Debug, PartialEq, Eq)]
 pub enum NotImage {
     /// The file begins as a DfuSe file.
@@ -19,29 +19,29 @@ pub enum NotImage {
     Gzip,
     /// The file is text alone, of no format.
     Text,
-    /// The bytes may be anything, but the name ends as that of a format.
+    /// The bytes fit no format, but the name has the ending of one.
     Named(Ending),
 }
 
-/// Look of a file.
+/// Look of a file: a raw image, a format, or a file without an image, as far as its bytes and its name show.
 #[derive(Clone, Copy, Debug, PartialEq, Eq)]
 pub enum Looks {
-    /// Nothing is known that speaks against a raw image.
+    /// The file may be a raw image: its bytes and its name fit no format.
     Raw,
     /// A file of a format that builds produce.
     Of(Format),
-    /// A file of which no image is taken.
+    /// A file from which no image is made.
     Other(NotImage),
 }
 
-/// A look at a file.
+/// Findings of a look at a file.
 #[derive(Clone, Copy, Debug, PartialEq, Eq)]
 pub struct Look {
     /// Look of the file.
     pub looks: Looks,
-    /// Format that the ending of the file's name says, whatever its bytes are.
+    /// Format by the ending of the file's name, whatever its bytes are.
     pub ending: Option<Ending>,
-    /// The first byte that no record has at its place, in a file that looks like Intel HEX or S-records.
+    /// Place of the first byte that no record may have there, in a file that looks like Intel HEX or S-records.
     pub bad: Option<Place>,
 }
 
@@ -101,7 +101,7 @@ fn looks_of(file: &[u8], ending: Option<Ending>) -> Looks {
     }
 }
 
-/// Returns the look of `file` with `name`, which may be that of its path or of its last part.
+/// Returns the look of `file`, whose `name` may be its whole path or the last part of it.
 pub fn look_at(file: &[u8], name: &[u8]) -> Look {
     let ending = name_ending(name);
     let looks = looks_of(file, ending);

@@ -20,7 +20,7 @@ pub struct Image {
     pub bytes: Vec<u8>,
 }
 
-/// A fault for which there is no image of a file.
+/// A fault for which a file has no image.
 #[derive(Clone, Copy, Debug, PartialEq, Eq, Error)]
 pub enum ImageFileFault {
     /// The file can't be read.
@@ -51,7 +51,7 @@ fn elements_in(alloc: Global, format: Format, file: &[u8]) -> Result<Vec<Element
     }
 }
 
-/// Returns the image that `file`, a file of `format`, has, with gaps filled by the byte `fill`, if it is given.
+/// Returns the image of `file`, a file of `format`, with gaps filled by the byte `fill`, if it is given.
 ///
 /// # Errors
 ///

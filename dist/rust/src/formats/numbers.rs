@@ -1,6 +1,6 @@
 // Of crates/dfu_formats/src/images/numbers.rt, whose contracts are taken away.
 
-//! Numbers in bytes, the lowest first.
+//! Numbers in bytes, the low byte first.
 
 /// Returns the number in the two bytes of `bytes` from index `at` on, the low byte first.
 pub(crate) fn le16(bytes: &[u8], at: usize) -> u32 {

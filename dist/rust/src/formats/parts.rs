@@ -7,7 +7,7 @@ use crate::formats::fault::ImageFault;
 use crate::formats::gathering::Gathering;
 use crate::memory::{Global, Vec};
 
-/// Facts of a file, in a format that is read part by part, before its parts are read.
+/// A file of a format that is read part by part, with the facts of the whole file that each part needs.
 pub(crate) trait ByPart {
     fn part_read(
         &self,
@@ -18,7 +18,7 @@ pub(crate) trait ByPart {
     ) -> Result<Gathering, ImageFault>;
 }
 
-/// Parses the first `total` parts.
+/// Reads the first `total` parts, each of `size` bytes. Returns the gathering after them, or the first fault.
 fn parts_read<F: ByPart>(
     alloc: Global,
     file: &F,

@@ -1,6 +1,6 @@
 // Of crates/dfu_formats/src/images/places.rt, whose contracts are taken away.
 
-//! The first byte of a text of records that no record has at its place.
+//! Search of a text for the first byte that no record may have at its place.
 
 use crate::formats::digits::hex_digit;
 use crate::formats::format::Format;
@@ -9,13 +9,13 @@ use crate::formats::text::{is_blank_byte, unmarked};
 /// A place in a text. Both numbers count from 1, and columns count bytes.
 #[derive(Clone, Copy, Debug, PartialEq, Eq)]
 pub struct Place {
-    /// Line of the place.
+    /// Number of the line.
     pub line: u64,
-    /// Byte within the line.
+    /// Number of the byte within the line.
     pub column: u64,
 }
 
-/// A part of a line: before the mark of a record, behind the mark, and behind the digits.
+/// A part of a line: before the mark of a record, from the mark to the last digit, or after the digits.
 #[derive(Clone, Copy, Debug, PartialEq, Eq)]
 enum Part {
     Front,
@@ -23,8 +23,8 @@ enum Part {
     Back,
 }
 
-/// Returns the part of a line after `byte` in `part`; None if no record with `mark` has such a byte in `part`.
-fn led_to(mark: u8, part: Part, byte: u8) -> Option<Part> {
+/// Returns the part of a line after `byte` in `part`; None if no record with `mark` may have the byte in `part`.
+fn next_line_part(mark: u8, part: Part, byte: u8) -> Option<Part> {
     match part {
         Part::Front if byte == mark && !is_blank_byte(byte) => Some(Part::Digits),
         Part::Digits if hex_digit(byte) < 16 => Some(Part::Digits),
@@ -34,8 +34,8 @@ fn led_to(mark: u8, part: Part, byte: u8) -> Option<Part> {
     }
 }
 
-/// Returns the place of the first byte of `text`, a text without its byte order mark, that no record with `mark` has there; None if there
-/// is none.
+/// Returns the place of the first byte of `text`, a text without its byte order mark, that no record with `mark` may have there; None if
+/// there is no such byte.
 fn bad_from(mark: u8, text: &[u8]) -> Option<Place> {
     let mut part = Part::Front;
     let mut line: u64 = 1;
@@ -47,7 +47,7 @@ fn bad_from(mark: u8, text: &[u8]) -> Option<Place> {
             column = 1;
             continue;
         }
-        match led_to(mark, part, *byte) {
+        match next_line_part(mark, part, *byte) {
             Some(next) => part = next,
             None => return Some(Place { line, column }),
         }
@@ -56,10 +56,10 @@ fn bad_from(mark: u8, text: &[u8]) -> Option<Place> {
     None
 }
 
-/// Returns the place of the first byte of `file` that no record has there, if `format` is a format of text. None if there is no such byte,
-/// or for a format of bytes.
+/// Returns the place of the first byte of `file` that no record may have there, if `format` is a text format. None if there is no such
+/// byte, and for a binary format.
 ///
-/// A line is blanks, the mark of a record, hexadecimal digits, and blanks. Lines are counted behind a byte order mark.
+/// A line is blanks, the mark of a record, hexadecimal digits, and blanks. Lines are counted after a byte order mark.
 pub fn bad_place(format: Format, file: &[u8]) -> Option<Place> {
     match format {
         Format::IntelHex => bad_from(b':', unmarked(file)),

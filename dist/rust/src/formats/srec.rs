@@ -3,16 +3,16 @@
 //! S-records, types 0 to 3 and 5 to 9.
 //!
 //! Lines and digits are as in Intel HEX. After all data comes an end record, of any of its types, or a count, because some tools write no
-//! end record. A count is of the records of data before it. Titles are passed over.
+//! end record. A count must equal the number of data records before it. Titles are ignored.
 
 use crate::formats::element::Element;
 use crate::formats::fault::ImageFault;
 use crate::formats::lines::{State, TextFormat, elements_by_line};
-use crate::formats::srec_line::{Record, framed, spelled};
+use crate::formats::srec_line::{Record, spelled, split_record};
 use crate::memory::{Global, Vec};
 
-/// Takes the data of record `said`, in line number `at`, at its address.
-fn data_at(alloc: Global, at: usize, state: State, said: &Record<'_>) -> Result<State, ImageFault> {
+/// Adds the data of record `said`, in line number `at`, at its address.
+fn add_data(alloc: Global, at: usize, state: State, said: &Record<'_>) -> Result<State, ImageFault> {
     if said.address + said.content.len() as u64 > 0x1_0000_0000 {
         return Err(ImageFault::PastSegment(at));
     }
@@ -27,8 +27,8 @@ fn data_at(alloc: Global, at: usize, state: State, said: &Record<'_>) -> Result<
     }
 }
 
-/// Reads a count of the records of data, or the end.
-fn closed(at: usize, state: State, said: &Record<'_>) -> Result<State, ImageFault> {
+/// Reads a count, which must be that of the data records so far, or an end record. Neither may have data.
+fn count_or_end(at: usize, state: State, said: &Record<'_>) -> Result<State, ImageFault> {
     if said.content.len() != 0 {
         return Err(ImageFault::BadLength(at));
     }
@@ -48,7 +48,7 @@ fn closed(at: usize, state: State, said: &Record<'_>) -> Result<State, ImageFaul
     })
 }
 
-/// The format.
+/// S-records, as a format that is read line by line.
 struct SRecord;
 
 impl TextFormat for SRecord {
@@ -57,15 +57,15 @@ impl TextFormat for SRecord {
             Ok(typed) => typed,
             Err(fault) => return Err(fault),
         };
-        let said = match framed(at, &typed) {
+        let said = match split_record(at, &typed) {
             Ok(said) => said,
             Err(fault) => return Err(fault),
         };
         match said.kind {
             0 => Ok(state),
-            1..=3 => data_at(alloc, at, state, &said),
+            1..=3 => add_data(alloc, at, state, &said),
             4 => Err(ImageFault::BadType(at)),
-            _ => closed(at, state, &said),
+            _ => count_or_end(at, state, &said),
         }
     }
 }

@@ -9,16 +9,16 @@ use arrayvec::ArrayVec;
 
 /// The type of a record, and its bytes.
 #[derive(Debug, PartialEq, Eq)]
-pub(crate) struct Typed {
+pub(crate) struct TypedRecord {
     kind: u8,
     bytes: ArrayVec<u8, MAX_RECORD>,
 }
 
 /// Returns the type and the bytes of the record in `line`, which has number `at`.
-pub(crate) fn spelled(at: usize, line: &[u8]) -> Result<Typed, ImageFault> {
+pub(crate) fn spelled(at: usize, line: &[u8]) -> Result<TypedRecord, ImageFault> {
     match line {
         [b'S', kind, digits @ ..] if *kind >= b'0' && *kind <= b'9' => match bytes_at(at, digits) {
-            Ok(bytes) => Ok(Typed {
+            Ok(bytes) => Ok(TypedRecord {
                 kind: *kind - b'0',
                 bytes,
             }),
@@ -54,8 +54,8 @@ pub(crate) struct Record<'t> {
     pub(crate) content: &'t [u8],
 }
 
-/// Returns the record that `typed`, its type and bytes, is, in line number `at`.
-pub(crate) fn framed(at: usize, typed: &Typed) -> Result<Record<'_>, ImageFault> {
+/// Splits `typed`, the type and bytes of the record in line number `at`, into its fields.
+pub(crate) fn split_record(at: usize, typed: &TypedRecord) -> Result<Record<'_>, ImageFault> {
     let bytes = typed.bytes.as_slice();
     let width = width(typed.kind);
     if bytes.len() == 0 || bytes.len() != bytes[0] as usize + 1 || bytes.len() < width + 2 {

@@ -27,7 +27,7 @@ pub(crate) fn unblanked(text: &[u8]) -> &[u8] {
     rest
 }
 
-/// Returns true if `byte` is no control character but a tab, line feed, form feed or carriage return.
+/// Returns true if `byte` is a tab, line feed, form feed or carriage return, or no ASCII control character.
 fn is_text_byte(byte: u8) -> bool {
     match byte {
         b'\t' | b'\n' | 0x0c | b'\r' => true,
@@ -43,15 +43,15 @@ struct Awaited {
     high: u8,
 }
 
-/// Nothing is awaited: a character begins.
+/// State between two characters: no byte is awaited.
 const NOTHING: Awaited = Awaited {
     left: 0,
     low: 0x80,
     high: 0xbf,
 };
 
-/// Returns the bytes that are awaited behind the first byte of a character.
-fn awaited_behind_first(byte: u8) -> Option<Awaited> {
+/// Returns the bytes awaited after `byte`, the first of a character; None if no character of text begins with it.
+fn awaited_after_first_byte(byte: u8) -> Option<Awaited> {
     let (left, low, high) = match byte {
         0..=0x7f => return if is_text_byte(byte) {
             Some(NOTHING)
@@ -70,10 +70,10 @@ fn awaited_behind_first(byte: u8) -> Option<Awaited> {
     Some(Awaited { left, low, high })
 }
 
-/// Returns the bytes that are awaited behind a byte.
-fn awaited_behind(awaited: Awaited, byte: u8) -> Option<Awaited> {
+/// Returns the bytes awaited after `byte`; None if it is not allowed here.
+fn awaited_after_byte(awaited: Awaited, byte: u8) -> Option<Awaited> {
     if awaited.left == 0 {
-        return awaited_behind_first(byte);
+        return awaited_after_first_byte(byte);
     }
     if awaited.low <= byte && byte <= awaited.high {
         return Some(Awaited {
@@ -84,11 +84,11 @@ fn awaited_behind(awaited: Awaited, byte: u8) -> Option<Awaited> {
     None
 }
 
-/// Returns true if `bytes` are characters of UTF-8, without control characters but those of text.
+/// Returns true if `bytes` are UTF-8, without ASCII control characters but tab, line feed, form feed and carriage return.
 fn are_characters(bytes: &[u8]) -> bool {
     let mut awaited = NOTHING;
     for byte in bytes {
-        match awaited_behind(awaited, *byte) {
+        match awaited_after_byte(awaited, *byte) {
             Some(next) => awaited = next,
             None => return false,
         }
@@ -96,7 +96,8 @@ fn are_characters(bytes: &[u8]) -> bool {
     awaited.left == 0
 }
 
-/// Returns true if `file` is text alone: UTF-8, without control characters but those of text.
+/// Returns true if `file` is text alone: not empty, UTF-8, and without ASCII control characters but tab, line feed, form feed and carriage
+/// return.
 pub(crate) fn is_text(file: &[u8]) -> bool {
     file.len() != 0 && are_characters(file)
 }

@@ -10,7 +10,7 @@ use crate::formats::parts::{ByPart, elements_by_part};
 use crate::memory::{Global, Vec};
 
 /// Returns true if `block` has its three marks.
-fn is_block(block: &[u8]) -> bool {
+fn has_block_marks(block: &[u8]) -> bool {
     le32(block, 0) == 0x0a32_4655
         && le32(block, 4) == 0x9e5d_5157
         && le32(block, 508) == 0x0ab1_6f30
@@ -21,7 +21,7 @@ fn has_flag(block: &[u8], flag: u32) -> bool {
     le32(block, 8) / flag % 2 == 1
 }
 
-/// Returns the family of boards that `block` is for, or 0 if it says none.
+/// Returns the family of boards that `block` is for, or 0 if it names none.
 fn family_of(block: &[u8]) -> u32 {
     if has_flag(block, 0x2000) {
         le32(block, 28)
@@ -30,8 +30,9 @@ fn family_of(block: &[u8]) -> u32 {
     }
 }
 
-/// Adds the data of a block to the elements.
-fn flashed(
+/// Adds the data of `block` to the elements, if it is for the main flash. It must not be for a file or another family, or end past the last
+/// address.
+fn add_block(
     alloc: Global,
     index: usize,
     family: u32,
@@ -57,7 +58,7 @@ fn flashed(
     gathering.add(alloc, index, address, content)
 }
 
-/// Facts that each block has to name: the number of blocks, and the family of the first.
+/// A UF2 file, read block by block: the number of its blocks, and the family of the first.
 #[derive(Debug, PartialEq, Eq)]
 struct Blocks {
     total: usize,
@@ -72,7 +73,7 @@ impl ByPart for Blocks {
         gathering: Gathering,
         block: &[u8],
     ) -> Result<Gathering, ImageFault> {
-        if !is_block(block) {
+        if !has_block_marks(block) {
             return Err(ImageFault::BadMagic(index));
         }
         if le32(block, 16) > 476 {
@@ -81,7 +82,7 @@ impl ByPart for Blocks {
         if le32(block, 20) as usize != index || le32(block, 24) as usize != self.total {
             return Err(ImageFault::BadNumber(index));
         }
-        flashed(alloc, index, self.family, gathering, block)
+        add_block(alloc, index, self.family, gathering, block)
     }
 }
 

@@ -1,10 +1,10 @@
 // Of crates/dfu_home/src/bytes.rt, whose contracts are taken away.
 
-//! Bytes that are compared, and those of a unit.
+//! Comparison of bytes of flash, and the buffer of a unit.
 
 use crate::slots::flash_byte_at;
 
-/// Returns whether bytes of flash are those of a slice of the same length. (A loop is less code than `==`.)
+/// Returns whether bytes of flash equal a slice of the same length. (A loop is less code than `==`.)
 pub(crate) fn are_same(one: &[u8], other: &[u8]) -> bool {
     for i in 0..one.len() {
         if flash_byte_at(one, i) != other[i] {

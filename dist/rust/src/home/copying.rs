@@ -1,6 +1,6 @@
 // Of crates/dfu_home/src/copying.rt, whose contracts are taken away.
 
-//! The copy of the image in the second slot: its bytes, its header, and then the gate is opened.
+//! Operations that copy the image of the second slot into the first: its bytes, then its header, and then the gate, which opens.
 
 use crate::home::Due;
 use crate::home::bytes::{are_same, fill_up};
@@ -9,7 +9,8 @@ use crate::slots::{
     Medium, OPEN_GATE, VERSION, crc_of_flash, gate_of, header_of, length_in, make_header,
 };
 
-// Returns the place of the last operation in the data of the first slot, if it went there.
+// Returns the place of the last operation, counted from the first slot's data, which begins at `gates`; None without one, and if it lies
+// before the data.
 fn last_in_data(gates: u32, last: Option<u32>) -> Option<u32> {
     match last {
         None => None,
@@ -17,7 +18,7 @@ fn last_in_data(gates: u32, last: Option<u32>) -> Option<u32> {
     }
 }
 
-// The header of the copy of an image that has this one: one generation on.
+// Returns the header of the copy of an image with the header `found`: one generation newer.
 fn copy_header(found: &[u8; 16], image: &[u8]) -> [u8; 16] {
     make_header(
         VERSION,
@@ -27,14 +28,14 @@ fn copy_header(found: &[u8; 16], image: &[u8]) -> [u8; 16] {
     )
 }
 
-// The data of the first slot.
+// Returns the data of the first slot.
 fn first_data<'f, M: Medium>(medium: &M, flash: &'f [u8]) -> &'f [u8] {
     let half = medium.len() / 2;
     let gates = 2 * gate_of(medium);
     &flash[gates as usize..half as usize]
 }
 
-// The image in the second slot.
+// Returns the image in the second slot.
 fn away_image<'f, M: Medium>(medium: &M, flash: &'f [u8]) -> &'f [u8] {
     let half = medium.len() / 2;
     let from = half + 2 * gate_of(medium);
@@ -47,8 +48,8 @@ fn gate_size<M: Medium>(medium: &M) -> u32 {
     16.max(medium.unit().size())
 }
 
-// Returns the operation that is due of a gate unit that begins there, which is to have these bytes, and zeros after them: it is programmed
-// if the last operation erased it, and else erased.
+// Returns the next operation of the gate unit or header unit at `at`, which is to hold `front` and zeros after it: a program if the last
+// operation erased its sector, else the erase. `out` has the unit for the program.
 fn unit_due<M: Medium>(
     medium: &M,
     flash: &[u8],
@@ -74,7 +75,7 @@ fn has_header<M: Medium>(medium: &M, flash: &[u8], header: &[u8; 16]) -> bool {
     are_same(&flash[at..at + 16], header)
 }
 
-// Returns the operation that is due once the bytes are there: the header, or behind it the gate.
+// Returns the next operation once the bytes are copied: that of the header and, once the header is there, that of the gate.
 fn head<M: Medium>(
     medium: &M,
     flash: &[u8],
@@ -89,7 +90,7 @@ fn head<M: Medium>(
     unit_due(medium, flash, gate_of(medium), last, &header, out)
 }
 
-/// Returns the operation that is due of a copy.
+/// Returns the next operation of a copy, an erase or a program; the bytes of the program are at the front of `out`.
 pub(crate) fn copy<M: Medium>(
     medium: &M,
     flash: &[u8],

@@ -2,14 +2,14 @@
 
 //! Operation that is due next, and progress of the work.
 
-/// Refusals for which nothing is due. They are looked for in this order.
+/// Reasons for which no image can be brought to the first slot. They are checked in this order.
 #[derive(Clone, Copy, Debug, PartialEq, Eq)]
 pub enum Refusal {
     /// The medium has no sectors.
     NoSectors,
     /// The medium has no active image.
     NoImage,
-    /// As many operations were asked for as the medium has times 128 bytes, and the image is not there: the part is worn, or its driver is broken.
+    /// One operation for each 128 bytes of the medium was taken, and the image is not there: the part is worn, or its driver is broken.
     NotWritten,
 }
 
@@ -20,12 +20,12 @@ pub enum Due {
     Refuse(Refusal),
     /// Nothing: the active image is in the first slot.
     Home,
-    /// An erase of the sector that begins there.
+    /// An erase of the sector that begins at `at`.
     Erase {
         /// Place at which the sector begins.
         at: u32,
     },
-    /// A program of so many bytes there: those that `next` put at the front of its buffer.
+    /// A program of `len` bytes at `at`: those that `next` put at the front of its buffer.
     Program {
         /// Place of the first byte.
         at: u32,
@@ -34,10 +34,10 @@ pub enum Due {
     },
 }
 
-/// Progress that is kept between two operations: nothing after each loss of power.
+/// Progress between two operations. It is lost with the power.
 #[derive(Clone, Copy, Debug, PartialEq, Eq)]
 pub struct Progress {
-    /// Place of the last operation, if it worked.
+    /// Place of the last operation, if it worked; else None, and None before the first one.
     pub last: Option<u32>,
     /// Number of operations that were taken since the last power-on.
     pub count: u32,

@@ -6,7 +6,7 @@ use crate::home::bytes::are_same;
 use crate::home::{Due, Progress};
 use crate::boot::install::are_blank;
 
-// Returns whether an operation worked, as it reads.
+// Returns whether an operation worked, as the flash reads: its range is not empty and lies in the flash, and has its bytes.
 fn worked(flash: &[u8], sector: u32, due: Due, bytes: &[u8; 256]) -> bool {
     match due {
         Due::Erase { at } => {
@@ -25,10 +25,10 @@ fn worked(flash: &[u8], sector: u32, due: Due, bytes: &[u8; 256]) -> bool {
     }
 }
 
-/// Returns the progress of the work once an operation was carried out, or `failed`: what `next` takes.
+/// Returns the progress after an operation was carried out, or `failed`, to be passed to `next`.
 ///
-/// `due` is what `next` returned, and `bytes` what it put into its buffer. The flash is read back: after an erase the whole sector has to
-/// read FFh, after a program its bytes. The count goes up by 1, whatever became of it.
+/// `due` is what `next` returned, and `bytes` what it put into its buffer. The flash is read back: after an erase the whole sector must
+/// read FFh, after a program its bytes; else, and if it failed, `last` is None. The count goes up by 1, also if the operation failed.
 pub fn took(
     flash: &[u8],
     sector: u32,

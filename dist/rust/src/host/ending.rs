@@ -1,6 +1,6 @@
 // Of crates/dfu_host/src/ending.rt, whose contracts are taken away.
 
-//! The rows of the phases after the last block, and of the phase after a refusal.
+//! The rows of the phases after the last block, and of the phase after a stall.
 
 use crate::host::goal::Goal;
 use crate::host::heard::Heard;
@@ -10,8 +10,8 @@ use crate::host::task::Task;
 use crate::wire::{Code, State, Status};
 
 impl Task<'_> {
-    /// Returns the phase after `status`, which follows a refusal: dfuERROR with a code of its own ends the session, and every other status
-    /// goes by the list.
+    /// Returns the phase after `status`, asked for after a stall or an unexpected state: dfuERROR with a code other than OK and
+    /// errSTALLEDPKT ends the session; every other status leads to the phase for its state.
     pub(crate) fn troubled(&self, status: Status) -> Phase {
         match status.state() {
             State::Error => match status.code() {
@@ -22,7 +22,7 @@ impl Task<'_> {
         }
     }
 
-    /// Returns true if `phase` is after the close.
+    /// Returns true if the close is done in `phase`.
     pub(crate) fn is_behind_close(&self, phase: Phase) -> bool {
         match phase {
             Phase::Manifest | Phase::WaitManifest(_) | Phase::WaitLast(_) => true,
@@ -31,7 +31,8 @@ impl Task<'_> {
         }
     }
 
-    /// Returns the phase after the last reset: the report, or the comparison.
+    /// Returns the phase after the last reset: the end with the report, or Find to compare; after any result but a reset, the last reset
+    /// again.
     pub(crate) fn after_last(&self, report: Report, heard: Heard) -> Phase {
         match heard {
             Heard::WasReset => match &self.goal {
@@ -42,7 +43,7 @@ impl Task<'_> {
         }
     }
 
-    /// Returns the phase after `status`, which was asked for after the close.
+    /// Returns the phase after `status`, asked for after the close.
     pub(crate) fn manifested(&self, status: Status) -> Phase {
         if self.tolerant {
             self.confirmed(status)
@@ -51,7 +52,7 @@ impl Task<'_> {
         }
     }
 
-    /// Returns the phase by which `status` of a tolerant device confirms the new image: only dfuIDLE with OK is an install.
+    /// Returns the phase after `status` of a tolerant device: only dfuIDLE with OK confirms the new image.
     fn confirmed(&self, status: Status) -> Phase {
         match (status.state(), status.code()) {
             (State::ManifestSync | State::Manifest, _) => Phase::WaitManifest(status.poll_ms()),
@@ -60,7 +61,7 @@ impl Task<'_> {
         }
     }
 
-    /// Returns the phase after `status` of a device that isn't tolerant, which never confirms an install.
+    /// Returns the phase after `status` of a device that isn't tolerant, which never confirms the new image.
     fn unconfirmed(&self, status: Status) -> Phase {
         match status.state() {
             State::ManifestSync | State::Manifest => Phase::WaitLast(status.poll_ms()),

@@ -1,11 +1,11 @@
 // Of crates/dfu_host/src/fault.rt, whose contracts are taken away.
 
-//! Faults for which a session does not begin.
+//! Faults for which no session begins.
 
 use core::fmt;
 use thiserror::Error;
 
-/// A fault for which a session does not begin. A call returns the first that holds, in this order.
+/// A fault for which no session begins. A call returns the first one that holds, in this order.
 #[derive(Clone, Copy, Debug, PartialEq, Eq, Error)]
 pub enum HostFault {
     /// The file's payload has no bytes. Only for downloads.

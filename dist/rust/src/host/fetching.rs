@@ -8,7 +8,7 @@ use crate::host::phase::Phase;
 use crate::host::report::Report;
 use crate::host::task::Task;
 
-/// After this many full parts an upload ends without its image, and a comparison without its verdict. The
+/// Number of full parts after which an upload ends without its image, and a comparison without its verdict. The
 /// limit is this project's own.
 pub(crate) const MOST_PARTS: u16 = 65_535;
 
@@ -22,7 +22,7 @@ impl Task<'_> {
         }
     }
 
-    /// Returns the part to keep of `bytes`, which answer the UPLOAD of part number `number`; None if there is none.
+    /// Returns the part to keep from `bytes`, which answer the UPLOAD of part number `number`; None if it is too long or one too many.
     pub(crate) fn part_in<'s>(&self, number: u16, bytes: &'s [u8]) -> Option<UploadPart<'s>> {
         if self.is_kept(number, bytes.len()) {
             Some(UploadPart { number, bytes })
@@ -31,14 +31,14 @@ impl Task<'_> {
         }
     }
 
-    /// Returns whether part `number` with `len` bytes is kept: a part that is shorter than a block, and so the last, or a full one,
-    /// except the full one that is one too many.
+    /// Returns whether part `number` with `len` bytes is kept: a full part, or a shorter one, which is the last; but not the full part that
+    /// is one too many.
     fn is_kept(&self, number: u16, len: usize) -> bool {
         let transfer = self.transfer as usize;
         len < transfer || len == transfer && number + 1 != MOST_PARTS
     }
 
-    /// Returns the phase after UPLOAD of part number `number`, which is kept already, as `heard` says.
+    /// Returns the phase after UPLOAD of part number `number`; a part in `heard` is kept already.
     pub(crate) fn after_fetch(&self, number: u16, heard: Heard) -> Phase {
         match heard {
             Heard::Part(len) => self.fetched(number, len),

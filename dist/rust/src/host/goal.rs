@@ -2,7 +2,7 @@
 
 //! Goals of a session.
 
-/// Goal of a session. A goal takes no memory, because the caller keeps what an upload fetches.
+/// Goal of a session. A goal takes no memory, because the caller keeps the bytes that an upload fetches.
 #[derive(Clone, Copy, Debug, PartialEq, Eq)]
 pub enum Goal<'f> {
     /// To install a payload, which has at least one byte.
@@ -24,7 +24,7 @@ impl<'f> Goal<'f> {
         }
     }
 
-    /// Returns whether a payload is still to be installed.
+    /// Returns whether a payload still has to be installed.
     pub(crate) fn installs(&self) -> bool {
         match self {
             Goal::Load(_) | Goal::Verify(_) => true,
@@ -32,7 +32,7 @@ impl<'f> Goal<'f> {
         }
     }
 
-    /// Returns whether the image is fetched.
+    /// Returns whether the goal is to fetch the image.
     pub(crate) fn is_fetch(&self) -> bool {
         match self {
             Goal::Fetch => true,

@@ -1,13 +1,13 @@
 // Of crates/dfu_host/src/heard.rt, whose contracts are taken away.
 
-//! Meaning of results for a host.
+//! Meanings of results for a host.
 
 use crate::host::phase::Phase;
 use crate::host::seen::Seen;
 use crate::host::task::Task;
 use crate::wire::{State, Status};
 
-/// Meaning that a host gives to the result of its action.
+/// Meaning of a result for a host.
 #[derive(Clone, Copy, Debug, PartialEq, Eq)]
 pub(crate) enum Heard {
     Acked,
@@ -15,8 +15,8 @@ pub(crate) enum Heard {
     StateIs(State),
     /// A part of an upload, with its length in bytes; it is kept already.
     Part(usize),
-    /// A part of an image that is compared: `same` says that it is the payload's, `len` is its length in
-    /// bytes.
+    /// A part of an image that was compared: `same` says that it equals the payload's block, `len` is its length
+    /// in bytes.
     Compared { same: bool, len: usize },
     /// A part of an upload for which there was no memory.
     NoRoom,
@@ -29,8 +29,8 @@ pub(crate) enum Heard {
 }
 
 impl Task<'_> {
-    /// Returns the meaning of `seen` in `phase`. Bytes are read as the answer to the phase's request; bytes that are no such answer mean
-    /// that nothing came. A part of an upload is kept already, or `refused`, and a part of a comparison is compared here.
+    /// Returns the meaning of `seen` in `phase`. Bytes are read as the answer to the phase's request; bytes that are no valid answer mean
+    /// Nothing. A part of an upload is kept already, or `refused`; a part of a comparison is compared here.
     pub(crate) fn hear(&self, phase: Phase, seen: Seen<'_>, refused: bool) -> Heard {
         match seen {
             Seen::Ack => Heard::Acked,

@@ -1,6 +1,6 @@
 // Of crates/dfu_host/src/host.rt, whose contracts are taken away.
 
-//! The host machine, and its memory.
+//! The host machine, and its memory for an upload.
 
 use crate::host::action::Action;
 use crate::host::fault::HostFault;
@@ -47,10 +47,10 @@ impl<'f> Host<'f> {
         Ok(Host { session, memory })
     }
 
-    /// Makes a host that installs a file as the one of `download` does, and after its last reset asks for the
-    /// active image and compares it with the payload, so that its report is neither Installed nor
-    /// Unconfirmed, but Verified or Different. The host borrows the file's payload and takes no memory; the
-    /// transfer size is 1 to 65,535. A payload of more than 65,534 full blocks ends as TooManyBlocks.
+    /// Makes a host that installs a file as `download` does, and after its last reset asks for the active image and
+    /// compares it with the payload, so that its report is neither Installed nor Unconfirmed, but Verified or
+    /// Different. The host borrows the file's payload and takes no memory; the transfer size is 1 to 65,535. A
+    /// payload of more than 65,534 full blocks ends as TooManyBlocks.
     ///
     /// The faults, in the order in which they are looked for:
     ///
@@ -128,7 +128,7 @@ impl<'f> Host<'f> {
     }
 }
 
-/// The memory of a host: a vector for the parts of an upload, which grows, or nothing.
+/// The memory of a host: a vector that grows with the parts of an upload, or nothing.
 #[derive(Debug, PartialEq, Eq)]
 pub(crate) enum Memory {
     Nothing,
@@ -144,8 +144,8 @@ impl Memory {
         }
     }
 
-    /// Stores `part`, and returns true if it was refused: only if there is no vector, or if the vector had no room for it and could not
-    /// grow.
+    /// Stores `part`, and returns true if it was refused: because there is no vector, or because the vector had no room for it and could
+    /// not grow.
     fn refuses_part(&mut self, part: &UploadPart<'_>) -> bool {
         match self {
             Memory::Nothing => !part.bytes.is_empty(),
@@ -162,7 +162,7 @@ impl Memory {
     }
 }
 
-/// Stores `part` in `kept`, and returns true if the vector was full.
+/// Stores `part` in `kept`, and returns true if the vector was full and could not grow.
 fn is_full(kept: &mut Vec<u8>, part: &UploadPart<'_>) -> bool {
     if part.number == 0 {
         kept.clear();

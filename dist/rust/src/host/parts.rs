@@ -1,12 +1,12 @@
 // Of crates/dfu_host/src/parts.rt, whose contracts are taken away.
 
-//! A session taken apart.
+//! The parts of a session, as plain values.
 
 use crate::host::fetching::MOST_PARTS;
 use crate::host::goal::Goal;
 use crate::host::phase::Phase;
 
-/// A session taken apart: plain values, which a caller may keep between two calls.
+/// The parts of a session: plain values, which a caller may keep between two calls.
 #[derive(Clone, Copy, Debug, PartialEq, Eq)]
 pub struct Parts<'f> {
     /// Goal of the session.
@@ -28,12 +28,12 @@ pub struct Parts<'f> {
 }
 
 impl Parts<'_> {
-    /// Returns whether the parts are those of a session.
+    /// Returns whether a session has these parts.
     pub(crate) fn is_session(&self) -> bool {
         self.transfer > 0 && self.has_some() && self.is_within()
     }
 
-    /// Returns whether the goal has something to do.
+    /// Returns whether the goal has something to do: an image to fetch, or a payload of at least one byte.
     fn has_some(&self) -> bool {
         match &self.goal {
             Goal::Load(payload) | Goal::Verify(payload) | Goal::Compare(payload) => {
@@ -43,7 +43,7 @@ impl Parts<'_> {
         }
     }
 
-    /// Returns whether the phase has what it needs.
+    /// Returns whether the session has the payload, block or part that its phase needs.
     fn is_within(&self) -> bool {
         match self.phase {
             Phase::Block(number) => self.has_block(number),

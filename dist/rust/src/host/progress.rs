@@ -28,8 +28,7 @@ pub(crate) fn beginning(limits: Limits) -> Progress {
 }
 
 impl Progress {
-    /// Returns the progress after an action whose result was heard, and kept if it was a part. The session's
-    /// task goes on with it.
+    /// Returns the progress after the result `heard`, whose part, if any, is kept or refused already. The task changes with it.
     pub(crate) fn after(self, task: &mut Task<'_>, heard: Heard) -> Progress {
         if let Phase::Over(_) | Phase::OverUploaded = self.phase {
             return self;
@@ -41,7 +40,7 @@ impl Progress {
         }
     }
 
-    /// Returns the progress after an action whose result the table's row takes.
+    /// Returns the progress after a result that the table's row takes.
     fn by_row(self, task: &mut Task<'_>, heard: Heard) -> Progress {
         let done = is_last_done(&self.phase, &heard);
         let next = task.row(self.phase, heard);
@@ -49,8 +48,8 @@ impl Progress {
         self.spent(next, self.restarts)
     }
 
-    /// Returns the progress after the device left of itself. After the close that counts as the last reset,
-    /// which confirms nothing; in every other phase it counts as a restart.
+    /// Returns the progress after the device left by itself. After the close that counts as the last reset, which
+    /// confirms nothing; in every other phase it counts as a restart.
     fn left(self, task: &mut Task<'_>) -> Progress {
         if !task.is_behind_close(self.phase) {
             return self.restarted();
@@ -83,7 +82,7 @@ impl Progress {
     }
 }
 
-/// Returns whether the phase was the last reset, and the reset was done.
+/// Returns whether `phase` was the last reset, and the bus was reset.
 fn is_last_done(phase: &Phase, heard: &Heard) -> bool {
     match (phase, heard) {
         (Phase::Last(_), Heard::WasReset) => true,
@@ -91,7 +90,7 @@ fn is_last_done(phase: &Phase, heard: &Heard) -> bool {
     }
 }
 
-/// Returns the phase of a session with `left` actions: without any the session gives up, unless it is over.
+/// Returns the phase after the budget check: with no actions left, a session that isn't over gives up.
 fn budgeted(left: u32, phase: Phase) -> Phase {
     match phase {
         Phase::Over(_) | Phase::OverUploaded => phase,

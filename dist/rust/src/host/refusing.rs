@@ -26,7 +26,7 @@ pub(crate) fn goal_to_install<'f>(
     Ok(Goal::Load(payload))
 }
 
-/// Returns the payload of the file, or the first fault for which the device can't take it.
+/// Returns the payload of the file, or the first fault for which the device can't install it.
 fn payload_for<'f>(
     file: &File<'f>,
     functional: &Functional,
@@ -44,7 +44,7 @@ fn payload_for<'f>(
     }
 }
 
-/// Refuses a device that gives no image.
+/// Returns the first fault for which the device can't upload, if there is one.
 pub(crate) fn gives_uploads(functional: &Functional) -> Result<(), HostFault> {
     if !functional.can_upload {
         Err(HostFault::CannotUpload)

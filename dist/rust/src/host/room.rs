@@ -1,15 +1,15 @@
 // Of crates/dfu_host/src/room.rt, whose contracts are taken away.
 
-//! Bytes that an upload keeps, in a caller's room.
+//! An upload whose caller keeps the bytes in a room.
 
 use crate::host::part::UploadPart;
 use crate::host::seen::Seen;
 use crate::host::session::Session;
 
 impl Session<'_> {
-    /// Gives the session the result of its action, as `Host::take` does, and returns how many bytes
-    /// of the caller's room are kept then. The first `kept` bytes of the room are kept already. A download
-    /// keeps no bytes and needs no room.
+    /// Gives the session the result of its action, as `Host::take` does, and returns how many bytes of the
+    /// caller's room are kept after it. Before the call the first `kept` bytes of the room are kept. A download keeps
+    /// no bytes and needs no room.
     ///
     /// A part of an upload is stored in the room after the kept bytes. If the part doesn't fit, nothing is
     /// stored, and the session ends with the report NoMemory.
@@ -32,8 +32,7 @@ impl Session<'_> {
     }
 }
 
-/// Stores the part in a session's result, and returns how many bytes are kept then. If the part doesn't fit,
-/// nothing changes.
+/// Stores the part in a session's result, and returns how many bytes are kept after it. If the part doesn't fit, nothing changes.
 fn keep(session: &Session<'_>, room: &mut [u8], kept: usize, seen: Seen<'_>) -> Option<usize> {
     match session.part(seen) {
         Some(part) => store(room, kept, &part),
@@ -41,8 +40,7 @@ fn keep(session: &Session<'_>, room: &mut [u8], kept: usize, seen: Seen<'_>) -> 
     }
 }
 
-/// Stores a part after the first `kept` bytes, and returns how many bytes are kept then. If the part doesn't
-/// fit, nothing changes.
+/// Stores a part after the first `kept` bytes, and returns how many bytes are kept after it. If the part doesn't fit, nothing changes.
 fn store(room: &mut [u8], kept: usize, part: &UploadPart<'_>) -> Option<usize> {
     let from = if part.number == 0 { 0 } else { kept };
     if room.len() - from < part.bytes.len() {

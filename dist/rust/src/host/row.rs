@@ -10,7 +10,7 @@ use crate::host::report::Report;
 use crate::host::task::Task;
 use crate::wire::{State, Status};
 
-/// Returns the phase after a request without an answer of bytes: by its acknowledgement, by a stall, or by anything else.
+/// Returns the phase after a request whose answer has no bytes: by its acknowledgement, by a stall, or by any other result.
 fn on_ack(heard: Heard, acked: Phase, stalled: Phase, nothing: Phase) -> Phase {
     match heard {
         Heard::Acked => acked,
@@ -19,7 +19,7 @@ fn on_ack(heard: Heard, acked: Phase, stalled: Phase, nothing: Phase) -> Phase {
     }
 }
 
-/// Returns the phase after a wait: if anything else is heard, the session waits again.
+/// Returns the phase after a wait: `waited` once the wait is over, `again` after any other result.
 fn on_waited(heard: Heard, waited: Phase, again: Phase) -> Phase {
     match heard {
         Heard::Waited => waited,
@@ -28,7 +28,7 @@ fn on_waited(heard: Heard, waited: Phase, again: Phase) -> Phase {
 }
 
 impl Task<'_> {
-    /// Returns the next phase, by `phase` and by `heard`, what was heard in it.
+    /// Returns the phase that follows the result `heard` in `phase`.
     pub(crate) fn row(&self, phase: Phase, heard: Heard) -> Phase {
         match phase {
             Phase::Find | Phase::Trouble => self.on_status(phase, heard, Phase::FindAgain),
@@ -58,7 +58,7 @@ impl Task<'_> {
         }
     }
 
-    /// Returns the phase after GETSTATUS: by the status, by a stall, or by anything else that is heard.
+    /// Returns the phase after GETSTATUS: by the status, by a stall, or by any other result.
     fn on_status(&self, phase: Phase, heard: Heard, stalled: Phase) -> Phase {
         match heard {
             Heard::Told(status) => self.told(phase, status),
@@ -88,7 +88,7 @@ impl Task<'_> {
         }
     }
 
-    /// Returns the phase after `status` by the list, which goes by its state.
+    /// Returns the phase after `status`, by the device's state.
     pub(crate) fn listed(&self, status: Status) -> Phase {
         match status.state() {
             State::AppIdle => Phase::Detach,
@@ -102,7 +102,7 @@ impl Task<'_> {
         }
     }
 
-    /// Returns the phase after Enter: a wait if the device detaches by itself, else a reset.
+    /// Returns the phase after Enter, which waits if the device detaches by itself, and else resets the bus.
     pub(crate) fn after_enter(&self, heard: Heard) -> Phase {
         match heard {
             Heard::Waited if self.will_detach => Phase::Find,
@@ -111,7 +111,7 @@ impl Task<'_> {
         }
     }
 
-    /// Returns the phase after GETSTATE, which tells if block number `number` came whose answer was lost.
+    /// Returns the phase after GETSTATE, asked because the answer to block number `number` was lost: the state says if the block arrived.
     pub(crate) fn after_ask(&self, number: usize, heard: Heard) -> Phase {
         match heard {
             Heard::StateIs(State::DownloadSync) => Phase::Poll(number),
@@ -122,7 +122,7 @@ impl Task<'_> {
         }
     }
 
-    /// Returns the phase after `status`, which was asked for after block number `number`.
+    /// Returns the phase after `status`, asked for after block number `number`.
     pub(crate) fn polled(&self, number: usize, status: Status) -> Phase {
         match status.state() {
             State::DownloadSync | State::DownloadBusy => {
@@ -134,7 +134,7 @@ impl Task<'_> {
         }
     }
 
-    /// Returns the phase after GETSTATE, which tells if the close came whose answer was lost.
+    /// Returns the phase after GETSTATE, asked because the answer to the close was lost: the state says if the close arrived.
     pub(crate) fn after_ask_last(&self, heard: Heard) -> Phase {
         match heard {
             Heard::StateIs(State::ManifestSync) => Phase::Manifest,

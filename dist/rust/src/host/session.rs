@@ -1,6 +1,6 @@
 // Of crates/dfu_host/src/session.rt, whose contracts are taken away.
 
-//! A host without memory of its own.
+//! A session of a host that takes no memory.
 
 use crate::host::action::Action;
 use crate::host::fault::HostFault;
@@ -16,7 +16,7 @@ use crate::host::task::Task;
 use crate::suffix::File;
 use crate::wire::{Functional, Ids};
 
-/// A session of a host, for a caller that keeps what an upload fetches itself. A session takes no memory.
+/// A session of a host, for a caller that keeps the fetched bytes itself. A session takes no memory.
 #[derive(Debug, PartialEq, Eq)]
 pub struct Session<'f> {
     task: Task<'f>,
@@ -53,7 +53,7 @@ impl<'f> Session<'f> {
         Ok(Session::begin(Goal::Fetch, functional, limits))
     }
 
-    /// Returns a session that begins, with `goal`; everything else of its task goes by `functional` and `limits`.
+    /// Returns a new session with `goal`, the device descriptor `functional` and `limits`.
     pub(crate) fn begin(goal: Goal<'f>, functional: &Functional, limits: Limits) -> Session<'f> {
         Session {
             task: Task {
@@ -81,7 +81,7 @@ impl<'f> Session<'f> {
         }
     }
 
-    /// Returns the session of `parts`. None exactly if no session has these parts: there is nothing to do, as with a payload of no bytes;
+    /// Returns the session of `parts`. None exactly if no session has these parts: the goal has nothing to do, as with an empty payload;
     /// the transfer size is 0; or the phase needs something that doesn't exist, such as a block after the last one.
     pub fn from_parts(parts: Parts<'f>) -> Option<Session<'f>> {
         if !parts.is_session() {
@@ -108,8 +108,8 @@ impl<'f> Session<'f> {
         self.task.action(self.progress.phase)
     }
 
-    /// Returns the place in the payload at which the body of `next` begins; 0 without a body. The body is a
-    /// slice of the payload from there on.
+    /// Returns the offset in the payload at which the body of `next` begins; 0 without a body. The body is a slice of
+    /// the payload from there on.
     pub fn sends_from(&self) -> usize {
         match self.progress.phase {
             Phase::Block(number) => self.task.begins(number),
@@ -125,15 +125,14 @@ impl<'f> Session<'f> {
         }
     }
 
-    /// Gives the session the result of its action; `refused` says that the caller did not keep the part in
-    /// it.
+    /// Gives the session the result of its action; `refused` says that the caller did not keep the result's part.
     pub(crate) fn on_result(&mut self, seen: Seen<'_>, refused: bool) {
         let phase = self.progress.phase;
         let heard = self.task.hear(phase, seen, refused);
         self.progress = self.progress.after(&mut self.task, heard);
     }
 
-    /// Gives the session up, as `Host::abort`.
+    /// Gives the session up, as `Host::abort` does.
     pub fn abort(&mut self) {
         match self.progress.phase {
             Phase::Over(_) | Phase::OverUploaded => {}

@@ -1,6 +1,6 @@
 // Of crates/dfu_host/src/task.rt, whose contracts are taken away.
 
-//! Task of a session, and the action of each phase in the form that the caller gets.
+//! Task of a session, and the action of each phase.
 
 use crate::host::action::Action;
 use crate::host::goal::Goal;
@@ -34,7 +34,7 @@ impl<'f> Task<'f> {
         &rest[..transfer.min(rest.len())]
     }
 
-    /// Returns the place in the payload at which block number `number` begins.
+    /// Returns the offset in the payload at which block number `number` begins.
     pub(crate) fn begins(&self, number: usize) -> usize {
         let all = self.payload().len();
         number.saturating_mul(self.transfer as usize).min(all)
@@ -46,7 +46,7 @@ impl<'f> Task<'f> {
         self.payload().len() - number * transfer <= transfer
     }
 
-    /// Changes the goal once the last reset is done: a payload that was to be verified is compared then.
+    /// Changes the goal once the last reset is done: a payload that was to be verified is compared from then on.
     pub(crate) fn go_on(&mut self, done: bool) {
         if !done {
             return;
@@ -109,7 +109,7 @@ fn download(number: usize, body: &[u8]) -> Action<'_> {
     send(Request::Dnload { block, length }, body)
 }
 
-/// Returns the sending of `request`, one of the seven, with its `body`.
+/// Returns the action that sends `request`, one of the seven, with its `body`.
 fn send(request: Request, body: &[u8]) -> Action<'_> {
     match request.setup() {
         Some(setup) => Action::Send {

@@ -1,23 +1,23 @@
 // Of crates/dfu_places/src/finding.rt, whose contracts are taken away.
 
-//! Places on a part of virtual bytes.
+//! Places of virtual bytes on a part.
 
 use crate::places::placement::{bytes_at, span_at};
 use crate::places::{Placement, Span};
 
-/// Thing in which a virtual byte lies, by its rank, and the byte's distance from the first one of that.
+/// Spot of a virtual byte: the rank of its thing, and the byte's offset in the thing.
 #[derive(Clone, Copy, Debug, PartialEq, Eq)]
 pub(crate) struct Spot {
     pub rank: u32,
     pub offset: u32,
 }
 
-// Returns the virtual bytes of a slot.
+// Returns the number of virtual bytes of a slot.
 fn slot_len(placement: &Placement) -> u32 {
     2 * placement.sector + placement.first.data.len
 }
 
-/// Returns the bytes of the virtual flash: DFU_MEDIUM_SIZE of the unit, the virtual sector and the bytes of the data.
+/// Returns the number of bytes of the virtual flash: DFU_MEDIUM_SIZE of the unit, the virtual sector and the bytes of the data.
 ///
 /// # What the caller must keep to
 ///
@@ -56,7 +56,8 @@ fn spot_of(placement: &Placement, at: u32) -> Spot {
     }
 }
 
-/// Returns the address of the `len` virtual bytes from `at` on; None exactly if they do not all lie in one thing, or are not there.
+/// Returns the address of the `len` virtual bytes from `at` on; None exactly if they do not all lie in one thing, or not all are on the
+/// part.
 ///
 /// # What the caller must keep to
 ///
@@ -70,8 +71,8 @@ pub fn find(placement: &Placement, at: u32, len: u32) -> Option<u32> {
     }
 }
 
-/// Returns the sectors that are erased in place of the virtual one that begins at `at`: all of a gate or a header, or a part of the data;
-/// None exactly if no virtual sector begins there.
+/// Returns the sectors of the part that are erased for the virtual sector that begins at `at`: all of a gate or a header, or a part of the
+/// data; None exactly if no virtual sector begins there.
 ///
 /// # What the caller must keep to
 ///

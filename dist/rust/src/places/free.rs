@@ -6,17 +6,17 @@ use crate::places::placement::room_at;
 use crate::places::region::end_of;
 use crate::places::{Needs, Region, Span};
 
-/// Gates and headers of a placement.
+/// Number of gates and headers of a placement.
 pub(crate) const HEADS: u32 = 4;
 
 /// Free sectors of a region, side by side.
 #[derive(Clone, Copy, Debug, PartialEq, Eq)]
 pub(crate) struct Free {
-    /// Address of the first one.
+    /// Address of the first sector.
     pub at: u32,
-    /// Bytes of each.
+    /// Bytes of each sector.
     pub sector: u32,
-    /// Sectors.
+    /// Number of sectors.
     pub count: u32,
 }
 
@@ -31,7 +31,8 @@ impl Free {
     }
 }
 
-/// Returns the sectors of a region that have no byte of the bootloader: those before it, or those behind it if they are more.
+/// Returns the sectors of a region that have no byte of the bootloader: those before it if they are more than those behind it, else those
+/// behind it.
 pub(crate) fn free_of(region: Region, boot: Span) -> Free {
     let Region { at, sector, count } = region;
     let all = Free { at, sector, count };
@@ -56,13 +57,13 @@ pub(crate) fn free_of(region: Region, boot: Span) -> Free {
     }
 }
 
-// Returns whether gates and headers take sectors of one region before they take those of another: its sectors are smaller, or as small and
-// its place in the list is earlier.
+// Returns whether gates and headers take sectors of region `a` before those of region `b`: its sectors are smaller, or as small and it
+// comes earlier in the list.
 fn is_first(a: Region, i: usize, b: Region, j: usize) -> bool {
     a.sector < b.sector || a.sector == b.sector && i < j
 }
 
-// Returns the free sectors of a region that gates and headers may take: all if they have room for a header and its marks, else none.
+// Returns the free sectors of a region that gates and headers may take: all if each has room for a header and its marks, else none.
 fn heads_of(region: Region, needs: Needs) -> Free {
     let free = free_of(region, needs.boot);
     if (region.sector as u64) < room_at(needs, 1) {
@@ -72,7 +73,7 @@ fn heads_of(region: Region, needs: Needs) -> Free {
     }
 }
 
-// Returns the number of gates and headers that lie in regions of which they take sectors before they take those of region `j`.
+// Returns the number of gates and headers, at most 4, that take sectors of regions before region `j` does.
 fn taken_before(regions: &[Region], needs: Needs, j: usize) -> u32 {
     let mut taken = 0u32;
     for (i, region) in regions.iter().enumerate() {
@@ -83,7 +84,7 @@ fn taken_before(regions: &[Region], needs: Needs, j: usize) -> u32 {
     taken.min(HEADS)
 }
 
-/// Returns the sectors for a gate or a header, by its number from 0 to 3.
+/// Returns the sector for a gate or a header, by its number from 0 to 3; None if the regions have no free one for it.
 pub(crate) fn head(regions: &[Region], needs: Needs, number: u32) -> Option<Span> {
     for (j, region) in regions.iter().enumerate() {
         let before = taken_before(regions, needs, j);

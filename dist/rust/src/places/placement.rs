@@ -17,7 +17,7 @@ pub struct SlotPlaces {
 }
 
 /// Places of two slots, and of a run area. The slot store sees a *virtual* flash, in which all sectors have `sector` bytes: for each slot a
-/// sector for the gate, one for the header, and the data. Virtual bytes of a gate or a header that are not there are never used.
+/// sector for the gate, one for the header, and the data. Virtual bytes of a gate or a header that are not on the part are never used.
 #[derive(Clone, Copy, Debug, PartialEq, Eq)]
 pub struct Placement {
     /// Bytes of a virtual sector: a multiple of 256, up to 262,144. Each virtual sector of data is whole sectors of the part.
@@ -30,7 +30,7 @@ pub struct Placement {
     pub run: Option<Span>,
 }
 
-/// What a placement must have room for.
+/// Bootloader, unit and marks for which a placement must have room.
 #[derive(Clone, Copy, Debug, PartialEq, Eq)]
 pub struct Needs {
     /// Bytes of the bootloader, whose sectors nothing else may have.
@@ -41,7 +41,7 @@ pub struct Needs {
     pub marks: u32,
 }
 
-// Returns the run area, or else the empty span.
+// Returns the run area, or the empty span at 0 without one.
 fn run_span(run: Option<Span>) -> Span {
     match run {
         Some(span) => span,
@@ -73,7 +73,7 @@ pub(crate) fn span_at(placement: &Placement, i: u32) -> Span {
     }
 }
 
-/// Returns the bytes of a thing that are erased together: a virtual sector of data, else all.
+/// Returns the number of a thing's bytes that are erased at a time: a virtual sector of data, else all.
 pub(crate) fn part_at(placement: &Placement, i: u32) -> u32 {
     if i == 2 || i == 5 {
         placement.sector
@@ -82,7 +82,7 @@ pub(crate) fn part_at(placement: &Placement, i: u32) -> u32 {
     }
 }
 
-/// Returns the bytes of a thing that virtual ones stand for: of a gate and a header no more than a virtual sector.
+/// Returns the number of a thing's bytes that virtual bytes stand for: of a gate and a header no more than a virtual sector.
 pub(crate) fn bytes_at(placement: &Placement, i: u32) -> u32 {
     let len = span_at(placement, i).len;
     if i == 2 || i == 5 {
@@ -92,12 +92,13 @@ pub(crate) fn bytes_at(placement: &Placement, i: u32) -> u32 {
     }
 }
 
-// Returns the bytes of a gate or of a header's unit: 16, or a unit if that is more.
+// Returns the number of bytes of a gate's or a header's unit: 16, or a unit of the part if that is more.
 fn gate_size(unit: Unit) -> u32 {
     unit.size().max(16)
 }
 
-/// Returns the fewest bytes that a thing has.
+/// Returns the smallest number of bytes that a thing must have: a gate its unit, a header its unit and the marks, each other thing one
+/// byte.
 pub(crate) fn room_at(needs: Needs, i: u32) -> u64 {
     let size = gate_size(needs.unit) as u64;
     if i == 0 || i == 3 {

@@ -1,6 +1,6 @@
 // Of crates/dfu_places/src/refusal.rt, whose contracts are taken away.
 
-//! Why a placement is refused.
+//! Refusals of a placement.
 
 use core::fmt;
 use thiserror::Error;
@@ -24,7 +24,7 @@ pub enum Thing {
     RunArea,
 }
 
-/// The names, in the order of the enum.
+/// Names of the things, in the order of the enum.
 static NAMES: [&str; 7] = [
     "the first gate",
     "the first header",
@@ -60,7 +60,7 @@ pub(crate) fn thing_of(i: u32) -> Thing {
     }
 }
 
-/// Why a placement is refused: the first rule in this order that it breaks, and of a rule the first thing in the order of `Thing`.
+/// Refusal of a placement: the first rule that it breaks, in this order, and of that rule the first thing in the order of `Thing`.
 #[derive(Clone, Copy, Debug, PartialEq, Eq, Error)]
 pub enum Refusal {
     /// A region has no sectors, ends at 2^32 or beyond, or begins before the one before it ends.
@@ -75,16 +75,17 @@ pub enum Refusal {
     /// The second data or the run area have another length than the first data.
     #[error("{0} has another length than the first data")]
     Unequal(Thing),
-    /// This does not lie in one region from the beginning of a sector on, or it, and of data each virtual sector, is not of whole sectors.
+    /// This thing does not lie in one region, from the beginning of a sector on, or does not consist of whole sectors; in data each virtual
+    /// sector must.
     #[error("{0} is not whole sectors of one region")]
     NotWhole(Thing),
-    /// This has fewer bytes than are used of it.
+    /// This thing has fewer bytes than it needs.
     #[error("{0} has too few bytes")]
     NoRoom(Thing),
-    /// This has bytes of the bootloader.
+    /// This thing has bytes of the bootloader.
     #[error("{0} lies in the bootloader")]
     InBootloader(Thing),
-    /// These two have a byte in common, and so a sector. The second one is the first that meets one before it.
+    /// These two things have a byte in common, and so a sector. The second one is the first thing that meets one before it.
     #[error("{0} and {1} share a sector")]
     Shared(Thing, Thing),
     /// `plan` found no placement.

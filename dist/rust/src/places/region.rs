@@ -7,19 +7,19 @@
 pub struct Span {
     /// Address of the first byte.
     pub at: u32,
-    /// Bytes.
+    /// Number of bytes.
     pub len: u32,
 }
 
 /// Sectors of one size, side by side. A part is a list of regions in the order of their addresses; memory of another kind, as FRAM, is one
-/// more region, whose sectors are what its driver writes to FFh at once.
+/// more region, whose sectors are the bytes that its driver sets to FFh at once.
 #[derive(Clone, Copy, Debug, PartialEq, Eq)]
 pub struct Region {
     /// Address of the first byte.
     pub at: u32,
     /// Bytes of a sector, which are erased together.
     pub sector: u32,
-    /// Sectors.
+    /// Number of sectors.
     pub count: u32,
 }
 
@@ -28,7 +28,7 @@ pub(crate) fn end_of(span: Span) -> u64 {
     span.at as u64 + span.len as u64
 }
 
-/// Returns the address behind a region's last byte; None if it is 2^32 or more.
+/// Returns the address behind a region's last byte; None exactly if it is 2^32 or more.
 pub(crate) fn region_end(region: Region) -> Option<u32> {
     match region.sector.checked_mul(region.count) {
         Some(len) => region.at.checked_add(len),
@@ -56,7 +56,8 @@ pub(crate) fn are_regions(regions: &[Region]) -> bool {
     true
 }
 
-// Returns whether a span lies in the region, from the beginning of a sector on, and each of its parts is of whole sectors.
+// Returns whether a span lies in the region, which ends below 2^32, begins where a sector does, and each of its parts of `part` bytes is
+// of whole sectors.
 fn is_split(region: Region, part: u32, span: Span) -> bool {
     if region.sector == 0 || region.at > span.at {
         return false;
@@ -70,7 +71,7 @@ fn is_split(region: Region, part: u32, span: Span) -> bool {
     }
 }
 
-/// Returns whether a span lies in one of the regions, from the beginning of a sector on, and each of its parts is of whole sectors.
+/// Returns whether a span lies in one region, begins where a sector does, and each of its parts of `part` bytes consists of whole sectors.
 pub(crate) fn is_whole(regions: &[Region], part: u32, span: Span) -> bool {
     for region in regions {
         if is_split(*region, part, span) {

@@ -1,6 +1,6 @@
 // Of crates/dfu_slots/src/carry.rt, whose contracts are taken away.
 
-//! Carrying out the operations of a change on a medium.
+//! Operations of a change, which are performed on a medium.
 
 use crate::slots::erasing::erase;
 use crate::slots::layout::{MAX_UNIT, OPEN_GATE};
@@ -9,18 +9,18 @@ use crate::slots::sequence::{MAX_OPERATIONS, Sequence};
 use crate::slots::writes::write_some;
 use crate::slots::{Medium, WriteFault};
 
-/// The bytes from which the operations of a change take the bytes that they write.
+/// Bytes that the operations of a change write: the held bytes, the block and the header.
 #[derive(Clone, Copy, Debug, PartialEq, Eq)]
 pub(crate) struct Sources<'b> {
-    /// The bytes held back.
+    /// Bytes held back by earlier puts.
     pub held: &'b [u8],
-    /// The block.
+    /// Block of a `put`.
     pub block: &'b [u8],
-    /// The header.
+    /// Header that a `commit` or a `format` writes.
     pub header: &'b [u8; 16],
 }
 
-// The byte at this place of two slices, one after the other, with zeros after both.
+// Returns byte `at` of `front`, `back` and zeros, one after the other.
 fn byte_in(front: &[u8], back: &[u8], at: usize) -> u8 {
     if at < front.len() {
         return front[at];
@@ -29,7 +29,7 @@ fn byte_in(front: &[u8], back: &[u8], at: usize) -> u8 {
     if behind < back.len() { back[behind] } else { 0 }
 }
 
-// The byte at this place of a source, given the bytes held back, the block and the header.
+// Returns byte `at` of a source, given the bytes held back, the block and the header.
 fn byte_of(source: Source, held: &[u8], block: &[u8], header: &[u8; 16], at: usize) -> u8 {
     match source {
         Source::Joined => byte_in(held, block, at),
@@ -41,14 +41,14 @@ fn byte_of(source: Source, held: &[u8], block: &[u8], header: &[u8; 16], at: usi
 }
 
 impl Sources<'_> {
-    // Puts bytes of a source, without its first ones, at the front of a buffer.
+    // Copies `len` bytes of a source, from byte `skip` on, to the front of a buffer.
     fn gather(self, source: Source, skip: usize, len: usize, out: &mut [u8; MAX_UNIT]) {
         for i in 0..len {
             out[i] = byte_of(source, self.held, self.block, self.header, skip + i);
         }
     }
 
-    // Writes bytes of a source, at most 256, with the erases before.
+    // Writes `len` bytes of a source, at most 256, from byte `skip` on, after the erases that they need. No bytes mean no write.
     fn write_gathered<M: Medium>(
         self,
         medium: &mut M,
@@ -62,7 +62,8 @@ impl Sources<'_> {
         write_some(medium, at, &unit[..len])
     }
 
-    // Writes bytes of what is held back and the block, with the erases before: straight from the block if all of them lie there.
+    // Writes `len` bytes of the held bytes and the block, from byte `skip` on, after the erases that they need: straight from the block if
+    // all lie there.
     fn write_joined<M: Medium>(
         self,
         medium: &mut M,
@@ -78,7 +79,7 @@ impl Sources<'_> {
         write_some(medium, at, &self.block[begin..begin + len])
     }
 
-    // Carries an operation out.
+    // Performs one operation.
     fn carry_op<M: Medium>(self, medium: &mut M, op: Op) -> Result<(), WriteFault> {
         let _end = medium.len();
         match op {
@@ -104,7 +105,7 @@ impl Sources<'_> {
     ///
     /// # Errors
     ///
-    /// The fault of the write at which the operations are broken off.
+    /// The fault of the first write that fails. No later operation is performed.
     pub(crate) fn carry_out<M: Medium>(
         self,
         medium: &mut M,

@@ -1,12 +1,12 @@
 // Of crates/dfu_slots/src/erasing.rt, whose contracts are taken away.
 
-//! Erasing sectors.
+//! Erases of sectors, which are read back.
 
 use crate::slots::layout::MAX_UNIT;
 use crate::slots::read::stands_at;
 use crate::slots::{Medium, WriteFault};
 
-/// Returns true if the `len` bytes from `at` on are FFh.
+/// Returns whether the `len` bytes from `at` on are all FFh.
 pub(crate) fn is_blank<M: Medium>(medium: &M, at: u32, len: u32) -> bool {
     let blank = [0xff; MAX_UNIT];
     let _end = medium.len();

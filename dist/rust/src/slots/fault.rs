@@ -1,15 +1,15 @@
 // Of crates/dfu_slots/src/fault.rt, whose contracts are taken away.
 
-//! Faults for which a call of the store was refused.
+//! Faults that calls of the store return.
 use core::fmt;
 use thiserror::Error;
 
-/// A fault for which `format` gives the medium back. The faults are checked in this order.
+/// Fault with which `format` hands the medium back. The faults are checked in this order.
 #[derive(Clone, Copy, Debug, PartialEq, Eq, Error)]
 pub enum FormatFault {
-    /// The medium's length is not 2 * (2 * G + C) with C from 1 to 16,777,216 and whole in the unit and the sector, G being
-    /// the most of 16, the unit's size and the sector's; or its sector is not 0, nor a multiple of 256 up to 262,144.
-    /// Nothing was written.
+    /// The medium's length is not 2 * (2 * G + C), with C from 1 to 16,777,216 and a multiple of the unit and of the sector, and G the
+    /// largest of 16, the unit's size and the sector's; or the sector is neither 0 nor a multiple of 256 up to 262,144. Nothing was
+    /// written.
     WrongSize,
     /// The image has more bytes than the data of a slot. Nothing was written.
     TooLarge,
@@ -27,14 +27,14 @@ impl fmt::Display for FormatFault {
     }
 }
 
-/// Faults for which `open` gave the medium back, unchanged. It looks for them in this order.
+/// Fault with which `open` hands the medium back unchanged. The faults are checked in this order.
 ///
-/// A slot counts if its gate is open and, if its header is of version 2, that header is well formed: its zero
-/// bytes are 0, its length is at most C, and its register is that of so many bytes from the front of the slot's data.
+/// A slot counts if its gate is open and, if its header is of version 2, that header is well formed: its zero bytes are 0, its length is at
+/// most C, and its register is that of the slot's first data bytes, as many as the length says.
 #[derive(Clone, Copy, Debug, PartialEq, Eq, Error)]
 pub enum OpenFault {
-    /// The medium's length is not 2 * (2 * G + C) with C from 1 to 16,777,216 and whole in the unit and the sector, G being
-    /// the most of 16, the unit's size and the sector's; or its sector is not 0, nor a multiple of 256 up to 262,144.
+    /// The medium's length is not 2 * (2 * G + C), with C from 1 to 16,777,216 and a multiple of the unit and of the sector, and G the
+    /// largest of 16, the unit's size and the sector's; or the sector is neither 0 nor a multiple of 256 up to 262,144.
     WrongSize,
     /// Neither slot counts.
     NoImage,
@@ -57,29 +57,29 @@ impl fmt::Display for OpenFault {
     }
 }
 
-/// A fault of a write of the store.
+/// Fault of one write of the store.
 #[derive(Clone, Copy, Debug, PartialEq, Eq)]
 pub enum WriteFault {
-    /// The medium reported that it failed.
+    /// The medium reported that the write failed.
     Failed,
-    /// The medium reported success, and other bytes are there.
+    /// The medium reported success, but other bytes were read back.
     NotVerified,
 }
 
-/// A fault with which `begin`, `put` or `commit` fails.
+/// Fault that `begin`, `put` or `commit` returns.
 #[derive(Clone, Copy, Debug, PartialEq, Eq, Error)]
 pub enum PutFault {
-    /// The bytes that were to be put end past the capacity, and the spare's gate is closed. Nothing was written. Only `put` returns it:
-    /// what was put lies within the capacity.
+    /// The bytes to be put end past the capacity, and the spare's gate is closed. Nothing was written. Only `put` returns it, because bytes
+    /// that were put lie within the capacity.
     TooLarge,
-    /// A write to the medium failed. The active image is as it was; after `commit` it is that one or the whole new one. The bytes that were
-    /// put are forgotten, and `put_end` is 0.
+    /// A write to the medium failed. The active image is the old one; after `commit` it is the old one or the whole new one. The bytes put
+    /// are discarded, and `put_end` is 0.
     Failed,
     /// The medium reported success of a write, and other bytes were read back. The medium's count of failures rose.
     /// All else is as after `Failed`.
     NotVerified,
-    /// The spare's gate reads open, so it may hold the image before this one: `begin` comes first.
-    /// Nothing was written. It is looked for before `TooLarge`, and `begin` never returns it.
+    /// The spare's gate reads open, so the slot may hold the image before this one: call `begin` first. Nothing was written. Checked before
+    /// `TooLarge`; `begin` never returns it.
     NotBegun,
 }
 

@@ -1,6 +1,6 @@
 // Of crates/dfu_slots/src/format.rt, whose contracts are taken away.
 
-//! Formatting a medium: an image goes into the first slot, whatever was on the medium.
+//! Format of a medium: an image is written into the first slot, whatever the medium held before.
 
 use crate::slots::gates::{close_gate, open_slot};
 use crate::slots::layout::{VERSION, fill_size, make_header};
@@ -10,7 +10,7 @@ use crate::slots::sequence::{MAX_WRITE, Sequence};
 use crate::slots::writes::write_some;
 use crate::slots::{Medium, WriteFault};
 
-// Writes these bytes and zeros after them: at most 4,096 together, at most 256 of them zeros.
+// Writes `bytes` and zeros after them, `len` bytes together: at most 4,096, at most 256 of them zeros.
 #[inline(never)]
 fn write_padded<M: Medium>(
     medium: &mut M,
@@ -23,7 +23,7 @@ fn write_padded<M: Medium>(
     write_some(medium, at, &padded[..len])
 }
 
-// Writes so many bytes of an image without its first ones, and zeros if it has fewer.
+// Writes `len` bytes of an image from byte `skip` on, with zeros past its end.
 fn write_part<M: Medium>(
     medium: &mut M,
     at: u32,
@@ -37,7 +37,7 @@ fn write_part<M: Medium>(
     write_some(medium, at, &image[skip..skip + len])
 }
 
-// Carries out the operation of the piece that begins there in an image.
+// Writes the piece of an image that begins at byte `from`: up to 4,096 bytes, filled up to a unit, into the data of the first slot.
 fn write_piece<M: Medium>(medium: &mut M, image: &[u8], from: u32) -> Result<(), WriteFault> {
     let sequence = Sequence::Image {
         from,
@@ -56,7 +56,7 @@ fn write_piece<M: Medium>(medium: &mut M, image: &[u8], from: u32) -> Result<(),
     }
 }
 
-// Writes an image into the data of the first slot, in the pieces of its sequence.
+// Writes an image into the data of the first slot, piece by piece.
 fn write_pieces<M: Medium>(medium: &mut M, image: &[u8]) -> Result<(), WriteFault> {
     let len = image.len() as u32;
     let end = len + fill_size(medium.unit(), len);

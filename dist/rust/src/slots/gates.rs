@@ -1,12 +1,12 @@
 // Of crates/dfu_slots/src/gates.rt, whose contracts are taken away.
 
-//! Closing the gate of a slot, and opening it after a new header.
+//! Gates of slots: one is closed, or is opened after a new header.
 
 use crate::slots::carry::Sources;
 use crate::slots::sequence::Sequence;
 use crate::slots::{Medium, WriteFault};
 
-/// Closes the gate of the slot that begins at `slot`: writes a gate unit over it, or erases its sector.
+/// Closes the gate of the slot that begins at `slot`: writes a gate unit of zeros over it; with sectors, instead, erases its sector.
 pub(crate) fn close_gate<M: Medium>(medium: &mut M, slot: u32) -> Result<(), WriteFault> {
     let none = Sources {
         held: &[],

@@ -5,16 +5,16 @@
 use crate::slots::Failed;
 use arrayvec::ArrayVec;
 
-/// The way in which a write ended.
+/// Outcome of a write.
 #[derive(Clone, Copy, Debug, PartialEq, Eq)]
 pub enum WriteEnd {
     Worked,
     Failed,
-    /// The medium was armed to lie in the write: it reported success, whatever bytes it left.
+    /// The medium was armed to lie: it reported success, whatever bytes it left.
     Lied,
 }
 
-/// A write: whether it erased, where, how many bytes, and how it ended.
+/// A write or an erase: its place, its number of bytes, and its outcome.
 #[derive(Clone, Copy, Debug, PartialEq, Eq)]
 pub struct WriteNote {
     pub erases: bool,
@@ -37,14 +37,14 @@ impl Default for WriteNote {
 /// The last writes of a medium, and the number of all writes.
 #[derive(Debug, PartialEq, Eq)]
 pub struct LastWrites {
-    /// The last 16 writes, in their order.
+    /// The last 16 writes, the oldest first.
     pub notes: ArrayVec<WriteNote, 16>,
     /// Number of writes, at most 2^64 - 1.
     pub count: u64,
 }
 
 impl LastWrites {
-    /// Returns a list of no write.
+    /// Returns an empty list of writes.
     pub(crate) fn none() -> LastWrites {
         LastWrites {
             notes: ArrayVec::new(),
@@ -52,7 +52,7 @@ impl LastWrites {
         }
     }
 
-    /// Adds `note` as the last write. The oldest note is removed if there is no room for it.
+    /// Appends `note`. If the list is full, the oldest note is removed first.
     pub(crate) fn add(&mut self, note: WriteNote) {
         if self.notes.is_full() {
             self.notes.remove(0);
@@ -62,7 +62,7 @@ impl LastWrites {
     }
 }
 
-/// Returns the end of a write with the result `answer`, by `lies`, which says that it was set to lie.
+/// Returns the outcome of a write with the result `answer`; `lies` is true if the medium was armed to lie in it.
 pub(crate) fn ended(lies: bool, answer: Result<(), Failed>) -> WriteEnd {
     match answer {
         Ok(()) if lies => WriteEnd::Lied,

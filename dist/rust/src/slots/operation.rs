@@ -1,11 +1,11 @@
 // Of crates/dfu_slots/src/operation.rt, whose contracts are taken away.
 
-//! One operation on a medium, and what its bytes are.
+//! One operation on a medium, and the source of its bytes.
 
-/// The source of the bytes of an operation, with zeros after them.
+/// Source of the bytes that an operation writes; zeros follow its last byte.
 #[derive(Clone, Copy, Debug, PartialEq, Eq)]
 pub enum Source {
-    /// The bytes held back, and after them the block, or an image.
+    /// The bytes held back, followed by the block or the image.
     Joined,
     /// The bytes held back.
     Held,
@@ -13,27 +13,27 @@ pub enum Source {
     Header,
     /// The first byte of an open gate.
     Opened,
-    /// Nothing: a gate is closed by zeros.
+    /// No bytes: a gate is closed by the zeros after them.
     Closed,
 }
 
 /// An operation on a medium.
 #[derive(Clone, Copy, Debug, PartialEq, Eq)]
 pub enum Op {
-    /// A sector is erased.
+    /// Erases a sector.
     Erase {
         /// Place at which the sector begins.
         at: u64,
     },
-    /// Bytes are written, with an erase before of each sector that begins in their range. No bytes mean no write.
+    /// Writes bytes, after an erase of each sector that begins in their range. No bytes mean no write.
     Program {
         /// Place of the first byte.
         at: u64,
         /// Source of the bytes.
         source: Source,
-        /// Number of bytes of the source that come before the bytes written.
+        /// Number of bytes of the source to skip.
         skip: u32,
-        /// Number of bytes that are written.
+        /// Number of bytes to write.
         len: u32,
     },
 }

@@ -15,14 +15,14 @@ pub struct Places {
     pub spare: u32,
 }
 
-/// Slots that count, of the two.
+/// For each of the two slots, true if it counts.
 #[derive(Clone, Copy, Debug, PartialEq, Eq)]
 pub struct Counted {
     pub first: bool,
     pub second: bool,
 }
 
-/// Finds the slots that count, of the two. The whole image of an open slot of version 2 is read once, for its register.
+/// Finds the slots that count. The whole image of an open slot of version 2 is read once, for its register.
 pub(crate) fn count_slots<M: Medium>(medium: &M) -> Counted {
     Counted {
         first: counts(medium, 0),
@@ -35,7 +35,7 @@ pub(crate) fn is_none(counted: Counted) -> bool {
     !counted.first && !counted.second
 }
 
-// Returns whether the first of two slots counts, and the other one does not, or is one generation behind.
+// Returns whether the slot `mine` counts, and the slot `other` does not or is one generation older.
 fn is_newest<M: Medium>(
     medium: &M,
     mine: u32,
@@ -47,7 +47,7 @@ fn is_newest<M: Medium>(
         && (!other_counts || generation(medium, mine) == generation(medium, other).wrapping_add(1))
 }
 
-/// Returns the places of the slots, if the first one or else the second one is active.
+/// Returns the places of the slots: the first slot is the active one if `first` is true, else the second.
 pub(crate) fn places_of<M: Medium>(medium: &M, first: bool) -> Places {
     let second = medium.len() / 2;
     if first {
@@ -63,14 +63,14 @@ pub(crate) fn places_of<M: Medium>(medium: &M, first: bool) -> Places {
     }
 }
 
-/// Returns the places of the two slots; if neither is the newest, as if the second were.
+/// Returns the places of the active slot and the spare one; if neither is the newest, the second is taken as active.
 pub(crate) fn find_places<M: Medium>(medium: &M, counted: Counted) -> Places {
     let second = medium.len() / 2;
     let first = is_newest(medium, 0, second, counted.first, counted.second);
     places_of(medium, first)
 }
 
-/// Returns whether the slot that was found to be the active one is the newest.
+/// Returns whether the slot at `places.active`, one of the two, is the newest.
 pub(crate) fn has_newest<M: Medium>(medium: &M, places: Places, counted: Counted) -> bool {
     let Places { active, spare } = places;
     if active == 0 {
@@ -80,7 +80,7 @@ pub(crate) fn has_newest<M: Medium>(medium: &M, places: Places, counted: Counted
     }
 }
 
-/// Finds which of the two slots is active.
+/// Finds the active slot and the spare one.
 pub(crate) fn look<M: Medium>(medium: &M) -> Places {
     find_places(medium, count_slots(medium))
 }

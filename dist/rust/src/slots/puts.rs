@@ -1,6 +1,6 @@
 // Of crates/dfu_slots/src/puts.rt, whose contracts are taken away.
 
-//! Bytes that were put since `begin`: whole units go to the medium as they come, and the rest is held back.
+//! Bytes put since `begin`: whole units are written at once, and the rest is held back.
 
 use crate::slots::carry::Sources;
 use crate::slots::layout::MAX_UNIT;
@@ -18,7 +18,7 @@ pub struct Puts {
 }
 
 impl Puts {
-    /// Returns the puts before the first one: no bytes held back, and an end of 0.
+    /// Returns the state before the first put: no bytes held back, and an end of 0.
     pub(crate) fn nothing() -> Puts {
         Puts {
             held: ArrayVec::new(),
@@ -26,19 +26,19 @@ impl Puts {
         }
     }
 
-    /// Removes all puts: no bytes are held back, and the end is 0.
+    /// Discards all puts: no bytes are held back, and the end is 0.
     pub(crate) fn clear(&mut self) {
         self.held.clear();
         self.end = 0;
     }
 }
 
-// Holds these bytes back too, after those that are held.
+// Appends `bytes` to the bytes held back.
 fn hold(held: &mut ArrayVec<u8, MAX_UNIT>, bytes: &[u8]) {
     let _ = held.try_extend_from_slice(bytes);
 }
 
-/// Holds back in `held` what makes no whole unit of the bytes of `held` and `bytes` after them.
+/// Keeps in `held` only the last bytes of `held` and `bytes` together, those that fill no whole unit.
 pub(crate) fn hold_rest(held: &mut ArrayVec<u8, MAX_UNIT>, unit: Unit, bytes: &[u8]) {
     let all = held.len() + bytes.len();
     let rest = all % unit.size() as usize;
@@ -50,8 +50,8 @@ pub(crate) fn hold_rest(held: &mut ArrayVec<u8, MAX_UNIT>, unit: Unit, bytes: &[
     hold(held, &bytes[bytes.len() - rest..]);
 }
 
-/// Puts `bytes` after those of `held`, in the data of the slot that begins at `slot`, at `end`, the end of the puts. The unit that the
-/// held bytes begin is written, if it is full now, and then all further whole units in one write, and the rest is held back.
+/// Puts `bytes` after `held` into the data of the slot that begins at `slot`, where the puts end at `end`. Writes the unit that the held
+/// bytes begin, if it is full now, then all further whole units in one write, and holds the rest back.
 pub(crate) fn put_units<M: Medium>(
     medium: &mut M,
     held: &mut ArrayVec<u8, MAX_UNIT>,

@@ -1,6 +1,6 @@
 // Of crates/dfu_slots/src/read.rt, whose contracts are taken away.
 
-//! Readings of flash, and of the slots of a medium.
+//! Reads of flash, and of the slots of a medium.
 
 use crate::slots::Medium;
 use crate::slots::layout::{
@@ -15,12 +15,12 @@ const PIECE_BYTES: usize = 64;
 // Bytes that are read back at a time.
 const READ_BACK_BYTES: usize = 256;
 
-// Returns whether flash is memory that is read in place. No clause says what it answers, so whoever calls it is proved for both answers.
+// Returns whether flash is mapped, to be read in place. Its contract leaves the answer open, so its callers are proved for both answers.
 fn is_mapped() -> bool {
     true
 }
 
-/// Copies bytes of flash. Nothing else looks at a byte of flash that is not mapped.
+/// Copies `flash` to `out`, which has as many bytes. Flash that is not mapped is read through this call alone.
 ///
 /// # What the caller must keep to
 ///
@@ -30,7 +30,7 @@ pub fn read_flash(flash: &[u8], out: &mut [u8]) {
     out.copy_from_slice(flash);
 }
 
-/// Returns one byte of flash.
+/// Returns byte `at` of flash.
 ///
 /// # What the caller must keep to
 ///
@@ -42,7 +42,7 @@ pub fn flash_byte_at(flash: &[u8], at: usize) -> u8 {
     byte[0]
 }
 
-/// Returns whether the bytes of flash from `from` up to `to`, without that one, are FFh.
+/// Returns whether the bytes of flash from `from` to before `to` are all FFh.
 ///
 /// # What the caller must keep to
 ///
@@ -57,7 +57,7 @@ pub fn is_flash_erased(flash: &[u8], from: usize, to: usize) -> bool {
     true
 }
 
-// The register over flash that is copied piece by piece.
+// Returns the register over all bytes of `flash`, which are copied piece by piece.
 fn crc_by_pieces(flash: &[u8]) -> Crc {
     let mut crc = Crc::new();
     let mut buffer = [0; PIECE_BYTES];
@@ -72,7 +72,7 @@ fn crc_by_pieces(flash: &[u8]) -> Crc {
     crc
 }
 
-/// Returns the register over bytes of flash, to go on from.
+/// Returns the register over all bytes of `flash`, to which more bytes can be added.
 pub fn crc_of_flash(flash: &[u8]) -> Crc {
     if !is_mapped() {
         return crc_by_pieces(flash);
@@ -82,14 +82,14 @@ pub fn crc_of_flash(flash: &[u8]) -> Crc {
     crc
 }
 
-/// The byte at this place.
+/// Returns the medium's byte at `at`.
 pub(crate) fn byte_at<M: Medium>(medium: &M, at: u32) -> u8 {
     let mut byte = [0];
     medium.read(at, &mut byte);
     byte[0]
 }
 
-// Returns whether two pieces of one length have the same bytes. It is much less code than `==`.
+// Returns whether two slices of equal length have equal bytes, in much less code than `==`.
 fn are_same(read: &[u8], piece: &[u8]) -> bool {
     let mut at = 0;
     while at < piece.len() {
@@ -101,7 +101,7 @@ fn are_same(read: &[u8], piece: &[u8]) -> bool {
     true
 }
 
-/// Returns whether exactly these bytes are there. It reads them in pieces.
+/// Returns whether the medium has `bytes` at `at`. Reads them in pieces.
 pub(crate) fn stands_at<M: Medium>(medium: &M, at: u32, bytes: &[u8]) -> bool {
     let mut buffer = [0; READ_BACK_BYTES];
     let mut ahead = medium.len() - at;
@@ -120,7 +120,7 @@ pub(crate) fn stands_at<M: Medium>(medium: &M, at: u32, bytes: &[u8]) -> bool {
     true
 }
 
-/// Returns whether the slot that begins there is open.
+/// Returns whether the gate of the slot that begins at `at` is open.
 ///
 /// # What the caller must keep to
 ///
@@ -130,14 +130,14 @@ pub fn is_open<M: Medium>(medium: &M, at: u32) -> bool {
     byte_at(medium, at) == OPEN_GATE
 }
 
-/// The 16 bytes of the header of the slot that begins there.
+/// Returns the 16 bytes of the header of the slot that begins at `at`.
 pub fn header_of<M: Medium>(medium: &M, at: u32) -> [u8; 16] {
     let mut header = [0; 16];
     medium.read(at + gate_of(medium), &mut header);
     header
 }
 
-// Returns whether the slot that begins there has a well-formed header of version 2: its register is that of the image.
+// Returns whether the slot that begins at `at` has a well-formed header of version 2, with the register over its image.
 fn is_intact<M: Medium>(medium: &M, at: u32) -> bool {
     let header = header_of(medium, at);
     let len = length_in(&header);
@@ -147,12 +147,12 @@ fn is_intact<M: Medium>(medium: &M, at: u32) -> bool {
     is_header(&header, VERSION, register_of(medium, at, len))
 }
 
-/// Returns whether the slot that begins there counts.
+/// Returns whether the slot that begins at `at` counts.
 pub(crate) fn counts<M: Medium>(medium: &M, at: u32) -> bool {
     is_open(medium, at) && (header_of(medium, at)[1] != VERSION || is_intact(medium, at))
 }
 
-/// The generation in the header of the slot that begins there.
+/// Returns the generation in the header of the slot that begins at `at`.
 ///
 /// # What the caller must keep to
 ///
@@ -164,8 +164,8 @@ pub fn generation<M: Medium>(medium: &M, at: u32) -> u8 {
     byte_at(medium, at + gate_of(medium))
 }
 
-/// The length in the header of a slot that counts, if that is a well-formed header of an image that fits. A header of
-/// version 2 is, or the slot would not count.
+/// Returns the length in the header of a slot that counts; None if the header is not well formed or the image does not fit. A header of
+/// version 2 is well formed, because the slot counts.
 pub(crate) fn header_len<M: Medium>(medium: &M, at: u32) -> Option<u32> {
     let header = header_of(medium, at);
     let len = length_in(&header);
@@ -179,7 +179,7 @@ pub(crate) fn header_len<M: Medium>(medium: &M, at: u32) -> Option<u32> {
     }
 }
 
-/// Returns the place at which the data of the slot begins.
+/// Returns the place at which the data of the slot that begins at `slot_at` begins.
 ///
 /// # What the caller must keep to
 ///
@@ -191,7 +191,7 @@ pub fn data_at<M: Medium>(medium: &M, slot_at: u32) -> u32 {
     slot_at + 2 * gate_of(medium)
 }
 
-/// Reads bytes of the data of the slot that begins there, from `at` on.
+/// Reads data bytes of the slot that begins at `slot_at`, from byte `at` of the data on.
 ///
 /// # What the caller must keep to
 ///

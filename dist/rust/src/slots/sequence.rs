@@ -1,26 +1,26 @@
 // Of crates/dfu_slots/src/sequence.rt, whose contracts are taken away.
 
-//! The operations of each change of a medium: carried out in their order, they make its writes.
+//! The operations of each change of a medium; performed in their order, they make its writes.
 
 use crate::slots::Unit;
 use crate::slots::layout::{fill_size, gate_room, gate_size};
 use crate::slots::operation::{Op, Source};
 
-/// Number of bytes of an image that a format writes at a time: whole units, whatever the unit is.
+/// Number of bytes of an image that a format writes at a time: a multiple of every unit.
 pub(crate) const MAX_WRITE: u32 = 4096;
 
 /// Number of operations of the longest change.
 pub const MAX_OPERATIONS: usize = 3;
 
-/// A change of a medium, by the numbers that its operations depend on.
+/// A change of a medium, with the numbers that determine its operations.
 #[derive(Clone, Copy, Debug, PartialEq, Eq)]
 pub enum Sequence {
-    /// The gate of a slot is closed.
+    /// Closes the gate of a slot.
     Close {
         /// Place at which the slot begins.
         slot: u32,
     },
-    /// A block is put after what is held back: the unit that was begun is written, if it is full now, and then all further whole units.
+    /// Puts a block after the bytes held back: writes the unit that they begin, if it is full now, and then all further whole units.
     Put {
         /// Place at which the slot begins.
         slot: u32,
@@ -40,22 +40,23 @@ pub enum Sequence {
         /// Number of bytes that are held back.
         held: u16,
     },
-    /// Up to 4,096 bytes of an image, filled up to a unit, go into the data of the first slot, as `format` writes them.
+    /// Writes up to 4,096 bytes of an image, filled up to a unit, into the data of the first slot, as `format` does.
     Image {
-        /// Number of bytes of the image that come before the bytes written.
+        /// Offset in the image of the first byte that is written.
         from: u32,
         /// Length of the image in bytes.
         image: u32,
     },
 }
 
-// Returns the place at which the bytes held back belong in a slot that begins there.
+// Returns the place on the medium of the bytes held back, in the slot that begins at `slot`.
 fn held_from(unit: Unit, sector: u32, slot: u32, end: u32, held: u16) -> u64 {
     let at = end.saturating_sub(u32::from(held));
     u64::from(slot) + 2 * u64::from(gate_room(unit, sector)) + u64::from(at)
 }
 
-// The operation that closes a gate: a gate unit is written over it, or its sector is erased.
+// Returns the operation that closes a gate: it writes a gate unit of zeros; with sectors, instead, it erases the gate's sector. None if
+// `index` is over 0.
 fn close_op(unit: Unit, sector: u32, slot: u32, index: usize) -> Option<Op> {
     if index > 0 {
         return None;
@@ -72,7 +73,7 @@ fn close_op(unit: Unit, sector: u32, slot: u32, index: usize) -> Option<Op> {
     Some(Op::Erase { at })
 }
 
-// The operations of a put whose first byte goes there.
+// Returns operation `index` of a put whose first byte goes to the place `at`; None if `index` is over 1.
 fn put_op(unit: Unit, at: u64, held: u16, block: u16, index: usize) -> Option<Op> {
     let size = unit.size();
     let all = u32::from(held) + u32::from(block);
@@ -95,7 +96,7 @@ fn put_op(unit: Unit, at: u64, held: u16, block: u16, index: usize) -> Option<Op
     }
 }
 
-// The operations of a commit whose held bytes go there.
+// Returns operation `index` of a commit whose held bytes go to the place `at`; None if `index` is over 2.
 fn commit_op(unit: Unit, sector: u32, slot: u32, at: u64, held: u16, index: usize) -> Option<Op> {
     match index {
         0 => Some(Op::Program {
@@ -120,7 +121,7 @@ fn commit_op(unit: Unit, sector: u32, slot: u32, at: u64, held: u16, index: usiz
     }
 }
 
-// The operation that writes a piece of an image.
+// Returns the operation that writes the piece of an image of `image` bytes that begins at byte `from`; None if `index` is over 0.
 fn image_op(unit: Unit, sector: u32, from: u32, image: u32, index: usize) -> Option<Op> {
     if index > 0 {
         return None;

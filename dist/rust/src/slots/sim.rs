@@ -8,7 +8,7 @@ use arrayvec::ArrayVec;
 use crate::memory::{AllocError, Global, Vec};
 use thiserror::Error;
 
-/// There was no memory for the medium.
+/// Not enough memory for the medium.
 #[derive(Clone, Copy, Debug, PartialEq, Eq, Error)]
 #[error("out of memory")]
 pub struct NoMemory;
@@ -32,7 +32,7 @@ pub enum Mode {
     Stopped,
 }
 
-/// Behaviour of the next writes, and the count of those that failed.
+/// Behaviour of the next writes, and the count of failed writes.
 #[derive(Debug, PartialEq, Eq)]
 pub struct SimFuse {
     failures: u64,
@@ -43,7 +43,7 @@ pub struct SimFuse {
 }
 
 impl SimFuse {
-    /// Returns whether the next write lies.
+    /// Returns whether the medium is armed so that the next write lies.
     fn lies(&self) -> bool {
         matches!(self.mode, Mode::Lying) && self.writes == 0
     }
@@ -86,11 +86,11 @@ impl SimMedium {
     }
 
     /// Returns a medium of `len` bytes FFh, which is written in units of `unit`, erased in sectors of `sector` bytes (0: written over in
-    /// place), and is not armed. `len` must be a multiple of the unit. An erase goes by the same fuse as a write.
+    /// place), and is not armed. `len` must be a multiple of the unit. The fuse counts an erase like a write.
     ///
     /// # Errors
     ///
-    /// `NoMemory` if there is no memory for the bytes and a sector more.
+    /// `NoMemory` if there is no memory for the bytes and one more sector.
     ///
     /// # What the caller must keep to
     ///
@@ -128,28 +128,28 @@ impl SimMedium {
     }
 }
 
-// Writes these bytes there.
+// Writes `new` at `at`.
 fn write_over(bytes: &mut Vec<u8>, at: usize, new: &[u8]) {
     bytes[at..at + new.len()].copy_from_slice(new);
 }
 
-// Writes these bytes there, as one of the writes that the fuse lets work.
+// Writes `new` at `at`, and counts it as one of the writes that work before one fails or lies.
 fn write_counted(bytes: &mut Vec<u8>, fuse: &mut SimFuse, at: usize, new: &[u8]) {
     fuse.writes -= 1;
     write_over(bytes, at, new);
 }
 
-// Writes as much of `tear` as a write of `len` bytes at `at` has room for.
+// Writes the first bytes of `tear` at `at`, at most `len`.
 fn tear_front(bytes: &mut Vec<u8>, at: usize, tear: &[u8], len: usize) {
     write_over(bytes, at, &tear[..len.min(tear.len())]);
 }
 
-// Returns the behaviour of the writes after a failed one.
+// Returns the behaviour of the writes after a failed one: all fail too if `stop` is true, and else all work.
 fn after_tear(stop: bool) -> Mode {
     if stop { Mode::Stopped } else { Mode::Whole }
 }
 
-// The first bytes of a tear, at most 4,096, which are kept.
+// Returns the first bytes of a tear, at most 4,096, which are kept.
 fn keep_tear(tear: &[u8]) -> ArrayVec<u8, 4096> {
     let mut kept = ArrayVec::new();
     let most: usize = 4096;
@@ -157,7 +157,7 @@ fn keep_tear(tear: &[u8]) -> ArrayVec<u8, 4096> {
     kept
 }
 
-// Writes these bytes there, as the fuse lets it.
+// Writes `new` at `at`; the fuse decides if the write works, fails or lies, and which bytes it leaves then.
 fn change(bytes: &mut Vec<u8>, fuse: &mut SimFuse, at: usize, new: &[u8]) -> Result<(), Failed> {
     match fuse.mode {
         Mode::Whole => {

@@ -8,29 +8,27 @@ use crate::slots::puts::Puts;
 use crate::slots::read::{data_at, header_len, is_open, read_data};
 use crate::slots::{Faulty, FormatFault, Medium, OpenFault, format};
 
-/// Two image slots on a medium. One of them is active and holds the image; the other one is the
-/// spare, which takes the next image piece by piece. Which one is active is found
-/// when the store is made, and again after each `commit`.
+/// Two image slots on a medium. One of them is active and holds the image; the other one is the spare, which takes the next image piece by
+/// piece. The active slot is found when the store is made, and again after each `commit`.
 ///
-/// The medium is written in whole units; of the bytes put, what makes no whole unit yet is held back.
+/// The medium is written in whole units; bytes put that do not fill a unit yet are held back.
 #[derive(Debug, PartialEq, Eq)]
 pub struct Slots<M: Medium> {
     pub(crate) medium: M,
     pub(crate) puts: Puts,
-    // Found when the store was made, and again after each `commit`: to look costs a register over each open slot.
+    // Found when the store is made, and again after each `commit`, because a search computes a register over each open slot.
     pub(crate) places: Places,
 }
 
 impl<M: Medium> Slots<M> {
-    /// Writes an image into the first slot, and makes it the active one, whatever was on the medium.
+    /// Writes an image into the first slot, and makes it the active one, whatever the medium held before.
     ///
     /// # Errors
     ///
-    /// `WrongSize` if the medium's length is not 2 * (2 * G + C) with C from 1 to 16,777,216 and whole in
-    /// the unit and the sector, G being the most of 16, the unit's size and the sector's, or if the sector is not 0, nor a
-    /// multiple of 256 up to 262,144; `TooLarge` if the image has more than C bytes;
-    /// `Failed` if a write failed, or other bytes were read back. They are looked for in this order. The first two hand
-    /// the medium back unchanged.
+    /// `WrongSize` if the medium's length is not 2 * (2 * G + C), with C from 1 to 16,777,216 and a multiple of the unit and of the sector,
+    /// and G the largest of 16, the unit's size and the sector's, or if the sector is neither 0 nor a multiple of 256 up to 262,144;
+    /// `TooLarge` if the image has more than C bytes; `Failed` if a write failed, or other bytes were read back. They are checked in this
+    /// order. The first two hand the medium back unchanged.
     pub fn format(medium: M, image: &[u8]) -> Result<Slots<M>, (FormatFault, M)>
 
          {
@@ -54,7 +52,7 @@ impl<M: Medium> Slots<M> {
         }
     }
 
-    /// Takes a medium that has an active image. It writes nothing.
+    /// Opens a medium that has an active image. Writes nothing.
     ///
     /// # Errors
     ///
@@ -72,7 +70,7 @@ impl<M: Medium> Slots<M> {
         }
     }
 
-    /// Returns the most bytes of an image: C, from 1 to 16,777,216.
+    /// Returns the largest number of bytes of an image: C, from 1 to 16,777,216.
     pub fn capacity(&self) -> u32 {
         capacity_of(&self.medium)
     }
@@ -82,7 +80,7 @@ impl<M: Medium> Slots<M> {
         self.puts.end
     }
 
-    /// Returns the bytes held back: those put last that make no whole unit of the medium yet.
+    /// Returns the bytes held back: the last bytes put, which do not fill a unit of the medium yet.
     pub fn held(&self) -> &[u8] {
         self.puts.held.as_slice()
     }
@@ -100,7 +98,8 @@ impl<M: Medium> Slots<M> {
         }
     }
 
-    /// Returns the place of the first byte of the active image on the medium: a program may run it there. It holds until the next `commit`.
+    /// Returns the place of the first byte of the active image on the medium: a program may run it there. The place is valid until the next
+    /// `commit`.
     pub fn image_at(&self) -> u32 {
         data_at(&self.medium, self.places.active)
     }
@@ -115,8 +114,8 @@ impl<M: Medium> Slots<M> {
         read_data(&self.medium, self.places.active, at, out);
     }
 
-    /// Opens its own medium anew, as after a loss of power: what was put is forgotten. `open` would not
-    /// refuse it. It writes nothing.
+    /// Opens the store's own medium again, as after a loss of power: the bytes put are discarded. Never fails, because `open` would not
+    /// refuse the medium. Writes nothing.
     pub fn reopen(&mut self) {
         self.puts.clear();
         match check(&self.medium) {

@@ -1,6 +1,6 @@
 // Of crates/dfu_slots/src/steps.rt, whose contracts are taken away.
 
-//! The steps of the calls that change a medium: each works on the medium and on what was put.
+//! The steps of `begin`, `put` and `commit`, each on a medium and its puts.
 
 use crate::slots::gates::{close_gate, open_slot};
 use crate::slots::layout::{VERSION, capacity_of, make_header};
@@ -18,7 +18,7 @@ fn close_spare<M: Medium>(medium: &mut M, places: Places) -> Result<(), WriteFau
     Ok(())
 }
 
-/// Closes the spare's gate, if it reads open, and forgets what was put.
+/// Closes the spare's gate, if it reads open, and discards the bytes put.
 pub(crate) fn begin<M: Medium>(
     medium: &mut M,
     puts: &mut Puts,
@@ -32,7 +32,7 @@ pub(crate) fn begin<M: Medium>(
     }
 }
 
-/// Puts `bytes` at `at`, after those that were put, as far as they make whole units, and holds the rest back.
+/// Puts `bytes` at `at`, the end of the puts before: writes their whole units, and holds the rest back.
 pub(crate) fn put<M: Medium>(
     medium: &mut M,
     puts: &mut Puts,
@@ -77,7 +77,7 @@ fn open_spare<M: Medium>(
     open_slot(medium, places.spare, puts.end, held, &head)
 }
 
-/// Makes the first `len` bytes of what was put the image of the spare, and opens it. It forgets what was put.
+/// Makes the first `len` bytes put the image of the spare, opens its gate, and discards the bytes put.
 pub(crate) fn commit<M: Medium>(
     medium: &mut M,
     puts: &mut Puts,

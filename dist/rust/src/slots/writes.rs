@@ -1,6 +1,6 @@
 // Of crates/dfu_slots/src/writes.rt, whose contracts are taken away.
 
-//! The one function through which the store writes, and the writes that are made by it.
+//! Writes of the store, which are read back, and the erases before them.
 
 use crate::slots::erasing::erase_within;
 use crate::slots::read::stands_at;

@@ -9,20 +9,20 @@ use crate::suffix::findings::{Findings, findings_of};
 use crate::suffix::summary::{Summary, check_register};
 use std::io::Read;
 
-/// Checks all bytes that a reader gives, as `read` of the bytes. Only the register over them, their count and the last 16 are kept, and no
-/// memory is taken, for any number of bytes. Up to 65,536 bytes are read at a time, into a buffer on the stack.
+/// Checks all bytes that a reader gives, as `read` checks a slice. Only the register over them, their count and the last 16 are kept, and
+/// no memory is allocated, for any number of bytes. Up to 16,384 bytes are read at a time, into a buffer on the stack.
 ///
 /// # Errors
 ///
-/// TooLarge once byte 16,777,217 was read, and no read is made after that; Read at the first error
-/// of the reader, with no second try; else the fault that `read` answers for the bytes.
+/// TooLarge once byte 16,777,217 was read, and no read is made after that; Read at the first error of the reader, with no second try; else
+/// the fault that `read` returns for the bytes.
 pub fn check<R: Read>(reader: R) -> Result<Summary, SuffixFault> {
     let mut findings = Findings::new();
     check_with(reader, &mut findings)
 }
 
-/// Checks as `check` does, and writes into `findings` the numbers of which the reason of BadLength or BadCrc is made. After TooShort,
-/// TooLarge and Read they say nothing of the file.
+/// Checks as `check` does, and writes to `findings` the numbers that explain BadLength or BadCrc. After TooShort, TooLarge and Read they
+/// say nothing about the file.
 ///
 /// # Errors
 ///
@@ -57,7 +57,7 @@ pub fn check_with<R: Read>(
     unreachable!()
 }
 
-// Slides a window of 16 bytes over more: it becomes the last 16 of both.
+// Slides a window of 16 bytes over `more`: the window becomes the last 16 bytes of itself and `more`.
 fn slide(window: &mut [u8; 16], more: &[u8]) {
     if more.len() >= 16 {
         let (_, last) = more.split_at(more.len() - 16);

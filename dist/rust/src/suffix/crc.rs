@@ -21,7 +21,7 @@ impl Crc {
         }
     }
 
-    /// Takes more bytes: the register goes on from the bytes before them. A program that calls `update` links 8,192 bytes of tables;
+    /// Takes more bytes: the register continues from the bytes before them. A program that calls `update` links 8,192 bytes of tables;
     /// `update_small` does the same without them.
     pub fn update(&mut self, bytes: &[u8]) {
         *self = Crc {
@@ -51,31 +51,31 @@ impl Crc {
     }
 }
 
-// One of the tables, by its place. The tables are in a function of their own, because each proof that names all tables is dear.
+// Returns the table at index `place`. Only this function names all tables, because each proof that does so is slow.
 #[inline(always)]
 fn table(place: usize) -> &'static [u32; 256] {
     &TABLES[place]
 }
 
-// The entry of a table for the lowest byte of a number.
+// Returns the entry of a table for the lowest byte of a number.
 #[inline(always)]
 fn entry(table: &[u32; 256], number: u32) -> u32 {
     table[(number & 0xff) as usize]
 }
 
-// The register after a further byte.
+// Returns the register after a further byte.
 #[inline(always)]
 fn after_byte(register: u32, byte: u8) -> u32 {
     (register >> 8) ^ entry(table(7), register ^ u32::from(byte))
 }
 
-// The entry of a table for a byte.
+// Returns the entry of a table for a byte.
 #[inline(always)]
 fn byte_entry(table: &[u32; 256], byte: u8) -> u32 {
     table[usize::from(byte)]
 }
 
-// Returns the register after 32 bits 0, from the number in four bytes.
+// Returns the number in four bytes, shifted by 32 bits 0.
 #[inline(always)]
 fn after_32_zeros(bytes: &[u8]) -> u32 {
     byte_entry(table(4), bytes[0])
@@ -84,7 +84,7 @@ fn after_32_zeros(bytes: &[u8]) -> u32 {
         ^ byte_entry(table(7), bytes[3])
 }
 
-// Returns the register after 64 bits 0, from a number.
+// Returns a number, shifted by 64 bits 0.
 #[inline(always)]
 fn after_64_zeros(number: u32) -> u32 {
     entry(table(0), number)
@@ -93,15 +93,15 @@ fn after_64_zeros(number: u32) -> u32 {
         ^ entry(table(3), number >> 24)
 }
 
-// The register after eight further bytes. Only the first four bytes wait for the register, as one number; the others are loaded each by
-// itself, because that takes fewer instructions than to cut them out of a word.
+// Returns the register after eight further bytes. Only the first four bytes wait for the register, as one number; the others are loaded one
+// by one, because that takes fewer instructions than to cut them out of a word.
 #[inline(always)]
 fn after_eight(register: u32, bytes: &[u8]) -> u32 {
     let (first, second) = bytes.split_at(4);
     after_32_zeros(second) ^ after_64_zeros(register ^ LittleEndian::read_u32(first))
 }
 
-// The register after further bytes, one at a time.
+// Returns the register after further bytes, one at a time.
 #[inline(always)]
 fn after_each(start: u32, bytes: &[u8]) -> u32 {
     let mut register = start;
@@ -111,14 +111,14 @@ fn after_each(start: u32, bytes: &[u8]) -> u32 {
     register
 }
 
-// The register after sixteen further bytes.
+// Returns the register after sixteen further bytes.
 #[inline(always)]
 fn after_sixteen(register: u32, bytes: &[u8]) -> u32 {
     let (first, second) = bytes.split_at(8);
     after_eight(after_eight(register, first), second)
 }
 
-// The register after a few further bytes: the first eight at once if there are that many.
+// Returns the register after a few further bytes: the first eight at once if there are that many.
 fn after_few(register: u32, bytes: &[u8]) -> u32 {
     match bytes.split_first_chunk::<8>() {
         Some((eight, more)) => after_each(after_eight(register, eight), more),
@@ -126,7 +126,7 @@ fn after_few(register: u32, bytes: &[u8]) -> u32 {
     }
 }
 
-/// Returns the register after `start` and `bytes`, sixteen at a time, so that two steps share one turn of the loop.
+/// Returns the register `start` after `bytes`, sixteen at a time, so that two steps of eight share one turn of the loop.
 pub(crate) fn after_bytes(start: u32, bytes: &[u8]) -> u32 {
     let mut register = start;
     let mut rest = bytes;

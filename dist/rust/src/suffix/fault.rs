@@ -5,8 +5,8 @@
 use core::fmt;
 use thiserror::Error;
 
-/// Faults for which a file isn't read, checked or written. `read` and `check` answer the first of TooLarge, TooShort, NoSignature,
-/// BadLength, DfuSe, BadCrc whose condition holds, looked for in this order; `add` looks for TooLarge and then AlreadySuffixed.
+/// Faults for which a file isn't read, checked or written. `read` and `check` return the first of TooLarge, TooShort, NoSignature,
+/// BadLength, DfuSe, BadCrc whose condition holds, in this order; `add` checks for TooLarge and then AlreadySuffixed.
 #[derive(Clone, Copy, Debug, PartialEq, Eq, Error)]
 pub enum SuffixFault {
     /// The file has under 16 bytes.
@@ -19,7 +19,7 @@ pub enum SuffixFault {
     DfuSe,
     /// dwCRC isn't the register over the bytes before it.
     BadCrc,
-    /// The bytes that are to get a suffix have one: `read` would answer Ok or DfuSe for them.
+    /// The bytes that are to get a suffix have one: `read` would return Ok or DfuSe for them.
     AlreadySuffixed,
     /// The file has over 16,777,216 bytes, or would have with the 16 bytes of a suffix.
     TooLarge,
@@ -27,11 +27,11 @@ pub enum SuffixFault {
     NoMemory,
     /// The reader failed.
     Read,
-    /// The writer failed, or took nothing of what was left.
+    /// The writer failed, or took none of the remaining bytes.
     Write,
 }
 
-/// The texts, in the order of the enum.
+/// Text of each fault, in the order of the enum.
 static TEXTS: [&str; 10] = [
     "the file has under 16 bytes, too few for a suffix",
     "the file has no DFU signature",
@@ -51,7 +51,7 @@ impl fmt::Display for SuffixFault {
     }
 }
 
-/// The names, in the order of the enum.
+/// Name of each fault, in the order of the enum.
 #[rustfmt::skip]
 static NAMES: [&str; 10] = [
     "TooShort", "NoSignature", "BadLength", "DfuSe", "BadCrc", "AlreadySuffixed", "TooLarge", "NoMemory", "Read",
@@ -59,7 +59,7 @@ static NAMES: [&str; 10] = [
 ];
 
 impl SuffixFault {
-    /// Returns the name of the fault, that of its variant, as `TooShort`.
+    /// Returns the name of the fault: the name of its variant, such as `TooShort`.
     pub fn name(self) -> &'static str {
         NAMES[self as usize]
     }

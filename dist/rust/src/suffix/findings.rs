@@ -1,11 +1,11 @@
 // Of crates/dfu_suffix/src/findings.rt, whose contracts are taken away.
 
-//! Findings of a check in a file, accepted or not.
+//! Findings of a check of a file, accepted or not.
 
 use crate::suffix::summary::u32_at;
 
-/// Findings of `check_with` in a file of 16 to 16,777,216 bytes: its length, two fields of its suffix (USB DFU 1.1, appendix B) as they
-/// stand there, and the register that dwCRC has to be.
+/// Findings of `check_with` in a file of 16 to 16,777,216 bytes: its length, two fields of its suffix (USB DFU 1.1, appendix B), right or
+/// wrong, and the register that dwCRC must equal.
 #[derive(Clone, Copy, Debug, PartialEq, Eq)]
 pub struct Findings {
     /// Length of the file in bytes.
@@ -41,7 +41,7 @@ pub(crate) fn findings_of(tail: &[u8], count: u32, register: u32) -> Findings {
     }
 }
 
-// The number that one bit 0 shifts to `register`. Its highest bit says whether the bit that was shifted out was 1.
+// Returns the number that one bit 0 shifts to `register`, whose highest bit equals the bit that was shifted out.
 fn unshifted(register: u32) -> u32 {
     if register < 0x8000_0000 {
         register * 2
@@ -50,7 +50,7 @@ fn unshifted(register: u32) -> u32 {
     }
 }
 
-// The register before the last four bytes, from the register after them and the number that they make, the low byte first.
+// Returns the register before the last four bytes, from the register after them and the number that they make, the low byte first.
 fn before_four(register: u32, last: u32) -> u32 {
     let mut number = register;
     for _turn in 0u8..32 {

@@ -8,20 +8,20 @@
 
 use crate::suffix::crc;
 
-/// Smallest number of bytes that are worth folding, and the number that is folded at a time.
+/// Smallest number of bytes that are worth folding, and the largest that are folded at a time.
 const FOLDED_BYTES: usize = 4096;
 
 /// Size of the room: a residue of 1,968 bytes, and a piece after it.
 const ROOM: usize = 6064;
 
-// A residue at the front of a room, which represents the register.
+// Returns a room with a residue at its front that represents `register`.
 fn residue_for(register: u32) -> [u8; ROOM] {
     let mut room = [0u8; ROOM];
     room[..4].copy_from_slice(&register.to_le_bytes());
     room
 }
 
-// Folds further bytes into the residue, which then represents the register after them.
+// Folds at most 4,096 further bytes into the residue, which then represents the register after them.
 fn fold(room: &mut [u8; ROOM], bytes: &[u8]) {
     for place in 0..bytes.len() {
         room[place + 1968] = bytes[place]
@@ -35,7 +35,7 @@ fn fold(room: &mut [u8; ROOM], bytes: &[u8]) {
     room.copy_within(bytes.len()..bytes.len() + 1968, 0);
 }
 
-// The register that the residue represents.
+// Returns the register that the residue at the front of the room represents.
 fn register_of(room: &[u8; ROOM]) -> u32 {
     let first = crc::after_bytes(0, &room[..720]);
     let second = crc::after_bytes(first, &room[720..848]);
@@ -46,7 +46,7 @@ fn register_of(room: &[u8; ROOM]) -> u32 {
     whole ^ first ^ second ^ third ^ fourth ^ fifth
 }
 
-// The register after bytes that are enough to be worth folding.
+// Returns the register `start` after many bytes, by folding them.
 fn after_many(start: u32, bytes: &[u8]) -> u32 {
     let mut room = residue_for(start);
     let mut rest = bytes;
@@ -59,7 +59,7 @@ fn after_many(start: u32, bytes: &[u8]) -> u32 {
     register_of(&room)
 }
 
-/// Returns the register after `start` and `bytes`, which are folded if there are many.
+/// Returns the register `start` after `bytes`, which are folded if there are at least 4,096.
 pub(crate) fn after_bytes(start: u32, bytes: &[u8]) -> u32 {
     if bytes.len() < FOLDED_BYTES {
         crc::after_bytes(start, bytes)

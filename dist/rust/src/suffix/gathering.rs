@@ -17,7 +17,7 @@ pub enum GatherFault {
     Read,
 }
 
-/// Gathers all bytes that the reader gives, at most `limit`. Up to 65,536 bytes are read at a time.
+/// Gathers all bytes that the reader gives, at most `limit`. Up to 16,384 bytes are read at a time.
 ///
 /// # Errors
 ///

@@ -7,13 +7,13 @@ use crate::suffix::fault::SuffixFault;
 use crate::suffix::file::{File, MAX_FILE, MIN_SUFFIX};
 use crate::suffix::summary::parse_tail;
 
-// The last 16 bytes, or all bytes if there are fewer.
+// Returns the last 16 bytes, or all bytes if there are fewer.
 fn tail(bytes: &[u8]) -> &[u8] {
     let (_, tail) = bytes.split_at(bytes.len().saturating_sub(MIN_SUFFIX as usize));
     tail
 }
 
-// The register over all bytes, which is the same by the large tables and the small one.
+// Returns the register over all bytes, which is the same by the large tables and by the small one.
 #[inline(always)]
 fn register_over(bytes: &[u8], by_small_table: bool) -> u32 {
     let mut crc = Crc::new();
@@ -25,14 +25,14 @@ fn register_over(bytes: &[u8], by_small_table: bool) -> u32 {
     crc.value()
 }
 
-// The bytes before the suffix.
+// Returns the bytes before the last `suffix` bytes.
 fn payload_of(bytes: &[u8], suffix: usize) -> &[u8] {
     let (payload, _) = bytes.split_at(bytes.len() - suffix);
     payload
 }
 
-/// Reads the fields of the bytes from their end, or returns their first fault. Each reader has a body of its own, so that the small reader
-/// is linked without the large tables.
+/// Reads the fields of the bytes from their end, or returns their first fault. The body is inlined into each reader, so that the small
+/// reader is linked without the large tables.
 #[inline(always)]
 fn parse(bytes: &[u8], by_small_table: bool) -> Result<File<'_>, SuffixFault> {
     if bytes.len() > MAX_FILE {
@@ -50,13 +50,13 @@ fn parse(bytes: &[u8], by_small_table: bool) -> Result<File<'_>, SuffixFault> {
     }
 }
 
-// Reads a whole file, as `read` and `read_small` say.
+// Reads a whole file, with the contract of `read` and `read_small`.
 #[inline(always)]
 fn read_by(bytes: &[u8], by_small_table: bool) -> Result<File<'_>, SuffixFault> {
     parse(bytes, by_small_table)
 }
 
-/// Reads a whole file (USB DFU 1.1, appendix B). No memory is taken, because the payload is a slice of `bytes`.
+/// Reads a whole file (USB DFU 1.1, appendix B). No memory is allocated, because the payload is a slice of `bytes`.
 ///
 /// # Errors
 ///

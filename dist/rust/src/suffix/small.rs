@@ -1,9 +1,8 @@
 // Of crates/dfu_suffix/src/small.rt, whose contracts are taken away.
 
-//! The register of USB DFU 1.1, appendix B, four bits at a time: for a program that has no room for the tables.
+//! The register of USB DFU 1.1, appendix B, four bits at a time: for a program that has no room for the large tables.
 
-/// Register after 4 further bits 0, for each number below 16. The check computes it by the definition over single bits
-/// (crates/dfu_suffix/proofs/SmallTable.antt).
+/// Each number below 16, shifted by 4 bits 0. The proof computes all entries by the definition over single bits (crates/dfu_suffix/proofs/SmallTable.antt).
 static AFTER_4: [u32; 16] = [
     0x0000_0000,
     0x1db7_1064,
@@ -23,19 +22,19 @@ static AFTER_4: [u32; 16] = [
     0xbdbd_f21c,
 ];
 
-// Returns the register after 4 bits 0, from a number.
+// Returns a number, shifted by 4 bits 0.
 #[inline(always)]
 fn after_4_zeros(number: u32) -> u32 {
     (number >> 4) ^ AFTER_4[(number & 0xf) as usize]
 }
 
-// The register after a further byte.
+// Returns the register after a further byte.
 #[inline(always)]
 fn after_byte(register: u32, byte: u8) -> u32 {
     after_4_zeros(after_4_zeros(register ^ u32::from(byte)))
 }
 
-/// Returns the register after `start` and `bytes`, one byte at a time.
+/// Returns the register `start` after `bytes`, one byte at a time.
 pub(crate) fn after_bytes(start: u32, bytes: &[u8]) -> u32 {
     let mut register = start;
     for byte in bytes {

@@ -1,13 +1,13 @@
 // Of crates/dfu_suffix/src/summary.rt, whose contracts are taken away.
 
-//! Summary of a file that `check` gives, by its end (USB DFU 1.1, appendix B).
+//! Summary of a file, which `check` returns, by the last bytes of the file (USB DFU 1.1, appendix B).
 
 use crate::suffix::fault::SuffixFault;
 use crate::suffix::file::{DFUSE, MIN_SUFFIX};
 use byteorder::{ByteOrder, LittleEndian};
 use crate::wire::Ids;
 
-/// Fields of a file and the length of its payload, as `check` answers them.
+/// Fields of a file and the length of its payload, as `check` returns them.
 #[derive(Clone, Copy, Debug, PartialEq, Eq)]
 pub struct Summary {
     /// Length of the payload in bytes, at most 16,777,200.
@@ -22,12 +22,12 @@ pub struct Summary {
     pub crc: u32,
 }
 
-// Returns whether the last 16 bytes have the signature.
+// Returns true if the last 16 bytes have the signature.
 fn is_signed(tail: &[u8]) -> bool {
     tail[8] == b'U' && tail[9] == b'F' && tail[10] == b'D'
 }
 
-// The number in the two bytes from `at`, the low one first.
+// Returns the number in the two bytes of `bytes` from index `at` on, the low byte first.
 fn u16_at(bytes: &[u8], at: usize) -> u16 {
     let (_, field) = bytes.split_at(at);
     LittleEndian::read_u16(field)
@@ -39,7 +39,7 @@ pub(crate) fn u32_at(bytes: &[u8], at: usize) -> u32 {
     LittleEndian::read_u32(field)
 }
 
-// The identifiers in the last 16 bytes.
+// Returns the identifiers in the last 16 bytes.
 fn ids_of(tail: &[u8]) -> Ids {
     Ids {
         device: u16_at(tail, 0),
@@ -73,8 +73,8 @@ pub(crate) fn parse_tail(tail: &[u8], count: u32) -> Result<Summary, SuffixFault
     })
 }
 
-/// Returns the summary of a file of `count` bytes, by `tail`, its last 16 bytes, and by `register`, that over all of the file, which is 0
-/// exactly if dwCRC is right.
+/// Returns the summary of a file of `count` bytes, by `tail`, its last 16 bytes, and by `register`, the register over the whole file, which
+/// is 0 exactly if dwCRC is right.
 ///
 /// # Errors
 ///

@@ -4,7 +4,7 @@
 
 use std::io::Write;
 
-/// Fault of a writer that failed, or took nothing of what was left.
+/// Fault of a writer that failed, or took none of the remaining bytes.
 #[derive(Clone, Copy, Debug, PartialEq, Eq)]
 pub struct OutputError;
 
@@ -12,7 +12,7 @@ pub struct OutputError;
 ///
 /// # Errors
 ///
-/// OutputError at the first error of the writer, with no second try, and if the writer takes nothing of what is left.
+/// OutputError at the first error of the writer, with no second try, and if the writer takes none of the remaining bytes.
 #[inline(never)]
 pub fn write_whole<W: Write>(writer: &mut W, text: &[u8]) -> Result<(), OutputError> {
     let mut rest = text;

@@ -1,6 +1,6 @@
 // Of crates/dfu_wire/src/bytes.rt, whose contracts are taken away.
 
-//! Bits and bytes of the fields.
+//! Little-endian numbers and single bits in the fields of the wire formats.
 
 use byteorder::{ByteOrder, LittleEndian};
 
@@ -11,7 +11,7 @@ pub(crate) fn two_bytes(number: u16) -> [u8; 2] {
     bytes
 }
 
-/// Returns the number in the two bytes of `bytes` from index `at` on, the low byte first.
+/// Returns the two-byte number at index `at` of `bytes`, the low byte first.
 pub(crate) fn number_at(bytes: &[u8], at: usize) -> u16 {
     LittleEndian::read_u16(&bytes[at..])
 }

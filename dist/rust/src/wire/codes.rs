@@ -4,44 +4,44 @@
 
 use crate::wire::WireFault;
 
-/// A status code, as bStatus says it.
+/// A status code, the value of bStatus.
 #[derive(Clone, Copy, Debug, PartialEq, Eq)]
 pub enum Code {
     /// 00h: all is well.
     Ok,
     /// 01h: the file is not for this device.
     Target,
-    /// 02h: the file fails a test that the vendor makes.
+    /// 02h: the file fails a verification test of the vendor.
     File,
     /// 03h: a block could not be written.
     Write,
     /// 04h: the memory could not be erased.
     Erase,
-    /// 05h: the memory is not erased.
+    /// 05h: a check found memory that is not erased.
     CheckErased,
-    /// 06h: the image could not be put in place.
+    /// 06h: the memory could not be programmed.
     Prog,
-    /// 07h: the image in place is not the one that was sent.
+    /// 07h: the programmed memory failed verification.
     Verify,
-    /// 08h: a block lies past the room for an image.
+    /// 08h: the address of a block is out of range.
     Address,
     /// 09h: the image ended before the device had all of it.
     NotDone,
-    /// 0Ah: the application is broken, so that the device stays in upgrade mode.
+    /// 0Ah: the application is corrupt, so the device stays in upgrade mode.
     Firmware,
-    /// 0Bh: a fault of the vendor's own.
+    /// 0Bh: a vendor-specific error.
     Vendor,
-    /// 0Ch: a reset of the bus came unasked.
+    /// 0Ch: an unexpected reset of the bus.
     Usbr,
-    /// 0Dh: the power came back unasked.
+    /// 0Dh: an unexpected power-on reset.
     Por,
-    /// 0Eh: something went wrong.
+    /// 0Eh: an error of unknown cause.
     Unknown,
-    /// 0Fh: a request came that the state does not allow.
+    /// 0Fh: the device stalled a request that its state does not allow.
     StalledPkt,
 }
 
-/// The names, in the order of the enum.
+/// Names of the codes in the standard, in the order of `Code`.
 #[rustfmt::skip]
 static NAMES: [&str; 16] = [
     "OK", "errTARGET", "errFILE", "errWRITE", "errERASE", "errCHECK_ERASED", "errPROG", "errVERIFY", "errADDRESS",
@@ -62,7 +62,7 @@ impl Code {
         self as u8
     }
 
-    /// Returns the name of the code in the standard, as `errWRITE`.
+    /// Returns the name of the code in the standard, such as `errWRITE`.
     pub fn name(self) -> &'static str {
         NAMES[self as usize]
     }

@@ -1,11 +1,11 @@
 // Of crates/dfu_wire/src/requests.rt, whose contracts are taken away.
 
-//! Request that a setup brings (USB DFU 1.1, section 3).
+//! Requests that a setup asks for (USB DFU 1.1, section 3).
 
 use crate::wire::Setup;
 use crate::wire::setups::{IN, OUT};
 
-/// Request that a setup brings: one of the seven requests, or another.
+/// Request that a setup asks for: one of the seven DFU requests, or another.
 ///
 /// | Request | Kind | Number | Value | Length |
 /// |---|---|---|---|---|
@@ -20,27 +20,27 @@ use crate::wire::setups::{IN, OUT};
 pub enum Request {
     /// Leave the application for upgrade mode at a reset within `timeout` milliseconds.
     Detach { timeout: u16 },
-    /// Take block `block` of an image, `length` bytes; no bytes end the image.
+    /// Take block `block` of an image, `length` bytes; a length of 0 ends the image.
     Dnload { block: u16, length: u16 },
     /// Send block `block` of the image, at most `length` bytes.
     Upload { block: u16, length: u16 },
-    /// Send the status in 6 bytes, of which at most `length` are sent.
+    /// Send the 6 bytes of the status, at most `length` of them.
     GetStatus { length: u16 },
     /// Leave the state dfuERROR.
     ClrStatus,
-    /// Send the state in 1 byte, of which at most `length` are sent.
+    /// Send the 1 byte of the state, or no byte if `length` is 0.
     GetState { length: u16 },
-    /// Give up what is under way, and be ready again.
+    /// Abandon the download or upload under way, and return to dfuIDLE.
     Abort,
-    /// A request of the class, for interface 0, that is not in the table.
+    /// Another class request to interface 0, not in the table.
     OtherClass,
-    /// No request of the class, or one for another interface.
+    /// No class request, or a class request to another interface.
     NotDfu,
 }
 
 impl Request {
-    /// Returns the setup of the request, with index 0, and value 0 if the table has none. It is `None` only for `OtherClass` and `NotDfu`.
-    /// `Setup::request` of the result is the request again.
+    /// Returns the setup of the request, with index 0, and value 0 if the table has none. `None` exactly for `OtherClass` and `NotDfu`.
+    /// `Setup::request` of the result returns an equal request.
     pub fn setup(&self) -> Option<Setup> {
         let (kind, request, value, length) = match *self {
             Request::Detach { timeout } => (OUT, 0, timeout, 0),
@@ -61,8 +61,7 @@ impl Request {
         })
     }
 
-    /// Returns the name of the request in the standard, as `DETACH`; `other-class` and `not-dfu` for the two that are not one of the
-    /// seven.
+    /// Returns the name of the request in the standard, such as `DETACH`; `other-class` for `OtherClass`, and `not-dfu` for `NotDfu`.
     pub fn name(self) -> &'static str {
         match self {
             Request::Detach { .. } => "DETACH",

@@ -1,25 +1,26 @@
 // Of crates/dfu_wire/src/round_trips.rt, whose contracts are taken away.
 
-//! Round trips: each function writes its argument, reads the bytes again, and gets what was written.
+//! Round trips: each function encodes its argument, or converts it to a setup, decodes the result, and returns a value that equals the
+//! argument. Only a request without a setup has no such value.
 
 use crate::wire::{Functional, Request, Setup, Status, WireFault};
 
-/// Returns what `Functional::decode` reads from the bytes of `Functional::encode`: `functional` again.
+/// Encodes `functional`, and returns the descriptor decoded from the bytes: it equals `functional`.
 pub fn reread_functional(functional: &Functional) -> Result<Functional, WireFault> {
     Functional::decode(&functional.encode())
 }
 
-/// Returns what `Setup::decode` reads from the bytes of `Setup::encode`: `setup` again.
+/// Encodes `setup`, and returns the setup decoded from the bytes: it equals `setup`.
 pub fn reread_setup(setup: &Setup) -> Setup {
     Setup::decode(&setup.encode())
 }
 
-/// Returns what `Status::decode` reads from the bytes of `Status::encode`: `status` again.
+/// Encodes `status`, and returns the status decoded from the bytes: it equals `status`.
 pub fn reread_status(status: &Status) -> Result<Status, WireFault> {
     Status::decode(&status.encode())
 }
 
-/// Returns the `Setup::request` of the setup that `Request::setup` gives: `request` again; None if it gives no setup.
+/// Converts `request` to a setup, and returns the request of that setup: it equals `request`. None if `request` has no setup.
 pub fn asked_again(request: &Request) -> Option<Request> {
     match request.setup() {
         Some(setup) => Some(setup.request()),

@@ -1,35 +1,34 @@
 // Of crates/dfu_wire/src/setups.rt, whose contracts are taken away.
 
-//! The eight bytes that begin a request (USB DFU 1.1, section 3).
+//! Setup packets, the eight bytes that begin a request (USB DFU 1.1, section 3).
 
 use crate::wire::Request;
 use crate::wire::bytes::two_bytes;
 use byteorder::{ByteOrder, LittleEndian};
 
-/// bmRequestType of a request of the class that sends to the device.
+/// bmRequestType of a class request to an interface that sends to the device.
 pub(crate) const OUT: u8 = 0x21;
 
-/// bmRequestType of a request of the class that reads from the device.
+/// bmRequestType of a class request to an interface that reads from the device.
 pub(crate) const IN: u8 = 0xa1;
 
-/// The eight bytes that begin a request. Any eight bytes are a setup; numbers of two bytes have
-/// their low byte first.
+/// Setup packet, the eight bytes that begin a request. Any eight bytes are a setup; two-byte numbers have their low byte first.
 #[derive(Clone, Copy, Debug, PartialEq, Eq)]
 pub struct Setup {
     /// bmRequestType, byte 0: 21h sends to the device, A1h reads from it, others are not DFU.
     pub kind: u8,
     /// bRequest, byte 1: the number of the request.
     pub request: u8,
-    /// wValue, bytes 2 and 3: a timeout or a block's number.
+    /// wValue, bytes 2 and 3: the timeout of DETACH, or the block's number of DNLOAD and UPLOAD.
     pub value: u16,
-    /// wIndex, bytes 4 and 5: the interface, here 0.
+    /// wIndex, bytes 4 and 5: the interface, which is 0 in a setup of a DFU request.
     pub index: u16,
-    /// wLength, bytes 6 and 7: how many bytes follow, or may be answered.
+    /// wLength, bytes 6 and 7: the number of bytes that follow, or the most that the device may send.
     pub length: u16,
 }
 
 impl Setup {
-    /// Reads `bytes` as a setup. The call never fails: any eight bytes are one.
+    /// Reads `bytes` as a setup. The call never fails, because any eight bytes are a setup.
     pub fn decode(bytes: &[u8; 8]) -> Setup {
         Setup {
             kind: bytes[0],
@@ -40,7 +39,7 @@ impl Setup {
         }
     }
 
-    /// Writes the setup. `decode` of the result is the setup again.
+    /// Writes the setup. `decode` of the result returns an equal setup.
     pub fn encode(&self) -> [u8; 8] {
         let [value_low, value_high] = two_bytes(self.value);
         let [index_low, index_high] = two_bytes(self.index);

@@ -17,11 +17,14 @@ const LONGEST_POLL: u32 = 0xff_ffff;
 /// | 4 | bState: the state that the device enters right after this answer | `state` |
 /// | 5 | iString: ignored on reading, and written as 0 | |
 ///
-/// Its poll time is always at most 16,777,215.
+/// The poll time of a status is always at most 16,777,215.
 #[derive(Clone, Copy, Debug, PartialEq, Eq)]
 pub struct Status {
+    // Status code.
     code: Code,
+    // Poll time in milliseconds.
     poll: u32,
+    // State that the device enters after the answer.
     state: State,
 }
 
@@ -43,17 +46,17 @@ impl Status {
         self.code
     }
 
-    /// Returns the time that the host must wait before it asks again: 0 to 16,777,215 milliseconds.
+    /// Returns the time that the host must wait before it sends GETSTATUS again: 0 to 16,777,215 milliseconds.
     pub fn poll_ms(&self) -> u32 {
         self.poll
     }
 
-    /// Returns the state that the device enters right after the answer with the status.
+    /// Returns the state that the device enters right after it sent the status.
     pub fn state(&self) -> State {
         self.state
     }
 
-    /// Reads a status. The faults, in the order in which they are looked for:
+    /// Reads `bytes` as a status. The faults, in the order of the checks:
     ///
     /// 1. `Short`: there are fewer than 6 bytes.
     /// 2. `Long`: there are more than 6 bytes.
@@ -78,7 +81,7 @@ impl Status {
         Ok(Status { code, poll, state })
     }
 
-    /// Writes the status, with 0 for iString. `decode` of the result is the status again.
+    /// Writes the status, with 0 for iString. `decode` of the result returns an equal status.
     pub fn encode(&self) -> [u8; 6] {
         let mut bytes = [0; 6];
         bytes[0] = self.code.byte();

@@ -1,4 +1,4 @@
-/* In place of apps/flash/linux/properties.c: libusb's answers mean what they mean over WinUSB, and a person has a quarter of a second to
+/* In place of apps/flash/linux/properties.c: libusb's answers mean what they mean over WinUSB, and a person has half a second to
    pull the plug. With USB_NEW=untold they are those of macOS. */
 #include "../../../../apps/flash/properties.h"
 
@@ -28,7 +28,7 @@ bool platform_tells_left(void)
 
 uint32_t platform_pull_ms(void)
 {
-    return 250;
+    return 500;
 }
 
 bool platform_has_usb(void)

@@ -1,8 +1,8 @@
 use Rattle.std.proofs.Common.{◌≡◌, ◌+◌, ◌-◌, ◌++◌, ◌≤◌, ℕ, List, length, take, replicate, ap, ◌∙◌, sym, arith}
 use borrow.Rule.Slice.PartMut.{put_mid, post_of}
 use Rattle.dfu_asks.specs.Cuts.{run_bytes}
-use Rattle.dfu_asks.proofs.Cutting.{filled_buffer_is_step, cut_within_bounds}
-use Rattle.dfu_asks.proofs.Running.{runs_fill_buffer_front, length_behind_two_runs}
+use Rattle.dfu_asks.proofs.Cutting.{filled_buffer_is_step, found_cut_has_piece_bounds}
+use Rattle.dfu_asks.proofs.Running.{runs_fill_buffer_front, rest_has_left_length}
 use Rattle.dfu_asks.proofs.cut.fill.Goals as goal
 
 pub returns-clause-step : goal.returns-clause-step
@@ -24,7 +24,7 @@ returns-clause-step c =
     let len : c.min-len.result ≡ c.args.cut.now.piece.len = omega (arith, c.min-len.ensures, c.requires.1.programs program) in
     let rest = c.fill.ensures.after (λ y is. is) in
     let low : end ≤ c.min-len.result = omega (arith, len, c.runs_of-runs.ensures.size) in
-    let size = length_behind_two_runs out front back middle end c.min-len.result m e low (omega (arith, c.min-len.ensures, c.told-out)) in
+    let size = rest_has_left_length out front back middle end c.min-len.result m e low (omega (arith, c.min-len.ensures, c.told-out)) in
     let behind : length c.fill.new.self ≡ c.min-len.result - end = c.fill.ensures.len ∙ size in
     let two = put_mid middle (end - middle) (front ++ post_of 0 middle out) back in
     ap (λ (n : ℕ). take n (put_mid end (c.min-len.result - end) two c.fill.new.self)) (sym len)
@@ -33,4 +33,4 @@ returns-clause-step c =
     ∙ ap (λ (n : ℕ). (r.front.now ++ r.back.now) ++ replicate n r.pad) (size ∙ omega (arith, len, c.runs_of-runs.ensures.size)))
 
 pub returns-clause-fits : goal.returns-clause-fits
-returns-clause-fits c = λ sector is. cut_within_bounds sector c.args.cut.now _ is (returns-clause-step c)
+returns-clause-fits c = λ sector is. found_cut_has_piece_bounds sector c.args.cut.now _ is (returns-clause-step c)

@@ -1,5 +1,5 @@
 use Rattle.std.proofs.Common.{◌≡◌, ◌-◌, ◌++◌, length, take, drop, replicate, ◌∙◌}
-use Rattle.dfu_asks.proofs.Running.{bytes_in_three_runs}
+use Rattle.dfu_asks.proofs.Running.{range_is_three_runs}
 use Rattle.dfu_asks.proofs.cut.runs_in.Goals as goal
 
 pub returns-clause-bytes : goal.returns-clause-bytes
@@ -12,4 +12,4 @@ returns-clause-bytes c =
     let other : c.run-second.result.now ≡ take (len - length (take len (drop skip front))) (drop (skip - length front) back)
     = c.run-second.ensures
     ∙ (λ i. take (len - length (one i)) (drop (c.saturating_sub.ensures i) back)) in
-    (λ i. (one i ++ other i) ++ replicate (len - length (one i) - length (other i)) 0) ∙ bytes_in_three_runs front back skip len c.requires
+    (λ i. (one i ++ other i) ++ replicate (len - length (one i) - length (other i)) 0) ∙ range_is_three_runs front back skip len c.requires

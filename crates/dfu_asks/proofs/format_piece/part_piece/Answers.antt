@@ -4,7 +4,7 @@ use Rattle.dfu_asks.specs.declared.formatting.FormatStep.TheVariants as format_s
 use Rattle.dfu_asks.specs.Steps.{Step, step_writes}
 use Rattle.dfu_asks.specs.Carried.{total, IsStepPiece}
 use Rattle.dfu_asks.specs.Cuts.{step_of_cut}
-use Rattle.dfu_asks.proofs.SequenceSteps.{close_ops_are_step, image_op_is_steps, image_ops_have_few_bytes, format_header_steps, format_gate_steps, part_in}
+use Rattle.dfu_asks.proofs.SequenceSteps.{close_ops_are_step, image_op_is_steps, image_ops_have_few_bytes, format_op_1_has_header_steps, format_op_2_has_gate_steps, part_in}
 use Rattle.dfu_asks.proofs.format_piece.part_piece.Goals as goal
 
 pub sequence_piece-requires-in-Image : goal.sequence_piece-requires-in-Image
@@ -52,7 +52,7 @@ returns-in-Header-clause-found c = λ yes.
     let f = c.args.formatting.now in
     let s = c.args.cut.now.stock in
     subst (λ (ss : List Step). IsStepPiece ss c.args.cut.now.rest (step_of_cut c.open_piece.new.cut))
-    (format_header_steps s (header 2 0 (length s.block.now) f.register) (length s.block.now) f.register refl
+    (format_op_1_has_header_steps s (header 2 0 (length s.block.now) f.register) (length s.block.now) f.register refl
     ∙ part_in f c.args.size s c.requires.unit c.requires.sector format_step.Header c.in-Header.is) (c.open_piece.ensures.found yes)
 
 pub returns-in-Header-clause-none : goal.returns-in-Header-clause-none
@@ -60,7 +60,7 @@ returns-in-Header-clause-none c = λ no.
     let f = c.args.formatting.now in
     let s = c.args.cut.now.stock in
     let count = subst (λ (ss : List Step). total (step_writes ss) + c.open_piece.new.cut.rest ≡ c.args.cut.now.rest)
-    (format_header_steps s (header 2 0 (length s.block.now) f.register) (length s.block.now) f.register refl
+    (format_op_1_has_header_steps s (header 2 0 (length s.block.now) f.register) (length s.block.now) f.register refl
     ∙ part_in f c.args.size s c.requires.unit c.requires.sector format_step.Header c.in-Header.is) (c.open_piece.ensures.behind no) in
     omega (arith, count)
 
@@ -69,7 +69,7 @@ returns-in-Gate-clause-found c = λ yes.
     let f = c.args.formatting.now in
     let s = c.args.cut.now.stock in
     subst (λ (ss : List Step). IsStepPiece ss c.args.cut.now.rest (step_of_cut c.open_piece-in-Gate.new.cut))
-    (format_gate_steps s (header 2 0 (length s.block.now) f.register)
+    (format_op_2_has_gate_steps s (header 2 0 (length s.block.now) f.register)
     ∙ part_in f c.args.size s c.requires.unit c.requires.sector format_step.Gate c.in-Gate.is) (c.open_piece-in-Gate.ensures.found yes)
 
 pub returns-in-Gate-clause-none : goal.returns-in-Gate-clause-none
@@ -77,6 +77,6 @@ returns-in-Gate-clause-none c = λ no.
     let f = c.args.formatting.now in
     let s = c.args.cut.now.stock in
     let count = subst (λ (ss : List Step). total (step_writes ss) + c.open_piece-in-Gate.new.cut.rest ≡ c.args.cut.now.rest)
-    (format_gate_steps s (header 2 0 (length s.block.now) f.register)
+    (format_op_2_has_gate_steps s (header 2 0 (length s.block.now) f.register)
     ∙ part_in f c.args.size s c.requires.unit c.requires.sector format_step.Gate c.in-Gate.is) (c.open_piece-in-Gate.ensures.behind no) in
     omega (arith, count)

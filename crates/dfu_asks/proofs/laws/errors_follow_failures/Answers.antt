@@ -1,7 +1,7 @@
 use Rattle.std.proofs.Common.{◌≡◌, inl, inr, ⊎_elim, ℕ, List, [], refl, sym, ap, subst, arith}
 use Rattle.dfu_slots.specs.Medium.Fuse.{Whole}
 use Rattle.dfu_slots.specs.StoreView.{SlotsState}
-use Rattle.dfu_device.specs.Cases.{either_way}
+use Rattle.dfu_device.specs.Cases.{holds_in_both_branches}
 use Rattle.dfu_device.specs.Errors.{IsMediumError, MediumErrorsHaveCause}
 use Rattle.dfu_device.specs.Parts.{stage_of}
 use Rattle.dfu_device.specs.Rows.{Cause, Row}
@@ -14,28 +14,28 @@ use Rattle.dfu_asks.specs.declared.reply.Reply.TheVariants as reply
 use Rattle.dfu_asks.specs.Mapped.{UnseenState}
 use Rattle.dfu_asks.specs.Due.{due_plan, PlanWorks}
 use Rattle.dfu_asks.specs.Asks.{flash_store, device_in, device_with}
-use Rattle.dfu_asks.specs.Calls.{DueOutcome, outcome_asks, outcome_answered, DeviceCalled, call_answered, call_asks, piece_stood, piece_failed_on_flash, piece_not_on_flash}
-use Rattle.dfu_asks.proofs.Unseen.{spare_with_unseen}
+use Rattle.dfu_asks.specs.Calls.{DueOutcome, outcome_asks, outcome_answered, DeviceCalled, call_answered, call_asks, piece_on_flash, piece_write_failed, piece_not_on_flash}
+use Rattle.dfu_asks.proofs.Unseen.{spare_ignores_unseen}
 use Rattle.dfu_asks.proofs.laws.errors_follow_failures.Goals as goal
 
--- Unseen state of a medium on which no write has failed, and none will.
+-- Unseen state of a medium on which no write has failed and no write will fail.
 abbrev unseen_without_failures : UnseenState
 unseen_without_failures = record { failures = 0; fuse = Whole; tag = [] }
 
--- The device on such a medium is in the same stage as on any medium with these bytes.
-stage_same_on_any_medium : (a : LentDevice) (flash : List ℕ) → (device_with unseen_without_failures a flash).stage
+-- A device on a medium without failures is in the same stage as on any medium with these bytes.
+stage_is_same_on_each_medium : (a : LentDevice) (flash : List ℕ) → (device_with unseen_without_failures a flash).stage
     ≡ (device_in a flash).stage
-stage_same_on_any_medium a flash = ap (λ (spare : List ℕ). stage_of a.mode spare a.block) (spare_with_unseen unseen_without_failures
+stage_is_same_on_each_medium a flash = ap (λ (spare : List ℕ). stage_of a.mode spare a.block) (spare_ignores_unseen unseen_without_failures
     (flash_store a flash))
 
 error_answer_has_cause : MediumErrorsHaveCause → (a now : LentDevice) (flash out out' : List ℕ) (cause : Cause) (r : Reply)
     → DeviceCalled a flash out (λ d y sent d'. Row d cause y sent d') now out' r → (x : Answer) (count : ℕ) → r ≡ reply.Answered x count
     → IsMediumError (device_in now flash).stage → IsMediumError (device_in a flash).stage
 error_answer_has_cause have a now flash out out' cause _ (call_answered y n e) x count is broken =
-    ⊎_elim (λ before. subst IsMediumError (stage_same_on_any_medium a flash) before) (λ rose. absurd (omega (arith, rose)))
+    ⊎_elim (λ before. subst IsMediumError (stage_is_same_on_each_medium a flash) before) (λ rose. absurd (omega (arith, rose)))
     (have (device_with unseen_without_failures a flash) cause y e.gave.sent (device_with unseen_without_failures now flash) (e.gave.row
     unseen_without_failures)
-    (subst IsMediumError (sym (stage_same_on_any_medium now flash)) broken))
+    (subst IsMediumError (sym (stage_is_same_on_each_medium now flash)) broken))
 error_answer_has_cause have a now flash out out' cause _ (call_asks len asks same due out_is) x count is broken = absurd (cc)
 
 pub returns-clause-answered : goal.returns-clause-answered
@@ -50,7 +50,7 @@ worked_row_enters_no_error c (InDownloadBusy before block number passed) len w a
     broken
 worked_row_enters_no_error c (InManifestSync taken) len w a out w' done broken = subst IsMediumError done.1.stage_is broken
 worked_row_enters_no_error c (InManifest taken passed) len w a out w' done broken =
-    either_way (λ (st : Stage). IsMediumError st → ⊥) c.tolerant InManifestSyncComplete InManifestWaitReset (λ x. x) (λ x. x)
+    holds_in_both_branches (λ (st : Stage). IsMediumError st → ⊥) c.tolerant InManifestSyncComplete InManifestWaitReset (λ x. x) (λ x. x)
     (subst IsMediumError done.1.stage_is broken)
 worked_row_enters_no_error c st len w a out w' done broken = absurd done
 
@@ -63,8 +63,8 @@ due_outcome_enters_no_error d len s was flash out out' now _ (outcome_answered y
 
 pub returns-clause-took : goal.returns-clause-took
 returns-clause-took c = λ d len s was flash out out' p failed now x count took broken. elim took [
-  | piece_stood fine there comes ↦ absurd (due_outcome_enters_no_error d len s was flash out out' now (reply.Answered x count) comes x
+  | piece_on_flash fine there comes ↦ absurd (due_outcome_enters_no_error d len s was flash out out' now (reply.Answered x count) comes x
       count refl broken)
-  | piece_failed_on_flash y n fails is e ↦ inl fails
+  | piece_write_failed y n fails is e ↦ inl fails
   | piece_not_on_flash y n fine lies is e ↦ inr lies
 ]

@@ -2,14 +2,14 @@ use Rattle.std.proofs.Common.{arith}
 use Rattle.dfu_asks.specs.Steps.{step_writes}
 use Rattle.dfu_asks.specs.Carried.{total}
 use Rattle.dfu_asks.proofs.Bits.{piece_is_part_of_writes}
-use Rattle.dfu_asks.proofs.Carrying.{carried_series_is_all_writes, series_carried_to_next_piece, torn_piece_breaks_series}
+use Rattle.dfu_asks.proofs.Carrying.{carried_series_is_all_writes, written_piece_carries_series, torn_piece_breaks_series}
 use Rattle.dfu_asks.proofs.laws.pieces_are_the_writes.Goals as goal
 
 pub returns-clause-all : goal.returns-clause-all
 returns-clause-all c w ws m = carried_series_is_all_writes w ws m (total ws) (omega arith)
 
 pub returns-clause-next : goal.returns-clause-next
-returns-clause-next c ss m n p within piece = series_carried_to_next_piece (step_writes ss) m n p.write within (piece_is_part_of_writes ss
+returns-clause-next c ss m n p within piece = written_piece_carries_series (step_writes ss) m n p.write within (piece_is_part_of_writes ss
     n p piece)
 
 pub returns-clause-torn : goal.returns-clause-torn

@@ -9,11 +9,11 @@ use Rattle.dfu_asks.specs.Lent.{LentDevice}
 use Rattle.dfu_asks.specs.Mapped.{UnseenState}
 use Rattle.dfu_asks.specs.Asks.{flash_store, store_with_unseen, device_with, IsDevice}
 use Rattle.dfu_asks.specs.Verdict.{IsBodyOf}
-use Rattle.dfu_asks.proofs.LongSetups.{long_body_puts_nothing, found_setup_is_long, long_body_for_other_interface, long_body_is_stalled}
-use Rattle.dfu_asks.proofs.Refuses.{device_enters_mode}
+use Rattle.dfu_asks.proofs.LongSetups.{mode_after_long_needs_no_bytes, found_setup_is_long, long_body_elsewhere_is_stalled, long_body_is_stalled}
+use Rattle.dfu_asks.proofs.Refuses.{filled_mode_may_be_entered}
 use Rattle.dfu_asks.proofs.long.mode_after_long.Goals as goal
 
--- A row leads from a device to the device in this mode.
+-- The row of a setup, with every fitting body, is a stall that leads from a device to the device in the mode `after`.
 abbrev RowLeadsTo : List ℕ → LentDevice → List ℕ → DeviceState → Type 0
 RowLeadsTo setup a flash after = IsDevice (record a { mode = after }) flash × ((body : List ℕ) → IsBodyOf setup body → (u : UnseenState)
     → Handles setup body (device_with u a flash) Stall [] (device_with u (record a { mode = after }) flash))
@@ -28,7 +28,7 @@ returns-then-setup-eq0-clause-row c a flash is =
     ∙ ap (λ (f : Functional). nat_lt f.transfer (body_length p)) c.functional.ensures in
     let long = (found_setup_is_long config c.args.setup.now p c.is_long.result c.decode-setup.ensures.only says c.if-not-is_long.false).0 in
     subst (λ (n : DeviceState). RowLeadsTo c.args.setup.now a flash n) (sym c.after_long.ensures) (
-      device_enters_mode a _ flash is.device (long_body_puts_nothing m (length a.block) s),
+      filled_mode_may_be_entered a _ flash is.device (mode_after_long_needs_no_bytes m (length a.block) s),
       λ body body_is u. long_body_is_stalled c.args.setup.now p c.decode-setup.ensures.fields (device_with u a flash) m
           (spare_of (store_with_unseen u s))
           a.block
@@ -41,7 +41,7 @@ pub returns-else-setup-eq0-clause-row : goal.returns-else-setup-eq0-clause-row
 returns-else-setup-eq0-clause-row c a flash is =
     subst (λ (n : DeviceState). RowLeadsTo c.args.setup.now a flash n) is.mode_is (
       is.device,
-      λ body body_is u. long_body_for_other_interface c.args.setup.now c.decode-setup.result c.decode-setup.ensures.fields (device_with u a
+      λ body body_is u. long_body_elsewhere_is_stalled c.args.setup.now c.decode-setup.result c.decode-setup.ensures.fields (device_with u a
           flash)
           c.if-setup-eq0.false body,
     )

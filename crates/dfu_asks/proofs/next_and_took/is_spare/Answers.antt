@@ -2,14 +2,14 @@ use Rattle.std.proofs.Common.{◌≡◌, ℕ, slice_index, sym, ◌∙◌, ap, s
 use Rattle.dfu_slots.specs.Medium.{MediumState}
 use Rattle.dfu_slots.specs.Image.{gate_of, spare_at, HasImage}
 use Rattle.dfu_asks.specs.Mapped.{mapped_medium}
-use Rattle.dfu_asks.proofs.Spared.{slot_begins_before_place, slot_of_place_is_one_of_two, slot_of_place_within_flash, slot_of_place_is_unique, equal_if_tested_equal, unequal_if_tested_unequal, closed_slot_is_spare, found_slot_is_spare}
+use Rattle.dfu_asks.proofs.Spared.{slot_begins_before_place, slot_of_place_is_one_of_two, slot_of_place_begins_in_flash, slot_of_place_is_unique, tested_equal_is_equal, tested_unequal_is_unequal, closed_slot_range_is_in_spare, range_at_spare_is_in_spare}
 use Rattle.dfu_asks.proofs.next_and_took.is_spare.Goals as goal
 
 pub flash_byte_at-requires : goal.flash_byte_at-requires
 flash_byte_at-requires c =
     omega (
       arith,
-      slot_of_place_within_flash _ _ c.slot_start-slot.result _ c.slot_start-slot.ensures c.requires.some (omega (
+      slot_of_place_begins_in_flash _ _ c.slot_start-slot.result _ c.slot_start-slot.ensures c.requires.some (omega (
         arith,
         c.if-at-len.false,
       )),
@@ -20,7 +20,7 @@ returns-then-flash_byte_at-clause-yes c = λ t image a.
     let flash = c.args.flash.now in
     let slot = c.slot_start-slot.result in
     let here = c.slot_start-slot.ensures in
-    closed_slot_is_spare (mapped_medium (record { unit = c.args.unit; sector = c.args.sector.size }) flash)
+    closed_slot_range_is_in_spare (mapped_medium (record { unit = c.args.unit; sector = c.args.sector.size }) flash)
     image slot c.args.at c.args.len a (slot_of_place_is_one_of_two _ _ slot here)
     (λ e. c.if-flash_byte_at.true (c.flash_byte_at.ensures ∙ e)) (slot_begins_before_place _ _ slot here)
     (omega (arith, c.if-at-len.false))
@@ -31,9 +31,10 @@ returns-in-Ok-clause-yes c = λ t image a.
     let slot = c.slot_start-slot.result in
     let is : spare_at (gate_of (mapped_medium (record { unit = c.args.unit; sector = c.args.sector.size }) flash)) flash ≡ slot =
     sym (ap (λ (x : MediumState). spare_at (gate_of x) x.bytes) c.in-Some.ensures.some) ∙ sym c.in-Ok.ensures.spare ∙ sym c.from.ensures
-    ∙ equal_if_tested_equal _ _ t in
+    ∙ tested_equal_is_equal _ _ t in
     let here = c.slot_start-slot.ensures in
-    found_slot_is_spare (mapped_medium (record { unit = c.args.unit; sector = c.args.sector.size }) flash) slot c.args.at c.args.len is
+    range_at_spare_is_in_spare
+    (mapped_medium (record { unit = c.args.unit; sector = c.args.sector.size }) flash) slot c.args.at c.args.len is
     (slot_begins_before_place _ _ slot here) (omega (arith, c.if-at-len.false))
 
 pub returns-in-Err-clause-no : goal.returns-in-Err-clause-no
@@ -56,5 +57,5 @@ returns-in-Ok-clause-no c = λ t k either low high.
     let here = c.slot_start-slot.ensures in
     let same : k ≡ slot = slot_of_place_is_unique _ _ slot here k either low (omega (arith, high, c.requires.some)) in (
       ap (λ (j : ℕ). slice_index flash j) same ∙ sym c.flash_byte_at.ensures ∙ c.if-flash_byte_at.false,
-      λ has e. unequal_if_tested_unequal _ _ t (is ∙ e ∙ same),
+      λ has e. tested_unequal_is_unequal _ _ t (is ∙ e ∙ same),
     )

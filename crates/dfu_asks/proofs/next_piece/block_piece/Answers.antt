@@ -4,45 +4,45 @@ use Rattle.dfu_asks.specs.Steps.{Step, step_writes, put_steps, close_step}
 use Rattle.dfu_asks.specs.Carried.{total, IsStepPiece}
 use Rattle.dfu_asks.specs.Jobs.{input_grain, held_bytes_place}
 use Rattle.dfu_asks.specs.Cuts.{step_of_cut}
-use Rattle.dfu_asks.proofs.Pieces.{piece_of_later_steps}
-use Rattle.dfu_asks.proofs.JobPieces.{total_of_two_step_lists}
+use Rattle.dfu_asks.proofs.Pieces.{later_piece_is_in_joined}
+use Rattle.dfu_asks.proofs.JobPieces.{step_list_totals_add_up}
 use Rattle.dfu_asks.proofs.SequenceSteps.{put_ops_are_steps, put_ops_have_few_bytes}
 use Rattle.dfu_asks.proofs.next_piece.block_piece.Goals as goal
 
 pub sequence_piece-requires : goal.sequence_piece-requires
 sequence_piece-requires c =
-    let mid = c.shut_piece.new.cut in
-    let few : length mid.stock.held.now ≤ 256 = subst (λ (s : WriteInputs). length s.held.now ≤ 256) (sym c.shut_piece.ensures.same)
+    let mid = c.close_piece.new.cut in
+    let few : length mid.stock.held.now ≤ 256 = subst (λ (s : WriteInputs). length s.held.now ≤ 256) (sym c.close_piece.ensures.same)
     c.requires.held in
-    let most : length mid.stock.block.now ≤ 4096 = subst (λ (s : WriteInputs). length s.block.now ≤ 4096) (sym c.shut_piece.ensures.same)
+    let most : length mid.stock.block.now ≤ 4096 = subst (λ (s : WriteInputs). length s.block.now ≤ 4096) (sym c.close_piece.ensures.same)
     c.requires.block in
     put_ops_have_few_bytes mid.stock mid.front c.args.spare mid.stock.put_end few most
 
 pub returns-clause-found : goal.returns-clause-found
 returns-clause-found c = λ yes.
     let before = c.args.cut.now in
-    let mid = c.shut_piece.new.cut in
+    let mid = c.close_piece.new.cut in
     let p = step_of_cut c.sequence_piece.new.cut in
     let put =
     λ (s : WriteInputs). put_steps (input_grain s) (held_bytes_place (input_grain s) c.args.spare s.put_end s.held.now) s.held.now
     s.block.now in
     let shut = if c.args.close then close_step (input_grain before.stock) c.args.spare ∷ [] else [] in
-    piece_of_later_steps shut (put before.stock) before.rest mid.rest p (c.shut_piece.ensures.behind (ap not c.if-shut_piece.false))
-    (subst (λ (s : WriteInputs). IsStepPiece (put s) mid.rest p) c.shut_piece.ensures.same
+    later_piece_is_in_joined shut (put before.stock) before.rest mid.rest p (c.close_piece.ensures.behind (ap not c.if-close_piece.false))
+    (subst (λ (s : WriteInputs). IsStepPiece (put s) mid.rest p) c.close_piece.ensures.same
     (subst (λ (ss : List Step). IsStepPiece ss mid.rest p) (put_ops_are_steps mid.stock mid.front c.args.spare mid.stock.put_end)
     (c.sequence_piece.ensures.found yes)))
 
 pub returns-clause-none : goal.returns-clause-none
 returns-clause-none c = λ no.
     let before = c.args.cut.now in
-    let mid = c.shut_piece.new.cut in
+    let mid = c.close_piece.new.cut in
     let now = c.sequence_piece.new.cut in
     let put =
     λ (s : WriteInputs). put_steps (input_grain s) (held_bytes_place (input_grain s) c.args.spare s.put_end s.held.now) s.held.now
     s.block.now in
     let shut = if c.args.close then close_step (input_grain before.stock) c.args.spare ∷ [] else [] in
     let count : total (step_writes (put before.stock)) + now.rest ≡ mid.rest =
-    subst (λ (s : WriteInputs). total (step_writes (put s)) + now.rest ≡ mid.rest) c.shut_piece.ensures.same
+    subst (λ (s : WriteInputs). total (step_writes (put s)) + now.rest ≡ mid.rest) c.close_piece.ensures.same
     (subst (λ (ss : List Step). total (step_writes ss) + now.rest ≡ mid.rest)
     (put_ops_are_steps mid.stock mid.front c.args.spare mid.stock.put_end) (c.sequence_piece.ensures.behind no)) in
-    omega (arith, total_of_two_step_lists shut (put before.stock), c.shut_piece.ensures.behind (ap not c.if-shut_piece.false), count)
+    omega (arith, step_list_totals_add_up shut (put before.stock), c.close_piece.ensures.behind (ap not c.if-close_piece.false), count)

@@ -1,6 +1,6 @@
 use Rattle.std.proofs.Common.{not, ap}
 use Rattle.dfu_asks.specs.Cuts.{step_of_cut}
-use Rattle.dfu_asks.proofs.OpPieces.{piece_of_next_op_found, next_op_looked_at}
+use Rattle.dfu_asks.proofs.OpPieces.{piece_of_next_op_found, search_passes_next_op}
 use Rattle.dfu_asks.proofs.next_piece.sequence_piece.Goals as goal
 
 pub returns-then-numbered_piece-clause-found : goal.returns-then-numbered_piece-clause-found
@@ -11,5 +11,5 @@ returns-then-numbered_piece-clause-found c = λ yes.
 pub loop-index-preserved : goal.loop-index-preserved
 loop-index-preserved c =
     let no = ap not c.if-numbered_piece.false in
-    next_op_looked_at c.loop-index.invariant c.numbered_piece.new.cut c.numbered_piece.ensures.same (c.numbered_piece.ensures.behind no)
+    search_passes_next_op c.loop-index.invariant c.numbered_piece.new.cut c.numbered_piece.ensures.same (c.numbered_piece.ensures.behind no)
     (c.numbered_piece.ensures.past no)

@@ -2,8 +2,8 @@ use Rattle.std.proofs.Common.{ℕ, ◌+◌, ◌≤◌, length, take, drop, repli
 use Rattle.std.proofs.lemmas.List.{length-replicate}
 use Rattle.dfu_asks.specs.Steps.{program_step}
 use Rattle.dfu_asks.specs.Cuts.{source_bytes, zero_padded_source, range_of_source}
-use Rattle.dfu_slots.proofs.Ranges.{length_of_range_within}
-use Rattle.dfu_asks.proofs.Cutting.{next_piece_of_write}
+use Rattle.dfu_slots.proofs.Ranges.{range_within_has_its_length}
+use Rattle.dfu_asks.proofs.Cutting.{next_piece_is_cut_of_source}
 use Rattle.dfu_asks.proofs.next_piece.write_piece.Goals as goal
 
 pub returns-in-Program-clause-found : goal.returns-in-Program-clause-found
@@ -14,8 +14,8 @@ returns-in-Program-clause-found c = λ yes.
     let within : c.args.skip + c.args.len ≤ length all =
     omega (arith, length-append source (replicate 256 0), length-replicate {A = ℕ} 256 0, c.requires.within) in
     let from = c.in-Program.from in
-    let part = next_piece_of_write all c.args.at c.args.skip c.args.len c.in-Program.from c.min.result
+    let part = next_piece_is_cut_of_source all c.args.at c.args.skip c.args.len c.in-Program.from c.min.result
     c.in-Program.ensures.1 c.min.ensures within in
     c.in-Program.ensures.0 (range_of_source c.args.source before.stock before.front c.args.skip c.args.len)
     (program_step (c.args.at + from) (take c.min.result (drop (c.args.skip + from) all)))
-    (length_of_range_within all c.args.skip c.args.len within) part
+    (range_within_has_its_length all c.args.skip c.args.len within) part

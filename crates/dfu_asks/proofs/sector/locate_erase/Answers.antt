@@ -1,5 +1,5 @@
 use Rattle.std.proofs.Common.{◌≡◌, ◌+◌, ◌-◌, ◌<◌, true, ℕ, ◌∙◌, subst, sym, arith}
-use Rattle.dfu_asks.proofs.Locating.{SectorsPassed, passed_to_first_sector, passed_one_sector_more, erase_piece_in_sector, passed_all_sectors}
+use Rattle.dfu_asks.proofs.Locating.{SectorsPassed, search_begins_at_first_sector, passed_one_sector_more, erase_piece_in_sector, search_passed_all_erases}
 use Rattle.dfu_asks.specs.Steps.{erase_step, steps_of_writes}
 use Rattle.dfu_asks.specs.Carried.{IsStepPiece}
 use Rattle.dfu_slots.specs.Writes.{sector_erases}
@@ -8,9 +8,9 @@ use Rattle.dfu_asks.proofs.sector.locate_erase.Goals as goal
 
 pub loop-place-init : goal.loop-place-init
 loop-place-init c =
-    let first = passed_to_first_sector c.args.sector c.args.at c.args.len c.args.done c.requires.large c.from-size.result
+    let first = search_begins_at_first_sector c.args.sector c.args.at c.args.len c.args.done c.requires.large c.from-size.result
     c.from-behind.result
-    c.from-size.ensures (c.from-behind.ensures ∙ c.behind_edge.ensures) c.if-behind-eq0.place in
+    c.from-size.ensures (c.from-behind.ensures ∙ c.offset_in_sector.ensures) c.if-behind-eq0.place in
     elim c.if-behind-eq0.branch [
       | then-behind-eq0 w ↦ first.0 w.if-behind-eq0.true w.place-is
       | else-behind-eq0 w ↦ first.1 w.if-behind-eq0.false w.place-is
@@ -40,5 +40,5 @@ loop-place-preserved c =
     c.loop-place-test.true (omega (arith, c.from-size.ensures, c.if-rest-size.false)))
 
 pub returns : goal.returns
-returns c = passed_all_sectors c.args.sector c.args.at c.args.len c.args.done c.requires.large c.loop-place.place c.loop-place.rest
+returns c = search_passed_all_erases c.args.sector c.args.at c.args.len c.args.done c.requires.large c.loop-place.place c.loop-place.rest
     c.loop-place.invariant (omega (arith, c.loop-place-test.false))

@@ -1,6 +1,6 @@
 use Rattle.std.proofs.Common.{ap, inl, inr, refl, subst, sym, ◌∙◌, IfSome}
 use Rattle.std.specs.Io.Buffered.{into_inner_error_writer, writer_buffer, writer_contents, writer_inner}
-use Rattle.dfu_cmd.specs.Buffering.{HasFront}
+use Rattle.dfu_cmd.specs.Buffering.{HasWrittenPrefix}
 use Rattle.dfu_cmd.proofs.Fronts.{buffer_front_is_out}
 use Rattle.dfu_cmd.proofs.buffering.run_buffered_with_fault.Goals as goal
 
@@ -10,7 +10,7 @@ returns-in-Ok g c = record {
   end = c.run_with_fault-exit.result.0;
   run = c.run_with_fault-exit.ensures.run;
   printed = c.run_with_fault-exit.ensures.printed;
-  written_comes_out = inl (c.in-Ok.ensures.ok, refl);
+  written_is_flushed = inl (c.in-Ok.ensures.ok, refl);
 }
 
 pub returns-in-Err : goal.returns-in-Err
@@ -24,5 +24,5 @@ returns-in-Err g c =
       end = c.run_with_fault-exit.result.0;
       run = c.run_with_fault-exit.ensures.run;
       printed = c.run_with_fault-exit.ensures.printed;
-      written_comes_out = inr (subst (λ x. IfSome written (λ w. HasFront w (g.W.Write.contents x))) (sym behind) front, refl);
+      written_is_flushed = inr (subst (λ x. IfSome written (λ w. HasWrittenPrefix w (g.W.Write.contents x))) (sym behind) front, refl);
     }

@@ -1,9 +1,9 @@
 use Rattle.std.proofs.Common.{arith}
 use Rattle.dfu_conformance.specs.inside.Stepped.{drift_leads}
-use Rattle.dfu_conformance.proofs.DfusePasses.{test_after_next_row}
+use Rattle.dfu_conformance.proofs.DfusePasses.{next_row_extends_test}
 use Rattle.dfu_conformance.proofs.held.drift.Goals as goal
 
 pub loop-one-preserved : goal.loop-one-preserved
 loop-one-preserved c n a r below within =
-    test_after_next_row (drift_leads c.args.before.now n a r) c.args.moves.now c.loop-one.one-index _ _ _ _ (omega arith)
+    next_row_extends_test (drift_leads c.args.before.now n a r) c.args.moves.now c.loop-one.one-index _ _ _ _ (omega arith)
     (c.loop-one.invariant n a r below within) (c.slide.ensures n a r below within)

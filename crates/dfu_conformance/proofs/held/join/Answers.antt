@@ -1,6 +1,6 @@
 use Rattle.std.specs.Prelude.{◌≢◌, ℕ}
 use Rattle.std.proofs.Common.{arith, ◌∙◌, get_or-set_other, length-set}
-use Rattle.dfu_conformance.specs.Candidates.{is_row_for}
+use Rattle.dfu_conformance.specs.Candidates.{applies_to}
 use Rattle.dfu_conformance.proofs.Joined.{next_word_is_joined}
 use Rattle.dfu_conformance.proofs.held.join.Goals as goal
 
@@ -10,7 +10,7 @@ loop-a-preserved c =
     record {
       size = length-set _ _ _ ∙ i.size;
       done =
-          next_word_is_joined c.loop-a.after c.args.to.now c.args.from.now c.loop-a.a c.word.result (λ (a r : ℕ). is_row_for c.args.when a
+          next_word_is_joined c.loop-a.after c.args.to.now c.args.from.now c.loop-a.a c.word.result (λ (a r : ℕ). applies_to c.args.when a
           r)
           (omega arith)
           i.kept i.done c.word.ensures;

@@ -1,6 +1,7 @@
 use Rattle.std.specs.Prelude.{◌≡◌}
-use Rattle.dfu_conformance.specs.inside.Stepped.{is_held_anywhere, least_below}
+use Rattle.dfu_conformance.specs.inside.Stepped.{is_held_anywhere, least_set_below}
 use Rattle.dfu_conformance.proofs.held.least_held.Given as goal
 
+-- `least` is the smallest set of habits, of those with a number below `readings`, with which a device is held.
 abbrev pub invariant-loop-readings : goal.invariant-loop-readings
-invariant-loop-readings l = l.least ≡ least_below (is_held_anywhere l.places) l.readings
+invariant-loop-readings l = l.least ≡ least_set_below (is_held_anywhere l.places) l.readings

@@ -1,8 +1,8 @@
-use Rattle.dfu_conformance.proofs.ForCallers.{two_moves_are_one, run_from_move}
+use Rattle.dfu_conformance.proofs.ForCallers.{two_moves_are_one, move_begins_run}
 use Rattle.dfu_conformance.proofs.laws.moves_are_closed.Goals as goal
 
 pub returns-clause-twice : goal.returns-clause-twice
 returns-clause-twice c = two_moves_are_one
 
 pub returns-clause-first : goal.returns-clause-first
-returns-clause-first c = run_from_move
+returns-clause-first c = move_begins_run

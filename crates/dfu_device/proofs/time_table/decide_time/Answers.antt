@@ -1,7 +1,7 @@
 use Rattle.std.proofs.Common.{sym, subst}
 use Rattle.dfu_device.specs.declared.device_state.DeviceState.{DeviceState}
 use Rattle.dfu_device.specs.Decision.{DecidesTime}
-use Rattle.dfu_device.proofs.Carried.{time_allowed_in_equal_mode}
+use Rattle.dfu_device.proofs.Carried.{equal_mode_allows_time_decision}
 use Rattle.dfu_device.proofs.time_table.decide_time.Goals as goal
 
 pub returns-in-AppDetach-clause-row : goal.returns-in-AppDetach-clause-row
@@ -10,7 +10,7 @@ returns-in-AppDetach-clause-row c =
     (c.in_app_detach.ensures.row c.args.block_len)
 
 pub returns-in-AppDetach-clause-possible : goal.returns-in-AppDetach-clause-possible
-returns-in-AppDetach-clause-possible c = time_allowed_in_equal_mode c.args.profile.now c.in_app_detach.result c.in-AppDetach.is
+returns-in-AppDetach-clause-possible c = equal_mode_allows_time_decision c.args.profile.now c.in_app_detach.result c.in-AppDetach.is
     c.in_app_detach.ensures.possible
 
 pub returns-in-Manifest-clause-row : goal.returns-in-Manifest-clause-row
@@ -19,5 +19,5 @@ returns-in-Manifest-clause-row c =
     (c.in_manifest.ensures.row c.args.block_len)
 
 pub returns-in-Manifest-clause-possible : goal.returns-in-Manifest-clause-possible
-returns-in-Manifest-clause-possible c = time_allowed_in_equal_mode c.args.profile.now c.in_manifest.result c.in-Manifest.is
+returns-in-Manifest-clause-possible c = equal_mode_allows_time_decision c.args.profile.now c.in_manifest.result c.in-Manifest.is
     c.in_manifest.ensures.possible

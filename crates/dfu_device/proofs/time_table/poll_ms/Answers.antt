@@ -7,7 +7,7 @@ use Rattle.dfu_device.specs.DeviceView.{profile_of}
 use Rattle.dfu_device.specs.Parts.{stage_of, wait_ms_of_mode}
 use Rattle.dfu_device.proofs.time_table.poll_ms.Goals as goal
 
--- A host has to wait only in dfuDNBUSY and in dfuMANIFEST.
+-- A host must wait only in dfuDNBUSY and in dfuMANIFEST.
 no_poll_unless_busy : (c : Profile) (m : DeviceState) (spare block : List ℕ)
     → ((written number passed : ℕ) → m ≡ device_state.DownloadBusy written number passed → ⊥)
     → ((written passed : ℕ) → m ≡ device_state.Manifest written passed → ⊥) → 0 ≡ poll_of_stage c (stage_of m spare block)

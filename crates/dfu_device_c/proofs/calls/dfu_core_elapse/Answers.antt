@@ -6,10 +6,10 @@ use Rattle.dfu_device.specs.Rows.{Elapses}
 use Rattle.dfu_asks.specs.declared.reply.Reply.{Reply}
 use Rattle.dfu_asks.specs.Calls.{DeviceCalled}
 use Rattle.dfu_core.specs.declared.record.DfuRecord.{DfuRecord}
-use Rattle.dfu_core.specs.RecordMeaning.{IsSetupOfConfig, IsRecordOf, with_memory}
+use Rattle.dfu_core.specs.RecordMeaning.{AreConfigParts, IsRecordOf, with_memory}
 use Rattle.dfu_core.specs.Numbers.{time_reply_number}
 use Rattle.dfu_core.specs.Calls.{RecordAfterCall, TimeOutcome, IsIntactBlock}
-use Rattle.dfu_device_c.proofs.Split.{whole, call_in_split_memory, IsDeviceOfSplitMemory, found_device_has_split_memory, has_room, device_memory_is_split, memory_is_split_after_call, front_fits_transfer_size, unchanged, goes, refuses}
+use Rattle.dfu_device_c.proofs.Split.{whole, call_same_on_parts, IsDeviceOfSplitMemory, found_device_has_split_memory, has_room, device_memory_is_split, memory_is_split_after_call, front_fits_transfer_size, unchanged, goes, refuses}
 use Rattle.dfu_device_c.proofs.calls.dfu_core_elapse.Goals.{After-elapse}
 use Rattle.dfu_device_c.proofs.calls.dfu_core_elapse.Goals as goal
 
@@ -21,14 +21,14 @@ elapse-requires c = has_room (found_device_has_split_memory _ _ _ _ c.split_at_m
     c.found.ensures.config
     c.found.ensures.room c.split_at_mut-front.ensures.value (omega (arith, c.split_at_mut-front.ensures.front_len, c.from.ensures)))
 
--- The device of the record, and the two parts of its memory.
+-- The record's device, with its memory split in two.
 record_device_is_split : (c : After-elapse) → IsDeviceOfSplitMemory c.args.config.now c.args.device.now c.in-Ok.asking c.args.block.now
     c.split_at_mut-front.result.0.now c.split_at_mut-front.result.1.now
 record_device_is_split c = found_device_has_split_memory _ _ _ _ _ _ _ c.in-Ok.is c.found.ensures.ok c.found.ensures.config
     c.found.ensures.room
     c.split_at_mut-front.ensures.value (omega (arith, c.split_at_mut-front.ensures.front_len, c.from.ensures))
 
--- Time passed, or its writes are due; with either reply, the record was written for the device after the call.
+-- Time passed, or writes are due; in both cases the record was written for the device after the call.
 elapsed_device_is_kept : (c : After-elapse) (reply : Reply) (r' : DfuRecord) {n : ℤ} → c.elapse.result ≡ Ok reply → n
     ≡ time_reply_number reply →
     let k = c.args.config.now in
@@ -36,7 +36,7 @@ elapsed_device_is_kept : (c : After-elapse) (reply : Reply) (r' : DfuRecord) {n 
     let flash = c.args.flash.now in
     let a' = c.elapse.new.self in
     let memory = c.elapse.new.block ++ c.elapse.new.held in
-    (IsSetupOfConfig k a'.config a'.unit a'.sector → IsRecordOf k r' a') → RecordAfterCall k c.args.device.now block r' memory
+    (AreConfigParts k a'.config a'.unit a'.sector → IsRecordOf k r' a') → RecordAfterCall k c.args.device.now block r' memory
     (λ x y. TimeOutcome (IsIntactBlock block flash x) (with_memory block x) flash
     (λ d z sent d'. (z ≡ answer.Ack) × (sent ≡ []) × Elapses c.args.ms d d') n (with_memory memory y))
 elapsed_device_is_kept c reply r' is number_is kept =
@@ -51,7 +51,7 @@ elapsed_device_is_kept c reply r' is number_is kept =
       called = λ intact.
           let came = IfOk-at_ok _ is done.outcome (whole (device_memory_is_split p) flash intact) in (
             came.0,
-            call_in_split_memory (λ l l'. DeviceCalled l flash (replicate 6 0)
+            call_same_on_parts (λ l l'. DeviceCalled l flash (replicate 6 0)
                 (λ d z sent d'. (z ≡ answer.Ack) × (sent ≡ []) × Elapses c.args.ms d d') l' came.0 reply)
                 (device_memory_is_split p) after came.1,
           );

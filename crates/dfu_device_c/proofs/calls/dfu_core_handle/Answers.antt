@@ -7,10 +7,10 @@ use Rattle.dfu_asks.specs.declared.reply.Reply.{Reply}
 use Rattle.dfu_asks.specs.Calls.{DeviceCalled}
 use Rattle.dfu_core.specs.declared.record.DfuRecord.{DfuRecord}
 use Rattle.dfu_asks.specs.Addressed.{addressed_setup}
-use Rattle.dfu_core.specs.RecordMeaning.{IsSetupOfConfig, IsRecordOf, with_memory}
+use Rattle.dfu_core.specs.RecordMeaning.{AreConfigParts, IsRecordOf, with_memory}
 use Rattle.dfu_core.specs.Numbers.{reply_number}
 use Rattle.dfu_core.specs.Calls.{RecordAfterCall, ReplyOutcome, IsIntactBlock}
-use Rattle.dfu_device_c.proofs.Split.{whole, call_in_split_memory, IsDeviceOfSplitMemory, found_device_has_split_memory, has_room, device_memory_is_split, memory_is_split_after_call, front_fits_transfer_size, unchanged, goes, refuses}
+use Rattle.dfu_device_c.proofs.Split.{whole, call_same_on_parts, IsDeviceOfSplitMemory, found_device_has_split_memory, has_room, device_memory_is_split, memory_is_split_after_call, front_fits_transfer_size, unchanged, goes, refuses}
 use Rattle.dfu_device_c.proofs.calls.dfu_core_handle.Goals.{After-handle}
 use Rattle.dfu_device_c.proofs.calls.dfu_core_handle.Goals as goal
 
@@ -22,14 +22,14 @@ handle-requires c = has_room (found_device_has_split_memory _ _ _ _ c.split_at_m
     c.found.ensures.config
     c.found.ensures.room c.split_at_mut-front.ensures.value (omega (arith, c.split_at_mut-front.ensures.front_len, c.from.ensures)))
 
--- The device of the record, and the two parts of its memory.
+-- The record's device, with its memory split in two.
 record_device_is_split : (c : After-handle) → IsDeviceOfSplitMemory c.args.config.now c.args.device.now c.in-Ok.asking c.args.block.now
     c.split_at_mut-front.result.0.now c.split_at_mut-front.result.1.now
 record_device_is_split c = found_device_has_split_memory _ _ _ _ _ _ _ c.in-Ok.is c.found.ensures.ok c.found.ensures.config
     c.found.ensures.room
     c.split_at_mut-front.ensures.value (omega (arith, c.split_at_mut-front.ensures.front_len, c.from.ensures))
 
--- The setup is answered, or its writes are due; with either reply, the record was written for the device after the call.
+-- The setup was answered, or writes are due; in both cases the record was written for the device after the call.
 replied_handle_keeps_device : (c : After-handle) (reply : Reply) (r' : DfuRecord) {n : ℤ} → c.handle.result ≡ Ok reply → n
     ≡ reply_number reply →
     let k = c.args.config.now in
@@ -37,7 +37,7 @@ replied_handle_keeps_device : (c : After-handle) (reply : Reply) (r' : DfuRecord
     let flash = c.args.flash.now in
     let a' = c.handle.new.self in
     let memory = c.handle.new.block ++ c.handle.new.held in
-    (IsSetupOfConfig k a'.config a'.unit a'.sector → IsRecordOf k r' a') → RecordAfterCall k c.args.device.now block r' memory
+    (AreConfigParts k a'.config a'.unit a'.sector → IsRecordOf k r' a') → RecordAfterCall k c.args.device.now block r' memory
     (λ x y. ReplyOutcome (IsIntactBlock block flash x) (with_memory block x) flash c.args.out.now
     (λ d z sent d'. Handles (addressed_setup k.interface c.args.setup.now) c.args.body.now d z sent d')
     reply_number n (with_memory memory y) c.handle.new.out)
@@ -53,7 +53,7 @@ replied_handle_keeps_device c reply r' is number_is kept =
       called = λ intact. subst (λ (own : List ℕ). DeviceCalled (with_memory c.args.block.now c.in-Ok.asking) flash c.args.out.now
           (λ d z sent d'. Handles own c.args.body.now d z sent d')
           (with_memory (c.handle.new.block ++ c.handle.new.held) c.handle.new.self) c.handle.new.out reply) c.addressed-setup.ensures
-          (call_in_split_memory (λ l l'. DeviceCalled l flash c.args.out.now
+          (call_same_on_parts (λ l l'. DeviceCalled l flash c.args.out.now
           (λ d z sent d'. Handles c.addressed-setup.result c.args.body.now d z sent d') l' c.handle.new.out reply)
           (device_memory_is_split p) after (IfOk-at_ok _ is done.outcome (whole (device_memory_is_split p) flash intact)));
     })

@@ -12,13 +12,13 @@ use Rattle.dfu_asks.specs.Asks.{device_of, steps_in}
 use Rattle.dfu_asks.specs.Calls.{WritesPending, DevicePieceReported}
 use Rattle.dfu_asks.specs.Refused.{HasRemainingWrites}
 use Rattle.dfu_core.specs.declared.record.DfuRecord.{DfuRecord}
-use Rattle.dfu_core.specs.RecordMeaning.{IsSetupOfConfig, IsRecordOf, with_memory}
+use Rattle.dfu_core.specs.RecordMeaning.{AreConfigParts, IsRecordOf, with_memory}
 use Rattle.dfu_core.specs.Numbers.{reply_number}
-use Rattle.dfu_core.specs.Calls.{RecordAfterCall, RecordAfterReport}
+use Rattle.dfu_core.specs.Calls.{RecordAfterCall, ReportOutcome}
 use Rattle.dfu_core.specs.Further.{PiecesAdvance}
-use Rattle.dfu_core.specs.Writes.{IsPendingSomewhere, device_is_not_found, piece_is_refused}
-use Rattle.dfu_device_c.proofs.Found.{no_piece_at_idle}
-use Rattle.dfu_device_c.proofs.Split.{split_memory_is_lent, call_in_split_memory, IsDeviceOfSplitMemory, found_device_has_split_memory, has_room, device_memory_is_split, memory_is_split_after_call, unchanged, front_same_with_other_tail, goes}
+use Rattle.dfu_core.specs.Writes.{IsPendingOnSomeFlash, device_is_not_found, piece_is_refused}
+use Rattle.dfu_device_c.proofs.Found.{refused_report_has_no_write}
+use Rattle.dfu_device_c.proofs.Split.{parts_make_same_device, call_same_on_parts, IsDeviceOfSplitMemory, found_device_has_split_memory, has_room, device_memory_is_split, memory_is_split_after_call, unchanged, front_is_same_with_other_tail, goes}
 use Rattle.dfu_device_c.proofs.calls.dfu_core_took.Goals.{After-took}
 use Rattle.dfu_device_c.proofs.calls.dfu_core_took.Goals as goal
 
@@ -46,7 +46,7 @@ returns-in-Err c = record {
   short = λ less. absurd (omega (arith, less, c.if-out-lt6.false));
 }
 
--- The device of the record, and the two parts of its memory.
+-- The record's device, with its memory split in two.
 record_device_is_split : (c : After-took) → IsDeviceOfSplitMemory c.args.config.now c.args.device.now c.in-Ok.asking c.args.block.now
     c.split_at_mut-front.result.0.now c.split_at_mut-front.result.1.now
 record_device_is_split c = found_device_has_split_memory _ _ _ _ _ _ _ c.in-Ok.is c.found.ensures.ok c.found.ensures.config
@@ -58,8 +58,8 @@ reported_device_is_kept : (c : After-took) (reply : Reply) (r' : DfuRecord) {n :
     let k = c.args.config.now in
     let a' = c.took.new.self in
     let memory = c.split_at_mut-front.result.0.now ++ c.took.new.held in
-    (IsSetupOfConfig k a'.config a'.unit a'.sector → IsRecordOf k r' a') → RecordAfterCall k c.args.device.now c.args.block.now r' memory
-    (λ x y. RecordAfterReport (with_memory c.args.block.now x) c.args.flash.now (not (c.args.failed == 0)) c.args.out.now n
+    (AreConfigParts k a'.config a'.unit a'.sector → IsRecordOf k r' a') → RecordAfterCall k c.args.device.now c.args.block.now r' memory
+    (λ x y. ReportOutcome (with_memory c.args.block.now x) c.args.flash.now (not (c.args.failed == 0)) c.args.out.now n
     (with_memory memory y) c.took.new.out)
 reported_device_is_kept c reply r' is number_is kept =
     let p = record_device_is_split c in
@@ -73,17 +73,17 @@ reported_device_is_kept c reply r' is number_is kept =
     })
     (record {
       work = taken.work;
-      left = subst (λ (l : LentDevice). HasRemainingWrites l taken.work) (sym (split_memory_is_lent (device_memory_is_split p)))
+      left = subst (λ (l : LentDevice). HasRemainingWrites l taken.work) (sym (parts_make_same_device (device_memory_is_split p)))
           taken.is_left;
       reply = reply;
       number_is = number_is;
-      took = call_in_split_memory (λ l l'. (len : ℕ) (s : SlotsState) (was mid : List ℕ) (asks : WritesPending l len s was mid) (piece :
+      took = call_same_on_parts (λ l l'. (len : ℕ) (s : SlotsState) (was mid : List ℕ) (asks : WritesPending l len s was mid) (piece :
           Step)
           → IsStepPiece (steps_in l asks.work) asks.work.done piece → Torn mid piece.write.at piece.write.bytes c.args.flash.now
           → DevicePieceReported (device_of l s) len s was piece.write
           (not (c.args.failed == 0)) c.args.flash.now c.args.out.now l' c.took.new.out reply)
           (device_memory_is_split p) after (IfOk-at_ok _ is done.outcome);
-      further = call_in_split_memory (λ l l'. PiecesAdvance l reply l') (device_memory_is_split p) after (IfOk-at_ok _ is done.further);
+      further = call_same_on_parts (λ l l'. PiecesAdvance l reply l') (device_memory_is_split p) after (IfOk-at_ok _ is done.further);
     })
 
 pub returns-in-Ok-Asks : goal.returns-in-Ok-Asks
@@ -95,7 +95,7 @@ returns-in-Ok-Asks c =
         inl (reported_device_is_kept at _ _ c.in-Ok-Asks.is (sym (ap reply_number c.in-Ok-Asks.field-0-is)) (c.keep.ensures
             c.args.config.now)),
       );
-      block = front_same_with_other_tail (record_device_is_split at) c.took.new.held;
+      block = front_is_same_with_other_tail (record_device_is_split at) c.took.new.held;
       short = λ less. absurd (omega (arith, less, c.if-out-lt6.false));
     }
 
@@ -109,7 +109,7 @@ returns-in-Ok-Answered c =
             (to_z-of_z w32 _ (omega (arith, c.number_of.type_inv)) ∙ c.number_of.ensures ∙ sym (ap reply_number c.in-Ok-Answered.field-0-is))
             (c.keep-in-Ok-Answered.ensures c.args.config.now)),
       );
-      block = front_same_with_other_tail (record_device_is_split at) c.took.new.held;
+      block = front_is_same_with_other_tail (record_device_is_split at) c.took.new.held;
       short = λ less. absurd (omega (arith, less, c.if-out-lt6.false));
     }
 
@@ -123,13 +123,13 @@ returns-in-Err-took c =
         inr (inl (
           piece_is_refused c.in-Ok.asking (to_z-of_z w32 _ (omega (arith, c.number-in-Err-took.type_inv)) ∙ c.number-in-Err-took.ensures)
               p.config p.room p.kept
-              (subst (λ (l : LentDevice). ¬ IsPendingSomewhere l) (sym (split_memory_is_lent (device_memory_is_split p)))
-              (no_piece_at_idle c.in-Err-took.field-0 _ _ (omega (arith, c.if-out-lt6.false)) done.refused)),
+              (subst (λ (l : LentDevice). ¬ IsPendingOnSomeFlash l) (sym (parts_make_same_device (device_memory_is_split p)))
+              (refused_report_has_no_write c.in-Err-took.field-0 _ _ (omega (arith, c.if-out-lt6.false)) done.refused)),
           refl,
           unchanged p _ _ refl done.unchanged.1,
           done.unchanged.2,
         )),
       );
-      block = front_same_with_other_tail p c.took.new.held;
+      block = front_is_same_with_other_tail p c.took.new.held;
       short = λ less. absurd (omega (arith, less, c.if-out-lt6.false));
     }

@@ -3,14 +3,14 @@ use Rattle.std.proofs.lemmas.Int.{to_z-of_z}
 use Rattle.std.proofs.lemmas.Result.{IfOk-at_ok}
 use Rattle.dfu_device.specs.Table.{reset_stage}
 use Rattle.dfu_asks.specs.Asks.{device_in}
-use Rattle.dfu_device_c.proofs.Split.{memory_is_front_and_rest, whole, intact, call_in_split_memory, IsDeviceOfSplitMemory, found_device_has_split_memory, has_room, device_memory_is_split, memory_is_split_after_call, front_fits_transfer_size, goes, refuses}
+use Rattle.dfu_device_c.proofs.Split.{memory_is_front_and_rest, whole, intact, call_same_on_parts, IsDeviceOfSplitMemory, found_device_has_split_memory, has_room, device_memory_is_split, memory_is_split_after_call, front_fits_transfer_size, goes, refuses}
 use Rattle.dfu_device_c.proofs.calls.dfu_core_usb_reset.Goals.{After-split_at}
 use Rattle.dfu_device_c.proofs.calls.dfu_core_usb_reset.Goals as goal
 
 pub split_at-requires : goal.split_at-requires
 split_at-requires c = omega (arith, IfOk-at_ok _ c.in-Ok.is c.found.ensures.room, c.from.ensures)
 
--- The device of the record, and the two parts of its memory.
+-- The record's device, with its memory split in two.
 record_device_is_split : (c : After-split_at) → IsDeviceOfSplitMemory c.args.config.now c.args.device.now c.in-Ok.asking c.args.block.now
     c.split_at.result.0.now c.split_at.result.1.now
 record_device_is_split c = found_device_has_split_memory _ _ _ _ _ _ _ c.in-Ok.is c.found.ensures.ok c.found.ensures.config
@@ -34,7 +34,7 @@ returns-in-Ok-usb_reset c =
           done.served.work,
           refl,
           done.work,
-          call_in_split_memory (λ l l'. device_in l' flash ≡ record (device_in l flash) { stage = reset_stage (device_in l flash).stage })
+          call_same_on_parts (λ l l'. device_in l' flash ≡ record (device_in l flash) { stage = reset_stage (device_in l flash).stage })
               (device_memory_is_split p) after done.row,
           λ is. intact after flash (done.is (whole (device_memory_is_split p) flash is)),
         )),

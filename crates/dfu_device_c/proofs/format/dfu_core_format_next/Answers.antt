@@ -3,7 +3,7 @@ use Rattle.dfu_asks.specs.Steps.{Step}
 use Rattle.dfu_asks.specs.Carried.{IsStepPiece, ErasesSectorOrPrograms}
 use Rattle.dfu_asks.specs.Phases.{remaining_steps}
 use Rattle.dfu_core.specs.Formatting.{IsFormatRecord}
-use Rattle.dfu_device_c.proofs.Handed.{kind_is_erase_or_program, program_kind_does_not_erase, step_by_number, step_by_number_is_by_flag}
+use Rattle.dfu_device_c.proofs.Handed.{kind_is_erase_or_program, program_kind_does_not_erase, step_by_kind, step_by_kind_is_by_flag}
 use Rattle.dfu_device_c.proofs.format.dfu_core_format_next.Goals.{After-next}
 use Rattle.dfu_device_c.proofs.format.dfu_core_format_next.Goals as goal
 
@@ -16,8 +16,8 @@ returns-in_default-formatting_of c = record {
 }
 
 -- The record stands for the format whose next write is handed out.
-is_format : (c : After-next) → IsFormatRecord c.args.config.now c.args.device.now c.in-Some-formatting_of.formatting
-is_format c = c.in-Some-formatting_of.ensures.some c.args.config.now (record {
+record_has_format : (c : After-next) → IsFormatRecord c.args.config.now c.args.device.now c.in-Some-formatting_of.formatting
+record_has_format c = c.in-Some-formatting_of.ensures.some c.args.config.now (record {
   config_is = c.in-Some.ensures.config;
   unit_is = c.in-Some.ensures.unit;
   sector_is = c.in-Some.ensures.sector;
@@ -25,7 +25,7 @@ is_format c = c.in-Some-formatting_of.ensures.some c.args.config.now (record {
 
 pub returns-in_default-next : goal.returns-in_default-next
 returns-in_default-next c =
-    let is = is_format (goal.at.returns-in_default-next c).After-next in
+    let is = record_has_format (goal.at.returns-in_default-next c).After-next in
     record {
       outcome = inr (
         inr (refl, c.in-Some.ensures.allowed, inr (c.in-Some-formatting_of.formatting, is, λ was k. c.in_default-next.ensures.goes was k)),
@@ -36,12 +36,12 @@ returns-in_default-next c =
 pub returns : goal.returns
 returns c =
     let f = c.in-Some-formatting_of.formatting in
-    let is = is_format (goal.at.returns c).After-next in
+    let is = record_has_format (goal.at.returns c).After-next in
     let says = c.in-Some-next.ensures in
     let p = c.in-Some-next.piece in
     let image = c.args.image.now in
     let flash = c.args.flash.now in
-    let same = step_by_number_is_by_flag p.erases c.kind_of-ask.result p.at p.len c.next.new.out c.kind_of-ask.ensures in
+    let same = step_by_kind_is_by_flag p.erases c.kind_of-ask.result p.at p.len c.next.new.out c.kind_of-ask.ensures in
     record {
       outcome = inl (record {
         number_is = refl;
@@ -52,7 +52,7 @@ returns c =
         piece = subst (λ (s : Step). IsStepPiece (remaining_steps f (length flash) image) f.done s) (sym same) says.piece;
         some = says.most.some;
         most = λ two. says.most.programs (program_kind_does_not_erase p.erases c.kind_of-ask.result c.kind_of-ask.ensures two);
-        sector = subst (λ (n : ℕ). ErasesSectorOrPrograms n (step_by_number c.kind_of-ask.result p.at p.len c.next.new.out)) is.sector
+        sector = subst (λ (n : ℕ). ErasesSectorOrPrograms n (step_by_kind c.kind_of-ask.result p.at p.len c.next.new.out)) is.sector
             (subst (λ (s : Step). ErasesSectorOrPrograms f.sector.size s) (sym same) says.sector);
         within = says.within.0;
       });

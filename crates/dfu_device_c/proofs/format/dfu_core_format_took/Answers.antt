@@ -6,7 +6,7 @@ use Rattle.dfu_asks.specs.declared.formatting.FormatProgress.{FormatProgress}
 use Rattle.dfu_asks.specs.declared.formatting.FormatProgress.TheVariants as format_progress
 use Rattle.dfu_core.specs.declared.record.DfuRecord.{DfuRecord}
 use Rattle.dfu_core.specs.Formatting.{IsFormatRecord}
-use Rattle.dfu_core.specs.Formats.{progress_number, FormatPieceReport}
+use Rattle.dfu_core.specs.Formats.{progress_number, FormatReportOutcome}
 use Rattle.dfu_device_c.proofs.format.dfu_core_format_took.Goals.{After-took}
 use Rattle.dfu_device_c.proofs.format.dfu_core_format_took.Goals as goal
 
@@ -18,24 +18,24 @@ returns-in_default-formatting_of c = record {
   );
 }
 
--- The record stands for the format to which the piece belongs.
-is_format : (c : After-took) → IsFormatRecord c.args.config.now c.args.device.now c.in-Some-formatting_of.formatting
-is_format c = c.in-Some-formatting_of.ensures.some c.args.config.now (record {
+-- The record stands for the format that asked for the write.
+record_has_format : (c : After-took) → IsFormatRecord c.args.config.now c.args.device.now c.in-Some-formatting_of.formatting
+record_has_format c = c.in-Some-formatting_of.ensures.some c.args.config.now (record {
   config_is = c.in-Some.ensures.config;
   unit_is = c.in-Some.ensures.unit;
   sector_is = c.in-Some.ensures.sector;
 })
 
--- The report was taken with the outcome `came`, and the record was written for the format after it.
+-- The report was taken with the outcome `came`. The record stands for the format after it while a write is due, and has no work afterwards.
 reported_format_is_kept : (c : After-took) (came : FormatProgress) (r' : DfuRecord) {n : ℤ} → c.took.result ≡ Some came → n
     ≡ progress_number came
     → (came ≡ format_progress.Asks → IsFormatRecord c.args.config.now r' c.took.new.self) → (came ≢ format_progress.Asks → r'.work ≡ 0)
     → r' ≡ record c.args.device.now { work = r'.work; spare = r'.spare; sum = r'.sum; done = r'.done; generation = r'.generation }
-    → FormatPieceReport c.args.config.now c.args.device.now c.args.flash.now c.args.image.now (not (c.args.failed == 0)) n r'
+    → FormatReportOutcome c.args.config.now c.args.device.now c.args.flash.now c.args.image.now (not (c.args.failed == 0)) n r'
 reported_format_is_kept c came r' is number_is on over rest = record {
   config = c.in-Some.ensures.allowed;
   before = c.in-Some-formatting_of.formatting;
-  is = is_format c;
+  is = record_has_format c;
   after = c.took.new.self;
   came = came;
   number_is = number_is;
@@ -48,7 +48,7 @@ reported_format_is_kept c came r' is number_is on over rest = record {
 
 pub returns-in-None : goal.returns-in-None
 returns-in-None c =
-    let is = is_format (goal.at.returns-in-None c).After-took in
+    let is = record_has_format (goal.at.returns-in-None c).After-took in
     record {
       outcome = inr (inr (refl, c.in-Some.ensures.allowed, inr (c.in-Some-formatting_of.formatting, is, c.in-None.ensures.taken)), refl);
     }
@@ -56,7 +56,7 @@ returns-in-None c =
 pub returns-in-Some-Asks : goal.returns-in-Some-Asks
 returns-in-Some-Asks c =
     let at = (goal.at.returns-in-Some-Asks c).After-took in
-    let is = is_format at in
+    let is = record_has_format at in
     let same = c.in-Some-Asks.ensures.same in
     let kept = c.keep_format.ensures in
     record {

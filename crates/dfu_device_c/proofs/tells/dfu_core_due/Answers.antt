@@ -2,11 +2,11 @@ use Rattle.std.proofs.Common.{◌≡◌, min, ℕ, ℤ, pos, Option, Some, None,
 use Rattle.std.proofs.lemmas.Int.{to_z-of_z}
 use Rattle.dfu_asks.specs.Times.{due_of}
 use Rattle.dfu_core.specs.Due.{LONGEST_DUE}
-use Rattle.dfu_core.specs.Idle.{RefusesRecord}
-use Rattle.dfu_device_c.proofs.Told.{due_result_of_record}
+use Rattle.dfu_core.specs.Idle.{RefusesConfigOrRecord}
+use Rattle.dfu_device_c.proofs.Told.{record_changes_when_due}
 use Rattle.dfu_device_c.proofs.tells.dfu_core_due.Goals as goal
 
--- The number is the milliseconds that are due, at most LONGEST_DUE, and 0 if none are.
+-- The returned number is the due time in milliseconds, at most LONGEST_DUE, or 0 if no time is due.
 due_number_is_milliseconds : (o : Option ℕ) (n : ℤ) (due : ℕ) → IfSome o (λ ms. n ≡ pos (min LONGEST_DUE ms)) → IfNone o (n ≡ pos 0) →
     IfSome o (λ ms. ms ≡ due)
     → IfNone o (due ≡ 0) → n ≡ pos (min LONGEST_DUE due)
@@ -17,7 +17,7 @@ pub returns : goal.returns
 returns c = record {
   outcome = inl (
     c.in-Ok.ensures.config,
-    due_result_of_record c.args.config.now c.args.device.now c.in-Ok.found.1 _ c.in-Ok.ensures.set_up c.in-Ok.ensures.only
+    record_changes_when_due c.args.config.now c.args.device.now c.in-Ok.found.1 _ c.in-Ok.ensures.set_up c.in-Ok.ensures.only
         (to_z-of_z w32 c.due_number.result (omega (arith, c.due_number.type_inv))
         ∙ due_number_is_milliseconds c.mode_due.result c.due_number.result _ c.due_number.ensures.some c.due_number.ensures.none
         c.mode_due.ensures.some
@@ -28,6 +28,6 @@ returns c = record {
 
 pub returns-in-Err : goal.returns-in-Err
 returns-in-Err c = record {
-  outcome = inr (subst (λ (n : ℤ). RefusesRecord c.args.config.now c.args.device.now n)
+  outcome = inr (subst (λ (n : ℤ). RefusesConfigOrRecord c.args.config.now c.args.device.now n)
       (sym (to_z-of_z w32 _ (omega (arith, c.number.type_inv)) ∙ c.number.ensures)) c.in-Err.ensures.err);
 }

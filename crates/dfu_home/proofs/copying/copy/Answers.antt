@@ -6,7 +6,7 @@ use Rattle.dfu_boot.specs.declared.install.due.Refusal.TheVariants.{NoImage}
 use Rattle.dfu_boot.specs.install.Next.{IsNextDue}
 use Rattle.dfu_home.specs.Places.{last_in_data}
 use Rattle.dfu_home.specs.Next.{program_bytes}
-use Rattle.dfu_home.proofs.Units.{copies, filled_piece_is_program_bytes, header_due_is_copy_due, no_bytes}
+use Rattle.dfu_home.proofs.Units.{copies, filled_piece_is_program_bytes, header_due_is_copy_due, empty_image_has_copied_bytes}
 use Rattle.dfu_home.proofs.copying.copy.Goals as goal
 
 pub returns-in-Program-clause-bytes : goal.returns-in-Program-clause-bytes
@@ -33,4 +33,4 @@ returns-in-Refuse-NoImage-clause-due g c =
     subst (λ (r : Refusal). IsNextDue c.away_image-image.result.now c.first_data-run.result.now c.sector.result c.last_in_data.result (Refuse r))
     found.field-0-is found.ensures in
     header_due_is_copy_due m c.args.last c.head-in-Refuse-NoImage.result
-    (no_bytes m (omega (arith, does.1, ap length c.away_image-image.ensures))) c.head-in-Refuse-NoImage.ensures.due
+    (empty_image_has_copied_bytes m (omega (arith, does.1, ap length c.away_image-image.ensures))) c.head-in-Refuse-NoImage.ensures.due

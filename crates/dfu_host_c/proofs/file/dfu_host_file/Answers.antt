@@ -4,7 +4,7 @@ use Rattle.dfu_host_c.specs.Refusals.{refused_number}
 use Rattle.dfu_host_c.specs.declared.refusals.Refusal.TheVariants as refusal
 use Rattle.dfu_host_c.proofs.file.dfu_host_file.Goals as goal
 
--- The number that C gets for the result of reading a file.
+-- Number that the call returns to C for the result of reading a file: 0, or the number of the fault.
 abbrev answer : {T : Type 0} → Result T SuffixFault → ℤ
 answer (Ok read) = pos 0
 answer (Err fault) = refused_number (refusal.File fault)
@@ -15,12 +15,12 @@ returns-in-Err-clause-fault c = λ fault first.
     ap answer (sym c.in-Err.is ∙ (c.file_in.ensures.fault fault).1 first) in
     (rw (← same) (search rules), refl)
 
--- Reading found a file.
-abbrev Found : {T : Type 0} → Result T SuffixFault → Type 0
-Found (Ok read) = Unit {0}
-Found (Err fault) = ⊥
+-- The result is a file, not a fault.
+abbrev IsFileFound : {T : Type 0} → Result T SuffixFault → Type 0
+IsFileFound (Ok read) = Unit {0}
+IsFileFound (Err fault) = ⊥
 
 pub returns-in-Ok-clause-fault : goal.returns-in-Ok-clause-fault
 returns-in-Ok-clause-fault c = λ fault first.
-    let never : ⊥ = subst Found (sym c.in-Ok.is ∙ (c.file_in.ensures.fault fault).1 first) tt in
+    let never : ⊥ = subst IsFileFound (sym c.in-Ok.is ∙ (c.file_in.ensures.fault fault).1 first) tt in
     elim never [ ]

@@ -1,11 +1,11 @@
 use Rattle.std.proofs.Common.{inl, refl, sym, ◌∙◌, arith}
 use Rattle.dfu_host_core.specs.Calls.{TakeSeenResult}
-use Rattle.dfu_host_core.specs.Sessions.{IsRecordWithParts}
+use Rattle.dfu_host_core.specs.Sessions.{IsRecordAndBuffer}
 use Rattle.dfu_host_c.proofs.steps.dfu_host_take.Goals as goal
 
 pub returns : goal.returns
 returns c =
-    let held : IsRecordWithParts c.args.session.now c.args.payload c.args.kept.now c.in-Some.host = record {
+    let held : IsRecordAndBuffer c.args.session.now c.args.payload c.args.kept.now c.in-Some.host = record {
       stands = c.in-Some.ensures.some.0;
       room = omega (arith, c.if-session-kept.false);
     } in

@@ -6,7 +6,7 @@ use Rattle.dfu_laws.proofs.board.Served.{weaken_on_error}
 use Rattle.dfu_laws.proofs.board.Objected.{close_step}
 use Rattle.dfu_laws.proofs.steps.refuse_close.Goals as goal
 
--- If P gives Q, a result that gives P for false gives Q for false.
+-- If P implies Q, and P holds for false, Q holds for false.
 weaken_on_false : {P Q : Type 0} (r : Result Bool Refusal) → (P → Q) → IfOk r (λ x. IsTrue (not x) → P) → IfOk r (λ x. IsTrue (not x) → Q)
 weaken_on_false (Ok x) f p = λ y. f (p y)
 weaken_on_false (Err e) f p = tt

@@ -1,6 +1,6 @@
 use Rattle.std.proofs.Common.{rules, inl, inr, [], slice_index}
 use Rattle.dfu_output.specs.ShowLines.{functional_line}
-use Rattle.dfu_output.specs.Configuration.{upgrade, other_interface, short_interface, functional, bad_functional, other, interface_line}
+use Rattle.dfu_output.specs.Configuration.{dfu_interface, other_interface, short_interface, functional, bad_functional, other, interface_line}
 use Rattle.dfu_output.proofs.configuration.add.Goals as goal
 use Rattle.dfu_output.proofs.configuration.add.Goals.{then-descriptor-via-then-descriptor, then-descriptor-via-else-descriptor+then-descriptor-ne1, then-not-inside-via-then-not-inside, then-not-inside-via-else-not-inside+then-descriptor-ne-FUNCTIONAL}
 
@@ -19,7 +19,7 @@ pub returns-then-descriptor-eq-INTERFACE : goal.returns-then-descriptor-eq-INTER
 returns-then-descriptor-eq-INTERFACE c = (
   interface_line (slice_index c.args.descriptor.now 2) (slice_index c.args.descriptor.now 3)
       (slice_index c.args.descriptor.now 7) (slice_index c.args.descriptor.now 8),
-  upgrade (search rules) (search rules) (search rules),
+  dfu_interface (search rules) (search rules) (search rules),
   search rules,
 )
 

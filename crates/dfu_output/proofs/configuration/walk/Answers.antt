@@ -2,11 +2,11 @@ use Rattle.std.proofs.Common.{rules}
 use Rattle.std.proofs.lemmas.List.{nil_from_length}
 use Rattle.std.specs.String.{string_bytes}
 use Rattle.dfu_output.specs.Configuration.{descriptor_without_length, short}
-use Rattle.dfu_output.proofs.Behind.{text_grown_by_nothing, descriptor_grows_text, descriptor_stops_text, all_descriptors_read}
+use Rattle.dfu_output.proofs.Behind.{descriptors_text_begins_empty, descriptor_grows_text, descriptor_stops_text, line_has_all_text_at_end}
 use Rattle.dfu_output.proofs.configuration.walk.Goals as goal
 
 pub loop-rest-init : goal.loop-rest-init
-loop-rest-init c = text_grown_by_nothing _ _
+loop-rest-init c = descriptors_text_begins_empty _ _
 
 pub returns-then-length-lt2 : goal.returns-then-length-lt2
 returns-then-length-lt2 c = c.loop-rest.invariant.2 _ (descriptor_without_length (search rules) (search rules))
@@ -28,4 +28,4 @@ loop-rest-preserved c = descriptor_grows_text _ _ c.loop-rest.inside c.in-Ok.now
     c.loop-rest.invariant (search rules) (search rules) (search rules) (search rules) (search rules)
 
 pub returns : goal.returns
-returns c = all_descriptors_read _ _ c.loop-rest.inside c.loop-rest.rest.now _ c.loop-rest.invariant (nil_from_length _ (search rules))
+returns c = line_has_all_text_at_end _ _ c.loop-rest.inside c.loop-rest.rest.now _ c.loop-rest.invariant (nil_from_length _ (search rules))

@@ -1,13 +1,14 @@
 use Rattle.std.proofs.Common.{◌≡◌, ◌++◌, string_bytes}
 use denote.Text.{Utf8}
 use denote.Shadow.{shadow}
-use Rattle.dfu_output.specs.ShownText.{visible_of}
+use Rattle.dfu_output.specs.ShownText.{visible_prefix}
 use Rattle.dfu_output.proofs.reasons.shown.Given as goal
 
--- The line, and the characters of the rest that may still be shown, make what is shown of the text.
+-- The line, followed by the characters of `rest` that may still be shown, is the shown text.
 abbrev pub invariant-letters : goal.invariant-letters
 invariant-letters l =
-    shadow (Utf8 l.rest) × (string_bytes l.line ++ visible_of l.room l.rest ≡ visible_of 4096 l.text)
+    shadow (Utf8 l.rest) × (string_bytes l.line ++ visible_prefix l.room l.rest ≡ visible_prefix 4096 l.text)
 
+-- Fewer characters may still be shown after each.
 abbrev pub decreases-letters : goal.decreases-letters
 decreases-letters l = l.room

@@ -1,5 +1,5 @@
-use Rattle.dfu_places.proofs.Own.{erases_own}
+use Rattle.dfu_places.proofs.Own.{erase_keeps_other_bytes}
 use Rattle.dfu_places.proofs.laws.erases_its_own.Goals as goal
 
 pub returns : goal.returns
-returns c = erases_own
+returns c = erase_keeps_other_bytes

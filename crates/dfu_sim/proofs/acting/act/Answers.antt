@@ -1,6 +1,6 @@
 use Rattle.dfu_host.specs.Table.{deed}
 use Rattle.dfu_sim.specs.inside.Acting.{delivery_of_given}
-use Rattle.dfu_sim.proofs.Acts.{request_by_rows, send_action_delivered, wait_action_delivered, reset_action_delivered}
+use Rattle.dfu_sim.proofs.Acts.{row_request_is_delivered, send_action_delivered, wait_action_delivered, reset_action_delivered}
 use Rattle.dfu_sim.proofs.acting.act.Goals as goal
 
 pub returns-in-Send : goal.returns-in-Send
@@ -10,7 +10,7 @@ returns-in-Send g c =
     record {
       heard = c.tell.ensures.heard;
       acts = send_action_delivered (deed h.task h.phase) delivery _ c.in-Send.body c.tell.ensures.heard c.come_back-back.result
-          c.in-Send.ensures.act (request_by_rows delivery c.reach-came.ensures c.come_back-back.ensures) c.as_slice.ensures.value
+          c.in-Send.ensures.act (row_request_is_delivered delivery c.reach-came.ensures c.come_back-back.ensures) c.as_slice.ensures.value
           c.tell.ensures.hears;
       room = c.tell.ensures.room;
       same = c.tell.ensures.same;

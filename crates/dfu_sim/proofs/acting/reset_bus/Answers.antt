@@ -1,7 +1,7 @@
 use Rattle.dfu_sim.specs.inside.Acting.{delivery_of_given}
-use Rattle.dfu_sim.proofs.Acts.{reset_by_slipped_time}
+use Rattle.dfu_sim.proofs.Acts.{bus_reset_is_delivered}
 use Rattle.dfu_sim.proofs.acting.reset_bus.Goals as goal
 
 pub returns-clause-hears : goal.returns-clause-hears
-returns-clause-hears g c = reset_by_slipped_time _ _ (delivery_of_given c.args.delivery) c.usb_reset.ensures c.slip.ensures
+returns-clause-hears g c = bus_reset_is_delivered _ _ (delivery_of_given c.args.delivery) c.usb_reset.ensures c.slip.ensures
     c.seen_after.ensures

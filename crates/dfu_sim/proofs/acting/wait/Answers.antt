@@ -1,7 +1,7 @@
 use Rattle.dfu_sim.specs.inside.Acting.{delivery_of_given}
-use Rattle.dfu_sim.proofs.Acts.{wait_by_elapsed_time}
+use Rattle.dfu_sim.proofs.Acts.{elapsed_wait_is_delivered}
 use Rattle.dfu_sim.proofs.acting.wait.Goals as goal
 
 pub returns-clause-hears : goal.returns-clause-hears
-returns-clause-hears g c = wait_by_elapsed_time _ _ _ (delivery_of_given c.args.delivery) c.elapse.ensures.row c.time_of.ensures
+returns-clause-hears g c = elapsed_wait_is_delivered _ _ _ (delivery_of_given c.args.delivery) c.elapse.ensures.row c.time_of.ensures
     c.seen_after.ensures

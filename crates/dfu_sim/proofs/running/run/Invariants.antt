@@ -1,5 +1,5 @@
-use Rattle.dfu_sim.proofs.Chains.{Ran}
+use Rattle.dfu_sim.proofs.Chains.{FirstEventsRan}
 use Rattle.dfu_sim.proofs.running.run.Given as goal
 
 abbrev pub invariant-loop-i : goal.invariant-loop-i
-invariant-loop-i g l = Ran l.initial.world l.events l.i l.reports.items l.world
+invariant-loop-i g l = FirstEventsRan l.initial.world l.events l.i l.reports.items l.world

@@ -4,7 +4,7 @@ use Rattle.dfu_slots.specs.Image.{gate_of, slot_of}
 use Rattle.dfu_slots.proofs.Counting.{neither_slot_counts, one_slot_counts}
 use Rattle.dfu_slots.proofs.Stands.{sized_medium_has_two_slots}
 use Rattle.dfu_slots.proofs.Newest.{tested_slot_is_newest, active_place_ends_within}
-use Rattle.dfu_slots.proofs.Opening.{two_counting_slots_found, image_at_found_places, bad_header_at_found_places}
+use Rattle.dfu_slots.proofs.Opening.{found_places_have_two_counting, tested_places_have_image, found_places_have_bad_header}
 use Rattle.dfu_slots.proofs.both.check_both.Goals as goal
 
 pub returns-then-is_none-clause-fault : goal.returns-then-is_none-clause-fault
@@ -19,21 +19,21 @@ pub returns-then-not-has_newest-clause-fault : goal.returns-then-not-has_newest-
 returns-then-not-has_newest-clause-fault g c =
     let m = g.M.Medium.state c.args.medium.now in
     let counted = c.count_slots-counted in
-    let both = two_counting_slots_found m c.find_places-places.ensures.active c.find_places-places.ensures.spare
+    let both = found_places_have_two_counting m c.find_places-places.ensures.active c.find_places-places.ensures.spare
     (sym c.has_newest.ensures ∙ c.if-not-has_newest.true) (one_slot_counts (slot_of m 0) (slot_of m (slot_size m.bytes))
     counted.result.first counted.result.second counted.ensures.first counted.ensures.second (sym c.is_none.ensures ∙ c.if-is_none.false)) in
     (c.is_sized.ensures.0 c.if-not-is_sized.false, both.0, both.1, both.2)
 
 pub returns-in-Some-clause-ok : goal.returns-in-Some-clause-ok
 returns-in-Some-clause-ok g c =
-    image_at_found_places (g.M.Medium.state c.args.medium.now) c.find_places-places.ensures.active c.find_places-places.ensures.spare
+    tested_places_have_image (g.M.Medium.state c.args.medium.now) c.find_places-places.ensures.active c.find_places-places.ensures.spare
     c.in-Some.field-0 (c.is_sized.ensures.0 c.if-not-is_sized.false) (sym c.has_newest.ensures ∙ c.if-not-has_newest.false)
     c.in-Some.ensures.some
 
 pub returns-in-None-clause-fault : goal.returns-in-None-clause-fault
 returns-in-None-clause-fault g c = (
   c.is_sized.ensures.0 c.if-not-is_sized.false,
-  bad_header_at_found_places (g.M.Medium.state c.args.medium.now) c.find_places-places.ensures.active c.find_places-places.ensures.spare
+  found_places_have_bad_header (g.M.Medium.state c.args.medium.now) c.find_places-places.ensures.active c.find_places-places.ensures.spare
       (sym c.has_newest.ensures ∙ c.if-not-has_newest.false) c.in-None.ensures.none,
 )
 

@@ -2,7 +2,7 @@ use Rattle.std.proofs.Common.{◌≡◌, ◌⊎◌, inl, inr, ⊎_elim, Bool, �
 use Rattle.dfu_slots.specs.Medium.{MediumState}
 use Rattle.dfu_slots.specs.Layout.{slot_size}
 use Rattle.dfu_slots.specs.Image.{gate_of, slot_of, slot_counts, spare_at}
-use Rattle.dfu_slots.proofs.Counting.{passing_slot_counts, failing_slot_counts_not}
+use Rattle.dfu_slots.proofs.Counting.{passing_slot_counts, failing_slot_does_not_count}
 use Rattle.dfu_slots.proofs.Newest.{tested_places_are_slots}
 use Rattle.dfu_slots.proofs.both.spare_len.Goals.{then-spare-eq0, else-spare-eq0}
 use Rattle.dfu_slots.proofs.both.spare_len.Goals as goal
@@ -27,7 +27,7 @@ returns-then-not-counts-clause-none g c =
       | then-spare-eq0 w ↦ inl (w.if-spare-eq0.true, w.counts-is ∙ c.requires.first)
       | else-spare-eq0 w ↦ inr (w.if-spare-eq0.false, w.counts-is ∙ c.requires.second)
     ]) in
-    λ full len has. failing_slot_counts_not (slot_of m c.args.spare) (sym told ∙ c.if-not-counts.true) full
+    λ full len has. failing_slot_does_not_count (slot_of m c.args.spare) (sym told ∙ c.if-not-counts.true) full
 
 pub header_len-requires-clause-counts : goal.header_len-requires-clause-counts
 header_len-requires-clause-counts g c =

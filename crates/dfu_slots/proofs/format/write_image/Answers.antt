@@ -1,11 +1,11 @@
 use Rattle.std.proofs.Common.{ℕ, length, ◌∙◌, ap, arith}
 use Rattle.dfu_suffix.specs.Register.{register}
 use Rattle.dfu_slots.specs.Layout.{header}
-use Rattle.dfu_slots.proofs.Formatting.{can_format_after_close, format_broken_at_pieces, first_slot_may_open, format_ends_with_opening}
+use Rattle.dfu_slots.proofs.Formatting.{closed_medium_can_be_formatted, format_broken_at_pieces, first_slot_may_open, format_ends_with_opening}
 use Rattle.dfu_slots.proofs.format.write_image.Goals as goal
 
 pub write_pieces-requires : goal.write_pieces-requires
-write_pieces-requires g c = can_format_after_close c.requires (g.M.Medium.state c.close_gates.new.medium) c.in-Ok.ensures
+write_pieces-requires g c = closed_medium_can_be_formatted c.requires (g.M.Medium.state c.close_gates.new.medium) c.in-Ok.ensures
 
 pub open_slot-requires : goal.open_slot-requires
 open_slot-requires g c =

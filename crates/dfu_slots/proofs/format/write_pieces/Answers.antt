@@ -2,13 +2,13 @@ use Rattle.std.proofs.Common.{length, ap, arith}
 use Rattle.dfu_slots.specs.declared.layout.Unit.{Unit as WriteUnit}
 use Rattle.dfu_slots.specs.Units.{fill_size}
 use Rattle.dfu_slots.proofs.ImagePieces.{no_image_piece_written, next_image_piece_written, broken_piece_breaks_image, all_image_pieces_written, next_piece_may_be_written}
-use Rattle.dfu_slots.proofs.Formatting.{first_data_writable_ahead}
+use Rattle.dfu_slots.proofs.Formatting.{first_data_is_writable_ahead}
 use Rattle.dfu_slots.proofs.format.write_pieces.Goals as goal
 
 pub loop-from-init : goal.loop-from-init
 loop-from-init g c =
     let m = g.M.Medium.state c.args.medium.now in
-    no_image_piece_written m c.args.image.now (first_data_writable_ahead m c.requires.sized)
+    no_image_piece_written m c.args.image.now (first_data_is_writable_ahead m c.requires.sized)
 
 pub write_piece-requires : goal.write_piece-requires
 write_piece-requires g c =

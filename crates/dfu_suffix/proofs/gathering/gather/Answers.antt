@@ -1,5 +1,5 @@
 use Rattle.std.proofs.Common.{◌<◌, length, take, arith}
-use Rattle.dfu_suffix.proofs.GatherLaws.{gathered_is_all_at_end, gathered_piece_is_appended, piece_over_limit_means_more}
+use Rattle.dfu_suffix.proofs.GatherLaws.{gathered_is_all_at_end, gathered_piece_is_appended, piece_over_limit_puts_all_over}
 use Rattle.dfu_suffix.proofs.ReadLaws.{empty_read_means_end}
 use Rattle.dfu_suffix.proofs.gathering.gather.Goals as goal
 
@@ -17,7 +17,7 @@ returns-then-taken-limit-clause-all g c =
     let p = c.in-Ok.ensures.bytes in
     let b = c.in-Ok.ensures.bound in
     let more = c.if-taken-limit.true in
-    piece_over_limit_means_more _ _ _ _ _ _ _ c.loop-turn.invariant p.0 (omega (arith, b.1))
+    piece_over_limit_puts_all_over _ _ _ _ _ _ _ c.loop-turn.invariant p.0 (omega (arith, b.1))
 
 pub loop-turn-preserved : goal.loop-turn-preserved
 loop-turn-preserved g c =

@@ -1,10 +1,10 @@
 use Rattle.std.proofs.Common.{arith, ◌∙◌, sym}
 use Rattle.dfu_suffix.proofs.OneReading.{fault_of_reading_is_first, grammar_file_is_read}
-use Rattle.dfu_suffix.proofs.FileLaws.{fact_of_ok_answer, read_content_is_of_file}
+use Rattle.dfu_suffix.proofs.FileLaws.{each_value_gives_if_ok, read_content_is_of_file}
 use Rattle.dfu_suffix.proofs.parse.read_by.Goals as goal
 
 pub returns-clause-found : goal.returns-clause-found
-returns-clause-found c = fact_of_ok_answer c.parse.result _ (λ f e. read_content_is_of_file c.args.bytes.now f
+returns-clause-found c = each_value_gives_if_ok c.parse.result _ (λ f e. read_content_is_of_file c.args.bytes.now f
     (λ k. omega (arith, c.type_inv.bytes k)) (sym c.parse.ensures ∙ e))
 
 pub returns-clause-only : goal.returns-clause-only

@@ -1,5 +1,5 @@
-use Rattle.dfu_wire.specs.OneRequest.{setup_asks_once}
+use Rattle.dfu_wire.specs.OneRequest.{setup_asks_for_one_request}
 use Rattle.dfu_wire.proofs.laws.one_setup.Goals as goal
 
 pub returns-clause-request : goal.returns-clause-request
-returns-clause-request c = setup_asks_once
+returns-clause-request c = setup_asks_for_one_request

@@ -1,6 +1,6 @@
 // Of crates/dfu_boot/src/install/area.rt, whose contracts are taken away.
 
-//! The sizes of a run area, and its blank parts.
+//! Sizes of a run area, and the test of its blank bytes.
 
 use crate::slots::{MAX_SECTOR, PAGE, flash_byte_at};
 

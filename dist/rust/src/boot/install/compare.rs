@@ -4,12 +4,12 @@
 
 use crate::slots::flash_byte_at;
 
-// Returns whether a byte of the run area is the image's.
+// Returns whether byte `at` of the run area equals that of the image.
 fn is_same(image: &[u8], run: &[u8], at: usize) -> bool {
     flash_byte_at(run, at) == flash_byte_at(image, at)
 }
 
-// Returns whether the four bytes from there on are the same.
+// Returns true only if the four bytes from `at` on are equal in the image and the run area.
 fn are_four_same(image: &[u8], run: &[u8], at: u32) -> bool {
     let at = at as usize;
     is_same(image, run, at)
@@ -21,7 +21,7 @@ fn are_four_same(image: &[u8], run: &[u8], at: u32) -> bool {
 /// Returns the index of the first byte in which `image` and `run` differ, from `from` to before `to`; None if there is none.
 pub(crate) fn first_difference(image: &[u8], run: &[u8], from: u32, to: u32) -> Option<u32> {
     let mut at = from;
-    // (four at a time take half as many instructions)
+    // (comparing four at a time takes half as many instructions)
     while at < to && to - at >= 4 && are_four_same(image, run, at) {
         at += 4;
     }
@@ -34,8 +34,8 @@ pub(crate) fn first_difference(image: &[u8], run: &[u8], from: u32, to: u32) -> 
     None
 }
 
-/// Returns the index of the first byte of `image` from `from` on that differs in `run`; if there is none, that of the first one from the
-/// front; None if the whole image is there.
+/// Returns the index of the first byte of `image` from `from` on that differs in `run`, or else of the first one from 0 on; None if the run
+/// area holds the whole image.
 pub(crate) fn next_difference(image: &[u8], run: &[u8], from: u32) -> Option<u32> {
     match first_difference(image, run, from, image.len() as u32) {
         Some(at) => Some(at),

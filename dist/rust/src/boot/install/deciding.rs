@@ -1,12 +1,12 @@
 // Of crates/dfu_boot/src/install/deciding.rt, whose contracts are taken away.
 
-//! The choice of the operation that is due next.
+//! Operation that is due next, by the place at which the run area differs.
 
 use crate::boot::install::area::{PROGRAM, are_blank, is_run_area};
 use crate::boot::install::compare::next_difference;
 use crate::boot::install::due::{Due, Refusal};
 
-// Returns the place at which the search begins.
+// Returns the place at which the search for a difference begins: that of the last operation, at most the end of the image; 0 without one.
 fn look_from(image: &[u8], last: Option<u32>) -> u32 {
     match last {
         Some(at) => at.min(image.len() as u32),
@@ -14,7 +14,8 @@ fn look_from(image: &[u8], last: Option<u32>) -> u32 {
     }
 }
 
-// Returns whether the piece that begins there may be programmed, in a sector that begins there.
+// Returns whether the piece that begins at `piece` may be programmed: it is blank, and the last operation went to its sector, not behind
+// it.
 fn may_program(run: &[u8], sector: u32, last: Option<u32>, piece: u32) -> bool {
     match last {
         Some(at) => {
@@ -26,7 +27,7 @@ fn may_program(run: &[u8], sector: u32, last: Option<u32>, piece: u32) -> bool {
     }
 }
 
-// Returns the operation that is due of the sector in which that byte differs.
+// Returns the next operation for the byte at `at`, which differs: a program of its piece, or else an erase of its sector.
 fn mend(_image: &[u8], run: &[u8], sector: u32, last: Option<u32>, at: u32) -> Due {
     let piece = at - at % PROGRAM;
     if may_program(run, sector, last, piece) {
@@ -36,11 +37,11 @@ fn mend(_image: &[u8], run: &[u8], sector: u32, last: Option<u32>, at: u32) -> D
     }
 }
 
-/// Returns the operation that is due next, so that the run area comes to hold the image.
+/// Returns the next operation that brings the image to the run area.
 ///
-/// `image` has the bytes of the image, `run` those of the run area as they are, in sectors of `sector` bytes. `last` is the result of
-/// `took` returned for the last operation, and None after each loss of power; whatever it is, Start comes only if the run area holds the
-/// whole image, and no operation lies outside the sectors of the image.
+/// `image` has the bytes of the image, `run` the present bytes of the run area, in sectors of `sector` bytes. `last` is what `took`
+/// returned for the last operation, and None after each loss of power. For any `last`, Start is returned only if the run area holds the
+/// whole image, and each operation lies within the sectors of the image.
 ///
 /// Refused, in this order: `WrongSize`, `NoImage`, `TooLarge`.
 pub fn next(image: &[u8], run: &[u8], sector: u32, last: Option<u32>) -> Due {

@@ -6,12 +6,12 @@ use crate::boot::install::area::{PROGRAM, are_blank, is_run_area};
 use crate::boot::install::compare::first_difference;
 use crate::boot::install::due::Due;
 
-// Returns whether all of the sector that begins there reads FFh.
+// Returns whether the sector that begins at `at` lies in the run area and reads FFh.
 fn is_erased(run: &[u8], sector: u32, at: u32) -> bool {
     at as u64 + sector as u64 <= run.len() as u64 && are_blank(run, at, at + sector)
 }
 
-// Returns whether the piece that begins there reads as the image, as far as the image goes.
+// Returns whether the piece that begins at `at` lies in the run area and reads as the image, as far as the image goes.
 fn is_programmed(image: &[u8], run: &[u8], at: u32) -> bool {
     let end = at as u64 + PROGRAM as u64;
     if end > run.len() as u64 {
@@ -22,8 +22,8 @@ fn is_programmed(image: &[u8], run: &[u8], at: u32) -> bool {
 
 /// Returns the place of the last operation if it worked, which `next` takes as `last`.
 ///
-/// `due` was carried out, or `failed`, and `run` is read back: a sector has to read FFh, a piece as the image, as far as the image goes.
-/// None if it failed or reads otherwise, if its range is not in the run area, if `due` is no operation, or if `next` is refused with
+/// `due` was carried out, or `failed`, and `run` is read back: a sector must read FFh, a piece as the image, as far as the image goes. None
+/// if it failed or reads otherwise, if its range is not in the run area, if `due` is no operation, or if `next` refuses the run area with
 /// `WrongSize`.
 pub fn took(image: &[u8], run: &[u8], sector: u32, due: Due, failed: bool) -> Option<u32> {
     if failed || !is_run_area(run.len(), sector) {

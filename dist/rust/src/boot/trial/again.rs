@@ -1,12 +1,12 @@
 // Of crates/dfu_boot/src/trial/again.rt, whose contracts are taken away.
 
-//! A look that was handed on: the standing is found again without reading the images.
+//! Finds the standing of an earlier look again, without reading the images.
 
 use crate::boot::trial::marks::{is_set, starts};
 use crate::boot::trial::{Settled, Standing, Trial};
 use crate::slots::{Medium, Places, data_at, generation, is_open, is_sized};
 
-// Returns the places of the slots, if the data of one begins there.
+// Returns the places of the slots, with the slot whose data begins at `at` as the active one; None if no slot's data begins there.
 fn places_by_data<M: Medium>(medium: &M, at: u32) -> Option<Places> {
     let second = medium.len() / 2;
     let gates = data_at(medium, 0);
@@ -25,8 +25,8 @@ fn places_by_data<M: Medium>(medium: &M, at: u32) -> Option<Places> {
     None
 }
 
-// Returns whether the gate of the first of two slots is open, and that of the second is not, or its header is one generation behind: the
-// first is the newest then, if it counts.
+// Returns whether the slot at `places.active` is open, and the other slot is closed or one generation older. If so, and if the first slot
+// counts, it is the newest.
 fn is_ahead<M: Medium>(medium: &M, places: Places) -> bool {
     if !is_open(medium, places.active) {
         return false;
@@ -35,9 +35,9 @@ fn is_ahead<M: Medium>(medium: &M, places: Places) -> bool {
         || generation(medium, places.active) == generation(medium, places.spare).wrapping_add(1)
 }
 
-/// Finds the standing again that a look before found: the image that begins at `at` was active, and if it was on trial the one that begins
-/// at `base` was to come back. It reads gates, headers and marks, and no image: all that it takes from the look is that these images are
-/// whole. None if another slot may have the active image by now, or if an image may be on trial that the look didn't say: look anew then.
+/// Finds the standing of an earlier `look` again: the image that begins at `at` was active and, if it was on trial, the image that begins
+/// at `base` was the one to come back. Reads gates, headers and marks, but no image: it relies on the look for these images being whole.
+/// None if another slot may have the active image by now, or if an image may be on trial that the look did not report: call `look` then.
 ///
 /// # What the caller must keep to
 ///

@@ -6,25 +6,25 @@ use crate::boot::trial::marks::{mark_at, mark_size};
 use crate::boot::trial::{Operation, Standing};
 use crate::slots::{Medium, data_at};
 
-/// Confirmation of a running image.
+/// Answer to a running image that asks to be confirmed.
 #[derive(Clone, Copy, Debug, PartialEq, Eq)]
 pub enum Confirmation {
-    /// By this operation.
+    /// The caller must carry out this operation.
     By(Operation),
-    /// The image is confirmed.
+    /// The image is confirmed already.
     Confirmed,
-    /// No image that may run begins there.
+    /// No image that may run begins at the place given.
     Elsewhere,
 }
 
-// The operation that sets the confirmation of the slot that begins there.
+// Returns the operation that sets the confirmation mark of the slot that begins at `slot`.
 fn by_mark<M: Medium>(medium: &M, slot: u32) -> Confirmation {
     Confirmation::By(Operation::Mark(mark_at(medium, slot, 0), mark_size(medium)))
 }
 
 impl Standing {
-    /// Tells how the image that begins at `at` is confirmed: its caller's own place, as `image_at` of a store gives it. So an old image
-    /// that runs since the mark of a start failed does not confirm the new one.
+    /// Returns the confirmation of the image that begins at `at`: the calling image's own place, as `image_at` of a store gives it. So an
+    /// old image that runs because the mark of a start failed does not confirm the new one.
     ///
     /// # What the caller must keep to
     ///

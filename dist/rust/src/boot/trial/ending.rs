@@ -6,9 +6,9 @@ use crate::boot::trial::{Operation, Standing};
 use crate::slots::Medium;
 
 impl Standing {
-    /// Tells how a trial ends: the gate of its slot is closed. None if nothing is on trial. It reads nothing.
+    /// Returns the operation that ends the trial: it closes the gate of the slot on trial. None if nothing is on trial. Reads nothing.
     ///
-    /// A download ends the trial before its store is opened and `begin` is called: until then the store's spare is the slot of the
+    /// A download must end the trial before its store is opened and `begin` is called: until then the store's spare is the slot of the
     /// confirmed image, which `begin` would give up.
     ///
     /// # What the caller must keep to
@@ -22,8 +22,8 @@ impl Standing {
             Standing::OnTrial(trial) => Some(Operation::Close(trial.slot)),
         }
     }
-    /// Tells what comes before an upload: without a start left the trial ends, as the next start would end it, so that a host reads the
-    /// image that the next start runs. None if nothing is on trial or a start is left. It reads nothing.
+    /// Returns the operation that must come before an upload: without a start left it ends the trial, as the next start would, so that a
+    /// host reads the image that the next start runs. None if nothing is on trial or a start is left. Reads nothing.
     ///
     /// # What the caller must keep to
     ///

@@ -1,6 +1,6 @@
 // Of crates/dfu_boot/src/trial/looking.rt, whose contracts are taken away.
 
-//! Looks at the medium for an image on trial.
+//! Standing of a medium's images, which a look finds.
 
 use crate::boot::trial::marks::{is_set, starts};
 use crate::boot::trial::{Settled, Standing, Trial};

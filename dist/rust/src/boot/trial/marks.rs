@@ -1,6 +1,6 @@
 // Of crates/dfu_boot/src/trial/marks.rt, whose contracts are taken away.
 
-//! Marks of a slot, as they read.
+//! Marks of a slot, as they are read.
 
 use crate::slots::{Medium, gate_of};
 
@@ -34,7 +34,7 @@ pub(crate) fn is_set<M: Medium>(medium: &M, at: u32, i: u32) -> bool {
     is_marked(medium, mark_at(medium, at, i), mark_size(medium))
 }
 
-/// Returns the number of recorded starts of the image in the slot that begins at `at`.
+/// Returns the number of recorded starts, at most `tries`, of the image in the slot that begins at `at`.
 pub(crate) fn starts<M: Medium>(medium: &M, tries: u32, at: u32) -> u32 {
     let mut done = 0;
     while done < tries {

@@ -2,7 +2,7 @@
 
 //! The standing of the images of a medium.
 
-/// Nothing is on trial.
+/// State in which no image is on trial.
 #[derive(Clone, Copy, Debug, PartialEq, Eq)]
 pub struct Settled {
     /// Place at which the slot of the active image begins.
@@ -14,15 +14,15 @@ pub struct Settled {
 /// An image on trial.
 #[derive(Clone, Copy, Debug, PartialEq, Eq)]
 pub struct Trial {
-    /// Place at which its slot begins.
+    /// Place at which the slot of the image on trial begins.
     pub slot: u32,
-    /// Place at which the slot of the confirmed image begins, which comes back if this one is not confirmed.
+    /// Place at which the slot of the confirmed image begins, which becomes active again if the image on trial is not confirmed.
     pub base: u32,
-    /// Recorded starts of it, from 0 to the number of tries.
+    /// Recorded starts of the image on trial, from 0 to the number of tries.
     pub starts: u32,
 }
 
-/// The standing of the images of a medium.
+/// Standing of the images of a medium: settled, or on trial.
 #[derive(Clone, Copy, Debug, PartialEq, Eq)]
 pub enum Standing {
     /// Nothing is on trial: the active image runs.

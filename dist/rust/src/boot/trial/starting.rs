@@ -6,20 +6,20 @@ use crate::boot::trial::marks::{is_marked, mark_at, mark_size};
 use crate::boot::trial::{Operation, Standing};
 use crate::slots::Medium;
 
-/// Image that starts, and the operation that the caller carries out before.
+/// Image that starts, and the operation that the caller must carry out first.
 #[derive(Clone, Copy, Debug, PartialEq, Eq)]
 pub struct Starting {
     /// The operation that is carried out first, if any.
     pub operation: Option<Operation>,
-    /// Place at which the slot begins that runs then; if the operation is a mark, only if that reads set.
+    /// Place at which the slot that runs after the operation begins; after a mark it runs only if the mark reads set.
     pub slot: u32,
-    /// Place at which the slot begins that runs if the mark does not read set; else the same.
+    /// Place at which the slot that runs if the mark does not read set begins; equal to `slot` without a mark.
     pub otherwise: u32,
 }
 
 impl Standing {
-    /// Returns the image that starts, and the operation that is carried out before. On trial that is the mark of the next start; without a
-    /// start left the gate is closed of the slot on trial. After it `Starting::runs` gives what runs.
+    /// Returns the image that starts, and the operation that must come first: on trial the mark of the next start or, without a start left,
+    /// the erase that closes the gate of the slot on trial. After the operation `Starting::runs` returns the slot that runs.
     ///
     /// # What the caller must keep to
     ///
@@ -54,8 +54,7 @@ impl Standing {
 }
 
 impl Starting {
-    /// Returns the place at which the slot begins that runs, once the operation was carried out, whatever became of it: a mark is read
-    /// back.
+    /// Returns the place at which the slot that runs begins, once the operation was carried out, with any outcome: a mark is read back.
     ///
     /// # What the caller must keep to
     ///

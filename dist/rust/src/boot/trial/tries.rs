@@ -20,11 +20,11 @@ pub enum TriesFault {
     TooMany,
 }
 
-/// Refuses a number of `tries` that an image of `medium` can't have: an image has 2 or more, whose marks fit in a sector.
+/// Checks that an image of `medium` can have `tries` tries: 2 or more, whose marks fit in a sector.
 ///
 /// # Errors
 ///
-/// The first fault that there is, in the order of `TriesFault`.
+/// The first fault, in the order of `TriesFault`.
 pub fn check_tries<M: Medium>(medium: &M, tries: u32) -> Result<(), TriesFault> {
     let sector = medium.sector();
     if sector == 0 {

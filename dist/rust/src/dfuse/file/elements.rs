@@ -8,13 +8,13 @@ use crate::dfuse::file::numbers::number_at;
 
 /// An element, and the bytes after it.
 #[derive(Debug, PartialEq, Eq)]
-struct Split<'f> {
+struct ElementAndRest<'f> {
     element: Element<'f>,
     rest: &'f [u8],
 }
 
-/// Takes an element off the front of `bytes`. Returns the element and the bytes after it.
-fn take_element(bytes: &[u8]) -> Result<Split<'_>, FileFault> {
+/// Takes an element off the front of `bytes`. Returns the element and the bytes after it, or its fault.
+fn take_element(bytes: &[u8]) -> Result<ElementAndRest<'_>, FileFault> {
     if bytes.len() < 8 {
         return Err(FileFault::ElementPastTheTarget);
     }
@@ -31,7 +31,7 @@ fn take_element(bytes: &[u8]) -> Result<Split<'_>, FileFault> {
         return Err(FileFault::AddressPastTheEnd);
     }
     let (content, rest) = behind.split_at(size as usize);
-    Ok(Split {
+    Ok(ElementAndRest {
         element: Element {
             address,
             bytes: content,
@@ -49,7 +49,7 @@ pub(crate) fn check_end(rest: &[u8], fault: FileFault) -> Result<(), FileFault> 
     if rest.is_empty() { Ok(()) } else { Err(fault) }
 }
 
-/// Checks that the bytes are `count` elements, and nothing else.
+/// Checks that `bytes` are `count` elements, and nothing else.
 pub(crate) fn check_elements(count: u32, bytes: &[u8]) -> Result<(), FileFault> {
     let mut rest = bytes;
     for _ in 0..count {
@@ -74,12 +74,12 @@ impl<'f> Elements<'f> {
         Elements { left, rest }
     }
 
-    /// Returns the number of elements.
+    /// Returns the number of elements that are left.
     pub fn len(&self) -> u32 {
         self.left
     }
 
-    /// Takes the first element off. If no element is left, nothing changes.
+    /// Takes the first element off, and returns it. If no element is left, nothing changes, and None is returned.
     pub fn next_element(&mut self) -> Option<Element<'f>> {
         if self.left == 0 {
             return None;

@@ -3,7 +3,7 @@
 //! A DfuSe file.
 
 use crate::dfuse::file::fault::FileFault;
-use crate::dfuse::file::marks::is_prefixed;
+use crate::dfuse::file::marks::begins_with_dfuse;
 use crate::dfuse::file::numbers::number_at;
 use crate::dfuse::file::suffix::read_suffix;
 use crate::dfuse::file::targets::{Targets, check_targets};
@@ -21,12 +21,12 @@ pub struct File<'f> {
 ///
 /// # Errors
 ///
-/// The first fault of the body, as `read` has them.
+/// The first fault of the body, in the order of [`FileFault`].
 fn read_body(ids: Ids, whole: usize, bytes: &[u8]) -> Result<File<'_>, FileFault> {
     if bytes.len() < 11 {
         return Err(FileFault::NoPrefix);
     }
-    if !is_prefixed(bytes) {
+    if !begins_with_dfuse(bytes) {
         return Err(FileFault::NoPrefix);
     }
     if bytes[5] != 1 {
@@ -51,11 +51,11 @@ fn read_body(ids: Ids, whole: usize, bytes: &[u8]) -> Result<File<'_>, FileFault
     }
 }
 
-/// Reads the fields of `bytes`.
+/// Reads the DfuSe file `bytes`.
 ///
 /// # Errors
 ///
-/// Their first fault.
+/// The first fault, in the order of [`FileFault`].
 fn read_file(bytes: &[u8]) -> Result<File<'_>, FileFault> {
     match read_suffix(bytes) {
         Ok(suffixed) => read_body(suffixed.ids, bytes.len(), suffixed.payload),
@@ -63,8 +63,8 @@ fn read_file(bytes: &[u8]) -> Result<File<'_>, FileFault> {
     }
 }
 
-/// Reads a DfuSe file. The size in its prefix may count the suffix, as dfu-util's tools have it, or not, as ST's. A file with a wrong dwCRC
-/// is refused for the CRC, whatever else is wrong.
+/// Reads a DfuSe file. The size in its prefix may include the suffix, as dfu-util's tools write it, or not, as ST's do. A file with a wrong
+/// dwCRC is refused for the CRC, whatever is wrong in the bytes before its suffix.
 ///
 /// # Errors
 ///

@@ -17,7 +17,7 @@ pub(crate) struct Heading<'f> {
     pub rest: &'f [u8],
 }
 
-/// Takes the 274 bytes at the front of a target off the front of `bytes`.
+/// Takes the first target off `bytes`: its 274 bytes of fields, and the bytes of its elements. Returns it, or its fault.
 pub(crate) fn take_heading(bytes: &[u8]) -> Result<Heading<'_>, FileFault> {
     if bytes.len() < 274 {
         return Err(FileFault::NoTarget);

@@ -8,7 +8,7 @@ use crate::dfuse::file::listing::put;
 use core::fmt;
 use thiserror::Error;
 
-/// A fault for which a file has no image for a setting: the first of these that holds.
+/// A fault for which a file has no image for an alternate setting: the first of these that holds.
 #[derive(Clone, Copy, Debug, PartialEq, Eq, Error)]
 pub enum ImageFault {
     /// No target is for this alternate setting.
@@ -17,7 +17,7 @@ pub enum ImageFault {
     TooManyElements,
 }
 
-/// The texts, in the order of the enum.
+/// Text of each fault, in the order of the enum.
 static TEXTS: [&str; 2] = [
     "the file has nothing for this alternate setting",
     "the file has too many elements",
@@ -40,12 +40,12 @@ fn sort(count: usize, room: &mut [Element<'_>]) {
 }
 
 impl<'f> File<'f> {
-    /// Puts the elements of all targets of an alternate setting into the front of `room`, in the order of the file, and returns their
-    /// number. A session wants elements by their addresses.
+    /// Writes the elements of all targets of an alternate setting to the front of `room`, in the order of the file. Returns their number. A
+    /// session needs them sorted by address, as `image` writes them.
     ///
     /// # Errors
     ///
-    /// NoSuchSetting, or TooManyElements if `room` has fewer places.
+    /// NoSuchSetting, or TooManyElements if `room` has fewer places than there are elements. Then `room` may have changed.
     pub fn listed(&self, setting: u8, room: &mut [Element<'f>]) -> Result<usize, ImageFault> {
         let mut count: usize = 0;
         let mut has_target = false;
@@ -65,7 +65,7 @@ impl<'f> File<'f> {
         Ok(count)
     }
 
-    /// Writes the elements of alternate setting `setting` to the front of `room`, by their addresses. Returns their number. Elements that
+    /// Writes the elements of alternate setting `setting` to the front of `room`, sorted by address. Returns their number. Elements that
     /// overlap are listed too, because a session refuses them.
     ///
     /// # Errors

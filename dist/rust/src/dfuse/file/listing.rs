@@ -1,11 +1,11 @@
 // Of crates/dfu_formats/src/dfuse/listing.rt, whose contracts are taken away.
 
-//! Elements of a session, from those of files.
+//! Lists of elements for a session, from the elements of files.
 
 use crate::dfuse::file::element::Element;
 use crate::dfuse::file::elements::Elements;
 
-/// Puts elements into `room` after the first `from`, and returns how many elements it has then, or None if they don't fit.
+/// Writes elements to `room` after its first `from`. Returns the number of elements that `room` then has, or None if they don't fit.
 pub(crate) fn put<'f>(
     elements: Elements<'f>,
     from: usize,
@@ -23,8 +23,8 @@ pub(crate) fn put<'f>(
     Some(count)
 }
 
-/// Puts elements that a reader of `formats` gave into the front of `room`, in their order, and returns their number, or None if
-/// they don't fit. Elements of one file are by their addresses, as a session wants them.
+/// Writes elements that a reader of `formats` returned to the front of `room`, in their order. Returns their number, or None if
+/// they don't fit. Elements of one file are sorted by address, as a session needs them.
 #[cfg(feature = "formats")]
 pub fn list<'p>(pieces: &'p [crate::formats::Element], room: &mut [Element<'p>]) -> Option<usize> {
     if pieces.len() > room.len() {

@@ -13,6 +13,6 @@ pub(crate) fn is_target(bytes: &[u8]) -> bool {
 }
 
 /// Returns true if the first five of `bytes` are the letters DfuSe.
-pub(crate) fn is_prefixed(bytes: &[u8]) -> bool {
+pub(crate) fn begins_with_dfuse(bytes: &[u8]) -> bool {
     bytes[0] == b'D' && bytes[1] == b'f' && bytes[2] == b'u' && bytes[3] == b'S' && bytes[4] == b'e'
 }

@@ -1,6 +1,6 @@
 // Of crates/dfu_formats/src/dfuse/numbers.rt, whose contracts are taken away.
 
-//! Numbers in bytes.
+//! Numbers in bytes, the low byte first.
 
 /// Returns the number in the four bytes of `bytes` from index `place` on, the low byte first.
 pub(crate) fn number_at(place: usize, bytes: &[u8]) -> u32 {

@@ -3,7 +3,7 @@
 //! A file without addresses, as one element.
 
 use crate::dfuse::file::element::Element;
-use crate::dfuse::file::marks::is_prefixed;
+use crate::dfuse::file::marks::begins_with_dfuse;
 use crate::suffix::SuffixFault;
 use core::fmt;
 use thiserror::Error;
@@ -15,17 +15,17 @@ pub enum RawFault {
     TooLarge,
     /// The file has a signature, and bLength is under 16 or over the file's length.
     BadLength,
-    /// The file has a signature and isn't a DfuSe file, and dwCRC isn't the register over the bytes before it.
+    /// The file has a signature, bcdDFU isn't 011Ah, and dwCRC isn't the register over the bytes before it.
     BadCrc,
     /// bcdDFU is 011Ah, or the file begins with the letters DfuSe.
     HasAddresses,
     /// The file is empty, or empty before its suffix.
     Empty,
-    /// The last byte would get an address past FFFFFFFFh.
+    /// The last byte would have an address past FFFFFFFFh.
     AddressPastTheEnd,
 }
 
-/// The texts, in the order of the enum.
+/// Text of each fault, in the order of the enum.
 static TEXTS: [&str; 6] = [
     "the file has over 16777216 bytes",
     "the suffix's length is under 16 or over the file's",
@@ -41,7 +41,7 @@ impl fmt::Display for RawFault {
     }
 }
 
-/// Returns the refusal of a file in which suffix finds `fault`; None if the file is not refused.
+/// Returns the refusal of a file in which suffix finds `fault`; None if the file is not refused for it.
 fn refusal(fault: SuffixFault) -> Option<RawFault> {
     match fault {
         SuffixFault::TooLarge => Some(RawFault::TooLarge),
@@ -52,7 +52,7 @@ fn refusal(fault: SuffixFault) -> Option<RawFault> {
     }
 }
 
-/// Returns the bytes of a file before a suffix, or all of `bytes` if the file has none.
+/// Returns the bytes of a file before a suffix, all of `bytes` if the file has none, or the refusal of the file.
 fn payload_of(bytes: &[u8]) -> Result<&[u8], RawFault> {
     match crate::suffix::read(bytes) {
         Ok(file) => Ok(file.payload()),
@@ -65,10 +65,10 @@ fn payload_of(bytes: &[u8]) -> Result<&[u8], RawFault> {
 
 /// Returns true if `bytes` begin with the letters DfuSe.
 fn has_prefix(bytes: &[u8]) -> bool {
-    bytes.len() >= 5 && is_prefixed(bytes)
+    bytes.len() >= 5 && begins_with_dfuse(bytes)
 }
 
-/// Returns the element of `bytes` at `address`.
+/// Returns the element of `bytes` at `address`, or its first fault.
 fn placed_at(address: u32, bytes: &[u8]) -> Result<Element<'_>, RawFault> {
     if has_prefix(bytes) {
         return Err(RawFault::HasAddresses);

@@ -9,7 +9,7 @@ use crate::wire::Ids;
 
 /// The bytes before the suffix, and the identifiers in it.
 #[derive(Debug, PartialEq, Eq)]
-pub(crate) struct Suffixed<'f> {
+pub(crate) struct PayloadAndIds<'f> {
     pub payload: &'f [u8],
     pub ids: Ids,
 }
@@ -35,11 +35,11 @@ fn has_bad_crc(bytes: &[u8]) -> bool {
     LittleEndian::read_u32(crc) != over.value()
 }
 
-/// Returns the fields of the last 16 bytes.
-fn suffixed_by(bytes: &[u8]) -> Suffixed<'_> {
+/// Returns the payload and the identifiers, by the fields of the last 16 bytes.
+fn payload_and_ids_of(bytes: &[u8]) -> PayloadAndIds<'_> {
     let tail = tail(bytes);
     let (payload, _) = bytes.split_at(bytes.len().saturating_sub(tail[11] as usize));
-    Suffixed {
+    PayloadAndIds {
         payload,
         ids: Ids {
             device: field(0, tail),
@@ -49,7 +49,7 @@ fn suffixed_by(bytes: &[u8]) -> Suffixed<'_> {
     }
 }
 
-/// Returns true if `fault` is the one that a DfuSe file has.
+/// Returns true if `fault` is `DfuSe`, which suffix finds in a DfuSe file.
 fn is_dfuse(fault: SuffixFault) -> bool {
     match fault {
         SuffixFault::DfuSe => true,
@@ -68,17 +68,18 @@ fn refusal(fault: SuffixFault) -> FileFault {
     }
 }
 
-/// Returns the bytes before a suffix with bcdDFU 011Ah.
-fn read_signed(bytes: &[u8]) -> Result<Suffixed<'_>, FileFault> {
+/// Returns the payload and the identifiers of a file with bcdDFU 011Ah, or BadCrc if its CRC is wrong.
+fn read_signed(bytes: &[u8]) -> Result<PayloadAndIds<'_>, FileFault> {
     if has_bad_crc(bytes) {
         Err(FileFault::BadCrc)
     } else {
-        Ok(suffixed_by(bytes))
+        Ok(payload_and_ids_of(bytes))
     }
 }
 
-/// Reads the suffix, by the small table, because a file is read once, and a library for C has no large tables.
-pub(crate) fn read_suffix(bytes: &[u8]) -> Result<Suffixed<'_>, FileFault> {
+/// Reads the suffix, or returns its first fault. Its CRC is checked with the small table, because a file is read once, and a library for C
+/// has no large tables.
+pub(crate) fn read_suffix(bytes: &[u8]) -> Result<PayloadAndIds<'_>, FileFault> {
     let fault = match crate::suffix::read_small(bytes) {
         Ok(_) => return Err(FileFault::NotDfuSe),
         Err(fault) => fault,

@@ -6,7 +6,7 @@ use crate::dfuse::file::elements::{Elements, check_elements, check_end};
 use crate::dfuse::file::fault::FileFault;
 use crate::dfuse::file::headings::take_heading;
 
-/// Elements for the memory of an alternate setting.
+/// A target: elements for the memory of an alternate setting.
 #[derive(Debug, PartialEq, Eq)]
 pub struct Target<'f> {
     /// The alternate setting.
@@ -19,7 +19,7 @@ pub struct Target<'f> {
     pub elements: Elements<'f>,
 }
 
-/// Checks that the bytes are `count` targets, each with as many elements as it says, and nothing else.
+/// Checks that `bytes` are `count` targets, each with as many elements as it says, and nothing else.
 pub(crate) fn check_targets(count: u8, bytes: &[u8]) -> Result<(), FileFault> {
     let mut rest = bytes;
     for _ in 0..count {
@@ -47,12 +47,12 @@ impl<'f> Targets<'f> {
         Targets { left, rest }
     }
 
-    /// Returns the number of targets.
+    /// Returns the number of targets that are left.
     pub fn len(&self) -> u8 {
         self.left
     }
 
-    /// Takes the first target off. If no target is left, nothing changes.
+    /// Takes the first target off, and returns it. If no target is left, nothing changes, and None is returned.
     #[inline(always)]
     pub fn next_target(&mut self) -> Option<Target<'f>> {
         if self.left == 0 {

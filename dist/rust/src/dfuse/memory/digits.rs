@@ -1,6 +1,6 @@
 // Of crates/dfu_formats/src/memory/digits.rt, whose contracts are taken away.
 
-//! Numbers in digits.
+//! Numbers that are spelled in digits.
 
 use crate::dfuse::memory::text::Number;
 
@@ -35,7 +35,7 @@ fn said(base: u64, digits: &[u8]) -> u64 {
     value
 }
 
-/// Takes the number at the front, in the base and in at most `most` digits. All digits at the front belong to it.
+/// Takes the number in base `base` off the front of `text`; all digits there belong to it. None without a digit, or with over `most`.
 pub(crate) fn take_number(base: u64, most: usize, text: &[u8]) -> Option<Number<'_>> {
     let count = digits_in(base, text);
     if count == 0 || count > most {

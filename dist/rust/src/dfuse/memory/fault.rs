@@ -5,31 +5,31 @@
 use core::fmt;
 use thiserror::Error;
 
-/// Faults of a string that isn't a memory map. The string is read from the front, and the first fault that is met is the answer; Overlaps
-/// is looked for once all is read.
+/// Faults of a string that isn't a memory map. The string is read from the front, and its first fault is returned; Overlaps is checked once
+/// all ranges are read.
 #[derive(Clone, Copy, Debug, PartialEq, Eq, Error)]
 pub enum MapFault {
     /// The string doesn't begin with `@`, or has no `/` after the name.
     NoMap,
-    /// Behind `/` stands no address of one to eight hexadecimal digits, with or without `0x`, and another `/`.
+    /// After a `/` there is no address of one to eight hexadecimal digits, with or without `0x`, followed by another `/`.
     BadAddress,
     /// A range lacks a count of one to five digits, from 1 on, and a `*`.
     BadCount,
     /// A range lacks a size of one to five digits, from 1 on.
     BadSize,
-    /// Behind the size and its unit stands no letter from `a` to `g`.
+    /// After the size and its unit there is no letter from `a` to `g`.
     BadType,
     /// The pages of a range end past address FFFFFFFFh.
     PastTheEnd,
     /// The map has over 32 ranges.
     TooManyRanges,
-    /// Behind a range stands neither the end, nor `,`, nor `/`.
+    /// After a range there is neither the end of the string, nor `,`, nor `/`.
     Trailing,
     /// Two ranges share an address.
     Overlaps,
 }
 
-/// The texts, in the order of the enum.
+/// Text of each fault, in the order of the enum.
 static TEXTS: [&str; 9] = [
     "the string has no memory map",
     "the memory map has a bad address",

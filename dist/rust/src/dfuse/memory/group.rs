@@ -8,9 +8,9 @@ use crate::dfuse::memory::limits::ADDRESSES;
 use crate::dfuse::memory::pages::{Access, Pages};
 use crate::dfuse::memory::text::{Number, behind, front};
 
-/// Access to pages, and the text after the letter that says it.
+/// Access to pages, and the text after its letter.
 #[derive(Debug, PartialEq, Eq)]
-struct Allowed<'t> {
+struct AccessAndRest<'t> {
     access: Access,
     rest: &'t [u8],
 }
@@ -22,7 +22,7 @@ pub(crate) struct Group<'t> {
     pub rest: &'t [u8],
 }
 
-/// Returns the number of bytes of the unit that letter `byte` says, or 0 if it says none.
+/// Returns the number of bytes of unit `byte`, or 0 if it is no unit.
 fn unit_of(byte: u8) -> u64 {
     match byte {
         b'K' => 1024,
@@ -65,7 +65,7 @@ fn take_size(text: &[u8]) -> Result<Number<'_>, MapFault> {
     }
 }
 
-/// Returns the access that the bits of a letter say: `a` has only the lowest bit.
+/// Returns the access by the bits of a letter: `a` is 1, and bit 0 means readable, bit 1 erasable, bit 2 writable.
 fn access_of(letter: u8) -> Access {
     let bits = letter - b'a' + 1;
     Access {
@@ -75,10 +75,10 @@ fn access_of(letter: u8) -> Access {
     }
 }
 
-/// Takes the letter that says the access to the pages.
-fn take_access(text: &[u8]) -> Result<Allowed<'_>, MapFault> {
+/// Takes the letter for the access to the pages.
+fn take_access(text: &[u8]) -> Result<AccessAndRest<'_>, MapFault> {
     match front(text) {
-        Some((letter, rest)) if letter >= b'a' && letter <= b'g' => Ok(Allowed {
+        Some((letter, rest)) if letter >= b'a' && letter <= b'g' => Ok(AccessAndRest {
             access: access_of(letter),
             rest,
         }),
@@ -86,7 +86,7 @@ fn take_access(text: &[u8]) -> Result<Allowed<'_>, MapFault> {
     }
 }
 
-/// Takes a range that begins at `start`.
+/// Takes a range that begins at `start`, or returns its first fault.
 pub(crate) fn take_group(start: u64, text: &[u8]) -> Result<Group<'_>, MapFault> {
     let count = match take_count(text) {
         Ok(count) => count,

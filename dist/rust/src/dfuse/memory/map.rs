@@ -23,7 +23,7 @@ pub struct Map<'t> {
 ///
 /// # Errors
 ///
-/// Its first fault.
+/// The first fault of `text`.
 fn read_map(text: &[u8]) -> Result<Map<'_>, MapFault> {
     let named = match take_name(text) {
         Ok(named) => named,

@@ -26,17 +26,17 @@ fn trimmed(bytes: &[u8]) -> &[u8] {
     kept
 }
 
-/// Returns the place of the first `/`.
-fn stroke_in(text: &[u8]) -> Option<usize> {
+/// Returns the index of the first `/` of `text`; None if there is none.
+fn slash_in(text: &[u8]) -> Option<usize> {
     text.iter().position(|byte| *byte == b'/')
 }
 
-/// Takes the name between `@` and `/`.
+/// Takes the name between `@` and the first `/`, without the spaces at its end.
 pub(crate) fn take_name(text: &[u8]) -> Result<Named<'_>, MapFault> {
     let Some(name) = behind(b'@', text) else {
         return Err(MapFault::NoMap);
     };
-    let Some(end) = stroke_in(name) else {
+    let Some(end) = slash_in(name) else {
         return Err(MapFault::NoMap);
     };
     let (front, _) = name.split_at(end);

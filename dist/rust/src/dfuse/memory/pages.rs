@@ -2,7 +2,7 @@
 
 //! Pages, and ranges of them.
 
-/// Access to a page.
+/// Access to a page: any of reading, erasing and writing.
 #[derive(Clone, Copy, Debug, Default, PartialEq, Eq)]
 pub struct Access {
     pub is_readable: bool,
@@ -11,7 +11,7 @@ pub struct Access {
 }
 
 impl Access {
-    /// Returns true if the access has each access of `wanted`.
+    /// Returns true if the access includes each access of `wanted`.
     pub fn grants(self, wanted: Access) -> bool {
         (self.is_readable || !wanted.is_readable)
             && (self.is_erasable || !wanted.is_erasable)
@@ -19,7 +19,7 @@ impl Access {
     }
 }
 
-/// Pages of one size, one after the other.
+/// Pages of one size and one access, one after the other.
 #[derive(Clone, Copy, Debug, Default, PartialEq, Eq)]
 pub struct Pages {
     /// The address of the first byte.
@@ -32,7 +32,7 @@ pub struct Pages {
     pub access: Access,
 }
 
-/// A page.
+/// A page: its place, its size, and the access to it.
 #[derive(Clone, Copy, Debug, PartialEq, Eq)]
 pub struct Page {
     /// The address of the first byte.

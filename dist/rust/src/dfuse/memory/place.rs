@@ -6,8 +6,8 @@ use crate::dfuse::memory::digits::take_number;
 use crate::dfuse::memory::fault::MapFault;
 use crate::dfuse::memory::text::{Number, behind, front};
 
-/// Returns the text behind `0x` or `0X`, or all of `text` if it begins with neither.
-fn behind_prefix(text: &[u8]) -> &[u8] {
+/// Returns the text after `0x` or `0X`, or all of `text` if it begins with neither.
+fn text_after_prefix(text: &[u8]) -> &[u8] {
     match front(text) {
         Some((b'0', digits)) => match front(digits) {
             Some((b'x' | b'X', rest)) => rest,
@@ -17,9 +17,9 @@ fn behind_prefix(text: &[u8]) -> &[u8] {
     }
 }
 
-/// Takes an address, and the `/` behind it.
+/// Takes an address, and the `/` after it.
 pub(crate) fn take_address(text: &[u8]) -> Result<Number<'_>, MapFault> {
-    match take_number(16, 8, behind_prefix(text)) {
+    match take_number(16, 8, text_after_prefix(text)) {
         Some(number) => match behind(b'/', number.rest) {
             Some(rest) => Ok(Number {
                 value: number.value,
@@ -31,7 +31,7 @@ pub(crate) fn take_address(text: &[u8]) -> Result<Number<'_>, MapFault> {
     }
 }
 
-/// Takes what leads to the next range, behind a range that ends at `end`.
+/// Takes the start of the next range, after a range that ends at `end`; None at the end of the text.
 pub(crate) fn take_next(end: u64, text: &[u8]) -> Result<Option<Number<'_>>, MapFault> {
     match front(text) {
         None => Ok(None),

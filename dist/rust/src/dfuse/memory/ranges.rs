@@ -14,7 +14,7 @@ pub(crate) fn end_of(pages: &Pages) -> u64 {
     pages.start as u64 + pages.count as u64 * pages.size
 }
 
-/// Takes ranges up to the end of the text; the first begins at `start`.
+/// Takes ranges, at most 32, up to the end of the text; the first begins at `start`. Returns them, or the first fault.
 pub(crate) fn take_ranges(start: u64, text: &[u8]) -> Result<ArrayVec<Pages, MOST_RANGES>, MapFault> {
     let mut ranges = ArrayVec::new();
     let mut at = start;

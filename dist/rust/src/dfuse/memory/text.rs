@@ -19,7 +19,7 @@ pub(crate) fn front(text: &[u8]) -> Option<(u8, &[u8])> {
     Some((byte, rest))
 }
 
-/// Returns the text behind `byte`, if `text` begins with it; else None.
+/// Returns the text after `byte`, if `text` begins with it; else None.
 pub(crate) fn behind(byte: u8, text: &[u8]) -> Option<&[u8]> {
     match front(text) {
         Some((first, rest)) if first == byte => Some(rest),

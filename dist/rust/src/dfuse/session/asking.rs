@@ -1,6 +1,6 @@
 // Of crates/dfuse_host/src/asking.rt, whose contracts are taken away.
 
-//! The action of each step, as the caller gets it.
+//! The action of each step, in the form that the caller gets.
 
 use crate::dfuse::session::action::Action;
 use crate::dfuse::session::command::Command;
@@ -12,7 +12,7 @@ use crate::dfuse::session::step::Step;
 use crate::dfuse::session::work::Work;
 use crate::wire::Request;
 
-/// Returns the bytes of the setup of `request`, which must be one of the seven.
+/// Returns the bytes of the setup of `request`, which must be one of the seven requests of DFU.
 fn setup_of(request: Request) -> [u8; 8] {
     match request.setup() {
         Some(setup) => setup.encode(),
@@ -20,7 +20,7 @@ fn setup_of(request: Request) -> [u8; 8] {
     }
 }
 
-/// Returns the action that sends `request`, which must be one of the seven, without a body.
+/// Returns the action that sends `request`, which must be one of the seven requests of DFU, without a body.
 fn ask<'f>(request: Request) -> Action<'f> {
     Action::Send {
         setup: setup_of(request),
@@ -49,7 +49,7 @@ fn download(body: &[u8]) -> Action<'_> {
     }
 }
 
-/// Returns the address that `work` has reached.
+/// Returns the address that `work` has reached; 0 for Leave.
 pub(crate) fn stands_at(work: Work) -> u64 {
     match work {
         Work::EraseAgain { page, .. } => page,
@@ -62,8 +62,8 @@ pub(crate) fn stands_at(work: Work) -> u64 {
     }
 }
 
-/// Returns the address to which the pointer was set for the bytes that are read at `place`; `at` if none are read there.
-fn base_of(place: Place, at: u64) -> u64 {
+/// Returns the address to which the pointer was set for reading at `place`; `at` if `place` isn't reading.
+fn reading_base_of(place: Place, at: u64) -> u64 {
     match place {
         Place::Reading(pointer) => pointer,
         _ => at,
@@ -71,7 +71,8 @@ fn base_of(place: Place, at: u64) -> u64 {
 }
 
 impl<'f> Plan<'f> {
-    /// Returns the bytes of the image from address `at` to before `end`, up to the end of the element that has `at`.
+    /// Returns the bytes of the image from address `at` to before `end`, up to the end of the element that has `at`; none if no element has
+    /// it.
     fn bytes_in(&self, at: u64, end: u64) -> &'f [u8] {
         let Some(element) = element_at(at, self.image) else {
             return &[];
@@ -83,19 +84,19 @@ impl<'f> Plan<'f> {
         bytes
     }
 
-    /// Returns the bytes of the image that `work` reads back next.
+    /// Returns the bytes of the image that one UPLOAD for `work` reads, from the address that the work has reached.
     pub(crate) fn read_bytes(&self, work: Work) -> &'f [u8] {
         let at = stands_at(work);
         self.bytes_in(at, self.read_end(at, self.end_of_work(work)))
     }
 
-    /// Returns the number of the block that has address `at`, if the device reads at `place`.
+    /// Returns the number of the UPLOAD block that has address `at`, if the device reads at `place`.
     fn upload_block(&self, place: Place, at: u64) -> u16 {
-        (at.saturating_sub(base_of(place, at)) / self.block_size() % 65534 + 2) as u16
+        (at.saturating_sub(reading_base_of(place, at)) / self.block_size() % 65534 + 2) as u16
     }
 
     /// Returns the action that sends `command` of `work`.
-    fn sends(&self, work: Work, command: Command) -> Action<'f> {
+    fn send_command(&self, work: Work, command: Command) -> Action<'f> {
         match command {
             Command::SetAddress(at) => address_command(0x21, at),
             Command::ErasePage(at) => address_command(0x41, at),
@@ -106,7 +107,7 @@ impl<'f> Plan<'f> {
         }
     }
 
-    /// Returns the UPLOAD of the bytes that `work` reads back next, at `place`.
+    /// Returns the UPLOAD at `place` of the bytes that `work` reads back next.
     fn upload(&self, work: Work, place: Place) -> Action<'f> {
         let block = self.upload_block(place, stands_at(work));
         let length = self.read_bytes(work).len() as u16;
@@ -123,7 +124,7 @@ impl<'f> Plan<'f> {
             }
             Step::ClearWait(ms) | Step::PollWait(ms) => Action::Wait(ms),
             Step::ClearStatus => ask(Request::ClrStatus),
-            Step::Send => self.sends(work, self.command_of(work, place)),
+            Step::Send => self.send_command(work, self.command_of(work, place)),
             Step::Read => self.upload(work, place),
             Step::Close => download(&[]),
         }

@@ -1,6 +1,6 @@
 // Of crates/dfuse_host/src/clearing.rt, whose contracts are taken away.
 
-//! Clearing: orders of an earlier session are dropped, and waited for, but never started.
+//! Clearing: commands of an earlier session are dropped, or waited for, but never started.
 
 use crate::dfuse::session::command::cleared;
 use crate::dfuse::session::heard::Heard;
@@ -16,20 +16,22 @@ use crate::wire::{Code, State, Status};
 /// Milliseconds to wait for a status that was asked for too early.
 pub(crate) const TOO_EARLY_MS: u32 = 100;
 
-/// Returns the phase if the device is in dfuERROR with `code` while `work` reads bytes back.
-fn ends_comparing(work: Work, code: Code) -> Phase {
+/// Returns the phase after dfuERROR with `code` while `work` reads bytes back.
+fn phase_after_comparing_fault(work: Work, code: Code) -> Phase {
     match code {
         Code::StalledPkt => stand(work, Place::Lost, Step::ClearStatus),
         _ => Phase::Over(Report::Refused(code)),
     }
 }
 
-/// Returns the phase if the device is in dfuERROR with `code`.
-fn fault_found(work: Work, code: Code) -> Phase {
+/// Returns the phase after dfuERROR with `code` while the device is cleared.
+fn phase_after_fault(work: Work, code: Code) -> Phase {
     match (work, code) {
         (Work::Erase { .. }, _) => stand(work, Place::Lost, Step::ClearStatus),
         (_, Code::Vendor) => Phase::Over(Report::ReadProtected),
-        (Work::Compare { .. } | Work::CompareFront { .. }, _) => ends_comparing(work, code),
+        (Work::Compare { .. } | Work::CompareFront { .. }, _) => phase_after_comparing_fault(
+            work, code,
+        ),
         _ => stand(work, Place::Lost, Step::ClearStatus),
     }
 }
@@ -40,12 +42,12 @@ fn status_found(work: Work, status: &Status) -> Phase {
         State::AppIdle | State::AppDetach => Phase::Over(Report::NotDfu),
         State::DfuIdle => stand(work, Place::Lost, Step::AskState),
         State::DownloadIdle | State::UploadIdle => cleared(work),
-        State::Error => fault_found(work, status.code()),
+        State::Error => phase_after_fault(work, status.code()),
         _ => stand(work, Place::Lost, Step::ClearWait(status.poll_ms())),
     }
 }
 
-/// Returns the phase after ABORT, to which `heard` is the result.
+/// Returns the phase after ABORT with the result `heard`, while the device is cleared.
 pub(crate) fn on_abort(work: Work, heard: &Heard) -> Phase {
     match heard {
         Heard::Acked | Heard::Stalled => stand(work, Place::Lost, Step::AskState),
@@ -53,7 +55,7 @@ pub(crate) fn on_abort(work: Work, heard: &Heard) -> Phase {
     }
 }
 
-/// Returns the phase after GETSTATUS, to which `heard` is the result, while the device is cleared.
+/// Returns the phase after GETSTATUS with the result `heard`, while the device is cleared.
 pub(crate) fn on_ask_status(work: Work, heard: &Heard) -> Phase {
     match heard {
         Heard::Told(status) => status_found(work, status),
@@ -62,7 +64,7 @@ pub(crate) fn on_ask_status(work: Work, heard: &Heard) -> Phase {
     }
 }
 
-/// Returns the phase after a wait of `ms` milliseconds, while the device is cleared.
+/// Returns the phase after a wait of `ms` milliseconds with the result `heard`, while the device is cleared.
 pub(crate) fn on_clear_wait(work: Work, ms: u32, heard: &Heard) -> Phase {
     match heard {
         Heard::Waited => stand(work, Place::Lost, Step::AskState),
@@ -84,7 +86,7 @@ impl Plan<'_> {
         }
     }
 
-    /// Returns the phase after GETSTATE, to which `heard` is the result, while the device is cleared.
+    /// Returns the phase after GETSTATE with the result `heard`, while the device is cleared.
     pub(crate) fn on_ask_state(&self, work: Work, heard: &Heard) -> Phase {
         match heard {
             Heard::StateIs(state) => self.state_found(work, *state),

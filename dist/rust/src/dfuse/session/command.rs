@@ -9,7 +9,7 @@ use crate::dfuse::session::plan::Plan;
 use crate::dfuse::session::step::Step;
 use crate::dfuse::session::work::Work;
 
-/// Command that a DNLOAD brings.
+/// Command that a DNLOAD carries.
 #[derive(Clone, Copy, Debug, PartialEq, Eq)]
 pub(crate) enum Command {
     /// Set the address pointer.
@@ -20,9 +20,8 @@ pub(crate) enum Command {
     Write(u64),
 }
 
-/// Returns the command that comes next for the bytes at `at`: their write, if the pointer is at `at`, and else the setting of the pointer
-/// to `at`.
-fn writing(place: Place, at: u64) -> Command {
+/// Returns the next command to write the bytes at `at`: their write if `place` is At this address, else the setting of the pointer.
+fn command_to_write(place: Place, at: u64) -> Command {
     match place {
         Place::At(pointer) if pointer == at => Command::Write(at),
         _ => Command::SetAddress(at),
@@ -44,13 +43,13 @@ impl Plan<'_> {
         match work {
             Work::Erase { at } => Command::ErasePage(self.page_start(at)),
             Work::EraseAgain { page, .. } => Command::ErasePage(page),
-            Work::Write { at, .. } | Work::WriteFront { at } => writing(place, at),
+            Work::Write { at, .. } | Work::WriteFront { at } => command_to_write(place, at),
             Work::Compare { at } | Work::CompareFront { at } => Command::SetAddress(at),
             Work::Leave => Command::SetAddress(self.start as u64),
         }
     }
 
-    /// Returns the address up to which `work` goes.
+    /// Returns the address at which `work` ends; 0 for Leave.
     pub(crate) fn end_of_work(&self, work: Work) -> u64 {
         match work {
             Work::EraseAgain { end, .. } | Work::Write { end, .. } => end,
@@ -89,7 +88,7 @@ impl Plan<'_> {
         }
     }
 
-    /// Returns the work that follows `work` if a write of it may have stopped halfway.
+    /// Returns the work that repeats a write of `work` that may have stopped halfway; other works stay.
     fn again(&self, work: Work) -> Work {
         match work {
             Work::Write { at, end } => Work::EraseAgain {
@@ -104,8 +103,8 @@ impl Plan<'_> {
         }
     }
 
-    /// Returns the phase if `command` may have been started, and its end isn't known.
-    pub(crate) fn unsure(&self, work: Work, command: Command) -> Phase {
+    /// Returns the phase after `command`, if it may have been started and its end isn't known.
+    pub(crate) fn phase_when_unsure(&self, work: Work, command: Command) -> Phase {
         match command {
             Command::SetAddress(_) | Command::ErasePage(_) => cleared(work),
             Command::Write(_) => cleared(self.again(work)),

@@ -1,6 +1,6 @@
 // Of crates/dfuse_host/src/heard.rt, whose contracts are taken away.
 
-//! Meaning of results.
+//! Meanings of results for a session.
 
 use crate::dfuse::session::plan::Plan;
 use crate::dfuse::session::seen::Seen;
@@ -11,18 +11,25 @@ use crate::wire::{State, Status};
 /// Meaning of the result of an action.
 #[derive(Clone, Copy, Debug, PartialEq, Eq)]
 pub(crate) enum Heard {
+    /// The request was acknowledged.
     Acked,
+    /// GETSTATUS was answered with this status.
     Told(Status),
+    /// GETSTATE was answered with this state.
     StateIs(State),
-    /// Bytes were read back, as many as were asked for; true if they are those of the image.
+    /// The bytes asked for were read back; true if they equal the image's.
     Compared(bool),
+    /// The request was stalled.
     Stalled,
+    /// The request or its answer was lost, or the answer has no meaning.
     Nothing,
+    /// The wait is over.
     Waited,
+    /// The device was restarted.
     Restarted,
 }
 
-/// Reads `bytes` as the answer to GETSTATUS; Nothing if they are none.
+/// Reads `bytes` as the answer to GETSTATUS; Nothing if they are no status.
 fn status_in(bytes: &[u8]) -> Heard {
     match Status::decode(bytes) {
         Ok(status) => Heard::Told(status),
@@ -30,7 +37,7 @@ fn status_in(bytes: &[u8]) -> Heard {
     }
 }
 
-/// Reads `bytes` as the answer to GETSTATE, of one byte; Nothing if they are none.
+/// Reads `bytes` as the answer to GETSTATE, of one byte; Nothing if they are no state.
 fn state_in(bytes: &[u8]) -> Heard {
     match bytes {
         [byte] => match State::from_byte(*byte) {
@@ -41,7 +48,7 @@ fn state_in(bytes: &[u8]) -> Heard {
     }
 }
 
-/// Compares `bytes`, which UPLOAD answered, with `wanted`; Nothing if their number differs.
+/// Compares `bytes`, the answer to UPLOAD, with `wanted`; Nothing if the lengths differ.
 fn compared(wanted: &[u8], bytes: &[u8]) -> Heard {
     if bytes.len() == wanted.len() {
         Heard::Compared(bytes == wanted)
@@ -51,8 +58,8 @@ fn compared(wanted: &[u8], bytes: &[u8]) -> Heard {
 }
 
 impl Plan<'_> {
-    /// Returns the meaning of `bytes` that come at `step` of `work`.
-    fn answered(&self, work: Work, step: Step, bytes: &[u8]) -> Heard {
+    /// Returns the meaning of `bytes` as an answer at `step` of `work`; Nothing if the step asks for no bytes.
+    fn answer_meaning(&self, work: Work, step: Step, bytes: &[u8]) -> Heard {
         match step {
             Step::AskState | Step::Probe | Step::CloseProbe => state_in(bytes),
             Step::AskStatus | Step::Poll(_) | Step::ClosePoll => status_in(bytes),
@@ -65,7 +72,7 @@ impl Plan<'_> {
     pub(crate) fn hear(&self, work: Work, step: Step, seen: Seen<'_>) -> Heard {
         match seen {
             Seen::Ack => Heard::Acked,
-            Seen::Bytes(bytes) => self.answered(work, step, bytes),
+            Seen::Bytes(bytes) => self.answer_meaning(work, step, bytes),
             Seen::Stall => Heard::Stalled,
             Seen::Nothing => Heard::Nothing,
             Seen::Waited => Heard::Waited,

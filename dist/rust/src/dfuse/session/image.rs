@@ -24,7 +24,7 @@ pub(crate) fn element_at<'f>(at: u64, image: &[Element<'f>]) -> Option<Element<'
     None
 }
 
-/// Returns the first address from `at` on for which `image` has a byte; None if there is none.
+/// Returns the first address from `at` on at which `image`, whose elements ascend and have bytes, has a byte; None if there is none.
 pub(crate) fn next_byte(at: u64, image: &[Element<'_>]) -> Option<u64> {
     for element in image {
         if at < end_of(element) {
@@ -34,7 +34,7 @@ pub(crate) fn next_byte(at: u64, image: &[Element<'_>]) -> Option<u64> {
     None
 }
 
-/// Returns the address of the first byte of `image`; 0 if it has no element.
+/// Returns the address at which the first element of `image` begins; 0 if it has no element.
 pub(crate) fn image_start(image: &[Element<'_>]) -> u64 {
     if image.len() == 0 {
         return 0;
@@ -42,7 +42,7 @@ pub(crate) fn image_start(image: &[Element<'_>]) -> u64 {
     image[0].address as u64
 }
 
-/// Returns the address after the last byte of `image`; 0 if it has no element.
+/// Returns the highest address at which an element of `image` ends; 0 if it has no element.
 pub(crate) fn image_end(image: &[Element<'_>]) -> u64 {
     let mut end = 0;
     for element in image {

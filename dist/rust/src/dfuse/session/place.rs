@@ -9,6 +9,6 @@ pub enum Place {
     Lost,
     /// The pointer was set to this address.
     At(u64),
-    /// The pointer was set to this address, and the device is ready for UPLOAD, or in the middle of it.
+    /// The pointer was set to this address, and the device is ready for UPLOAD, or is uploading.
     Reading(u64),
 }

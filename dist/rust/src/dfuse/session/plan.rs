@@ -1,6 +1,6 @@
 // Of crates/dfuse_host/src/plan.rt, whose contracts are taken away.
 
-//! Plan of a session.
+//! Plan of a session: an image, and the memory for it.
 
 use crate::dfuse::session::image::{element_at, end_of, image_start};
 use crate::dfuse::file::Element;
@@ -11,20 +11,20 @@ use crate::dfuse::memory::{Map, Page};
 pub struct Plan<'f> {
     /// Map of the memory.
     pub map: &'f Map<'f>,
-    /// Image that is to be written.
+    /// Image to write.
     pub image: &'f [Element<'f>],
     /// Largest number of bytes of a block.
     pub transfer: u16,
-    /// Number of bytes of the image that are written last of all, as far as its first element and its first page have them.
+    /// Number of bytes at the beginning of the image that are written last. Only bytes in the first element and its first page count.
     pub front: u16,
-    /// True if the device is to leave once all was compared.
+    /// True if the device must leave once the whole image was compared.
     pub leaves: bool,
-    /// The address at which the device is to start its application.
+    /// Address at which the device must start its application.
     pub start: u32,
 }
 
 impl Plan<'_> {
-    /// Returns the page of the map that has address `at`; None if none has.
+    /// Returns the page of the map that has address `at`; None if no page has it.
     fn page_of(&self, at: u64) -> Option<Page> {
         if at >= 0x1_0000_0000 {
             return None;
@@ -67,13 +67,13 @@ impl Plan<'_> {
         (self.transfer as u64).max(1)
     }
 
-    /// Returns the address, at most `end`, after the bytes from `at` on that are written at once.
+    /// Returns the address after the bytes from `at` on that one DNLOAD writes, at most `end`.
     pub(crate) fn write_end(&self, at: u64, end: u64) -> u64 {
         at.saturating_add(self.block_size())
             .min(self.element_end(at).min(self.page_end(at)).min(end))
     }
 
-    /// Returns the address, at most `end`, after the bytes from `at` on that are read at once.
+    /// Returns the address after the bytes from `at` on that one UPLOAD reads, at most `end`.
     pub(crate) fn read_end(&self, at: u64, end: u64) -> u64 {
         at.saturating_add(self.block_size())
             .min(self.element_end(at).min(end))

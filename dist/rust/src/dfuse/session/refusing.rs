@@ -8,7 +8,7 @@ use crate::dfuse::session::plan::Plan;
 use crate::dfuse::file::Element;
 use crate::dfuse::memory::Access;
 
-/// Returns true if `image` has no element, or one without bytes.
+/// Returns true if `image` has no element, or an element without bytes.
 fn is_empty(image: &[Element<'_>]) -> bool {
     image.len() == 0 || has_empty(image)
 }
@@ -48,7 +48,7 @@ fn are_apart(image: &[Element<'_>]) -> bool {
 }
 
 impl Plan<'_> {
-    /// Returns true if the pages of the image grant `wanted`.
+    /// Returns true if the pages of the image grant the access `wanted`.
     fn grants(&self, wanted: Access) -> bool {
         for element in self.image {
             if !self
@@ -61,7 +61,7 @@ impl Plan<'_> {
         true
     }
 
-    /// Checks the plan, and returns its first fault.
+    /// Checks the plan, and returns its first fault, if it has one.
     pub(crate) fn check(&self) -> Result<(), PlanFault> {
         let wants = |is_readable: bool, is_erasable: bool, is_writable: bool| Access {
             is_readable,

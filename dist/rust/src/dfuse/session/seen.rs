@@ -1,11 +1,11 @@
 // Of crates/dfuse_host/src/seen.rt, whose contracts are taken away.
 
-//! Results that a session is given.
+//! Results that the caller gives a session.
 
 /// Result of an action. A result that doesn't fit the action is taken as [`Seen::Nothing`].
 #[derive(Clone, Copy, Debug, PartialEq, Eq)]
 pub enum Seen<'s> {
-    /// A request that has no answer of bytes was acknowledged.
+    /// A request whose answer has no bytes was acknowledged.
     Ack,
     /// A request was answered with these bytes, of any length.
     Bytes(&'s [u8]),

@@ -1,6 +1,6 @@
 // Of crates/dfuse_host/src/sending.rt, whose contracts are taken away.
 
-//! A command: DNLOAD brings it, and the GETSTATUS after it starts it.
+//! Commands: a DNLOAD brings the command, and the GETSTATUS after it starts the command.
 
 use crate::dfuse::session::clearing::TOO_EARLY_MS;
 use crate::dfuse::session::command::cleared;
@@ -14,7 +14,7 @@ use crate::dfuse::session::step::Step;
 use crate::dfuse::session::work::Work;
 use crate::wire::{Code, State, Status};
 
-/// Returns the phase after the DNLOAD of a command, to which `heard` is the result.
+/// Returns the phase after the DNLOAD of a command, with the result `heard`.
 pub(crate) fn on_send(work: Work, place: Place, heard: &Heard) -> Phase {
     match heard {
         Heard::Acked => stand(work, place, Step::Poll(0)),
@@ -22,7 +22,7 @@ pub(crate) fn on_send(work: Work, place: Place, heard: &Heard) -> Phase {
     }
 }
 
-/// Returns the phase after a wait of `ms` milliseconds, until a command should be done.
+/// Returns the phase after a wait of `ms` milliseconds for a command, with the result `heard`.
 pub(crate) fn on_poll_wait(work: Work, place: Place, ms: u32, heard: &Heard) -> Phase {
     match heard {
         Heard::Waited => stand(work, place, Step::Poll(ms)),
@@ -30,32 +30,32 @@ pub(crate) fn on_poll_wait(work: Work, place: Place, ms: u32, heard: &Heard) -> 
     }
 }
 
-/// Returns the milliseconds to wait for a status that is stalled.
+/// Returns the milliseconds to wait after a stalled GETSTATUS: as many as at the last wait for the command, or 100 if these are 0.
 fn stalled_ms(last: u32) -> u32 {
     if last == 0 { TOO_EARLY_MS } else { last }
 }
 
 impl Plan<'_> {
-    /// Returns the phase if the command of `work` at `place` may have been started, and its end isn't known.
-    fn unsure_of(&self, work: Work, place: Place) -> Phase {
-        self.unsure(work, self.command_of(work, place))
+    /// Returns the phase after the command of `work` at `place`, if it may have been started and its end isn't known.
+    fn on_unsure_command(&self, work: Work, place: Place) -> Phase {
+        self.phase_when_unsure(work, self.command_of(work, place))
     }
 
-    /// Returns the phase after `state`, that of a device whose answer to a command was lost.
+    /// Returns the phase after `state` of a device that didn't acknowledge a command.
     fn probed(&self, work: Work, place: Place, state: State) -> Phase {
         match state {
             State::DownloadSync => stand(work, place, Step::Poll(0)),
             State::DfuIdle | State::DownloadIdle => stand(work, place, Step::Send),
             State::Error => cleared(work),
-            _ => self.unsure_of(work, place),
+            _ => self.on_unsure_command(work, place),
         }
     }
 
-    /// Returns the phase after GETSTATE, which asks if a command came.
+    /// Returns the phase after GETSTATE, which asks if a command arrived.
     pub(crate) fn on_probe(&self, work: Work, place: Place, heard: &Heard) -> Phase {
         match heard {
             Heard::StateIs(state) => self.probed(work, place, *state),
-            Heard::Stalled => self.unsure_of(work, place),
+            Heard::Stalled => self.on_unsure_command(work, place),
             _ => stand(work, place, Step::Probe),
         }
     }
@@ -63,28 +63,28 @@ impl Plan<'_> {
     /// Returns the phase after a command that ended in dfuERROR with `code`.
     fn refused(&self, work: Work, place: Place, code: Code) -> Phase {
         match code {
-            Code::StalledPkt => self.unsure_of(work, place),
+            Code::StalledPkt => self.on_unsure_command(work, place),
             Code::Vendor => Phase::Over(Report::ReadProtected),
             _ => Phase::Over(Report::Refused(code)),
         }
     }
 
-    /// Returns the phase after `status`, which follows a command.
-    fn polled(&self, work: Work, place: Place, status: &Status) -> Phase {
+    /// Returns the phase after `status`, asked for after a command.
+    fn on_polled_status(&self, work: Work, place: Place, status: &Status) -> Phase {
         match status.state() {
             State::DownloadSync | State::DownloadBusy => {
                 stand(work, place, Step::PollWait(status.poll_ms()))
             }
             State::DownloadIdle => self.done(work, self.command_of(work, place)),
             State::Error => self.refused(work, place, status.code()),
-            _ => self.unsure_of(work, place),
+            _ => self.on_unsure_command(work, place),
         }
     }
 
     /// Returns the phase after GETSTATUS, which starts a command, or asks if it is done.
     pub(crate) fn on_poll(&self, work: Work, place: Place, last: u32, heard: &Heard) -> Phase {
         match heard {
-            Heard::Told(status) => self.polled(work, place, status),
+            Heard::Told(status) => self.on_polled_status(work, place, status),
             Heard::Stalled => stand(work, place, Step::PollWait(stalled_ms(last))),
             _ => stand(work, place, Step::Poll(last)),
         }

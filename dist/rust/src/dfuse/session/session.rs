@@ -15,18 +15,20 @@ use crate::dfuse::session::seen::Seen;
 use crate::dfuse::session::step::Step;
 use crate::dfuse::session::work::Work;
 
-/// A session: its plan, its phase, and what is left of its limits. A session is plain data, which can be kept between two calls.
+/// A session: its plan, its phase, and the rest of its limits. A session is plain data, which a caller can keep between two calls.
 #[derive(Clone, Copy, Debug, PartialEq, Eq)]
 pub struct Session<'f> {
+    /// Image, and the memory for it.
     pub plan: Plan<'f>,
+    /// Standing of the session, or its report once it is over.
     pub phase: Phase,
-    /// Number of actions that are left.
+    /// Number of actions left.
     pub actions: u32,
-    /// Number of restarts of the device that are still taken.
+    /// Number of further restarts of the device that the session takes.
     pub restarts: u16,
 }
 
-/// Returns the way in which the device left, if it was asked to leave by `step`.
+/// Returns the leaving of a session that ends at `step`: Unknown once the device was asked to leave, else Stayed.
 fn left_at(step: Step) -> Leaving {
     match step {
         Step::Close | Step::CloseProbe | Step::ClosePoll => Leaving::Unknown,
@@ -35,64 +37,64 @@ fn left_at(step: Step) -> Leaving {
 }
 
 /// Returns the phase once no action is left, in `work` at `step`.
-fn spent_at(work: Work, step: Step) -> Phase {
+fn phase_without_actions(work: Work, step: Step) -> Phase {
     match work {
         Work::Leave => Phase::Over(Report::Verified(left_at(step))),
         _ => Phase::Over(Report::GaveUp),
     }
 }
 
-/// Returns `phase` if a session with `left` actions left can be in it, and else the phase in which the session is over.
-fn budgeted(left: u32, phase: Phase) -> Phase {
+/// Returns the phase after the budget check: with no actions left, a session that isn't over ends.
+fn budget_phase(left: u32, phase: Phase) -> Phase {
     match phase {
         Phase::Over(_) => phase,
-        Phase::On(at) if left == 0 => spent_at(at.work, at.step),
+        Phase::On(at) if left == 0 => phase_without_actions(at.work, at.step),
         Phase::On(_) => phase,
     }
 }
 
 impl<'f> Session<'f> {
     /// Returns the session after one action that leads to `phase`, with `restarts` restarts left.
-    fn spent(self, phase: Phase, restarts: u16) -> Session<'f> {
+    fn spend_action(self, phase: Phase, restarts: u16) -> Session<'f> {
         let actions = self.actions.saturating_sub(1);
         Session {
             plan: self.plan,
-            phase: budgeted(actions, phase),
+            phase: budget_phase(actions, phase),
             actions,
             restarts,
         }
     }
 
-    /// Returns the phase in which the session goes on after a restart at `at`.
+    /// Returns the phase in which the session resumes after a restart at `at`.
     fn resumed(self, at: Standing) -> Phase {
         match at.step {
             Step::Poll(_) | Step::PollWait(_) => {
                 self.plan
-                    .unsure(at.work, self.plan.command_of(at.work, at.place))
+                    .phase_when_unsure(at.work, self.plan.command_of(at.work, at.place))
             }
             _ => cleared(at.work),
         }
     }
 
     /// Returns the session after a restart at `at`; over as RestartsSpent if no restart is left.
-    fn restarted_once(self, at: Standing) -> Session<'f> {
+    fn take_restart(self, at: Standing) -> Session<'f> {
         if self.restarts == 0 {
-            return self.spent(Phase::Over(Report::RestartsSpent), 0);
+            return self.spend_action(Phase::Over(Report::RestartsSpent), 0);
         }
         let phase = self.resumed(at);
-        self.spent(phase, self.restarts - 1)
+        self.spend_action(phase, self.restarts - 1)
     }
 
-    /// Returns the session after a restart at `at`, once all was compared.
+    /// Returns the session after a restart at `at`, once the whole image was compared.
     fn restarted_leaving(self, at: Standing) -> Session<'f> {
         match at.step {
             Step::Close | Step::CloseProbe | Step::ClosePoll => {
-                self.spent(
+                self.spend_action(
                     Phase::Over(Report::Verified(Leaving::Unknown)),
                     self.restarts,
                 )
             }
-            _ => self.restarted_once(at),
+            _ => self.take_restart(at),
         }
     }
 
@@ -100,23 +102,22 @@ impl<'f> Session<'f> {
     fn restarted(self, at: Standing) -> Session<'f> {
         match at.work {
             Work::Leave => self.restarted_leaving(at),
-            _ => self.restarted_once(at),
+            _ => self.take_restart(at),
         }
     }
 
-    /// Returns the session after `heard` at `at`.
+    /// Returns the session after the result `heard` at `at`.
     fn after(self, at: Standing, heard: Heard) -> Session<'f> {
         match heard {
             Heard::Restarted => self.restarted(at),
-            _ => self.spent(
+            _ => self.spend_action(
                 self.plan.row(at.work, at.place, at.step, &heard),
                 self.restarts,
             ),
         }
     }
 
-    /// Begins a session that is to write an image, and to read it back. The front is written last, so that no image starts that is partly
-    /// old.
+    /// Begins a session that writes an image and reads it back. The front is written last, so that no image starts that is partly old.
     ///
     /// # Errors
     ///
@@ -135,12 +136,12 @@ impl<'f> Session<'f> {
         }
     }
 
-    /// Returns the next action. Nothing changes, so that a caller may ask again.
+    /// Returns the next action. The call changes nothing, so it may be repeated.
     pub fn next(&self) -> Action<'f> {
         self.plan.action(self.phase)
     }
 
-    /// Gives the session the result of its action. Whatever came, the session is over after at most `actions` calls, or after one if the
+    /// Gives the session the result of its action. With any results, the session is over after at most `actions` calls, or after one if the
     /// limits have 0. From then on nothing changes.
     pub fn take(&mut self, seen: Seen<'_>) {
         if let Phase::On(at) = self.phase {

@@ -1,6 +1,6 @@
 // Of crates/dfuse_host/src/settling.rt, whose contracts are taken away.
 
-//! Order of works: the next one once the device is ready for a command.
+//! Order of works: the next work once the device is ready for a command.
 
 use crate::dfuse::session::image::{element_at, image_end, image_start, next_byte};
 use crate::dfuse::session::phase::{Phase, Standing};
@@ -10,12 +10,12 @@ use crate::dfuse::session::report::{Leaving, Report};
 use crate::dfuse::session::step::Step;
 use crate::dfuse::session::work::Work;
 
-/// Returns the phase that goes on with `work`, `place` and `step`.
+/// Returns the phase with `work`, `place` and `step`.
 pub(crate) fn stand(work: Work, place: Place, step: Step) -> Phase {
     Phase::On(Standing { work, place, step })
 }
 
-/// Returns the step that leads to a command from `place`.
+/// Returns the next step from `place` towards a command.
 fn sending(place: Place) -> Step {
     match place {
         Place::Lost | Place::At(_) => Step::Send,
@@ -24,7 +24,7 @@ fn sending(place: Place) -> Step {
 }
 
 impl Plan<'_> {
-    /// Returns the address of the first byte of the image from `at` to before `end`; None if there is none.
+    /// Returns the address of the image's next byte from `at` on, if it is before `end`; else None.
     fn byte_in(&self, at: u64, end: u64) -> Option<u64> {
         match next_byte(at, self.image) {
             Some(byte) if byte < end => Some(byte),
@@ -32,7 +32,7 @@ impl Plan<'_> {
         }
     }
 
-    /// Returns true if the bytes from `at` on can be asked for, from `base`, the address to which the pointer was set.
+    /// Returns true if an UPLOAD block begins at `at`, in the same element, with the pointer set to `base`.
     fn can_read(&self, base: u64, at: u64) -> bool {
         if at < base {
             return false;
@@ -48,8 +48,8 @@ impl Plan<'_> {
         }
     }
 
-    /// Returns the step from `place` that leads to reading back the bytes at `at`.
-    fn comparing(&self, at: u64, place: Place) -> Step {
+    /// Returns the next step from `place` towards reading back the bytes at `at`.
+    fn read_step(&self, at: u64, place: Place) -> Step {
         match place {
             Place::Lost => Step::Send,
             Place::At(pointer) if pointer == at => Step::BeginReading,
@@ -59,7 +59,7 @@ impl Plan<'_> {
         }
     }
 
-    /// Returns the phase at the end, when all was compared.
+    /// Returns the phase after the whole image was compared.
     fn to_leave(&self, place: Place) -> Phase {
         match place {
             Place::Reading(_) => stand(Work::Leave, place, Step::EndReading),
@@ -77,7 +77,7 @@ impl Plan<'_> {
     fn to_compare_front(&self, place: Place, at: u64) -> Phase {
         match self.byte_in(at, self.front_end()) {
             None => self.to_leave(place),
-            Some(at) => stand(Work::CompareFront { at }, place, self.comparing(at, place)),
+            Some(at) => stand(Work::CompareFront { at }, place, self.read_step(at, place)),
         }
     }
 
@@ -89,11 +89,11 @@ impl Plan<'_> {
         }
     }
 
-    /// Returns the phase that compares all but the front from `at` on.
+    /// Returns the phase that compares the image after the front, from `at` on.
     fn to_compare(&self, place: Place, at: u64) -> Phase {
         match self.byte_in(at, image_end(self.image)) {
             None => self.to_write_front(place, image_start(self.image)),
-            Some(at) => stand(Work::Compare { at }, place, self.comparing(at, place)),
+            Some(at) => stand(Work::Compare { at }, place, self.read_step(at, place)),
         }
     }
 
@@ -113,7 +113,7 @@ impl Plan<'_> {
         }
     }
 
-    /// Returns the phase of `work` once the device is ready for a command.
+    /// Returns the next phase of `work` once the device is ready for a command.
     pub(crate) fn settle(&self, work: Work, place: Place) -> Phase {
         match work {
             Work::Erase { at } => self.to_erase(place, at),

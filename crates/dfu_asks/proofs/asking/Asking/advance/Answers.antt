@@ -5,15 +5,15 @@ use Rattle.dfu_asks.specs.Carried.{total, bytes_after_writes, EndsAtPiece}
 use Rattle.dfu_asks.specs.Asks.{IsWorkingForRow, writes_in, steps_in}
 use Rattle.dfu_device.specs.declared.answer.Answer.{Answer}
 use Rattle.dfu_asks.specs.Calls.{CallCompleted, outcome_asks, outcome_answered}
-use Rattle.dfu_asks.proofs.Calling.{kept_work_is_unique, bytes_left_with_piece, answer_in_same_setting}
+use Rattle.dfu_asks.proofs.Calling.{kept_work_is_unique, work_with_piece_has_bytes_left, answer_same_in_equal_setting}
 use Rattle.dfu_asks.proofs.Ended.{carried_writes_end_row, empty_work_ends_row}
 use Rattle.dfu_asks.proofs.asking.Asking.advance.Goals as goal
 
--- A call that has ended with an answer has ended with an equal one.
-ended_with_equal_answer : (flash out out' : List ℕ) (now : LentDevice) (Row : Answer → List ℕ → Type 0) (x y : Answer) (count n : ℕ) →
+-- A call that is complete with an answer is complete with an equal answer.
+equal_answer_completes_call : (flash out out' : List ℕ) (now : LentDevice) (Row : Answer → List ℕ → Type 0) (x y : Answer) (count n : ℕ) →
     x ≡ y → count ≡ n
     → CallCompleted flash y n out out' now Row → CallCompleted flash x count out out' now Row
-ended_with_equal_answer flash out out' now Row x y count n same size e =
+equal_answer_completes_call flash out out' now Row x y count n same size e =
     subst (λ (z : Answer). CallCompleted flash z count out out' now Row) (sym same)
     (subst (λ (k : ℕ). CallCompleted flash y k out out' now Row) (sym size) e)
 
@@ -27,7 +27,7 @@ returns-then-len-gt0-clause-outcome c = λ work len s was kept working is reache
       work = v;
       work_is = c.in-Some.is;
       working = subst (λ (x : PendingWrites). IsWorkingForRow l x len s was) same working;
-      left = bytes_left_with_piece l v nx.piece nx.is;
+      left = work_with_piece_has_bytes_left l v nx.piece nx.is;
       flash_is = subst (λ (x : PendingWrites). c.args.flash.now ≡ bytes_after_writes was (writes_in l x) x.done) same is;
       reached = subst (λ (x : PendingWrites). EndsAtPiece (steps_in l x) x.done) same reached;
     }) refl refl
@@ -45,7 +45,7 @@ returns-clause-outcome c = λ work len s was kept working is reached.
     c.args.out.now c.answer-answer.new.out (subst (λ (x : PendingWrites). c.args.flash.now ≡ bytes_after_writes was (writes_in l x) x.done)
     same is)
     le c.finish.ensures.finished
-    (answer_in_same_setting c.args.self.now.config c.finish.new.self.config c.finish.new.self.mode v.asked c.answer-answer.result.0
+    (answer_same_in_equal_setting c.args.self.now.config c.finish.new.self.config c.finish.new.self.mode v.asked c.answer-answer.result.0
     c.answer-answer.result.1 c.args.out.now c.answer-answer.new.out c.finish.ensures.same.config c.answer-answer.ensures))
 
 pub returns-clause-begun : goal.returns-clause-begun
@@ -56,14 +56,14 @@ returns-clause-begun c = λ work len s x count kept working none is.
     let le = c.look_at-len.ensures.none (omega (arith, c.if-len-gt0.false)) in
     let answer_is : x ≡ c.answer-answer.result.0 = cc in
     let count_is : count ≡ c.answer-answer.result.1 = cc in
-    ended_with_equal_answer c.args.flash.now c.args.out.now c.answer-answer.new.out (lent c.finish.new.self c.args.block.now
+    equal_answer_completes_call c.args.flash.now c.args.out.now c.answer-answer.new.out (lent c.finish.new.self c.args.block.now
     c.finish.new.held) _ _ _ _ _
     answer_is count_is
     (empty_work_ends_row l (lent c.finish.new.self c.args.block.now c.finish.new.held) v len s c.args.flash.now
     (subst (λ (y : PendingWrites). IsWorkingForRow l y len s c.args.flash.now) same working)
     c.finish.ensures.notes c.answer-answer.result.0 c.answer-answer.result.1
     c.args.out.now c.answer-answer.new.out (omega (arith, le, none, ap (λ (y : PendingWrites). y.done) same)) c.finish.ensures.finished
-    (answer_in_same_setting c.args.self.now.config c.finish.new.self.config c.finish.new.self.mode v.asked c.answer-answer.result.0
+    (answer_same_in_equal_setting c.args.self.now.config c.finish.new.self.config c.finish.new.self.mode v.asked c.answer-answer.result.0
     c.answer-answer.result.1 c.args.out.now c.answer-answer.new.out c.finish.ensures.same.config c.answer-answer.ensures))
 
 pub returns-then-len-gt0-clause-more : goal.returns-then-len-gt0-clause-more
@@ -72,7 +72,7 @@ returns-then-len-gt0-clause-more c = λ work kept.
     let v = c.in-Some.work in
     let same = kept_work_is_unique v work (sym c.in-Some.is ∙ kept) in
     let nx = c.look_at-len.ensures.next c.if-len-gt0.true in (
-      λ asks. subst (λ (x : PendingWrites). x.done < total (writes_in l x)) same (bytes_left_with_piece l v nx.piece nx.is),
+      λ asks. subst (λ (x : PendingWrites). x.done < total (writes_in l x)) same (work_with_piece_has_bytes_left l v nx.piece nx.is),
       λ left. refl,
     )
 

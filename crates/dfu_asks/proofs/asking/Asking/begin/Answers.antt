@@ -3,7 +3,7 @@ use Rattle.dfu_device.specs.DeviceView.{DeviceView}
 use Rattle.dfu_device.specs.Stage.{InDfuIdle}
 use Rattle.dfu_device.specs.declared.device_state.DeviceState.TheVariants as device_state
 use Rattle.dfu_asks.specs.Lent.{lent}
-use Rattle.dfu_asks.proofs.Refuses.{device_enters_mode}
+use Rattle.dfu_asks.proofs.Refuses.{filled_mode_may_be_entered}
 use Rattle.dfu_asks.proofs.asking.Asking.begin.Goals as goal
 
 pub returns-clause-device : goal.returns-clause-device
@@ -12,5 +12,6 @@ returns-clause-device c block held =
 
 pub returns-clause-is : goal.returns-clause-is
 returns-clause-is c block held =
-    device_enters_mode (lent c.in_ok-device.device block held) device_state.DfuIdle c.args.flash.now (c.in_ok-device.ensures.is block held)
+    filled_mode_may_be_entered (lent c.in_ok-device.device block held) device_state.DfuIdle c.args.flash.now
+    (c.in_ok-device.ensures.is block held)
     refl

@@ -8,7 +8,7 @@ use Rattle.dfu_asks.specs.declared.pending_writes.SlotWrite.{SlotWrite}
 use Rattle.dfu_asks.specs.Lent.{lent}
 use Rattle.dfu_asks.specs.Due.{IsDueStage}
 use Rattle.dfu_asks.specs.Asks.{flash_store, IsCommitJob, IsJobOfMode}
-use Rattle.dfu_asks.proofs.Working.{block_in_device, commit_in_device}
+use Rattle.dfu_asks.proofs.Working.{unwritten_block_may_be_written, due_commit_commits_all_puts}
 use Rattle.dfu_asks.proofs.asking.Asking.begin_job.Goals as goal
 
 pub returns-in-DownloadSync-clause-due : goal.returns-in-DownloadSync-clause-due
@@ -18,7 +18,8 @@ returns-in-DownloadSync-clause-due c = λ block xs ys asked len is due.
     let n = c.in-DownloadSync.written in
     let sound = subst (λ (m : DeviceState). IsTrue (are_device_parts m (length l.block) s)) c.in-DownloadSync.is is.sound in
     subst (λ (m : DeviceState). IsJobOfMode m s c.block_job.result.0 c.block_job.result.2 (take c.block_job.result.1 c.args.held.now))
-    (sym c.in-DownloadSync.is) (c.block_job.ensures.job block c.args.held.now is (block_in_device n (length l.block) s sound).before)
+    (sym c.in-DownloadSync.is)
+    (c.block_job.ensures.job block c.args.held.now is (unwritten_block_may_be_written n (length l.block) s sound).before)
 
 pub returns-in-DownloadBusy-clause-due : goal.returns-in-DownloadBusy-clause-due
 returns-in-DownloadBusy-clause-due c = λ block xs ys asked len is due.
@@ -28,12 +29,12 @@ returns-in-DownloadBusy-clause-due c = λ block xs ys asked len is due.
     let job = c.block_job-in-DownloadBusy in
     let sound = subst (λ (m : DeviceState). IsTrue (are_device_parts m (length l.block) s)) c.in-DownloadBusy.is is.sound in
     subst (λ (m : DeviceState). IsJobOfMode m s job.result.0 job.result.2 (take job.result.1 c.args.held.now))
-    (sym c.in-DownloadBusy.is) (job.ensures.job block c.args.held.now is (block_in_device n (length l.block) s sound).before)
+    (sym c.in-DownloadBusy.is) (job.ensures.job block c.args.held.now is (unwritten_block_may_be_written n (length l.block) s sound).before)
 
--- A commit that is due is of all that was put.
-commit_job_of_all_puts : (n : ℕ) (s : SlotsState) (j : SlotWrite) (held : List ℕ) → is_begun s && (s.put_end == n) ≡ true
+-- The job that commits all bytes put is the job that commits n bytes, if n bytes were put.
+all_puts_job_commits_n_bytes : (n : ℕ) (s : SlotsState) (j : SlotWrite) (held : List ℕ) → is_begun s && (s.put_end == n) ≡ true
     → IsCommitJob s.put_end s j s.put_end held → IsCommitJob n s j s.put_end held
-commit_job_of_all_puts n s j held put is =
+all_puts_job_commits_n_bytes n s j held put is =
     subst (λ (k : ℕ). IsCommitJob k s j s.put_end held) (eqb-true _ _ (and_parts (is_begun s) (s.put_end == n) put).1) is
 
 due_commit_job : (m : DeviceState) (b : ℕ) (xs ys : List ℕ) (asked : Option ℕ) (len : ℕ) (s : SlotsState) (j : SlotWrite) (held : List ℕ)
@@ -45,9 +46,9 @@ due_commit_job (device_state.DownloadSync n number) b xs ys asked len s j held s
 due_commit_job (device_state.DownloadBusy n number passed) b xs ys asked len s j held sync busy sound due is = absurd (busy n number passed
     refl)
 due_commit_job (device_state.ManifestSync n) b xs ys asked len s j held sync busy sound due is =
-    commit_job_of_all_puts n s j held (commit_in_device n s sound).put is
+    all_puts_job_commits_n_bytes n s j held (due_commit_commits_all_puts n s sound).put is
 due_commit_job (device_state.Manifest n passed) b xs ys asked len s j held sync busy sound due is =
-    commit_job_of_all_puts n s j held (commit_in_device n s sound).put is
+    all_puts_job_commits_n_bytes n s j held (due_commit_commits_all_puts n s sound).put is
 due_commit_job m b xs ys asked len s j held sync busy sound due is = absurd due
 
 pub returns-in_default : goal.returns-in_default

@@ -6,8 +6,8 @@ use Rattle.dfu_slots.specs.StoreView.{is_begun}
 use Rattle.dfu_asks.specs.declared.pending_writes.SlotWrite.TheVariants.{Block}
 use Rattle.dfu_asks.specs.Lent.{lent}
 use Rattle.dfu_asks.specs.Asks.{flash_store}
-use Rattle.dfu_asks.proofs.Calling.{mapped_by_device_grain}
-use Rattle.dfu_asks.proofs.Noting.{slot_beside_noted_is_spare, open_gate_by_not_begun}
+use Rattle.dfu_asks.proofs.Calling.{equal_grains_make_equal_media}
+use Rattle.dfu_asks.proofs.Noting.{slot_beside_noted_is_spare, gate_open_exactly_if_not_begun}
 use Rattle.dfu_asks.proofs.asking.Asking.block_job.Goals as goal
 
 pub returns-then-written-eq0-clause-job : goal.returns-then-written-eq0-clause-job
@@ -17,11 +17,11 @@ returns-then-written-eq0-clause-job c = λ block held is before.
     let s = flash_store (lent a block held) flash in
     let n = c.args.written in
     let none : n ≡ 0 = c.if-written-eq0.true in
-    let same = mapped_by_device_grain flash c.requires.unit c.requires.sector in
+    let same = equal_grains_make_equal_media flash c.requires.unit c.requires.sector in
     let spare : c.args.view.now.spare ≡ spare_at (gate_of s.medium) s.medium.bytes =
     c.requires.view.spare ∙ slot_beside_noted_is_spare a.noted s.medium is.noted in
     let gate : c.is_open.result ≡ ((n == 0) && not (is_begun s)) =
-    c.is_open.ensures ∙ (λ i. (slot_of (same i) (spare i)).gate == OPEN) ∙ open_gate_by_not_begun s
+    c.is_open.ensures ∙ (λ i. (slot_of (same i) (spare i)).gate == OPEN) ∙ gate_open_exactly_if_not_begun s
     ∙ ap (λ (k : ℕ). (k == 0) && not (is_begun s)) (sym none) in
     record {
       job_is = λ i. Block (spare i) (gate i);

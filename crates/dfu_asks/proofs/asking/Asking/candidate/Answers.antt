@@ -7,11 +7,11 @@ use Rattle.dfu_device.proofs.Candidates.{IsPutLength, candidate_length_was_put, 
 use Rattle.dfu_asks.specs.Lent.{lent}
 use Rattle.dfu_asks.specs.Asks.{flash_store, device_in}
 use Rattle.dfu_asks.specs.Noted.{NotedIsOnFlash, other_slot_place}
-use Rattle.dfu_asks.proofs.Calling.{no_work_if_none_kept}
+use Rattle.dfu_asks.proofs.Calling.{no_work_if_is_some_is_false}
 use Rattle.dfu_asks.proofs.Noting.{slot_beside_noted_is_spare}
 use Rattle.dfu_asks.proofs.asking.Asking.candidate.Goals as goal
 
--- The mode of a device says no more bytes than an image may have.
+-- The length of a candidate is at most the room for an image.
 pub returns-then-len-view-clause-refused : goal.returns-then-len-view-clause-refused
 returns-then-len-view-clause-refused c block held =
     let a = c.args.self.now in
@@ -19,7 +19,7 @@ returns-then-len-view-clause-refused c block held =
     let s = flash_store l c.args.flash.now in
     let med = c.in-Some.ensures.some in
     let len : candidate_length a.mode ≡ Some c.in-Some-candidate_len.len = sym c.candidate_len.ensures ∙ c.in-Some-candidate_len.is in (
-      no_work_if_none_kept a.work (sym c.is_some.ensures ∙ c.if-is_some.false),
+      no_work_if_is_some_is_false a.work (sym c.is_some.ensures ∙ c.if-is_some.false),
       omega arith,
       subst (λ (x : MediumState). NotedIsOnFlash a.noted x) med c.in-Some-look.ensures.stands,
       λ kept.

@@ -12,14 +12,14 @@ use Rattle.dfu_device.specs.DeviceView.{profile}
 use Rattle.dfu_device.specs.Parts.{view_of_parts, is_filled}
 use Rattle.dfu_device.specs.Rows.{Done}
 use Rattle.dfu_device.specs.Decision.{plan_of, IsPossibleDecision, HasTimeInputs}
-use Rattle.dfu_device.proofs.Carried.{holds_time, filled_mode_is_device_part}
+use Rattle.dfu_device.proofs.Carried.{parts_have_time_inputs, filled_mode_is_device_part}
 use Rattle.dfu_asks.specs.Lent.{lent}
 use Rattle.dfu_asks.specs.Due.{plan_of_decision, wanted_status_length, IsStorelessPlan, SendsWithin}
 use Rattle.dfu_asks.specs.Asks.{flash_store, store_with_unseen, device_with, IsReplyInMode}
-use Rattle.dfu_asks.proofs.Unseen.{image_with_unseen, spare_with_unseen}
-use Rattle.dfu_asks.proofs.Calling.{mapped_by_device_grain, call_ended_in_mode, call_begins_due_row}
+use Rattle.dfu_asks.proofs.Unseen.{image_ignores_unseen, spare_ignores_unseen}
+use Rattle.dfu_asks.proofs.Calling.{equal_grains_make_equal_media, call_setting_mode_is_complete, call_begins_due_row}
 use Rattle.dfu_asks.specs.Mapped.{mapped_medium}
-use Rattle.dfu_asks.proofs.Sending.{image_is_active_data_front, active_data_holds_image, range_of_list_front, image_bytes_counted, count_of_image_bytes, IsModeAfterUpload, mode_after_asks_nothing, sent_bytes_are_upload_row}
+use Rattle.dfu_asks.proofs.Sending.{image_is_active_data_front, active_data_holds_image, prefix_bytes_are_list_bytes, counted_bytes_are_image_bytes, count_is_sent_length, IsModeAfterUpload, mode_after_upload_needs_no_bytes, sent_bytes_are_upload_row}
 use Rattle.dfu_asks.proofs.asking.Asking.carry_out.Goals as goal
 use Rattle.dfu_asks.proofs.asking.Asking.carry_out.Goals.{then-count-from, else-count-from}
 
@@ -39,9 +39,9 @@ returns-in-Sure-clause-outcome c = λ kept possible due within.
     possible in
     let whole : length l.block ≡ n = omega (arith, length-take n c.args.block.now, kept.fits.block) in
     let holds : HasTimeInputs m n (spare_of s) l.block = subst (λ (k : ℕ). HasTimeInputs m k (spare_of s) l.block) whole
-    (holds_time m l.block s (filled_mode_is_device_part l.mode m (length l.block) s kept.is.sound can)) in
+    (parts_have_time_inputs m l.block s (filled_mode_is_device_part l.mode m (length l.block) s kept.is.sound can)) in
     let body = c.args.body.now in
-    call_ended_in_mode l m l.block flash kept.is can
+    call_setting_mode_is_complete l m l.block flash kept.is can
     c.requires.idle c.give-answer.result.0 c.give-answer.result.1 c.args.out.now c.give-answer.new.out g.sent
     (λ d x sent d'. Done (plan_of_decision l.block body c.args.decision d) len d x sent d') g.count_is g.out_is
     (λ u.
@@ -51,7 +51,7 @@ returns-in-Sure-clause-outcome c = λ kept possible due within.
     (view_of_parts l.config t m l.block))
     (sym c.in-Sure.is) (
       says (room_of t) (spare_of t) l.block
-          (subst (λ (x : List ℕ). HasTimeInputs m n x l.block) (sym (spare_with_unseen u s)) holds),
+          (subst (λ (x : List ℕ). HasTimeInputs m n x l.block) (sym (spare_ignores_unseen u s)) holds),
       refl,
     ))
 
@@ -71,7 +71,7 @@ returns-in-Holds-clause-outcome c = λ kept possible due within.
     let held : take n (c.copy_from_slice.new.self ++ drop n block) ≡ body =
     ap (λ (x : List ℕ). take n (x ++ drop n block)) front ∙ take_at body (drop n block) n (sym whole) in
     let now = take n (c.copy_from_slice.new.self ++ drop n block) in
-    call_ended_in_mode l m now flash kept.is (subst (λ (x : List ℕ). IsTrue (is_filled m (length x) s)) (sym held) can.1)
+    call_setting_mode_is_complete l m now flash kept.is (subst (λ (x : List ℕ). IsTrue (is_filled m (length x) s)) (sym held) can.1)
     c.requires.idle answer.Ack 0 c.args.out.now c.args.out.now []
     (λ d x sent d'. Done (plan_of_decision l.block body c.args.decision d) (wanted_status_length c.args.asked) d x sent d') refl refl
     (λ u.
@@ -93,7 +93,7 @@ returns-after-count-from-clause-outcome c = λ kept possible due within.
     let image = image_of s in
     let part = take size (drop place image) in
     let k = c.args.medium.now in
-    let same = mapped_by_device_grain flash c.requires.unit c.requires.sector in
+    let same = equal_grains_make_equal_media flash c.requires.unit c.requires.sector in
     let here : v.active ≡ active_at (gate_of s.medium) s.medium.bytes = c.requires.view.active ∙ kept.is.noted.place in
     let front : image ≡ take v.len (slot_of s.medium v.active).data_bytes = image_is_active_data_front s v.active v.len here
     (c.requires.view.len ∙ ap (λ (at : ℕ). header_length (slot_of s.medium at)) (sym c.requires.view.active)) in
@@ -110,8 +110,8 @@ returns-after-count-from-clause-outcome c = λ kept possible due within.
     v.active).data_bytes)
     ≡ part =
     ap (λ (x : MediumState). take count (drop place (slot_of x v.active).data_bytes)) same
-    ∙ sym (range_of_list_front (slot_of s.medium v.active).data_bytes place v.len count (omega (arith, sized, long)))
-    ∙ ap (λ (x : List ℕ). take count (drop place x)) (sym front) ∙ image_bytes_counted image place size count sized in
+    ∙ sym (prefix_bytes_are_list_bytes (slot_of s.medium v.active).data_bytes place v.len count (omega (arith, sized, long)))
+    ∙ ap (λ (x : List ℕ). take count (drop place x)) (sym front) ∙ counted_bytes_are_image_bytes image place size count sized in
     let m = c.if-count-from.self in
     let after : IsModeAfterUpload count size place c.in-Sends.number m = elim c.if-count-from.branch [
       | then-count-from x ↦ record {
@@ -123,11 +123,11 @@ returns-after-count-from-clause-outcome c = λ kept possible due within.
         more = λ le. x.self-is ∙ ap (λ (n : ℕ). device_state.UploadIdle (place + n) c.in-Sends.number) x.from-else-count-from.ensures;
       }
     ] in
-    call_ended_in_mode l m l.block flash kept.is
-    (mode_after_asks_nothing count size place c.in-Sends.number m (length l.block) s after)
+    call_setting_mode_is_complete l m l.block flash kept.is
+    (mode_after_upload_needs_no_bytes count size place c.in-Sends.number m (length l.block) s after)
     c.requires.idle answer.Bytes count c.args.out.now c.put_image-count.new.out part
     (λ d x sent d'. Done (plan_of_decision l.block body c.args.decision d) len d x sent d')
-    (count_of_image_bytes image place size count sized)
+    (count_is_sent_length image place size count sized)
     (c.put_image-count.ensures.bytes ∙ ap (λ (x : List ℕ). x ++ drop count c.args.out.now) sent)
     (λ u.
     let t = store_with_unseen u s in
@@ -135,8 +135,8 @@ returns-after-count-from-clause-outcome c = λ kept possible due within.
     subst (λ (k : Decision). Done (plan_of_decision l.block body k d) len d answer.Bytes part (view_of_parts l.config t m l.block))
     (sym c.in-Sends.is)
     (subst (λ (x : List ℕ). Done (plan_of (profile d) x (spare_of t) l.block body (decision.Sends place size c.in-Sends.number)) len d
-    answer.Bytes part (view_of_parts l.config t m l.block)) (sym (image_with_unseen u s))
-    (sent_bytes_are_upload_row d len part l.block size place c.in-Sends.number m count (count_of_image_bytes image place size count sized)
+    answer.Bytes part (view_of_parts l.config t m l.block)) (sym (image_ignores_unseen u s))
+    (sent_bytes_are_upload_row d len part l.block size place c.in-Sends.number m count (count_is_sent_length image place size count sized)
     after)))
 
 pub returns-in-Writes-clause-outcome : goal.returns-in-Writes-clause-outcome

@@ -6,14 +6,14 @@ use Rattle.dfu_asks.specs.declared.asking.Asking.{Asking}
 use Rattle.dfu_asks.specs.Lent.{lent}
 use Rattle.dfu_asks.specs.Asks.{device_in, flash_store}
 use Rattle.dfu_asks.specs.Times.{due_of, ChangesOnceDue}
-use Rattle.dfu_asks.proofs.DueTimes.{times_in_each_mode}
+use Rattle.dfu_asks.proofs.DueTimes.{each_mode_changes_when_due}
 use Rattle.dfu_asks.proofs.asking.Asking.due.Goals as goal
 use Rattle.std.proofs.lemmas.List.{length-take}
 use Rattle.dfu_device.specs.Decision.{HasTimeInputs}
-use Rattle.dfu_device.proofs.Carried.{holds_time}
+use Rattle.dfu_device.proofs.Carried.{parts_have_time_inputs}
 use Rattle.dfu_asks.specs.Refused.{IsDeviceOn}
 
--- A fact that follows from another one of each value follows for the value that is there, or for none.
+-- If P implies Q of each value, then P of the value in an option implies Q of it.
 implied_for_some : {X : Type 0} (P Q : X → Type 0) (o : Option X) → ((x : X) → P x → Q x) → IfSome o P → IfSome o Q
 implied_for_some P Q (Some x) follows is = follows x is
 implied_for_some P Q None follows is = tt
@@ -22,28 +22,28 @@ implied_for_none : {X A B : Type 0} (o : Option X) → (A → B) → IfNone o A 
 implied_for_none (Some x) follows is = tt
 implied_for_none None follows is = follows is
 
--- A change is due when the mode says so.
-change_due_by_mode : (a : Asking) (block held flash : List ℕ) (ms : ℕ) (d' : DeviceView) → IsDeviceOn a block held flash
+-- The state of a device changes after the time that its mode gives.
+state_changes_by_mode_time : (a : Asking) (block held flash : List ℕ) (ms : ℕ) (d' : DeviceView) → IsDeviceOn a block held flash
     → Elapses ms (device_in (lent a block held) flash) d'
     → ChangesOnceDue (due_of a.config a.mode a.block_len) ms (device_in (lent a block held) flash) d'
-change_due_by_mode a block held flash ms d' kept went =
+state_changes_by_mode_time a block held flash ms d' kept went =
     let l = lent a block held in
     let s = flash_store l flash in
     let whole : length l.block ≡ a.block_len = omega (arith, length-take a.block_len block, kept.fits.block) in
-    times_in_each_mode ms (device_in l flash) d' a.mode a.block_len (spare_of s) l.block
-    (subst (λ (n : ℕ). HasTimeInputs a.mode n (spare_of s) l.block) whole (holds_time a.mode l.block s kept.is.sound)) refl went
+    each_mode_changes_when_due ms (device_in l flash) d' a.mode a.block_len (spare_of s) l.block
+    (subst (λ (n : ℕ). HasTimeInputs a.mode n (spare_of s) l.block) whole (parts_have_time_inputs a.mode l.block s kept.is.sound)) refl went
 
 pub returns-clause-some : goal.returns-clause-some
 returns-clause-some c =
     let a = c.args.self.now in
     implied_for_some (λ (n : ℕ). n ≡ due_of a.config a.mode a.block_len) _ c.mode_due.result
     (λ n is block held flash ms d' kept went. subst (λ (k : ℕ). ChangesOnceDue k ms (device_in (lent a block held) flash) d') (sym is)
-    (change_due_by_mode a block held flash ms d' kept went))
+    (state_changes_by_mode_time a block held flash ms d' kept went))
     c.mode_due.ensures.some
 
 pub returns-clause-none : goal.returns-clause-none
 returns-clause-none c =
     let a = c.args.self.now in
-    implied_for_none c.mode_due.result (λ none block held flash ms d' kept went. (change_due_by_mode a block held flash ms d' kept
+    implied_for_none c.mode_due.result (λ none block held flash ms d' kept went. (state_changes_by_mode_time a block held flash ms d' kept
     went).none none)
     c.mode_due.ensures.none

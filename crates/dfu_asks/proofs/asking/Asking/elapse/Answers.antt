@@ -8,16 +8,16 @@ use Rattle.dfu_device.specs.Table.{Plan, time_plan}
 use Rattle.dfu_device.specs.DeviceView.{DeviceView, profile, profile_of}
 use Rattle.dfu_device.specs.Rows.{Done, Elapses}
 use Rattle.dfu_device.specs.Decision.{IsPossibleDecision, DecidesTime}
-use Rattle.dfu_device.proofs.Carried.{parts_filled_by_mode}
+use Rattle.dfu_device.proofs.Carried.{parts_have_mode_bytes}
 use Rattle.dfu_asks.specs.Lent.{lent}
 use Rattle.dfu_asks.specs.Mapped.{UnseenState}
 use Rattle.dfu_asks.specs.Due.{plan_of_decision, IsStorelessOrDue}
 use Rattle.dfu_asks.specs.Asks.{flash_store, device_with}
 use Rattle.dfu_asks.specs.Calls.{PlansAreStorelessOrDue, DeviceCalled}
 use Rattle.dfu_asks.specs.Refused.{IsDeviceOn}
-use Rattle.dfu_asks.proofs.Calling.{call_answered_by_row}
-use Rattle.dfu_asks.proofs.Quiet.{time_plan_storeless_or_due, time_plan_acknowledges, decision_on_time_is_row}
-use Rattle.dfu_asks.proofs.Unseen.{room_with_unseen, device_parts_with_unseen}
+use Rattle.dfu_asks.proofs.Calling.{call_answered_by_implied_row}
+use Rattle.dfu_asks.proofs.Quiet.{time_plan_is_storeless_or_due, time_plan_acknowledges, decision_on_time_is_row}
+use Rattle.dfu_asks.proofs.Unseen.{room_with_unseen, parts_stay_with_unseen}
 use Rattle.dfu_asks.proofs.Sending.{time_decision_sends_nothing}
 use Rattle.dfu_asks.proofs.asking.Asking.elapse.Goals as goal
 
@@ -47,21 +47,21 @@ returns-clause-outcome c = λ kept.
     let w = device_with u l flash in
     decision_on_time_is_row c.profile-profile.result c.args.ms l.mode l.block d w (c.profile-profile.ensures.profile
     ∙ ap (λ (n : ℕ). profile_of l.config n) (sym c.profile-profile.ensures.capacity ∙ room ∙ sym (room_with_unseen u s)))
-    (device_parts_with_unseen u s l.mode (length l.block) here.is.sound) refl
+    (parts_stay_with_unseen u s l.mode (length l.block) here.is.sound) refl
     (subst (λ (n : ℕ). DecidesTime c.profile-profile.result l.mode n c.args.ms d) whole c.decide_time-decision.ensures.row) in
     let possible : IsPossibleDecision l.config.functional.transfer (length l.block) 0 s d =
     subst (λ (t : ℕ). IsPossibleDecision t (length l.block) 0 s d) c.profile-profile.ensures.transfer
-    (c.decide_time-decision.ensures.possible (length l.block) s (sym room) (parts_filled_by_mode l.mode (length l.block) s here.is.sound))
+    (c.decide_time-decision.ensures.possible (length l.block) s (sym room) (parts_have_mode_bytes l.mode (length l.block) s here.is.sound))
     in
     let due : PlansAreStorelessOrDue (plan_of_decision l.block [] d) l flash None 0 = λ u.
     let w = device_with u l flash in
-    subst (λ (z : Plan). IsStorelessOrDue z (profile w) w.stage None 0) (sym (row u)) (time_plan_storeless_or_due (profile w) w.stage
+    subst (λ (z : Plan). IsStorelessOrDue z (profile w) w.stage None 0) (sym (row u)) (time_plan_is_storeless_or_due (profile w) w.stage
     c.args.ms) in
     let Row : DeviceView → Answer → List ℕ → DeviceView → Type 0 =
     λ w x sent d'. (x ≡ answer.Ack) × (sent ≡ []) × Elapses c.args.ms w d' in (
       c.carry_out.new.out,
       subst (λ (f : List ℕ). DeviceCalled l f zeros Row now c.carry_out.new.out c.carry_out.result) same_flash
-          (call_answered_by_row l flash zeros (λ w x sent d'. Done (plan_of_decision l.block [] d w) 0 w x sent d') Row now
+          (call_answered_by_implied_row l flash zeros (λ w x sent d'. Done (plan_of_decision l.block [] d w) 0 w x sent d') Row now
           c.carry_out.new.out
           c.carry_out.result
           (λ u x sent d' done.

@@ -2,7 +2,7 @@ use Rattle.dfu_asks.specs.Cuts.{step_of_cut}
 use Rattle.dfu_asks.specs.Asks.{steps_in}
 use Rattle.dfu_asks.specs.Lent.{lent}
 use Rattle.dfu_asks.proofs.Calling.{true_test_holds, negation_true_if_false, no_bytes_left}
-use Rattle.dfu_asks.proofs.Cutting.{cut_step_size, found_piece_is_in_work, none_left_in_steps}
+use Rattle.dfu_asks.proofs.Cutting.{cut_step_has_piece_size, found_piece_is_in_work, none_left_in_steps}
 use Rattle.dfu_asks.proofs.asking.Asking.look_at.Goals as goal
 
 pub returns-clause-next : goal.returns-clause-next
@@ -10,7 +10,7 @@ returns-clause-next c = λ some.
     let w = c.args.work.now in
     let yes = true_test_holds c.next_piece.result c.if-not-next_piece.false in
     let cut = c.next_piece.new.cut in
-    let size = cut_step_size _ cut (c.next_piece.ensures.is yes) in
+    let size = cut_step_has_piece_size _ cut (c.next_piece.ensures.is yes) in
     record {
       piece = step_of_cut cut;
       is = found_piece_is_in_work (lent c.args.self.now c.args.block.now c.args.held.now) w c.stock.result c.stock.ensures.steps

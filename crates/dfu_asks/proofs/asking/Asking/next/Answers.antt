@@ -5,8 +5,8 @@ use Rattle.dfu_asks.specs.Steps.{Step}
 use Rattle.dfu_asks.specs.Carried.{total, IsStepPiece, ErasesSectorOrPrograms}
 use Rattle.dfu_asks.specs.Cuts.{zero_padded_source}
 use Rattle.dfu_asks.specs.Asks.{writes_in, steps_in}
-use Rattle.dfu_asks.proofs.Cutting.{cut_step_size, found_piece_is_in_work, none_left_in_steps}
-use Rattle.dfu_asks.proofs.Calling.{kept_work_is_unique, true_test_holds, not_true_if_false, negation_true_if_false, piece_of_equal_work, asked_piece_is_unique, bytes_left_with_piece, no_bytes_left}
+use Rattle.dfu_asks.proofs.Cutting.{cut_step_has_piece_size, found_piece_is_in_work, none_left_in_steps}
+use Rattle.dfu_asks.proofs.Calling.{kept_work_is_unique, true_test_holds, not_true_if_false, negation_true_if_false, piece_of_equal_work, asked_piece_is_unique, work_with_piece_has_bytes_left, no_bytes_left}
 use Rattle.dfu_asks.proofs.Shut.{asked_piece_in_closed_slot}
 use Rattle.dfu_asks.proofs.Sound.{asked_piece_erases_sector}
 use Rattle.dfu_asks.proofs.asking.Asking.next.Goals as goal
@@ -21,7 +21,7 @@ returns-then-not-next_piece-clause-none c = λ w p is piece sound.
     absurd (omega (
       arith,
       le,
-      bytes_left_with_piece a v p (piece_of_equal_work a w v p (kept_work_is_unique w v (sym is
+      work_with_piece_has_bytes_left a v p (piece_of_equal_work a w v p (kept_work_is_unique w v (sym is
           ∙ c.in_ok-work.was)) piece),
     ))
 
@@ -52,7 +52,7 @@ returns-then-is_spare-clause-due c =
     let found = found_piece_is_in_work a v c.stock.result c.stock.ensures.steps c.cut_at-cut.result c.cut_at-cut.ensures.stock
     c.cut_at-cut.ensures.rest
     _ (c.next_piece.ensures.found (true_test_holds c.next_piece.result c.if-not-next_piece.false)) in
-    (v, record { work_is = c.in_ok-work.was; left = bytes_left_with_piece a v _ found })
+    (v, record { work_is = c.in_ok-work.was; left = work_with_piece_has_bytes_left a v _ found })
 
 pub returns-then-not-is_sound-clause-none : goal.returns-then-not-is_sound-clause-none
 returns-then-not-is_sound-clause-none c = λ w p is piece sound.
@@ -93,7 +93,7 @@ returns-else-is_spare-clause-none c = λ w p is piece sound slot either low high
     let one = asked_piece_is_unique a v w p _ (kept_work_is_unique w v (sym is ∙ c.in_ok-work.was)) piece found in
     let place = ap (λ (y : Step). y.write.at) one in
     let size : length p.write.bytes ≡ c.next_piece.new.cut.piece.len =
-    ap (λ (y : Step). length y.write.bytes) one ∙ (cut_step_size _ c.next_piece.new.cut (c.next_piece.ensures.is (true_test_holds
+    ap (λ (y : Step). length y.write.bytes) one ∙ (cut_step_has_piece_size _ c.next_piece.new.cut (c.next_piece.ensures.is (true_test_holds
     c.next_piece.result c.if-not-next_piece.false))) in
     c.is_spare.ensures.no (negation_true_if_false c.is_spare.result c.if-is_spare.false) slot either (omega (arith, low, place))
     (omega (arith, high, place, size))
@@ -111,7 +111,7 @@ returns-else-is_spare-clause-goes c = λ len s was k.
     (omega (
       arith,
       g.high,
-      (cut_step_size _ c.next_piece.new.cut (c.next_piece.ensures.is (true_test_holds c.next_piece.result
+      (cut_step_has_piece_size _ c.next_piece.new.cut (c.next_piece.ensures.is (true_test_holds c.next_piece.result
           c.if-not-next_piece.false))),
     )) in
     ⊎_elim (λ shut. shut no.0) (λ there. no.1 there.0 there.1) g.shut

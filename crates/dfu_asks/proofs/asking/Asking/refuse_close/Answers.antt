@@ -2,7 +2,7 @@ use Rattle.std.proofs.Common.{length, refl, sym, ◌∙◌}
 use Rattle.std.proofs.lemmas.Bool.{false≢true}
 use Rattle.dfu_asks.specs.Lent.{lent}
 use Rattle.dfu_asks.specs.Asks.{flash_store}
-use Rattle.dfu_asks.proofs.Refuses.{device_enters_mode}
+use Rattle.dfu_asks.proofs.Refuses.{filled_mode_may_be_entered}
 use Rattle.dfu_asks.proofs.asking.Asking.refuse_close.Goals as goal
 
 pub returns-then-not-mode_closes-clause-closes : goal.returns-then-not-mode_closes-clause-closes
@@ -20,5 +20,5 @@ returns-clause-closes c block held flash is =
 pub returns-clause-is : goal.returns-clause-is
 returns-clause-is c block held flash is =
     let l = lent c.args.self.now block held in
-    device_enters_mode l c.after_refused_close-self.result flash is
+    filled_mode_may_be_entered l c.after_refused_close-self.result flash is
     (c.after_refused_close-self.ensures.filled (length l.block) (flash_store l flash))

@@ -13,7 +13,7 @@ pub returns-in-Some-clause-is : goal.returns-in-Some-clause-is
 returns-in-Some-clause-is c block held flash is =
     (c.in-Some.ensures.row (lent c.args.self.now block held) flash (record { config_is = refl; mode_is = refl; device = is })).0
 
--- A fact about one of the two lengths is the same, however it was shown.
+-- A device stays equal if the proofs of its two length bounds are replaced.
 length_facts_are_unique : (a : Asking) (short : a.block_len ≤ 4096) (few : a.held_len ≤ 256) → record a { short = short; few = few } ≡ a
 length_facts_are_unique a short few = λ i. record a { short = le_prop short a.short i; few = le_prop few a.few i }
 

@@ -12,27 +12,27 @@ use Rattle.dfu_asks.specs.Steps.{Step}
 use Rattle.dfu_asks.specs.declared.pending_writes.PendingWrites.{PendingWrites}
 use Rattle.dfu_asks.specs.Carried.{total, bytes_after_writes, EndsAtPiece}
 use Rattle.dfu_asks.specs.Asks.{writes_in, steps_in, device_in, device_of, IsWorkingForRow}
-use Rattle.dfu_asks.specs.Calls.{CallCompleted, DevicePieceReported, piece_stood, piece_failed_on_flash, piece_not_on_flash}
+use Rattle.dfu_asks.specs.Calls.{CallCompleted, DevicePieceReported, piece_on_flash, piece_write_failed, piece_not_on_flash}
 use Rattle.dfu_asks.proofs.Pieces.{next_piece_ends_at_piece}
-use Rattle.dfu_asks.proofs.Calling.{kept_work_is_unique, true_test_holds, not_true_if_false, asked_piece_is_unique, next_piece_size, piece_taken_from_device, failed_piece_ends_row, standing_piece_goes_on}
+use Rattle.dfu_asks.proofs.Calling.{kept_work_is_unique, true_test_holds, not_true_if_false, asked_piece_is_unique, asked_piece_has_next_size, report_of_piece_is_accepted, failed_piece_ends_row, stored_piece_advances_series}
 use Rattle.dfu_asks.proofs.asking.Asking.took.Goals as goal
 
--- A piece that did not go well, and did not fail, is not on the flash.
-unfailed_bad_piece_not_there : (failed stands : Bool) → not failed && stands ≡ false → failed ≡ false → stands ≡ false
-unfailed_bad_piece_not_there true stands e works = cc
-unfailed_bad_piece_not_there false stands e works = e
+-- The bytes of a piece that did not go well, and did not fail, are not on the flash.
+unfailed_bad_piece_is_not_there : (failed stands : Bool) → not failed && stands ≡ false → failed ≡ false → stands ≡ false
+unfailed_bad_piece_is_not_there true stands e works = cc
+unfailed_bad_piece_is_not_there false stands e works = e
 
 -- A piece that went well did not fail.
 works : (failed stands : Bool) → not failed && stands ≡ true → failed ≡ false
 works true stands e = cc
 works false stands e = refl
 
--- A piece that went well is on the flash.
+-- The bytes of a piece that went well are on the flash.
 well_piece_is_on_flash : (failed stands : Bool) → not failed && stands ≡ true → stands ≡ true
 well_piece_is_on_flash true stands e = cc
 well_piece_is_on_flash false stands e = e
 
--- The row ends with the fault of a piece that failed, or that is not on the flash.
+-- The row is broken off by the fault of a piece that failed, or whose bytes are not on the flash.
 bad_piece_ends_row : (d : DeviceView) (len : ℕ) (s : SlotsState) (was : List ℕ) (p : Write) (failed : Bool) (flash out : List ℕ) (now :
     LentDevice)
     (out' : List ℕ) (x : Answer) (count : ℕ) (fault : WriteFault) → fault ≡ (if failed then Failed else NotVerified)
@@ -40,7 +40,7 @@ bad_piece_ends_row : (d : DeviceView) (len : ℕ) (s : SlotsState) (was : List �
     → CallCompleted flash x count out out' now (λ y sent. DueRowFails fault len d y sent (device_in now flash))
     → DevicePieceReported d len s was p failed flash out now out' (reply.Answered x count)
 bad_piece_ends_row d len s was p true flash out now out' x count fault is other ended =
-    piece_failed_on_flash x count refl refl
+    piece_write_failed x count refl refl
     (subst (λ (f : WriteFault). CallCompleted flash x count out out' now (λ y sent. DueRowFails f len d y sent (device_in now flash))) is
     ended)
 bad_piece_ends_row d len s was p false flash out now out' x count fault is other ended =
@@ -61,7 +61,7 @@ returns-then-not-went_well-clause-outcome c = λ len s was before asks p piece t
     bad_piece_ends_row (device_of a s) len s was p.write c.args.failed c.args.flash.now c.args.out.now now fail.new.out
     fail.result.0 fail.result.1 c.fault_of.result c.fault_of.ensures
     (λ works st. not_true_if_false c.look_at-len.result.1
-    (unfailed_bad_piece_not_there c.args.failed c.look_at-len.result.1 (sym c.went_well.ensures ∙ c.if-not-went_well.true) works)
+    (unfailed_bad_piece_is_not_there c.args.failed c.look_at-len.result.1 (sym c.went_well.ensures ∙ c.if-not-went_well.true) works)
     (nx.there.1
     (subst (λ (y : Step). slice_range c.args.flash.now y.write.at (y.write.at + length y.write.bytes) ≡ y.write.bytes) one st)))
     (failed_piece_ends_row a len s was before asks p piece c.args.flash.now torn c.fault_of.result now w.asked
@@ -83,15 +83,15 @@ returns-clause-outcome c = λ len s was before asks p piece torn.
     let there : slice_range flash p.write.at (p.write.at + length p.write.bytes) ≡ p.write.bytes =
     subst (λ (y : Step). slice_range flash y.write.at (y.write.at + length y.write.bytes) ≡ y.write.bytes) (sym one)
     (nx.there.0 on) in
-    let size : length p.write.bytes ≡ n = next_piece_size a w asks.work p flash _ _ same piece nx in
+    let size : length p.write.bytes ≡ n = asked_piece_has_next_size a w asks.work p flash _ _ same piece nx in
     let fits : p.write.at + length p.write.bytes ≤ length flash =
     omega (arith, nx.within on, ap (λ (y : Step). y.write.at) one, size) in
     let k : IsWorkingForRow a w len s was = subst (λ (x : PendingWrites). IsWorkingForRow a x len s was) same asks.working in
     let further : PendingWrites = record { job = w.job; asked = w.asked; done = w.done + n } in
     let stood : flash ≡ bytes_after_writes was (writes_in a w) (w.done + length p.write.bytes) =
     subst (λ (x : PendingWrites). flash ≡ bytes_after_writes was (writes_in a x) (x.done + length p.write.bytes)) same
-    (standing_piece_goes_on a len s was before asks p piece flash torn fits there) in
-    piece_stood (works c.args.failed c.look_at-len.result.1 (sym c.went_well.ensures ∙ c.if-not-went_well.false)) there
+    (stored_piece_advances_series a len s was before asks p piece flash torn fits there) in
+    piece_on_flash (works c.args.failed c.look_at-len.result.1 (sym c.went_well.ensures ∙ c.if-not-went_well.false)) there
     (c.advance.ensures.outcome further len s was refl
     (record { medium = k.medium; store = k.store; sound = k.sound; due = k.due; noted = k.noted })
     (stood ∙ ap (λ (m : ℕ). bytes_after_writes was (writes_in a w) (w.done + m)) size)
@@ -103,7 +103,7 @@ pub returns-then-not-went_well-clause-taken : goal.returns-then-not-went_well-cl
 returns-then-not-went_well-clause-taken c =
     let w = c.in-Some.work in
     let nx = c.look_at-len.ensures.next (omega (arith, c.if-len-eq0.false)) in
-    piece_taken_from_device (lent c.args.self.now c.args.block.now c.args.held.now) w nx.piece (length c.args.out.now)
+    report_of_piece_is_accepted (lent c.args.self.now c.args.block.now c.args.held.now) w nx.piece (length c.args.out.now)
     (omega (arith, c.if-out-lt6.false)) c.in-Some.is nx.is
 
 pub returns-then-not-went_well-clause-on : goal.returns-then-not-went_well-clause-on
@@ -114,7 +114,7 @@ returns-then-not-went_well-clause-on c = λ w p is piece.
     let one : p ≡ nx.piece = asked_piece_is_unique a v w p nx.piece (kept_work_is_unique w v (sym is ∙ c.in-Some.is)) piece nx.is in (
       λ asks. cc,
       λ on. absurd (not_true_if_false c.look_at-len.result.1
-          (unfailed_bad_piece_not_there c.args.failed c.look_at-len.result.1 (sym c.went_well.ensures ∙ c.if-not-went_well.true) on.well)
+          (unfailed_bad_piece_is_not_there c.args.failed c.look_at-len.result.1 (sym c.went_well.ensures ∙ c.if-not-went_well.true) on.well)
           (nx.there.1
           (subst (λ (y : Step). slice_range c.args.flash.now y.write.at (y.write.at + length y.write.bytes) ≡ y.write.bytes)
           one on.stands))),
@@ -127,7 +127,7 @@ returns-clause-on c = λ w p is piece.
     let nx = c.look_at-len.ensures.next (omega (arith, c.if-len-eq0.false)) in
     let same = kept_work_is_unique w v (sym is ∙ c.in-Some.is) in
     let one : p ≡ nx.piece = asked_piece_is_unique a v w p nx.piece same piece nx.is in
-    let size : length p.write.bytes ≡ c.look_at-len.result.0 = next_piece_size a v w p c.args.flash.now _ _ same piece nx in
+    let size : length p.write.bytes ≡ c.look_at-len.result.0 = asked_piece_has_next_size a v w p c.args.flash.now _ _ same piece nx in
     let further : PendingWrites = record { job = v.job; asked = v.asked; done = v.done + c.look_at-len.result.0 } in
     let all : total (writes_in a w) ≡ total (writes_in a v) = ap (λ (x : PendingWrites). total (writes_in a x)) same in
     let done : w.done ≡ v.done = ap (λ (x : PendingWrites). x.done) same in (
@@ -145,7 +145,7 @@ pub returns-clause-further : goal.returns-clause-further
 returns-clause-further c = λ asks w p is piece.
     let same = kept_work_is_unique w c.in-Some.work (sym is ∙ c.in-Some.is) in
     let size : length p.write.bytes ≡ c.look_at-len.result.0 =
-    next_piece_size (lent c.args.self.now c.args.block.now c.args.held.now) c.in-Some.work w p c.args.flash.now _ _ same piece
+    asked_piece_has_next_size (lent c.args.self.now c.args.block.now c.args.held.now) c.in-Some.work w p c.args.flash.now _ _ same piece
     (c.look_at-len.ensures.next (omega (arith, c.if-len-eq0.false))) in
     c.advance.ensures.kept asks
     ∙ (λ i. Some (record { job = (sym same i).job; asked = (sym same i).asked; done = (sym same i).done + sym size i }))
@@ -165,5 +165,5 @@ pub returns-clause-taken : goal.returns-clause-taken
 returns-clause-taken c =
     let w = c.in-Some.work in
     let nx = c.look_at-len.ensures.next (omega (arith, c.if-len-eq0.false)) in
-    piece_taken_from_device (lent c.args.self.now c.args.block.now c.args.held.now) w nx.piece (length c.args.out.now)
+    report_of_piece_is_accepted (lent c.args.self.now c.args.block.now c.args.held.now) w nx.piece (length c.args.out.now)
     (omega (arith, c.if-out-lt6.false)) c.in-Some.is nx.is

@@ -3,7 +3,7 @@ use Rattle.dfu_asks.specs.Cuts.{step_of_cut}
 use Rattle.dfu_asks.specs.Phases.{steps_of_part}
 use Rattle.dfu_asks.proofs.Calling.{negation_true_if_false}
 use Rattle.dfu_asks.proofs.Cutting.{found_piece_is_in_part, none_left_in_part}
-use Rattle.dfu_asks.proofs.Pieces.{piece_ends_within_series, piece_has_bytes}
+use Rattle.dfu_asks.proofs.Pieces.{piece_ends_within_series, next_piece_has_bytes}
 use Rattle.dfu_asks.proofs.FormatGoing.{flash_and_image_are_small}
 use Rattle.dfu_asks.proofs.formatting.Formatting.advance.Goals as goal
 
@@ -16,7 +16,7 @@ returns-then-part_piece-clause-outcome c = λ was flash size way le.
     let piece = found_piece_is_in_part f c.args.size (length was) (sym size) image c.stock_for.result c.stock_for.ensures.block
     c.cut_at-cut.result
     c.cut_at-cut.ensures.stock c.cut_at-cut.ensures.rest p (c.part_piece.ensures.found c.if-part_piece.true) in
-    record { way = way; left = omega (arith, piece_ends_within_series part f.done p piece, piece_has_bytes part f.done p piece) }
+    record { way = way; left = omega (arith, piece_ends_within_series part f.done p piece, next_piece_has_bytes part f.done p piece) }
 
 pub returns-clause-outcome : goal.returns-clause-outcome
 returns-clause-outcome c = λ was flash size way le.

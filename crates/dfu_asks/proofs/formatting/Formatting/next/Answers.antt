@@ -4,8 +4,8 @@ use Rattle.dfu_asks.specs.Carried.{IsStepPiece}
 use Rattle.dfu_asks.specs.Cuts.{zero_padded_source, step_of_cut}
 use Rattle.dfu_asks.specs.Phases.{remaining_steps}
 use Rattle.dfu_asks.proofs.Calling.{true_test_holds, not_true_if_false, negation_true_if_false}
-use Rattle.dfu_asks.proofs.Cutting.{cut_step_size, found_piece_is_in_part, none_left_in_part}
-use Rattle.dfu_asks.proofs.FormatGoing.{piece_in_part_left, found_piece_is_left, format_keeps_flash_size, flash_and_image_are_small, format_piece_erases_sector, format_piece_within_flash}
+use Rattle.dfu_asks.proofs.Cutting.{cut_step_has_piece_size, found_piece_is_in_part, none_left_in_part}
+use Rattle.dfu_asks.proofs.FormatGoing.{part_piece_remains, found_piece_remains, format_keeps_flash_size, flash_and_image_are_small, format_piece_erases_sector, format_piece_lies_within_flash}
 use Rattle.dfu_asks.proofs.formatting.Formatting.next.Goals as goal
 
 pub returns-clause-piece : goal.returns-clause-piece
@@ -17,7 +17,7 @@ returns-clause-piece c =
     (c.due.ensures.found yes) in
     subst (λ (p : Step). IsStepPiece (remaining_steps c.args.self.now (length c.args.flash.now) c.args.image.now) c.args.self.now.done p)
     (sym c.fill.ensures.step)
-    (piece_in_part_left c.args.self.now (length c.args.flash.now) c.args.image.now c.args.self.now.done (step_of_cut c.due.new.cut) found)
+    (part_piece_remains c.args.self.now (length c.args.flash.now) c.args.image.now c.args.self.now.done (step_of_cut c.due.new.cut) found)
 
 pub returns-then-not-due-clause-goes : goal.returns-then-not-due-clause-goes
 returns-then-not-due-clause-goes c = λ was k.
@@ -37,7 +37,7 @@ returns-then-not-due-clause-goes c = λ was k.
 pub returns-then-not-is_sound-clause-goes : goal.returns-then-not-is_sound-clause-goes
 returns-then-not-is_sound-clause-goes c = λ was k.
     let q = step_of_cut c.due.new.cut in
-    let piece = found_piece_is_left c.args.self.now c.args.image.now was c.args.flash.now k.way c.stock_for.result c.stock_for.ensures.block
+    let piece = found_piece_remains c.args.self.now c.args.image.now was c.args.flash.now k.way c.stock_for.result c.stock_for.ensures.block
     c.cut_at-cut.result c.cut_at-cut.ensures.stock c.cut_at-cut.ensures.rest q
     (c.due.ensures.found (true_test_holds c.due.result c.if-not-due.false)) in
     not_true_if_false c.is_sound.result c.if-not-is_sound.true
@@ -48,11 +48,11 @@ pub returns-then-piece-flash-clause-goes : goal.returns-then-piece-flash-clause-
 returns-then-piece-flash-clause-goes c = λ was k.
     let yes = true_test_holds c.due.result c.if-not-due.false in
     let q = step_of_cut c.due.new.cut in
-    let piece = found_piece_is_left c.args.self.now c.args.image.now was c.args.flash.now k.way c.stock_for.result c.stock_for.ensures.block
+    let piece = found_piece_remains c.args.self.now c.args.image.now was c.args.flash.now k.way c.stock_for.result c.stock_for.ensures.block
     c.cut_at-cut.result c.cut_at-cut.ensures.stock c.cut_at-cut.ensures.rest q (c.due.ensures.found yes) in
     omega (
       arith,
       c.if-piece-flash.true,
-      (cut_step_size _ c.due.new.cut (c.due.ensures.is yes)),
-      format_piece_within_flash c.args.self.now c.args.image.now was c.args.flash.now k.way q piece,
+      (cut_step_has_piece_size _ c.due.new.cut (c.due.ensures.is yes)),
+      format_piece_lies_within_flash c.args.self.now c.args.image.now was c.args.flash.now k.way q piece,
     )

@@ -2,16 +2,16 @@ use Rattle.std.proofs.Common.{◌≡◌, inl, inr, ℕ, Option, Some, None, sym,
 use Rattle.std.proofs.lemmas.Bool.{true≢false}
 use Rattle.dfu_slots.specs.Medium.{MediumState}
 use Rattle.dfu_slots.specs.Image.{gate_of, HasImage}
-use Rattle.dfu_slots.proofs.Newest.{places_of_newest_slot}
-use Rattle.dfu_boot.specs.trial.Again.{IsWholeAt, ImagesAreWhole}
+use Rattle.dfu_slots.proofs.Newest.{test_finds_newest_slot}
+use Rattle.dfu_boot.specs.trial.Again.{IsImageWholeAt, ImagesAreWhole}
 use Rattle.dfu_boot.specs.trial.Trial.{image_at}
 use Rattle.dfu_boot.proofs.Slots.{newest_image_is_active}
-use Rattle.dfu_boot.proofs.Closing.{settled_marks_no_trial}
+use Rattle.dfu_boot.proofs.Closing.{marks_exclude_trial}
 use Rattle.dfu_boot.proofs.trial.again.look_again.Goals.{then-is_confirmed-via-then-is_confirmed, then-is_confirmed-via-else-is_confirmed+then-not-is_open, then-is_confirmed-via-else-is_confirmed+else-not-is_open+then-not-is_set}
 use Rattle.dfu_boot.proofs.trial.again.look_again.Goals as goal
 
 -- The active image is whole.
-active_image_is_whole : (m : MediumState) (at : ℕ) (base : Option ℕ) → ImagesAreWhole m at base → IsWholeAt m at
+active_image_is_whole : (m : MediumState) (at : ℕ) (base : Option ℕ) → ImagesAreWhole m at base → IsImageWholeAt m at
 active_image_is_whole m at None whole = whole
 active_image_is_whole m at (Some place) whole = whole.0
 
@@ -22,7 +22,7 @@ returns-then-is_confirmed-clause-stands g c whole =
     let q = c.in_ok-places.places.spare in
     let full = active_image_is_whole m c.args.at c.args.base whole p c.in_ok-places.ensures.at in
     let newest = c.is_ahead.ensures c.if-not-is_ahead.false full.counts in
-    let there = places_of_newest_slot (gate_of m) m.bytes p q c.in_ok-places.ensures.places newest in
+    let there = test_finds_newest_slot (gate_of m) m.bytes p q c.in_ok-places.ensures.places newest in
     let has : HasImage m = record {
       image = image_at m p;
       active = newest_image_is_active m p q (c.is_sized.ensures.0 c.if-not-is_sized.false) c.in_ok-places.ensures.places newest full;
@@ -30,7 +30,7 @@ returns-then-is_confirmed-clause-stands g c whole =
     record {
       has = has;
       slot = there.0;
-      none = settled_marks_no_trial m p q has there.0 there.1 (elim c.then-is_confirmed.branch [
+      none = marks_exclude_trial m p q has there.0 there.1 (elim c.then-is_confirmed.branch [
         | then-is_confirmed-via-then-is_confirmed w ↦ inl (sym c.is_set-is_confirmed.ensures ∙ w.if-is_confirmed.true)
         | then-is_confirmed-via-else-is_confirmed+then-not-is_open w ↦
             inr (inr (λ filled. true≢false (sym (eq-eqb _ _ filled.counts.is_open) ∙ sym w.is_open.ensures ∙ w.if-not-is_open.true)))

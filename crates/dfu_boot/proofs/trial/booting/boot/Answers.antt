@@ -6,11 +6,11 @@ use Rattle.dfu_boot.specs.trial.Laws.{AskedResult, StartOutcome, OperationReport
 use Rattle.dfu_boot.specs.declared.trial.operation.Operation.{Operation}
 use Rattle.dfu_boot.specs.declared.trial.starting.Starting.{Starting}
 use Rattle.dfu_boot.proofs.Tried.{start_runs_image_on_trial, start_on_trial_asks_mark}
-use Rattle.dfu_boot.proofs.Starts.{start_outcome, image_active_after_start, mark_within_medium}
+use Rattle.dfu_boot.proofs.Starts.{start_has_result, image_active_after_start, mark_stays_within_medium}
 use Rattle.dfu_boot.proofs.Fitting.{standing_fits_slots}
 use Rattle.dfu_boot.proofs.trial.booting.boot.Goals as goal
 
--- Whatever an operation answered, it was reported to work or to fail.
+-- An operation was reported to work or to fail.
 operation_worked_or_failed : (m now : MediumState) (o : Operation) (r : Result (Unit {0}) Failed) → OnOk r (OperationReportedOk m o now)
     → OnErr r (OperationReportedFailed m o now)
     → OperationReportedOk m o now ⊎ OperationReportedFailed m o now
@@ -36,7 +36,7 @@ runs-requires g c =
     let m = g.M.Medium.state c.args.medium.now in
     let now = g.M.Medium.state c.carry_out.new.medium in
     subst (λ (o : Option Operation). IfSome o (λ op. MarkIsWithin now op)) (sym c.in-Some.is)
-    (mark_within_medium m now c.in-Some.operation c.carry_out.ensures.carried
+    (mark_stays_within_medium m now c.in-Some.operation c.carry_out.ensures.carried
     (subst (λ (o : Option Operation). IfSome o (λ op. MarkIsWithin m op)) c.in-Some.is c.start-starting.ensures.within))
 
 pub returns-in-Some-clause-booted : goal.returns-in-Some-clause-booted
@@ -52,7 +52,7 @@ returns-in-Some-clause-booted g c =
       starts = subst (λ (ran : ℕ). StartOutcome m c.args.tries s now ran) (sym c.runs.ensures)
           (subst (λ (x : Starting). AskedResult m x.operation now → StartOutcome m c.args.tries s now (runs_in now x x.operation))
           (sym c.start-starting.ensures.value)
-          (start_outcome m now c.args.tries c.requires.tries s c.in_ok-standing.ensures.standing) carried);
+          (start_has_result m now c.args.tries c.requires.tries s c.in_ok-standing.ensures.standing) carried);
     }
 
 pub returns-in-Some-clause-image : goal.returns-in-Some-clause-image

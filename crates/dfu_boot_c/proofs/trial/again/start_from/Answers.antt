@@ -3,19 +3,19 @@ use Rattle.dfu_slots.specs.Medium.{MediumState}
 use Rattle.dfu_asks.specs.Mapped.{grain_of as mapped_grain, mapped_medium}
 use Rattle.dfu_boot.specs.trial.Again.{MatchesMedium}
 use Rattle.dfu_boot.specs.declared.trial.starting.Starting.{Starting}
-use Rattle.dfu_boot_c.proofs.Within.{StartSlotsEndWithin, trial_start_slots_end_within}
+use Rattle.dfu_boot_c.proofs.Within.{StartSlotsInMedium, start_slots_end_in_medium}
 use Rattle.dfu_boot_c.proofs.trial.again.start_from.Goals.{After-start-starts}
 use Rattle.dfu_boot_c.proofs.trial.again.start_from.Goals as goal
 
--- The slot that starts, and the slot that starts otherwise, end within the flash.
+-- The slot to start, and the slot to start if its mark fails, end within the flash.
 start_slots_end_within_flash : (c : After-start-starts) → let medium = c.in-Ok.looked.medium in
-    StartSlotsEndWithin (mapped_medium (mapped_grain medium.unit medium.sector) medium.bytes.now) c.start-starts.result
+    StartSlotsInMedium (mapped_medium (mapped_grain medium.unit medium.sector) medium.bytes.now) c.start-starts.result
 start_slots_end_within_flash c =
     let l = c.in-Ok.looked in
     let t = c.args.tries.now in
     let m : MediumState = mapped_medium (mapped_grain l.medium.unit l.medium.sector) l.medium.bytes.now in
     let fits = subst (λ (x : MediumState). MatchesMedium x t.tries l.standing) (sym c.in-Ok.ensures.state) c.in-Ok.ensures.fits in
-    subst (λ (s : Starting). StartSlotsEndWithin m s) (sym c.start-starts.ensures.value) (trial_start_slots_end_within m t.tries l.standing
+    subst (λ (s : Starting). StartSlotsInMedium m s) (sym c.start-starts.ensures.value) (start_slots_end_in_medium m t.tries l.standing
     fits)
 
 pub starting_told-requires-clause-run : goal.starting_told-requires-clause-run

@@ -1,11 +1,11 @@
 use Rattle.std.proofs.Common.{◌≡◌, ◌⊎◌, ℤ, w32, sym, subst, arith}
 use Rattle.std.proofs.lemmas.Int.{to_z-of_z}
 use Rattle.dfu_slots.proofs.Sectors.{gate_room_at_least_16}
-use Rattle.dfu_boot_c.specs.trial.Tries.{tries_grain}
+use Rattle.dfu_boot_c.specs.trial.Tries.{grain_of_tries}
 use Rattle.dfu_boot_c.specs.trial.TrialCalls.{RefusesTrial, TrialStartResult}
 use Rattle.dfu_boot_c.proofs.trial.calls.dfu_core_trial_start.Goals as goal
 
--- No image begins at 0, behind two gates of at least 16 bytes each.
+-- No image begins at 0, because two gates of at least 16 bytes each come before it.
 pub returns : goal.returns
 returns c =
     let t = c.args.tries.now in
@@ -16,5 +16,5 @@ returns c =
           (λ (n : ℤ). TrialStartResult t flash n c.args.ask.now new.ask new.told
           ⊎ (RefusesTrial t flash n × (new.ask ≡ c.args.ask.now) × (new.told ≡ c.args.told.now)))
           (sym (to_z-of_z w32 c.start_from.result (omega (arith, c.start_from.type_inv))))
-          (c.start_from.ensures.outcome (λ slot is. absurd (omega (arith, is, gate_room_at_least_16 (tries_grain t)))));
+          (c.start_from.ensures.outcome (λ slot is. absurd (omega (arith, is, gate_room_at_least_16 (grain_of_tries t)))));
     }

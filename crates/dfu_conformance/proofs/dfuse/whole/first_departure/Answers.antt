@@ -4,11 +4,11 @@ use Rattle.std.proofs.lemmas.List.{take_more, take_all}
 use Rattle.dfu_conformance.specs.declared.event.LogEvent.{LogEvent}
 use Rattle.dfu_conformance.specs.dfuse.Runs.{DfuseCanAnswer}
 use Rattle.dfu_conformance.specs.dfuse.Verdicts.{PlacesExact}
-use Rattle.dfu_conformance.proofs.DfuseVerdicts.{no_event_answered, departure_is_first}
+use Rattle.dfu_conformance.proofs.DfuseVerdicts.{empty_list_can_be_answered, departure_is_first}
 use Rattle.dfu_conformance.proofs.dfuse.whole.first_departure.Goals as goal
 
 pub loop-n-init : goal.loop-n-init
-loop-n-init c = record { can = no_event_answered; held = c.new-judge.ensures }
+loop-n-init c = record { can = empty_list_can_be_answered; held = c.new-judge.ensures }
 
 pub loop-n-preserved : goal.loop-n-preserved
 loop-n-preserved c =

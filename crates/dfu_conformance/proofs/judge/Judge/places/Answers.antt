@@ -6,14 +6,14 @@ use Rattle.dfu_conformance.specs.MayAnswer.{CandidatesExact}
 use Rattle.dfu_conformance.specs.inside.Stepped.{has_candidate}
 use Rattle.dfu_conformance.proofs.Places.{place_number_below_12}
 use Rattle.dfu_conformance.proofs.Somewhere.{held_place_is_possible}
-use Rattle.dfu_conformance.proofs.Verdicts.{places_held_for_readings}
+use Rattle.dfu_conformance.proofs.Verdicts.{candidates_are_exact_for_each}
 use Rattle.dfu_conformance.proofs.judge.Judge.places.Goals as goal
 
 pub returns : goal.returns
 returns c events so p =
     let held = c.self.inside.whole in
     let is = held_place_is_possible held events c.args.readings p
-    (places_held_for_readings held events c.args.readings c.requires
+    (candidates_are_exact_for_each held events c.args.readings c.requires
     (subst (λ (w : JudgedDevices). CandidatesExact w.whole events) (sym c.self.view_is) so)) in
     let same : slice_index_or c.places_of.result (place_number p) false ≡ has_candidate (slice_index_or held
     (place_number p) []) c.args.readings =

@@ -4,13 +4,13 @@ use Rattle.dfu_conformance.specs.declared.judge.TheConstants.{EVERY}
 use Rattle.dfu_conformance.specs.Candidates.{JudgedDevices, devices_since}
 use Rattle.dfu_conformance.specs.MayAnswer.{CandidatesExact, PlainCandidatesExact}
 use Rattle.dfu_conformance.specs.Verdict.{EventDeparts}
-use Rattle.dfu_conformance.proofs.Everywhere.{all_plain_devices_at_first}
-use Rattle.dfu_conformance.proofs.Verdicts.{devices_held_next, plain_device_can_answer, event_without_devices_departs}
+use Rattle.dfu_conformance.proofs.Everywhere.{plain_devices_are_exact_at_first}
+use Rattle.dfu_conformance.proofs.Verdicts.{candidates_stay_exact, plain_device_can_answer, event_without_devices_departs}
 use Rattle.dfu_conformance.proofs.judge.Judge.take.Goals as goal
 
 pub returns-in-Some-clause-whole : goal.returns-in-Some-clause-whole
 returns-in-Some-clause-whole c events so =
-    devices_held_next c.self.inside.whole c.step-whole.result events c.args.event.now c.step-whole.ensures
+    candidates_stay_exact c.self.inside.whole c.step-whole.result events c.args.event.now c.step-whole.ensures
     (subst (λ (w : JudgedDevices). CandidatesExact w.whole events) (sym c.self.view_is) so)
 
 pub returns-in-Some-clause-departs : goal.returns-in-Some-clause-departs
@@ -22,12 +22,12 @@ returns-in-Some-clause-departs c = (
       subst (λ (b : Bool). EventDeparts events c.in-Some.departure (devices_since b EVERY c.step-whole.result)) (sym c.if-self.true)
       (event_without_devices_departs c.self.inside.since c.step-since.result EVERY events c.args.event.now c.in-Some.departure
       c.step-since.ensures held
-      all_plain_devices_at_first c.in-Some.ensures.some),
+      plain_devices_are_exact_at_first c.in-Some.ensures.some),
 )
 
 pub returns-in-None-clause-whole : goal.returns-in-None-clause-whole
 returns-in-None-clause-whole c events so =
-    devices_held_next c.self.inside.whole c.step-whole.result events c.args.event.now c.step-whole.ensures
+    candidates_stay_exact c.self.inside.whole c.step-whole.result events c.args.event.now c.step-whole.ensures
     (subst (λ (w : JudgedDevices). CandidatesExact w.whole events) (sym c.self.view_is) so)
 
 pub returns-in-None-clause-kept : goal.returns-in-None-clause-kept
@@ -43,7 +43,7 @@ returns-in-None-clause-kept c is_none events so =
 
 pub returns-in-Some-departure-clause-whole : goal.returns-in-Some-departure-clause-whole
 returns-in-Some-departure-clause-whole c events so =
-    devices_held_next c.self.inside.whole c.step-whole.result events c.args.event.now c.step-whole.ensures
+    candidates_stay_exact c.self.inside.whole c.step-whole.result events c.args.event.now c.step-whole.ensures
     (subst (λ (w : JudgedDevices). CandidatesExact w.whole events) (sym c.self.view_is) so)
 
 pub returns-in-Some-departure-clause-departs : goal.returns-in-Some-departure-clause-departs
@@ -54,12 +54,12 @@ returns-in-Some-departure-clause-departs c = (
       (subst (λ (w : JudgedDevices). PlainCandidatesExact w.since events) (sym c.self.view_is) so) in
       event_without_devices_departs c.self.inside.whole c.step-whole.result EVERY events c.args.event.now c.in-Some-departure.departure
       c.step-whole.ensures
-      held all_plain_devices_at_first c.in-Some-departure.ensures.some,
+      held plain_devices_are_exact_at_first c.in-Some-departure.ensures.some,
 )
 
 pub returns-in-None-departure-clause-whole : goal.returns-in-None-departure-clause-whole
 returns-in-None-departure-clause-whole c events so =
-    devices_held_next c.self.inside.whole c.step-whole.result events c.args.event.now c.step-whole.ensures
+    candidates_stay_exact c.self.inside.whole c.step-whole.result events c.args.event.now c.step-whole.ensures
     (subst (λ (w : JudgedDevices). CandidatesExact w.whole events) (sym c.self.view_is) so)
 
 pub returns-in-None-departure-clause-kept : goal.returns-in-None-departure-clause-kept

@@ -1,17 +1,18 @@
 use Rattle.std.proofs.Common.{sym, subst, ◌∙◌}
 use Rattle.dfu_conformance.specs.Candidates.{JudgedDevices}
 use Rattle.dfu_conformance.specs.MayAnswer.{CandidatesExact}
-use Rattle.dfu_conformance.proofs.Verdicts.{least_set_has_six_bits, device_is_kept, device_kept_by_readings, device_is_not_kept}
+use Rattle.dfu_conformance.proofs.Verdicts.{least_set_has_six_bits, plain_device_gives_kept, least_readings_give_kept_by, no_device_gives_not_kept}
 use Rattle.dfu_conformance.proofs.judge.Judge.verdict.Goals as goal
 
 pub returns-then-is_any_held-clause-is : goal.returns-then-is_any_held-clause-is
 returns-then-is_any_held-clause-is c events so =
-    device_is_kept c.self.inside.whole events (subst (λ (w : JudgedDevices). CandidatesExact w.whole events) (sym c.self.view_is) so)
+    plain_device_gives_kept c.self.inside.whole events
+    (subst (λ (w : JudgedDevices). CandidatesExact w.whole events) (sym c.self.view_is) so)
     (sym c.is_any_held.ensures ∙ c.if-is_any_held.true)
 
 pub returns-in-Some-clause-is : goal.returns-in-Some-clause-is
 returns-in-Some-clause-is c events so =
-    device_kept_by_readings c.self.inside.whole events c.in-Some.readings
+    least_readings_give_kept_by c.self.inside.whole events c.in-Some.readings
     (subst (λ (w : JudgedDevices). CandidatesExact w.whole events) (sym c.self.view_is) so)
     (sym c.is_any_held.ensures ∙ c.if-is_any_held.false) (sym c.in-Some.is ∙ c.least_held.ensures)
 
@@ -20,5 +21,6 @@ returns-in-Some-clause-bits c = least_set_has_six_bits c.self.inside.whole c.in-
 
 pub returns-in-None-clause-is : goal.returns-in-None-clause-is
 returns-in-None-clause-is c events so =
-    device_is_not_kept c.self.inside.whole events (subst (λ (w : JudgedDevices). CandidatesExact w.whole events) (sym c.self.view_is) so)
+    no_device_gives_not_kept c.self.inside.whole events
+    (subst (λ (w : JudgedDevices). CandidatesExact w.whole events) (sym c.self.view_is) so)
     (sym c.in-None.is ∙ c.least_held.ensures)

@@ -1,5 +1,5 @@
 use Rattle.std.proofs.Common.{length}
-use Rattle.dfu_device.proofs.Carried.{parts_filled_by_mode, filled_mode_is_device_part}
+use Rattle.dfu_device.proofs.Carried.{parts_have_mode_bytes, filled_mode_is_device_part}
 use Rattle.dfu_device.proofs.device.Device.refuse.Goals as goal
 
 pub invariant_of-self-inside : goal.invariant_of-self-inside
@@ -8,5 +8,5 @@ invariant_of-self-inside g c =
     let n = length d.block.items in
     record {
       sound = filled_mode_is_device_part d.mode c.after_refusal-self-inside.result n d.slots d.sound
-          (c.after_refusal-self-inside.ensures.filled n d.slots (parts_filled_by_mode d.mode n d.slots d.sound));
+          (c.after_refusal-self-inside.ensures.filled n d.slots (parts_have_mode_bytes d.mode n d.slots d.sound));
     }

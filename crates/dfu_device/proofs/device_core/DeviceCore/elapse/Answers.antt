@@ -1,7 +1,7 @@
 use Rattle.std.proofs.Common.{ℕ, List, length, refl, sym, subst}
 use Rattle.dfu_device.specs.Decision.{IsPossibleDecision, DecidesTime}
 use Rattle.dfu_device.specs.inside.View.{view_of_core}
-use Rattle.dfu_device.proofs.Carried.{parts_filled_by_mode, time_decision_is_row}
+use Rattle.dfu_device.proofs.Carried.{parts_have_mode_bytes, time_decision_is_row}
 use Rattle.dfu_device.proofs.device_core.DeviceCore.elapse.Goals as goal
 
 pub carry_out-requires : goal.carry_out-requires
@@ -9,7 +9,7 @@ carry_out-requires g c =
     let d = c.args.self.now in
     let n = length d.block.items in
     subst (λ (t : ℕ). IsPossibleDecision t n 0 d.slots c.decide_time-decision.result) c.profile.ensures.transfer
-    (c.decide_time-decision.ensures.possible n d.slots (sym c.profile.ensures.capacity) (parts_filled_by_mode d.mode n d.slots d.sound))
+    (c.decide_time-decision.ensures.possible n d.slots (sym c.profile.ensures.capacity) (parts_have_mode_bytes d.mode n d.slots d.sound))
 
 pub returns : goal.returns
 returns g c =

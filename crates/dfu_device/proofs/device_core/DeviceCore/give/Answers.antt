@@ -6,8 +6,8 @@ use Rattle.dfu_device.specs.DeviceView.{profile}
 use Rattle.dfu_device.specs.Rows.{ReplyAnswer}
 use Rattle.dfu_device.specs.inside.View.{view_of_core}
 use Rattle.dfu_device.specs.Decision.{HasTimeInputs}
-use Rattle.dfu_device.proofs.Carried.{holds_time}
-use Rattle.dfu_device.proofs.StatusBytes.{status_front_fits_vector, front_stands}
+use Rattle.dfu_device.proofs.Carried.{parts_have_time_inputs}
+use Rattle.dfu_device.proofs.StatusBytes.{status_front_fits_vector, vector_is_front}
 use Rattle.dfu_device.proofs.device_core.DeviceCore.give.Goals as goal
 
 pub copy_image-requires-clause-most : goal.copy_image-requires-clause-most
@@ -27,9 +27,9 @@ returns-in-Status g c =
     let bytes = c.status_in-bytes.result in
     let count : c.min.result ≡ min asked 6 = c.min.ensures ∙ ap (λ (n : ℕ). min n 6) c.from.ensures in
     rw c.in-Status.is (subst (λ (l : List ℕ). ReplyAnswer asked (status_of (profile w) w.stage) answer.Bytes l)
-    (sym (front_stands sent.result asked c.min.result bytes c.args.out.now.items sent.new.self.items count
+    (sym (vector_is_front sent.result asked c.min.result bytes c.args.out.now.items sent.new.self.items count
     c.status_in-bytes.ensures.size c.requires.out
     (sent.ensures.variant.1 (status_front_fits_vector asked c.min.result bytes c.args.out.now.items count c.requires.out)) sent.ensures.ok))
     (c.status_in-bytes.ensures.answers (room_of w.slots) (spare_of w.slots) c.args.self.now.block.items asked
     (subst (λ (l : List ℕ). HasTimeInputs d.mode (length l) (spare_of w.slots) d.block.items) (sym c.as_slice.ensures.value)
-    (holds_time d.mode d.block.items w.slots d.sound))))
+    (parts_have_time_inputs d.mode d.block.items w.slots d.sound))))

@@ -3,7 +3,7 @@ use Rattle.dfu_device.specs.Decision.{IsPossibleDecision}
 use Rattle.dfu_device.specs.inside.PendingAnswer.{HandledPending}
 use Rattle.dfu_device.specs.inside.View.{view_of_core}
 use Rattle.dfu_device.proofs.AnswersFit.{handled_answer_fits_room}
-use Rattle.dfu_device.proofs.Carried.{parts_filled_by_mode, handled}
+use Rattle.dfu_device.proofs.Carried.{parts_have_mode_bytes, handled}
 use Rattle.dfu_device.proofs.device_core.DeviceCore.pending_answer.Goals as goal
 
 pub carry_out-requires : goal.carry_out-requires
@@ -11,7 +11,7 @@ carry_out-requires g c =
     let d = c.args.self.now in
     let n = length d.block.items in
     subst (λ (t : ℕ). IsPossibleDecision t n (length c.args.body.now) d.slots c.asked_row-decision.result.0) c.profile.ensures.transfer
-    (c.asked_row-decision.ensures.possible n d.slots (sym c.profile.ensures.capacity) (parts_filled_by_mode d.mode n d.slots d.sound))
+    (c.asked_row-decision.ensures.possible n d.slots (sym c.profile.ensures.capacity) (parts_have_mode_bytes d.mode n d.slots d.sound))
 
 pub returns : goal.returns
 returns g c =

@@ -1,11 +1,11 @@
 use Rattle.std.proofs.Common.{◌≡◌, ◌*◌, length, ◌+◌, ◌<◌, drop, get_or, ℕ, List, sym, subst, arith}
 use Rattle.std.proofs.Common.{inl, inr}
 use Rattle.dfu_formats.specs.images.Digits.{hex_value, bytes_of_pairs}
-use Rattle.dfu_formats.proofs.PairLaws.{bytes_before_spelled, pairs_read_to_end, odd_digit_left_over, high_digit_missing, low_digit_missing, pair_adds_byte}
+use Rattle.dfu_formats.proofs.PairLaws.{bytes_before_spelled, read_pairs_are_all_bytes, odd_digit_is_fault, high_digit_is_needed, low_digit_is_needed, pair_adds_byte}
 use Rattle.dfu_formats.proofs.images.digits.pairs.Goals as goal
 
 pub returns-then-at-digits : goal.returns-then-at-digits
-returns-then-at-digits c = odd_digit_left_over c.args.digits.now c.loop-at.bytes.items c.loop-at.at (omega arith) c.loop-at.invariant.so_far
+returns-then-at-digits c = odd_digit_is_fault c.args.digits.now c.loop-at.bytes.items c.loop-at.at (omega arith) c.loop-at.invariant.so_far
 
 pub returns-then-high-eq16 : goal.returns-then-high-eq16
 returns-then-high-eq16 c =
@@ -13,9 +13,9 @@ returns-then-high-eq16 c =
     let i = c.loop-at.at in
     let j : i + 1 < length xs = omega arith in
     elim c.then-high-eq16.either [
-      | inl high ↦ high_digit_missing xs c.loop-at.bytes.items i (i + 1) (i + 2) (omega arith) (omega arith) j
+      | inl high ↦ high_digit_is_needed xs c.loop-at.bytes.items i (i + 1) (i + 2) (omega arith) (omega arith) j
           (omega (arith, high, c.hex_digit-high.ensures.value)) c.loop-at.invariant.so_far
-      | inr low ↦ low_digit_missing xs c.loop-at.bytes.items i (i + 1) (i + 2) (omega arith) (omega arith) j
+      | inr low ↦ low_digit_is_needed xs c.loop-at.bytes.items i (i + 1) (i + 2) (omega arith) (omega arith) j
           (omega (arith, low.1, c.hex_digit-low.ensures.value)) c.loop-at.invariant.so_far
     ]
 
@@ -38,4 +38,4 @@ loop-at-preserved c =
     }
 
 pub returns : goal.returns
-returns c = pairs_read_to_end c.args.digits.now c.loop-at.bytes.items c.loop-at.at (omega arith) c.loop-at.invariant.so_far
+returns c = read_pairs_are_all_bytes c.args.digits.now c.loop-at.bytes.items c.loop-at.at (omega arith) c.loop-at.invariant.so_far

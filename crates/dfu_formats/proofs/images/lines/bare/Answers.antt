@@ -1,11 +1,11 @@
 use Rattle.std.proofs.Common.{◌≡◌, take, sym, ap, ◌∙◌, arith}
 use Rattle.dfu_formats.specs.images.Lines.{without_trailing_blanks, bare_line}
-use Rattle.dfu_formats.proofs.BareLaws.{no_blank_follows_all_bytes, blanks_from_one_earlier, empty_front_has_no_blanks, nonblank_last_ends_front}
+use Rattle.dfu_formats.proofs.BareLaws.{only_blanks_follow_all_bytes, blanks_follow_one_earlier, empty_front_has_no_blanks, nonblank_last_ends_front}
 use Rattle.dfu_formats.proofs.images.lines.bare.Goals as goal
 use Rattle.dfu_formats.proofs.images.lines.bare.Goals.{then-loop-end-test+else-is_blank_byte, else-loop-end-test}
 
 pub loop-end-init : goal.loop-end-init
-loop-end-init c = record { within = omega (arith); blank = no_blank_follows_all_bytes c.unblanked-from_first.result.now }
+loop-end-init c = record { within = omega (arith); blank = only_blanks_follow_all_bytes c.unblanked-from_first.result.now }
 
 pub bounds-from_first-end : goal.bounds-from_first-end
 bounds-from_first-end c = omega (arith, c.loop-end-test.true, c.loop-end.invariant.within)
@@ -13,7 +13,7 @@ bounds-from_first-end c = omega (arith, c.loop-end-test.true, c.loop-end.invaria
 pub loop-end-preserved : goal.loop-end-preserved
 loop-end-preserved c = record {
   within = omega (arith, c.loop-end.invariant.within);
-  blank = blanks_from_one_earlier c.unblanked-from_first.result.now c.loop-end.end c.loop-end-test.true c.loop-end.invariant.within
+  blank = blanks_follow_one_earlier c.unblanked-from_first.result.now c.loop-end.end c.loop-end-test.true c.loop-end.invariant.within
       c.loop-end.invariant.blank (sym c.is_blank_byte.ensures ∙ c.if-is_blank_byte.true);
 }
 

@@ -1,7 +1,7 @@
 use Rattle.std.proofs.Common.{List, ℕ, sym, ap, ◌∙◌, arith, Bor}
 use Rattle.dfu_formats.specs.images.Lines.{State, lines, line_read}
 use Rattle.dfu_formats.proofs.LineLaws.{lines_have_first_line}
-use Rattle.dfu_formats.proofs.ReadLaws.{read_line_leaves_rest, line_fault_is_text_fault, text_read_to_whole_end, text_read_without_end}
+use Rattle.dfu_formats.proofs.ReadLaws.{read_line_leaves_rest, line_fault_is_text_fault, whole_end_gives_state, missing_end_is_fault}
 use Rattle.dfu_formats.proofs.images.lines.lines_read.Goals as goal
 
 pub returns-in-Err : goal.returns-in-Err
@@ -15,7 +15,7 @@ returns-in-None g c =
     let only = rw c.in-None.is at c.take_line.ensures.value in
     let done = read_line_leaves_rest (line_read g.F.TextFormat.step) _ _ _ _ _ _ _ _ only c.bare.ensures
     c.in-Ok.ensures.value c.loop-next.invariant.so_far in
-    text_read_to_whole_end (line_read g.F.TextFormat.step) _ _ _ (sym (ap (λ (s : State). s.is_whole) c.state.view_is)
+    whole_end_gives_state (line_read g.F.TextFormat.step) _ _ _ (sym (ap (λ (s : State). s.is_whole) c.state.view_is)
     ∙ c.if-state.true) done
 
 pub returns-in-None-2 : goal.returns-in-None-2
@@ -23,7 +23,7 @@ returns-in-None-2 g c =
     let only = rw c.in-None-2.is at c.take_line.ensures.value in
     let done = read_line_leaves_rest (line_read g.F.TextFormat.step) _ _ _ _ _ _ _ _ only c.bare.ensures
     c.in-Ok.ensures.value c.loop-next.invariant.so_far in
-    text_read_without_end (line_read g.F.TextFormat.step) _ _ _ (sym (ap (λ (s : State). s.is_whole) c.state.view_is)
+    missing_end_is_fault (line_read g.F.TextFormat.step) _ _ _ (sym (ap (λ (s : State). s.is_whole) c.state.view_is)
     ∙ c.if-state.false) done
 
 pub loop-next-preserved : goal.loop-next-preserved

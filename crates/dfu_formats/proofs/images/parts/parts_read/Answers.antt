@@ -1,6 +1,6 @@
 use Rattle.std.proofs.Common.{◌≡◌, ◌-◌, ◌+◌, ◌*◌, ◌∙◌, ℕ, ap, suc, arith}
 use Rattle.std.proofs.Math.Nat.{suc-mul}
-use Rattle.dfu_formats.proofs.ReadLaws.{read_part_leaves_rest, part_fault_is_file_fault, all_parts_read}
+use Rattle.dfu_formats.proofs.ReadLaws.{read_part_leaves_rest, part_fault_is_file_fault, last_state_is_result}
 use Rattle.dfu_formats.proofs.images.parts.parts_read.Goals as goal
 
 pub returns-in-Err : goal.returns-in-Err
@@ -27,4 +27,4 @@ loop-index-preserved g c =
 pub returns : goal.returns
 returns g c =
     let left : c.args.total - c.loop-index.index ≡ 0 = omega arith in
-    all_parts_read c.args.size (g.F.ByPart.part_read c.args.file.now) _ _ _ _ _ left c.loop-index.invariant.so_far
+    last_state_is_result c.args.size (g.F.ByPart.part_read c.args.file.now) _ _ _ _ _ left c.loop-index.invariant.so_far

@@ -1,9 +1,9 @@
 use Rattle.std.proofs.Common.{◌+◌, sym, ap, ◌*◌, ℕ, arith, length}
-use Rattle.dfu_formats.proofs.DigitLaws.{digits_number_at_next, digits_number_of_none, next_power_of_17, powers_of_17_rise, base_product_at_most_16_times}
+use Rattle.dfu_formats.proofs.DigitLaws.{digit_at_extends_number, no_digits_leave_number, next_power_of_17_is_17_times, powers_of_17_rise, base_product_at_most_16_times}
 use Rattle.dfu_formats.proofs.memory.digits.said.Goals as goal
 
 pub loop-byte-init : goal.loop-byte-init
-loop-byte-init c = (sym (digits_number_of_none c.args.base 0 c.args.digits.now), omega arith)
+loop-byte-init c = (sym (no_digits_leave_number c.args.base 0 c.args.digits.now), omega arith)
 
 pub overflow_mul-value : goal.overflow_mul-value
 overflow_mul-value c =
@@ -24,13 +24,13 @@ overflow_add-value c =
 pub loop-byte-preserved : goal.loop-byte-preserved
 loop-byte-preserved c =
     let i = c.loop-byte.byte-index in
-    let more = digits_number_at_next c.args.base 0 c.args.digits.now i (i + 1) (omega arith) c.loop-byte-test.true in
+    let more = digit_at_extends_number c.args.base 0 c.args.digits.now i (i + 1) (omega arith) c.loop-byte-test.true in
     let times = ap (λ (k : ℕ). c.args.base * k) c.loop-byte.invariant.0 in (
       omega (arith, times, more, c.digit_value.ensures.value),
       omega (
         arith,
         c.loop-byte.invariant.1,
-        next_power_of_17 i (i + 1) (omega arith),
+        next_power_of_17_is_17_times i (i + 1) (omega arith),
         base_product_at_most_16_times c.args.base
             c.loop-byte.value c.requires.base,
         c.digit_value.ensures.small,

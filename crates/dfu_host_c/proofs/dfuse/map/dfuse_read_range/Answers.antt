@@ -1,11 +1,11 @@
 use Rattle.std.proofs.Common.{rules, inl, inr, refl}
-use Rattle.dfu_host_c.proofs.Maps.{found_range_is_number, no_range_at_number}
-use Rattle.dfu_host_c.proofs.Refused.{refused_for_first_fault}
+use Rattle.dfu_host_c.proofs.Maps.{found_range_has_its_number, unfound_number_has_no_range}
+use Rattle.dfu_host_c.proofs.Refused.{call_is_refused_by_first_fault}
 use Rattle.dfu_host_c.proofs.dfuse.map.dfuse_read_range.Goals as goal
 
 pub returns-in-Err : goal.returns-in-Err
 returns-in-Err c = record {
-  outcome = inr (inr (refused_for_first_fault _ _ c.in-Err.is c.read.ensures.fault (search rules), refl));
+  outcome = inr (inr (call_is_refused_by_first_fault _ _ c.in-Err.is c.read.ensures.fault (search rules), refl));
 }
 
 pub returns-in-Some : goal.returns-in-Some
@@ -16,7 +16,7 @@ returns-in-Some c = record {
       map = c.in-Ok.map;
       pages = c.in-Some.pages.now;
       is_map = c.in-Ok.ensures.found;
-      found = found_range_is_number _ _ _ _ _ c.ranges-2.ensures.value c.get.ensures.lookup c.in-Some.is;
+      found = found_range_has_its_number _ _ _ _ _ c.ranges-2.ensures.value c.get.ensures.lookup c.in-Some.is;
       says = c.range_record.ensures;
     },
   );
@@ -29,7 +29,7 @@ returns-in-None c = record {
     record {
       map = c.in-Ok.map;
       is_map = c.in-Ok.ensures.found;
-      none = no_range_at_number _ _ _ _ c.ranges-2.ensures.value c.get.ensures.lookup c.in-None.is;
+      none = unfound_number_has_no_range _ _ _ _ c.ranges-2.ensures.value c.get.ensures.lookup c.in-None.is;
     },
     refl,
   ));

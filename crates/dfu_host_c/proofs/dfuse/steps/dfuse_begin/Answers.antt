@@ -5,11 +5,11 @@ use Rattle.dfu_formats.specs.memory.Reading.{MapContent}
 use Rattle.dfuse_host.specs.declared.plan.Plan.{Plan}
 use Rattle.dfuse_host.specs.Refusing.{FirstPlanFault}
 use Rattle.dfu_host_c.specs.dfuse.Sessions.{dfuse_plan_of}
-use Rattle.dfu_host_c.proofs.Refused.{refused_for_first_fault}
+use Rattle.dfu_host_c.proofs.Refused.{call_is_refused_by_first_fault}
 use Rattle.dfu_host_c.proofs.dfuse.steps.dfuse_begin.Goals as goal
 
 pub returns-in-Err : goal.returns-in-Err
-returns-in-Err c = record { outcome = inr (inl (refused_for_first_fault _ _ c.in-Err.is c.read.ensures.fault (search rules), refl)) }
+returns-in-Err c = record { outcome = inr (inl (call_is_refused_by_first_fault _ _ c.in-Err.is c.read.ensures.fault (search rules), refl)) }
 
 pub returns-in-Err-begin : goal.returns-in-Err-begin
 returns-in-Err-begin c =

@@ -1,6 +1,6 @@
 use Rattle.std.proofs.Common.{◌∙◌, refl, sym, arith}
 use Rattle.dfu_link.specs.inside.AcceptedImage.{candidate_bytes_of}
-use Rattle.dfu_link.proofs.Checking.{front_goes_on_after_byte, front_breaks_at_byte, front_ends_after_last_byte}
+use Rattle.dfu_link.proofs.Checking.{front_goes_on_after_byte, front_breaks_at_byte, front_is_found_at_end}
 use Rattle.dfu_link.proofs.scripting.event_parts.begins.Goals as goal
 
 pub loop-i-init : goal.loop-i-init
@@ -20,5 +20,5 @@ loop-i-preserved g c =
 
 pub returns : goal.returns
 returns g c =
-    sym (c.loop-i.invariant ∙ front_ends_after_last_byte c.args.check.now (candidate_bytes_of c.args.slots.now c.args.candidate) c.loop-i.i
+    sym (c.loop-i.invariant ∙ front_is_found_at_end c.args.check.now (candidate_bytes_of c.args.slots.now c.args.candidate) c.loop-i.i
     (omega (arith, c.loop-i-test.false)))

@@ -2,7 +2,7 @@ use Rattle.std.proofs.Common.{◌≡◌, ℕ, List, ◌∷◌, [], ◌++◌, ◌
 use Rattle.std.proofs.lemmas.Bool.Decides.{nat_tests}
 use Rattle.hex.specs.Hex.{encode_lower}
 use Rattle.dfu_link.specs.Texts.{hex_text}
-use Rattle.dfu_link.proofs.WriteLaws.{both_texts_written, both_texts_fail}
+use Rattle.dfu_link.proofs.WriteLaws.{both_texts_are_written, both_texts_fail}
 use Rattle.dfu_link.proofs.HexLaws.{nonempty_hex_text_is_digits}
 use Rattle.dfu_link.proofs.scripting.output.write_bytes.Goals as goal
 
@@ -18,4 +18,4 @@ returns g c =
     let bytes = c.args.bytes.now in
     let filled : (length bytes == 0) ≡ false = sym c.is_empty.ensures ∙ c.if-is_empty.false in
     let some : hex_text bytes ≡ encode_lower bytes = nonempty_hex_text_is_digits bytes (λ none. absurd (grind (arith, nat_tests))) in
-    both_texts_written c.in_ok-write_all_digits.ensures c.write_out.ensures (ap (λ (xs : List ℕ). xs ++ 10 ∷ []) some)
+    both_texts_are_written c.in_ok-write_all_digits.ensures c.write_out.ensures (ap (λ (xs : List ℕ). xs ++ 10 ∷ []) some)

@@ -1,11 +1,11 @@
 use Rattle.std.proofs.Common.{◌∙◌, ap, refl, sym, List, ℕ}
 use Rattle.dfu_link.specs.ScriptRun.{has_front}
 use Rattle.dfu_link.proofs.Checking.{empty_check_accepts_all}
-use Rattle.dfu_link.proofs.SourceLaws.{empty_list_of_no_length}
+use Rattle.dfu_link.proofs.SourceLaws.{zero_length_is_empty}
 use Rattle.dfu_link.proofs.scripting.playing.is_accepted.Goals as goal
 
 pub returns-then-is_empty : goal.returns-then-is_empty
-returns-then-is_empty g c = empty_check_accepts_all c.args.check.now _ (empty_list_of_no_length c.args.check.now (sym c.is_empty.ensures ∙
+returns-then-is_empty g c = empty_check_accepts_all c.args.check.now _ (zero_length_is_empty c.args.check.now (sym c.is_empty.ensures ∙
     c.if-is_empty.true))
 
 pub returns-in-None : goal.returns-in-None

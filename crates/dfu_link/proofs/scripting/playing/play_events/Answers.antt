@@ -5,32 +5,32 @@ use Rattle.dfu_sim.specs.declared.offering.Purpose.{Purpose}
 use Rattle.dfu_link.specs.LineContent.{Offer, Upload, Abort, Go, Time, Reset, Cut, Refuse, given_bytes, offered_bytes, content_of_event}
 use Rattle.dfu_link.specs.inside.Moving.{offered_file_of}
 use Rattle.dfu_link.specs.declared.scripting.line.EventLine.{EventLine}
-use Rattle.dfu_link.proofs.PlayLaws.{offer_unchanged_by_check}
-use Rattle.dfu_link.proofs.StepLaws.{event_line_carried_out}
+use Rattle.dfu_link.proofs.PlayLaws.{check_keeps_offer}
+use Rattle.dfu_link.proofs.StepLaws.{event_line_is_done}
 use Rattle.dfu_link.proofs.scripting.playing.play_events.Goals as goal
 
 -- The one event of an offer's line is the offer of its bytes.
-single_offer_event : {event : Happening} {purpose : Purpose} {file text : List ℕ} {limits : Limits} → event ≡ Offers purpose file limits
+offer_is_one_event : {event : Happening} {purpose : Purpose} {file text : List ℕ} {limits : Limits} → event ≡ Offers purpose file limits
     → file ≡ text
     → event ∷ [] ≡ Offers purpose text limits ∷ []
-single_offer_event {purpose = purpose} {limits = limits} is same =
+offer_is_one_event {purpose = purpose} {limits = limits} is same =
     ap (λ (e : Happening). e ∷ []) (is ∙ ap (λ (f : List ℕ). Offers purpose f limits) same)
 
 pub returns-in-Offer : goal.returns-in-Offer
-returns-in-Offer g c = event_line_carried_out (Offer c.in-Offer.purpose (offered_bytes c.in-Offer.file)) (ap content_of_event c.in-Offer.is)
-    (single_offer_event c.offered.ensures (c.requires ∙ ap (λ (d : EventLine). offered_file_of (content_of_event d)) c.in-Offer.is))
-    (c.play.ensures c.args.context.now.check.now (offer_unchanged_by_check c.args.context.now.check.now c.args.world.now.bench
+returns-in-Offer g c = event_line_is_done (Offer c.in-Offer.purpose (offered_bytes c.in-Offer.file)) (ap content_of_event c.in-Offer.is)
+    (offer_is_one_event c.offered.ensures (c.requires ∙ ap (λ (d : EventLine). offered_file_of (content_of_event d)) c.in-Offer.is))
+    (c.play.ensures c.args.context.now.check.now (check_keeps_offer c.args.context.now.check.now c.args.world.now.bench
     c.offered.ensures))
 
 pub returns-in-Upload : goal.returns-in-Upload
-returns-in-Upload g c = event_line_carried_out Upload (ap content_of_event c.in-Upload.is) refl (c.play-in-Upload.ensures _ refl)
+returns-in-Upload g c = event_line_is_done Upload (ap content_of_event c.in-Upload.is) refl (c.play-in-Upload.ensures _ refl)
 
 pub returns-in-Abort : goal.returns-in-Abort
-returns-in-Abort g c = event_line_carried_out Abort (ap content_of_event c.in-Abort.is) refl (c.play-in-Abort.ensures _ refl)
+returns-in-Abort g c = event_line_is_done Abort (ap content_of_event c.in-Abort.is) refl (c.play-in-Abort.ensures _ refl)
 
 pub returns-in-Go : goal.returns-in-Go
 returns-in-Go g c =
-    event_line_carried_out (Go (fate_of c.in-Go.fate) (harm_of_fate c.in-Go.fate) c.in-Go.times) (ap content_of_event c.in-Go.is) refl
+    event_line_is_done (Go (fate_of c.in-Go.fate) (harm_of_fate c.in-Go.fate) c.in-Go.times) (ap content_of_event c.in-Go.is) refl
     c.play_actions.ensures
 
 pub returns-in-GoHarmed : goal.returns-in-GoHarmed
@@ -41,14 +41,14 @@ pub returns-in-GoOn : goal.returns-in-GoOn
 returns-in-GoOn g c = rw c.in-GoOn.is (c.pass_on.ensures (given_bytes c.args.context.now.given) c.args.context.now.limits)
 
 pub returns-in-Time : goal.returns-in-Time
-returns-in-Time g c = event_line_carried_out (Time c.in-Time.ms) (ap content_of_event c.in-Time.is) refl (c.play-in-Time.ensures _ refl)
+returns-in-Time g c = event_line_is_done (Time c.in-Time.ms) (ap content_of_event c.in-Time.is) refl (c.play-in-Time.ensures _ refl)
 
 pub returns-in-Reset : goal.returns-in-Reset
-returns-in-Reset g c = event_line_carried_out Reset (ap content_of_event c.in-Reset.is) refl (c.play-in-Reset.ensures _ refl)
+returns-in-Reset g c = event_line_is_done Reset (ap content_of_event c.in-Reset.is) refl (c.play-in-Reset.ensures _ refl)
 
 pub returns-in-Cut : goal.returns-in-Cut
-returns-in-Cut g c = event_line_carried_out Cut (ap content_of_event c.in-Cut.is) refl (c.play-in-Cut.ensures _ refl)
+returns-in-Cut g c = event_line_is_done Cut (ap content_of_event c.in-Cut.is) refl (c.play-in-Cut.ensures _ refl)
 
 pub returns-in-Refuse : goal.returns-in-Refuse
-returns-in-Refuse g c = event_line_carried_out (Refuse c.in-Refuse.why) (ap content_of_event c.in-Refuse.is) refl (c.play-in-Refuse.ensures
+returns-in-Refuse g c = event_line_is_done (Refuse c.in-Refuse.why) (ap content_of_event c.in-Refuse.is) refl (c.play-in-Refuse.ensures
     _ refl)

@@ -6,14 +6,14 @@ use Rattle.dfu_link.specs.inside.Expected.{expectation_of, point_of_parts}
 use Rattle.dfu_link.specs.declared.scripting.line.HarmKind.{HarmKind}
 use Rattle.dfu_link.specs.declared.scripting.line.HarmKind.TheVariants as kind
 use Rattle.dfu_link.proofs.FallLaws.{tear_without_memory_fails}
-use Rattle.dfu_link.proofs.StepLaws.{event_line_carried_out}
+use Rattle.dfu_link.proofs.StepLaws.{event_line_is_done}
 use Rattle.dfu_link.proofs.scripting.playing.play_harmed.Goals as goal
 
 -- The one event of a harmed action's line is that action.
-single_harmed_event : {fate given : Fate} {harm : WriteHarm} {writes : ℕ} {tear text : List ℕ} → fate ≡ given → harm
+harmed_is_one_event : {fate given : Fate} {harm : WriteHarm} {writes : ℕ} {tear text : List ℕ} → fate ≡ given → harm
     ≡ harmed writes tear → tear ≡ text
     → Goes fate harm ∷ [] ≡ Goes given (harmed writes text) ∷ []
-single_harmed_event {given = given} {harm = harm} {writes = writes} is how same = ap (λ (f : Fate). Goes f harm ∷ []) is
+harmed_is_one_event {given = given} {harm = harm} {writes = writes} is how same = ap (λ (f : Fate). Goes f harm ∷ []) is
     ∙ ap (λ (h : WriteHarm). Goes given h ∷ []) (how ∙ ap (λ (t : List ℕ). harmed writes t) same)
 
 harmed_action_has_tear : (kind : HarmKind) (harm : WriteHarm) → HasTear (Go (harm_fate kind) harm 1)
@@ -36,6 +36,6 @@ returns-in_err-torn g c = λ given limits.
 
 pub returns : goal.returns
 returns g c = λ given limits.
-    event_line_carried_out (Go (harm_fate c.args.harm) (harmed c.args.writes (hex_bytes c.args.tear)) 1) refl
-    (single_harmed_event c.harmed-fate.ensures.fate c.harmed-fate.ensures.harm (c.deref.ensures.value ∙ c.in_ok-torn.ensures.ok))
+    event_line_is_done (Go (harm_fate c.args.harm) (harmed c.args.writes (hex_bytes c.args.tear)) 1) refl
+    (harmed_is_one_event c.harmed-fate.ensures.fate c.harmed-fate.ensures.harm (c.deref.ensures.value ∙ c.in_ok-torn.ensures.ok))
     c.play_actions.ensures

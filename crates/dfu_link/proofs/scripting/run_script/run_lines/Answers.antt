@@ -1,6 +1,6 @@
 use Rattle.std.proofs.Common.{sym, subst, refl}
 use Rattle.std.proofs.lemmas.Result.{err_from_is_err_and}
-use Rattle.dfu_suffix.proofs.ReadLaws.{fact_of_some_value}
+use Rattle.dfu_suffix.proofs.ReadLaws.{each_value_gives_if_some}
 use Rattle.dfu_link.specs.LineContent.{given_bytes}
 use Rattle.dfu_link.specs.Falls.{ScriptFails, no_memory}
 use Rattle.dfu_link.specs.declared.scripting.fault.ScriptFault.{ScriptFault}
@@ -11,7 +11,7 @@ pub returns-in_err-source : goal.returns-in_err-source
 returns-in_err-source g c =
     let failed = err_from_is_err_and c.from_residual.result c.from_residual.ensures.1 in
     let old = g.W.Write.contents c.args.writer.now in
-    rw (failed.1, failed.2) (fact_of_some_value (g.R.Read.remaining c.args.reader)
+    rw (failed.1, failed.2) (each_value_gives_if_some (g.R.Read.remaining c.args.reader)
     (λ text. ScriptFails (given_bytes c.args.given) text old old c.in_err-source.field-0.0)
     (λ text e. subst (λ (f : ScriptFault). ScriptFails (given_bytes c.args.given) text old old f)
     (sym c.in_err-source.ensures.fault) (no_memory refl)))

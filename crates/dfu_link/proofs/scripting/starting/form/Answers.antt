@@ -8,7 +8,7 @@ use Rattle.dfu_slots.specs.Changes.{CanFormat, IsFormatFault}
 use Rattle.dfu_slots.specs.Unarmed.{whole_fuse_fails_no_write, whole_fuse_after_writes}
 use Rattle.dfu_link.specs.ScriptRun.{blank_slots}
 use Rattle.dfu_link.specs.inside.SetupView.{setup_grain}
-use Rattle.dfu_link.proofs.Blank.{blank_medium_is_blank_slots, blank_slots_capacity, blank_slots_are_sized}
+use Rattle.dfu_link.proofs.Blank.{blank_medium_is_blank_slots, blank_slots_have_capacity, blank_slots_are_sized}
 use Rattle.dfu_link.proofs.scripting.starting.form.Goals as goal
 
 pub unreachable-requires : goal.unreachable-requires
@@ -46,8 +46,8 @@ returns-in-Ok-format-clause-ok c =
     same c.in-Ok-format.ensures.writes in
     let can : CanFormat b image = subst (λ (x : MediumState). CanFormat x image) same c.in-Ok-format.ensures.formats in
     record {
-      whole = subst (λ (k : ℕ). IsWhole w k) (blank_slots_capacity w n) can.sized.whole;
-      fits = omega (arith, can.fits, blank_slots_capacity w n);
+      whole = subst (λ (k : ℕ). IsWhole w k) (blank_slots_have_capacity w n) can.sized.whole;
+      fits = omega (arith, can.fits, blank_slots_have_capacity w n);
       formatted = writes;
       active = c.in-Ok-format.ensures.active;
       image_is = c.in-Ok-format.ensures.image;

@@ -1,7 +1,7 @@
 use Rattle.std.proofs.Common.{sym, ◌∙◌, ap, ◌≡◌, Some, None, drop}
 use Rattle.std.specs.List.{position}
 use Rattle.dfu_link.specs.Words.{is_space, is_no_space}
-use Rattle.dfu_link.proofs.WordLaws.{only_spaces_have_no_word, first_word_and_rest, only_word_of_text}
+use Rattle.dfu_link.proofs.WordLaws.{only_spaces_have_no_word, first_word_splits_line, text_has_only_word}
 use Rattle.dfu_link.proofs.scripting.words.word_at.Goals as goal
 
 pub returns-in_err-start : goal.returns-in_err-start
@@ -16,7 +16,7 @@ returns-in-Some c =
     let end : position is_space (drop c.in_ok-start.start c.args.line.now) ≡ Some c.in-Some.end = ap (position is_space) (sym back)
     ∙ (sym c.space_at.ensures ∙ c.in-Some.is) in
     rw (c.split_at-in-Some.ensures.front, c.split_at-in-Some.ensures.back, back)
-    (first_word_and_rest c.args.line.now c.in_ok-start.start c.in-Some.end start end)
+    (first_word_splits_line c.args.line.now c.in_ok-start.start c.in-Some.end start end)
 
 pub returns-in-None : goal.returns-in-None
 returns-in-None c =
@@ -24,4 +24,4 @@ returns-in-None c =
     let back : c.split_at.result.1.now ≡ drop c.in_ok-start.start c.args.line.now = c.split_at.ensures.back in
     let none : position is_space (drop c.in_ok-start.start c.args.line.now) ≡ None = ap (position is_space) (sym back)
     ∙ (sym c.space_at.ensures ∙ c.in-None.is) in
-    rw back (only_word_of_text c.args.line.now c.in_ok-start.start start none)
+    rw back (text_has_only_word c.args.line.now c.in_ok-start.start start none)

@@ -3,7 +3,7 @@ use Rattle.dfu_conformance.specs.declared.standard.TheConstants.{STANDARD}
 use Rattle.dfu_conformance.specs.declared.habits.TheConstants.{HABITS}
 use Rattle.dfu_conformance.specs.declared.dfuse.rows.TheConstants.{DFUSE}
 use Rattle.dfu_output.specs.judge.Texts.{texts_of_each}
-use Rattle.dfu_output.specs.judge.Dfuse.{dfuse_allowed_text, dfuse_departure_text, stalled_text}
+use Rattle.dfu_output.specs.judge.Dfuse.{dfuse_allowed_text, dfuse_departure_text, stall_text_if_allowed}
 use Rattle.dfu_output.proofs.judge.dfuse.dfuse_departure_text.Goals as goal
 
 pub returns : goal.returns
@@ -12,4 +12,4 @@ returns c =
     let d = c.args.departure.now in
     c.in_ok-push_dfuse.ensures
     ∙ ap (λ (t : List ℕ). t ++ texts_of_each (dfuse_allowed_text d) STANDARD ++ texts_of_each (dfuse_allowed_text d) HABITS
-    ++ texts_of_each (dfuse_allowed_text d) DFUSE ++ stalled_text d.event) c.in_ok-line.ensures
+    ++ texts_of_each (dfuse_allowed_text d) DFUSE ++ stall_text_if_allowed d.event) c.in_ok-line.ensures

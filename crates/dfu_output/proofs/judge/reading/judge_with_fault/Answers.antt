@@ -3,7 +3,7 @@ use Rattle.std.proofs.lemmas.Option.{IfSome_then}
 use Rattle.dfu_output.specs.declared.judge.fault.LogFault.TheVariants.{NoMemory}
 use Rattle.dfu_output.specs.judge.Course.{LogCourse, CourseOfText}
 use Rattle.dfu_output.specs.judge.Judging.{WritesVerdict, judged_to_stop, judged_to_end}
-use Rattle.dfu_output.proofs.LogPieces.{no_memory_stops_log, judged_nothing_at_first, fact_of_all_holds_if_some}
+use Rattle.dfu_output.proofs.LogPieces.{no_memory_stops_log, nothing_is_judged_at_first, fact_of_all_holds_if_some}
 use Rattle.dfu_output.proofs.judge.reading.judge_with_fault.Goals as goal
 
 pub returns-in_default : goal.returns-in_default
@@ -17,10 +17,10 @@ pub returns-in-Ok : goal.returns-in-Ok
 returns-in-Ok g c =
     judged_to_end (IfSome_then _ {Q = λ (text : List ℕ). (x : LogCourse) × CourseOfText c.args.interface (text ++ 10 ∷ []) x
     × WritesVerdict x (g.W.Write.contents c.args.writer.now) (g.W.Write.contents c.verdict_out.new.writer) c.verdict_out.result}
-    (c.in-Ok.ensures.ok (g.W.Write.contents c.args.writer.now) (judged_nothing_at_first c.args.interface _ _ c.in-Some.ensures))
+    (c.in-Ok.ensures.ok (g.W.Write.contents c.args.writer.now) (nothing_is_judged_at_first c.args.interface _ _ c.in-Some.ensures))
     (λ (text : List ℕ) going. (going.course, going.judged, c.verdict_out.ensures _ _ (text ++ 10 ∷ []) going))) refl
 
 pub returns : goal.returns
 returns g c =
     judged_to_stop _ c.in-Err.fault (c.in-Err.ensures.err (g.W.Write.contents c.args.writer.now)
-    (judged_nothing_at_first c.args.interface _ _ c.in-Some.ensures)) c.stop_text-in-Err.ensures refl
+    (nothing_is_judged_at_first c.args.interface _ _ c.in-Some.ensures)) c.stop_text-in-Err.ensures refl

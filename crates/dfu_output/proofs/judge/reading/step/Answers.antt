@@ -1,13 +1,13 @@
-use Rattle.dfu_output.proofs.LogPieces.{bad_byte_stops_log, unwritten_departure_stops, judged_without_departure, departure_at_byte}
+use Rattle.dfu_output.proofs.LogPieces.{bad_byte_stops_log, unwritten_departure_stops, no_departure_keeps_output, departure_extends_output}
 use Rattle.dfu_output.proofs.judge.reading.step.Goals as goal
 
 pub returns-in-Ok-None-clause-ok : goal.returns-in-Ok-None-clause-ok
 returns-in-Ok-None-clause-ok g c old text at =
-    judged_without_departure _ _ _ _ _ _ _ at.out c.in-Ok-None.field-0-is (c.in-Ok-None.ensures.ok text at.course at.at at.judged)
+    no_departure_keeps_output _ _ _ _ _ _ _ at.out c.in-Ok-None.field-0-is (c.in-Ok-None.ensures.ok text at.course at.at at.judged)
 
 pub returns-in-Ok-clause-ok : goal.returns-in-Ok-clause-ok
 returns-in-Ok-clause-ok g c old text at =
-    departure_at_byte _ _ _ _ _ _ _ c.in-Ok-Some.departure _ _ at.out c.in-Ok.ensures.ok c.number.ensures c.in-Ok-Some.field-0-is
+    departure_extends_output _ _ _ _ _ _ _ c.in-Ok-Some.departure _ _ at.out c.in-Ok.ensures.ok c.number.ensures c.in-Ok-Some.field-0-is
     (c.in-Ok-Some.ensures.ok text at.course at.at at.judged)
 
 pub returns-in-Err-tell-clause-err : goal.returns-in-Err-tell-clause-err

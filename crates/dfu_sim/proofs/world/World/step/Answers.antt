@@ -1,7 +1,7 @@
 use Rattle.dfu_slots.proofs.Seeing.{seen_image_is_active, image_is}
 use Rattle.dfu_sim.specs.Understood.{BenchImageIsActive}
 use Rattle.dfu_sim.proofs.Steady.{world_event_is_steady, machines_follow_world_event, each_event_is_sure, event_gives_bytes}
-use Rattle.dfu_sim.proofs.HeadlineKept.{step_keeps}
+use Rattle.dfu_sim.proofs.HeadlineKept.{step_keeps_headline}
 use Rattle.dfu_sim.proofs.world.World.step.Goals as goal
 
 -- The image that a bench shows is the only active one of its medium's bytes.
@@ -26,5 +26,5 @@ pub returns-clause-gives : goal.returns-clause-gives
 returns-clause-gives g c = rw (← c.self.view_is) (event_gives_bytes c.self.invariant.steady c.apply_event-told.ensures)
 
 pub returns-clause-headline : goal.returns-clause-headline
-returns-clause-headline g c = rw (← c.self.view_is) (step_keeps _ _ _ _ (machines_follow_world_event shown c.self.invariant.steady
+returns-clause-headline g c = rw (← c.self.view_is) (step_keeps_headline _ _ _ _ (machines_follow_world_event shown c.self.invariant.steady
     (rw c.slots.ensures.slots at c.capacity.ensures.image) c.apply_event-told.ensures))

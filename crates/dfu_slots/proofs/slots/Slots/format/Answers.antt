@@ -1,7 +1,7 @@
 use Rattle.std.proofs.Common.{refl}
 use Rattle.dfu_slots.specs.StoreView.{format_series, store_of}
 use Rattle.dfu_slots.specs.Changes.{CanFormat}
-use Rattle.dfu_slots.proofs.Formatting.{StoreAfterFormat, can_format_from_test, format_leaves_its_store}
+use Rattle.dfu_slots.proofs.Formatting.{StoreAfterFormat, tested_can_be_formatted, format_leaves_its_store}
 use Rattle.dfu_slots.proofs.Series.{broken_writes_raise_count}
 use Rattle.dfu_slots.proofs.slots.Slots.format.Given as given
 use Rattle.dfu_slots.proofs.slots.Slots.format.Goals.{Else-image-from, After-nothing}
@@ -9,14 +9,14 @@ use Rattle.dfu_slots.proofs.slots.Slots.format.Goals as goal
 
 -- The medium can be formatted.
 can : (g : given.Over) (c : goal.Else-image-from g) → CanFormat (g.M.Medium.state c.args.medium) c.args.image.now
-can g c = can_format_from_test c.args.image.now (c.is_sized.ensures.0 c.if-not-is_sized.false) c.if-image-from.false c.from.ensures
+can g c = tested_can_be_formatted c.args.image.now (c.is_sized.ensures.0 c.if-not-is_sized.false) c.if-image-from.false c.from.ensures
     c.capacity_of.ensures
 
--- The medium was formatted.
+-- After the format the store has the image, and nothing was put on it.
 left : (g : given.Over) (c : goal.After-nothing g) → StoreAfterFormat
     (store_of (g.M.Medium.state c.write_image.new.medium) c.nothing.result.held.items c.nothing.result.end) c.args.image.now
 left g c = format_leaves_its_store (g.M.Medium.state c.write_image.new.medium)
-    (can_format_from_test c.args.image.now (c.is_sized.ensures.0 c.if-not-is_sized.false) c.if-image-from.false c.from.ensures
+    (tested_can_be_formatted c.args.image.now (c.is_sized.ensures.0 c.if-not-is_sized.false) c.if-image-from.false c.from.ensures
     c.capacity_of.ensures)
     c.in-Ok.ensures c.nothing.ensures.held c.nothing.ensures.end
 

@@ -1,7 +1,7 @@
 use Rattle.std.proofs.Common.{ap, ◌∙◌}
 use Rattle.dfu_slots.specs.StoreView.{image_of}
 use Rattle.dfu_slots.proofs.Refused.{faulty_medium_has_no_image}
-use Rattle.dfu_slots.proofs.Seeing.{medium_makes_fresh_store, reopened_image}
+use Rattle.dfu_slots.proofs.Seeing.{medium_makes_fresh_store, reopening_keeps_image}
 use Rattle.dfu_slots.proofs.slots.Slots.reopen.Goals as goal
 
 pub unreachable-requires : goal.unreachable-requires
@@ -24,7 +24,7 @@ returns-clause-store g c = rw (← c.self.view_is)
 pub returns-clause-image : goal.returns-clause-image
 returns-clause-image g c = rw (← c.self.view_is)
     (ap image_of (medium_makes_fresh_store c.self.invariant.store.has_image c.clear.ensures.held c.clear.ensures.end).fresh
-    ∙ reopened_image _)
+    ∙ reopening_keeps_image _)
 
 pub returns-clause-shape : goal.returns-clause-shape
 returns-clause-shape g c = (medium_makes_fresh_store c.self.invariant.store.has_image c.clear.ensures.held c.clear.ensures.end).shape

@@ -1,12 +1,12 @@
 use Rattle.std.proofs.Common.{sym, subst}
 use Rattle.dfu_conformance.specs.declared.verdict.Verdict.{Verdict}
-use Rattle.dfu_conformance.specs.Verdict.{ArePlacesAfter, HasBits, IsVerdict}
+use Rattle.dfu_conformance.specs.Verdict.{ArePlacesAfter, HasSixBits, IsVerdict}
 use Rattle.dfu_output.specs.judge.Judging.{readings_of}
 use Rattle.dfu_output.specs.judge.inside.JudgeState.{JudgingState, IsStateAfter}
 use Rattle.dfu_output.proofs.judge.judging.Judging.verdict.Goals as goal
 
 pub places-requires-in-KeptBy : goal.places-requires-in-KeptBy
-places-requires-in-KeptBy c = subst HasBits c.in-KeptBy.is c.verdict-verdict.ensures.bits
+places-requires-in-KeptBy c = subst HasSixBits c.in-KeptBy.is c.verdict-verdict.ensures.bits
 
 pub returns-in-Kept : goal.returns-in-Kept
 returns-in-Kept c text course is =

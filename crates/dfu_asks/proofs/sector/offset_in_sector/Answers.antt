@@ -1,6 +1,6 @@
 use Rattle.std.proofs.Common.{◌≡◌, ◌+◌, ◌*◌, ◌/◌, ◌%◌, ℕ, sym, ◌∙◌, ap, arith}
 use Rattle.std.proofs.Math.Nat.{mod-add-div', add-mul-mod_self_right}
-use Rattle.dfu_asks.proofs.sector.behind_edge.Goals as goal
+use Rattle.dfu_asks.proofs.sector.offset_in_sector.Goals as goal
 
 pub returns : goal.returns
 returns c =

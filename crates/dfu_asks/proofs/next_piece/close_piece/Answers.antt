@@ -4,7 +4,7 @@ use Rattle.dfu_asks.specs.Steps.{Step}
 use Rattle.dfu_asks.specs.Carried.{IsStepPiece}
 use Rattle.dfu_asks.specs.Cuts.{step_of_cut}
 use Rattle.dfu_asks.proofs.SequenceSteps.{close_ops_are_step}
-use Rattle.dfu_asks.proofs.next_piece.shut_piece.Goals as goal
+use Rattle.dfu_asks.proofs.next_piece.close_piece.Goals as goal
 
 pub returns-then-close-clause-found : goal.returns-then-close-clause-found
 returns-then-close-clause-found c = λ yes.

@@ -1,4 +1,4 @@
--- Results of each call of a slot store, by its writes alone.
+-- Results of each call of a slot store, proved from the call's writes.
 use Rattle.std.proofs.Common.{◌≡◌, ℕ, ◌+◌, ◌≤◌, ◌<◌, List, length, true, Result, Ok, Err, IsErrOf, refl, sym, arith}
 use Rattle.dfu_slots.specs.declared.fault.PutFault.{PutFault}
 use Rattle.dfu_slots.specs.declared.fault.PutFault.TheVariants.{Failed as PutFailed, NotVerified as PutNotVerified, NotBegun, TooLarge}
@@ -24,29 +24,33 @@ abbrev pub broken_call : WriteFault → Result (Unit {0}) PutFault
 broken_call Failed = Err PutFailed
 broken_call NotVerified = Err PutNotVerified
 
--- The ending of a broken call tells its fault.
+-- The ending of a broken call has the fault of the call.
 pub ending_of_broken_call : (fault : WriteFault) → ending_of (broken_call fault) ≡ BrokenBy fault
 ending_of_broken_call Failed = refl
 ending_of_broken_call NotVerified = refl
 
+-- A call in which a write had a fault changes the store as the result of that fault says.
 broken_call_changes : (fault : WriteFault) (s now : SlotsState) (call : StoreCall) → CallFailed fault s call now
     → CallChanges s call (broken_call fault) now
 broken_call_changes Failed s now call failed = failed
 broken_call_changes NotVerified s now call failed = failed
 
+-- The result of a broken call is not the fault of a store that is not begun.
 broken_call_is_begun : (fault : WriteFault) → ¬ IsErrOf (broken_call fault) NotBegun
 broken_call_is_begun Failed e = cc
 broken_call_is_begun NotVerified e = cc
 
+-- The result of a broken call is not the fault of bytes that are too many.
 broken_call_not_too_large : (fault : WriteFault) → ¬ IsErrOf (broken_call fault) TooLarge
 broken_call_not_too_large Failed e = cc
 broken_call_not_too_large NotVerified e = cc
 
-room_is_not_exceeded : (s : SlotsState) (n : ℕ) → n ≤ room_of s → capacity_of s.medium < n → ⊥
-room_is_not_exceeded s n fits over = omega (arith, fits, over, room_is_capacity s)
+-- Bytes that fit in the room of a store do not exceed the capacity of its medium.
+room_covers_fitting_put : (s : SlotsState) (n : ℕ) → n ≤ room_of s → capacity_of s.medium < n → ⊥
+room_covers_fitting_put s n fits over = omega (arith, fits, over, room_is_capacity s)
 
 module _ (s now : SlotsState) (store : IsStore s) where
-  -- Result of a `begin` whose writes all worked.
+  -- A `begin` whose writes all worked has the result of a `begin` that worked.
   pub begun : CallWorked s Begin now → StoreBeginResult s worked_call now
   begun worked =
       (begin_keeps_places {T = Unit {0}} {s = s} {v = s} refl
@@ -60,7 +64,7 @@ module _ (s now : SlotsState) (store : IsStore s) where
       (record { store = store; active_there = refl; spare_there = refl }) now worked_call tt worked).0 in
       record { active = sym kept.active_there; spare = sym kept.spare_there }
 
-  -- A `begin` that was broken off leaves the slots at their places.
+  -- A `begin` with a broken-off write leaves the slots at their places.
   pub broken_begin_keeps_places : (fault : WriteFault) → CallFailed fault s Begin now → SamePlaces s.medium now.medium
   broken_begin_keeps_places Failed failed =
       let kept = (begin_keeps_places {T = Unit {0}} {s = s} {v = s} refl (record {
@@ -79,7 +83,7 @@ module _ (s now : SlotsState) (store : IsStore s) where
       (broken_call NotVerified) tt failed).0 in
       record { active = sym kept.active_there; spare = sym kept.spare_there }
 
-  -- Result of a `begin` that was broken off.
+  -- A `begin` with a broken-off write has the result of a broken `begin`.
   pub broken_begin_result : (fault : WriteFault) → CallFailed fault s Begin now → StoreBeginResult s (broken_call fault) now
   broken_begin_result Failed failed =
       (begin_keeps_places {T = Unit {0}} {s = s} {v = s} refl (record { store = store; active_there = refl; spare_there = refl }) now
@@ -96,14 +100,14 @@ module _ (s now : SlotsState) (store : IsStore s) where
         let both = put_keeps_places {T = Unit {0}} {s = s} {v = s} refl
         (record { store = store; active_there = refl; spare_there = refl }) now at bytes
         here result (λ e. absurd (begun e), λ o. absurd (begun_gate_is_closed s ready o))
-        (λ e. absurd (small e), λ over. absurd (room_is_not_exceeded s (at + length bytes) fits over.1)) changes in
+        (λ e. absurd (small e), λ over. absurd (room_covers_fitting_put s (at + length bytes) fits over.1)) changes in
         (record { active = sym both.0.active_there; spare = sym both.0.spare_there }, both.1)
 
-    -- A `put` whose writes all worked leaves the slots at their places, and has its result.
+    -- A `put` whose writes all worked leaves the slots at their places, and has the result of a `put` that worked.
     pub worked_put_result : CallWorked s (Put at bytes) now → SamePlaces s.medium now.medium × StorePutResult s at bytes worked_call now
     worked_put_result worked = put_places_and_result worked_call (λ e. cc) (λ e. cc) worked
 
-    -- A `put` that was broken off leaves the slots at their places, and has its result.
+    -- A `put` with a broken-off write leaves the slots at their places, and has the result of a broken `put`.
     pub broken_put_result : (fault : WriteFault) → CallFailed fault s (Put at bytes) now
         → SamePlaces s.medium now.medium × StorePutResult s at bytes (broken_call fault) now
     broken_put_result fault failed = put_places_and_result (broken_call fault) (broken_call_is_begun fault) (broken_call_not_too_large
@@ -111,12 +115,12 @@ module _ (s now : SlotsState) (store : IsStore s) where
         (broken_call_changes fault s now (Put at bytes) failed)
 
   module _ (len : ℕ) (within : len ≤ s.put_end) (ready : is_begun s ≡ true) where
-    -- Result of a `commit` whose writes all worked.
+    -- A `commit` whose writes all worked has the result of a `commit` that worked.
     pub worked_commit_result : CallWorked s (Commit len) now → StoreCommitResult s len worked_call now
     worked_commit_result worked = commit_result_holds {T = Unit {0}} {s = s} {v = s} (λ i. s) store now len within worked_call
         (λ e. cc, λ o. absurd (begun_gate_is_closed s ready o)) (λ e. cc) worked
 
-    -- Result of a `commit` that was broken off.
+    -- A `commit` with a broken-off write has the result of a broken `commit`.
     pub broken_commit_result : (fault : WriteFault) → CallFailed fault s (Commit len) now → StoreCommitResult s len (broken_call fault) now
     broken_commit_result fault failed = commit_result_holds {T = Unit {0}} {s = s} {v = s} (λ i. s) store now len within (broken_call fault)
         (λ e. absurd (broken_call_is_begun fault e), λ o. absurd (begun_gate_is_closed s ready o)) (broken_call_not_too_large fault)

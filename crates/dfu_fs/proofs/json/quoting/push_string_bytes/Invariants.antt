@@ -1,7 +1,7 @@
 use Rattle.std.specs.Prelude.{◌≡◌, ◌++◌, take}
 use Rattle.std.specs.List.{flat_map}
 use Rattle.dfu_fs.specs.Quoted.{escaped_byte}
-use Rattle.dfu_fs.proofs.json.quoting.push_inner.Given as goal
+use Rattle.dfu_fs.proofs.json.quoting.push_string_bytes.Given as goal
 
 abbrev pub invariant-loop-byte : goal.invariant-loop-byte
 invariant-loop-byte l = l.out.items ≡ l.fn.out.items ++ flat_map escaped_byte (take l.byte-index l.text)

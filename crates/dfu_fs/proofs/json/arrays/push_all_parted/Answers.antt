@@ -1,8 +1,0 @@
-use Rattle.std.proofs.Common.{arith}
-use Rattle.dfu_fs.specs.Quoted.{parted_byte}
-use Rattle.dfu_fs.proofs.Texts.{text_with_next_element}
-use Rattle.dfu_fs.proofs.json.arrays.push_all_parted.Goals as goal
-
-pub loop-byte-preserved : goal.loop-byte-preserved
-loop-byte-preserved c = text_with_next_element parted_byte c.args.words.now c.loop-byte.byte-index _ _ _ _
-    (omega (arith, c.loop-byte-test.true)) c.loop-byte.invariant c.in_ok-push_parted.ensures

@@ -1,7 +1,0 @@
-use Rattle.std.specs.Prelude.{◌≡◌, ◌++◌, take}
-use Rattle.std.specs.List.{flat_map}
-use Rattle.dfu_fs.specs.Quoted.{parted_byte}
-use Rattle.dfu_fs.proofs.json.arrays.push_all_parted.Given as goal
-
-abbrev pub invariant-loop-byte : goal.invariant-loop-byte
-invariant-loop-byte l = l.out.items ≡ l.fn.out.items ++ flat_map parted_byte (take l.byte-index l.words)
