@@ -41,6 +41,14 @@ static struct bay *make(struct bays *bays, const char *path, int64_t now_ms)
     return &bays->list[at];
 }
 
+bool bays_have(const struct bays *bays, const char *path)
+{
+    for (int at = 0; at < bays->count; at++)
+        if (bays->list[at].state != BAY_FREE && strcmp(bays->list[at].path, path) == 0)
+            return true;
+    return false;
+}
+
 struct bay *bays_see(struct bays *bays, const struct port *port, int64_t now_ms)
 {
     struct bay *bay = find(bays, port->path);

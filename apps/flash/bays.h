@@ -54,6 +54,9 @@ struct bays {
 /* Takes a device that was seen. Returns its bay, if a process is to look at it; else NULL. */
 struct bay *bays_see(struct bays *bays, const struct port *port, int64_t now_ms);
 
+/* Returns whether a process is at work at this path, or a device was flashed there and isn't known to be pulled out. */
+bool bays_have(const struct bays *bays, const char *path);
+
 /* Ends a look at the bus: a device that wasn't seen in it counts as pulled out once it has been away. */
 void bays_miss(struct bays *bays, const struct port *ports, int count, int64_t now_ms);
 

@@ -163,6 +163,18 @@ bool has_dfu(const struct libusb_config_descriptor *configuration)
     return false;
 }
 
+bool is_in_dfu_mode(const struct libusb_config_descriptor *configuration)
+{
+    for (int at = 0; at < configuration->bNumInterfaces; at++) {
+        const struct libusb_interface *interface = &configuration->interface[at];
+        if (interface->num_altsetting > 0 && interface->altsetting[0].bInterfaceClass == INTERFACE_CLASS
+            && interface->altsetting[0].bInterfaceSubClass == INTERFACE_SUBCLASS
+            && interface->altsetting[0].bInterfaceProtocol == PROTOCOL_DFU_MODE)
+            return true;
+    }
+    return false;
+}
+
 static void add_interface(struct look *look, const struct found *base, libusb_device_handle *handle,
                           const struct libusb_config_descriptor *configuration, const struct libusb_interface *interface)
 {

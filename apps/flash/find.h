@@ -63,6 +63,9 @@ bool may_be(const struct wanted *wanted, const struct found *found);
 /* Returns whether a configuration has an interface with DFU. */
 bool has_dfu(const struct libusb_config_descriptor *configuration);
 
+/* Returns whether it has one in DFU mode. */
+bool is_in_dfu_mode(const struct libusb_config_descriptor *configuration);
+
 /* Returns whether a setting is the wanted one. */
 bool is_wanted(const struct wanted *wanted, const struct found *found);
 

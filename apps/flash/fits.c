@@ -43,7 +43,9 @@ static bool is_fit_for_dfuse(const struct words *words)
 static bool is_fit_for_station(const struct words *words)
 {
     bool is_session = words->job == JOB_DOWNLOAD || words->job == JOB_UPLOAD || words->job == JOB_DETACH;
-    if ((words->report != NULL || words->ports != NULL) && (!is_session || words->dry_run))
+    bool may_name = is_session || words->job == JOB_LIST;
+    if ((words->report != NULL && !is_session) || (words->ports != NULL && !may_name)
+        || ((words->report != NULL || words->ports != NULL) && words->dry_run))
         return words_refuse("--report and --ports go with a FILE, --upload or --detach, and with no --dry-run", "");
     if (words->boards != 0 && !words->all) {
         if (words->job == JOB_DOWNLOAD)

@@ -173,6 +173,8 @@ static int32_t read_raw(struct image *image, const struct words *words, const st
         say_empty();
     if (!has_target(words, image->length == 0))
         return refusal;
+    if (!words->raw)
+        looks_warn_raw(image->bytes, image->length);
     if (!words->quiet && words->has_address && image->length > 0)
         fprintf(stderr, "dfu-flash: there is no suffix: all %zu bytes %s written, from %08lx on\n", image->length,
                 words->dry_run ? "would be" : "are", (unsigned long)words->address);

@@ -42,5 +42,6 @@ int32_t image_make(struct image *image, const uint8_t *bytes, size_t length, uin
 #define IMAGE_TEXT (-112)    /* it is text */
 #define IMAGE_NAMED (-113)   /* it has the name of a format that it isn't of */
 #define IMAGE_CUT (-114)     /* it has the name of a DFU file, and no suffix */
+#define IMAGE_ELF (-115)     /* it is an ELF file of 64 bits or of big-endian numbers */
 
 #endif

@@ -7,6 +7,7 @@
 #include "say.h"
 #include "stamp.h"
 #include "standard.h"
+#include "station.h"
 #include "status.h"
 
 #include <stdio.h>
@@ -42,6 +43,7 @@ static void print_record(const struct found *found)
     printf("{%s\"vendor\":\"%04x\",\"product\":\"%04x\",\"release\":\"%04x\"", *say_mark != '\0' ? "\"simulated\":true," : "",
            found->vendor, found->product, found->release);
     json_text("path", found->path);
+    json_text("port", station_port(found->path));
     if (found->serial[0] != '\0')
         json_text("serial", found->serial);
     json_setting(found);
@@ -65,6 +67,8 @@ int list_devices(libusb_context *usb, const struct wanted *wanted, bool is_json)
         if (is_json)
             print_record(&list[at]);
         else {
+            if (station_port(list[at].path) != NULL)
+                say_text(stdout, "", station_port(list[at].path), ": ");
             say_found(stdout, &list[at]);
             if (is_dfuse(&list[at]) && list[at].is_upgrade)
                 dfuse_print_map(&list[at]);

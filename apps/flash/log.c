@@ -22,6 +22,22 @@ bool log_open(struct log *log, const char *name)
     return say_failed(name, " can't be made", errno == EEXIST ? "it is there already" : strerror(errno));
 }
 
+/* Writes a comment with a text, unless it is unknown. */
+static void print_known(FILE *out, const char *front, const char *text)
+{
+    if (text != NULL && *text != '\0')
+        say_text(out, front, text, "\n");
+}
+
+void log_board(struct log *log, const char *serial, const char *port, const char *entry)
+{
+    if (log->file == NULL)
+        return;
+    print_known(log->file, "# serial ", serial);
+    print_known(log->file, "# port ", port);
+    print_known(log->file, "# stamp ", entry);
+}
+
 void log_device(struct log *log, const struct device *device)
 {
     if (log->file != NULL && log->opened != 0 && log->opened != device->opened)

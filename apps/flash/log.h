@@ -23,6 +23,9 @@ struct log {
    can't be made. */
 bool log_open(struct log *log, const char *name);
 
+/* Writes comments with the board's serial number, the name of its port by --ports and its entry of --stamp; NULL or empty if unknown. */
+void log_board(struct log *log, const char *serial, const char *port, const char *entry);
+
 /* Writes a reset before the request that is about to be sent, if the device was found again since the last one. */
 void log_device(struct log *log, const struct device *device);
 

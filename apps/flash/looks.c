@@ -28,6 +28,42 @@ static const char *const nameds[] = {
     [DFU_NAMED_ELF] = "ELF file",
 };
 
+/* Archives that the library takes for raw bytes, by the bytes at their front. */
+static const struct {
+    const char *name, *front;
+    size_t length;
+} archives[] = {
+    {"xz",
+     "\xfd"
+     "7zXZ",
+     6},
+    {"bzip2", "BZh", 3},
+    {"7z", "7z\xbc\xaf\x27\x1c", 6},
+    {"zstd", "\x28\xb5\x2f\xfd", 4},
+    {"rar", "Rar!\x1a\x07", 6},
+};
+
+#define TAR_AT 257
+#define ELF_CLASS 4 /* 2 is 64 bits */
+#define ELF_ORDER 5 /* 2 is big-endian */
+
+/* Returns the kind of archive that the bytes look like, NULL for none. */
+static const char *archive_of(const uint8_t *bytes, size_t length, uint32_t looks)
+{
+    if (looks == DFU_LOOKS_ZIP || looks == DFU_LOOKS_GZIP)
+        return looks == DFU_LOOKS_ZIP ? "zip" : "gzip";
+    for (size_t at = 0; at < sizeof archives / sizeof *archives; at++)
+        if (length > archives[at].length && memcmp(bytes, archives[at].front, archives[at].length) == 0)
+            return archives[at].name;
+    return length > TAR_AT + 5 && memcmp(bytes + TAR_AT, "ustar", 5) == 0 ? "tar" : NULL;
+}
+
+/* Returns true for an ELF file of 64 bits or of big-endian numbers, which `dfu add` refuses. */
+static bool is_foreign_elf(const uint8_t *bytes, size_t length)
+{
+    return length > ELF_ORDER && (bytes[ELF_CLASS] == 2 || bytes[ELF_ORDER] == 2);
+}
+
 struct dfu_look looks_of(const uint8_t *bytes, size_t length, const char *file)
 {
     struct dfu_look look = {.looks = DFU_LOOKS_TEXT};
@@ -39,17 +75,28 @@ struct dfu_look looks_of(const uint8_t *bytes, size_t length, const char *file)
 void looks_warn(const uint8_t *bytes, size_t length)
 {
     uint32_t looks = looks_of(bytes, length, "-").looks;
-    const char *less = looks == DFU_LOOKS_ELF ? "unless the board loads ELF files, " : "";
-    if (looks == DFU_LOOKS_IHEX || looks == DFU_LOOKS_SREC || looks == DFU_LOOKS_UF2 || looks == DFU_LOOKS_ELF)
+    const char *less = looks == DFU_LOOKS_ELF ? "unless the board loads ELF files, " : "", *archive = archive_of(bytes, length, looks);
+    if (looks == DFU_LOOKS_ELF && is_foreign_elf(bytes, length))
+        fprintf(stderr,
+                "%sdfu-flash: the image in the file looks like an ELF file: %sadd a suffix to what `objcopy -O binary` makes of it\n",
+                say_mark, less);
+    else if (looks == DFU_LOOKS_IHEX || looks == DFU_LOOKS_SREC || looks == DFU_LOOKS_UF2 || looks == DFU_LOOKS_ELF)
         fprintf(stderr, "%sdfu-flash: the image in the file looks like %s: %s`dfu add --format %s` takes out the image that it describes\n",
                 say_mark, formats[looks].name, less, formats[looks].format);
-    else if (looks == DFU_LOOKS_ZIP || looks == DFU_LOOKS_GZIP)
+    else if (archive != NULL)
         fprintf(stderr,
                 "%sdfu-flash: the image in the file looks like a %s archive: unless the board unpacks it, add a suffix to what is in it\n",
-                say_mark, looks == DFU_LOOKS_ZIP ? "zip" : "gzip");
+                say_mark, archive);
     else if (looks == DFU_LOOKS_TEXT)
         fprintf(stderr, "%sdfu-flash: the image in the file is text: unless the board takes text, add a suffix to the build's image\n",
                 say_mark);
+}
+
+void looks_warn_raw(const uint8_t *bytes, size_t length)
+{
+    const char *archive = archive_of(bytes, length, DFU_LOOKS_RAW);
+    if (archive != NULL)
+        fprintf(stderr, "%sdfu-flash: the file looks like a %s archive: unless the board unpacks it, unpack it first\n", say_mark, archive);
 }
 
 /* The name as one word of a shell's line, behind which a blank follows. One that can't be typed is FILE. */
@@ -103,6 +150,15 @@ static void say_odd(const struct dfu_look *look, const uint8_t *bytes, size_t le
     fputs(": build it anew\n", stderr);
 }
 
+/* `dfu add` takes an image out of 32-bit little-endian ELF files alone. */
+static int32_t say_foreign_elf(const char *file)
+{
+    fputs("dfu-flash: it is an ELF file of 64 bits or of big-endian numbers, which `dfu add` doesn't read: `objcopy -O binary ", stderr);
+    say_file(file);
+    fputs("OUT.bin` takes the image out of it\n", stderr);
+    return IMAGE_ELF;
+}
+
 static int32_t say_format(const struct dfu_look *look, const char *file)
 {
     fprintf(stderr, "dfu-flash: it is %s: `dfu add --format %s ", formats[look->looks].name, formats[look->looks].format);
@@ -140,8 +196,8 @@ int32_t looks_refuse(const struct dfu_look *look, const uint8_t *bytes, size_t l
             return IMAGE_DAMAGED;
         }
         return say_format(look, file);
-    case DFU_LOOKS_UF2:
-    case DFU_LOOKS_ELF: return say_format(look, file);
+    case DFU_LOOKS_UF2: return say_format(look, file);
+    case DFU_LOOKS_ELF: return is_foreign_elf(bytes, length) ? say_foreign_elf(file) : say_format(look, file);
     case DFU_LOOKS_ZIP: fputs("dfu-flash: it is a zip archive: unpack it first\n", stderr); return IMAGE_ARCHIVE;
     case DFU_LOOKS_GZIP: fputs("dfu-flash: it is a gzip archive: unpack it first\n", stderr); return IMAGE_ARCHIVE;
     case DFU_LOOKS_NAMED: return say_named(look, length, file);

@@ -15,6 +15,9 @@ struct dfu_look looks_of(const uint8_t *bytes, size_t length, const char *file);
    board that loads ELF files, so nothing is refused. */
 void looks_warn(const uint8_t *bytes, size_t length);
 
+/* Warns of a raw file that looks like an archive which the library doesn't tell from an image. */
+void looks_warn_raw(const uint8_t *bytes, size_t length);
+
 /* Says of a file that isn't raw what it is, and what to do with it: a line on standard error, which for a file that `dfu add` takes is
    followed by what a DfuSe device needs. The refusal: one of image.h. */
 int32_t looks_refuse(const struct dfu_look *look, const uint8_t *bytes, size_t length, const char *file);

@@ -56,6 +56,7 @@ static const struct {
     {DFU_FILE_TOO_SHORT, SHORT},
     {DFU_FILE_NO_SIGNATURE, NAMED},
     {IMAGE_FORMAT, "run `dfu add --format auto`, and flash what it makes"},
+    {IMAGE_ELF, "run `objcopy -O binary` of the board's compiler, and flash what it makes"},
     {IMAGE_DAMAGED, BUILD},
     {IMAGE_ARCHIVE, "unpack it, and flash the file that is in it; if the board takes the archive, add --raw"},
     {IMAGE_TEXT, "flash the build's .bin, .dfu, .hex or .elf, the last two by `dfu add --format auto`; if the board takes text, add --raw"},

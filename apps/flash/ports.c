@@ -14,14 +14,16 @@ static void add(struct port *port, libusb_device *device, const struct wanted *w
     memset(&found, 0, sizeof found);
     path_of(device, found.path);
     memcpy(port->path, found.path, sizeof port->path);
-    port->is_wanted = false;
+    port->is_wanted = port->is_misfit = false;
     if (transport->fields(device, &fields) != 0)
         return;
-    found.vendor = fields.idVendor;
-    found.product = fields.idProduct;
-    if (!may_be(wanted, &found) || transport->active(device, &configuration) != 0)
+    port->vendor = found.vendor = fields.idVendor;
+    port->product = found.product = fields.idProduct;
+    if (transport->active(device, &configuration) != 0)
         return;
-    port->is_wanted = has_dfu(configuration);
+    port->is_wanted = may_be(wanted, &found) && has_dfu(configuration);
+    port->is_misfit = !may_be(wanted, &found) && has_dfu(configuration);
+    port->is_upgrade = is_in_dfu_mode(configuration);
     transport->free_active(configuration);
 }
 

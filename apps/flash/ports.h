@@ -9,7 +9,10 @@
 
 struct port {
     char path[PATH_ROOM];
-    bool is_wanted; /* it has DFU, and the identifiers that are asked for */
+    bool is_wanted;           /* it has DFU, and the identifiers that are asked for */
+    bool is_misfit;           /* it has DFU, and others: */
+    uint16_t vendor, product; /* these, */
+    bool is_upgrade;          /* and is in DFU mode */
 };
 
 /* Writes a port for each device that is there. Returns their number, or an error of libusb. */

@@ -44,6 +44,7 @@ void record_of(const struct found *info, struct log *log)
 static void end_log(int status, const char *report)
 {
     char time[32];
+    station_log(each.log == NULL ? NULL : each.log->name);
     if (each.log == NULL)
         return;
     station_time(time);

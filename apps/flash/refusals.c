@@ -16,6 +16,7 @@ static const struct refusal refusals[] = {
     {DFU_FILE_TOO_SHORT, "TooShort", "the file has under 16 bytes, too few for a suffix"},
     {DFU_FILE_NO_SIGNATURE, "NoSignature", "the file has no DFU suffix; `dfu add` gives it one"},
     {IMAGE_FORMAT, "NoSignature", "the file is HEX, S-records, UF2 or ELF; `dfu add --format auto` makes a DFU file of the image in it"},
+    {IMAGE_ELF, "NoSignature", "the file is an ELF file of 64 bits or of big-endian numbers; `objcopy -O binary` makes an image of it"},
     {IMAGE_DAMAGED, "NoSignature", "the file is HEX or S-records with a mistake in a line; build it anew"},
     {IMAGE_ARCHIVE, "NoSignature", "the file is a zip or gzip archive; unpack it first"},
     {IMAGE_TEXT, "NoSignature", "the file is text and no image; give the file that the build made"},

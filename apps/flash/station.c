@@ -30,7 +30,7 @@ static const char json_front[] = "{\"time\":\"";
 static struct {
     int file;
     bool is_open, is_csv, has_image, has_failed;
-    const char *name, *image, *code;
+    const char *name, *image, *code, *log;
     uint32_t crc, tries;
 } station;
 
@@ -107,10 +107,11 @@ void station_time(char text[32])
 /* Says once that the report lacks a line, and the next step. Returns false. */
 static bool say_unwritten(bool is_full, const char *step)
 {
+    bool has_moved = !is_full && append_has_moved();
     if (!station.has_failed)
         say_failed(station.name, " can't be written", is_full ? "there is no room for the whole line" : append_why());
     if (!station.has_failed)
-        next_say(step);
+        next_say(has_moved ? "put the report back, or name another file by --report: what is missing in it was printed" : step);
     station.has_failed = true;
     return false;
 }
@@ -201,6 +202,11 @@ void station_code(const char *name)
     station.code = name;
 }
 
+void station_log(const char *name)
+{
+    station.log = name;
+}
+
 /* Adds the words, and in parentheses what is known of this board's end: the code, the place or the file. */
 static void put_words(struct line *line, int status, const char *words)
 {
@@ -243,6 +249,8 @@ bool station_add(int status, const char *report, const char *words, const char *
     put_member(&line, "tries", station.tries > 0 ? tries : NULL, true);
     if (header == stamp_header)
         put_member(&line, "stamp", stamp_taken(), false);
+    if (!station.is_csv)
+        put_member(&line, "log", station.log, false);
     put(&line, station.is_csv ? "\n" : "}\n", station.is_csv ? 1 : 2);
     errno = 0;
     return (!line.is_full && append_line(station.file, line.text, line.length))

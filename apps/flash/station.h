@@ -38,6 +38,9 @@ void station_print(void);
 /* Keeps the name of the status by which the board refused, or "", for its line in the report. */
 void station_code(const char *name);
 
+/* Keeps the name of the log, for the line of a report in JSON; NULL for none. */
+void station_log(const char *name);
+
 /* Adds a line to the report: how a board ended, with what was seen of it behind the words. A path or a device that isn't known is NULL.
    Returns false, after printing why, if the line can't be written. */
 bool station_add(int status, const char *report, const char *words, const char *path, const struct found *info, double seconds);

@@ -108,6 +108,7 @@ int work_begin(struct session *session, const struct words *words)
     station_try(session->tries + 1);
     if (words->job == JOB_DOWNLOAD && !take_entry(session, words))
         return record_none(STATUS_FILE, words->json);
+    log_board(&session->wire.trace.log, session->wire.device->info.serial, station_port(session->wire.device->path), stamp_taken());
     stop_catch(words->timeout);
     session->began_ms = clock_ms();
     return STATUS_DONE;

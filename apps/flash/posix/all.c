@@ -5,6 +5,7 @@
 #include "../bays.h"
 #include "../clock.h"
 #include "../crew.h"
+#include "../misfits.h"
 #include "../next.h"
 #include "../one.h"
 #include "../record.h"
@@ -104,6 +105,8 @@ static int look(void)
         else if (bay != NULL && !all.words->wait)
             all.spare[all.spares++] = ports[at];
     }
+    if (!all.words->quiet)
+        misfits_see(&all.bays, ports, count, all.crew.count == 0);
     return 0;
 }
 

@@ -7,18 +7,29 @@
 
 #include <errno.h>
 #include <fcntl.h>
+#include <poll.h>
 #include <string.h>
 #include <sys/stat.h>
 #include <unistd.h>
 
 #define TAIL_ROOM 65536
-#define SETTLE_MS 50 /* for the write of another program */
+#define SETTLE_MS 50   /* for the write of another program */
+#define LOCK_TRIES 200 /* a millisecond each */
+
+void append_lock(int file, bool is_on)
+{
+    struct flock all = {.l_type = is_on ? F_WRLCK : F_UNLCK, .l_whence = SEEK_SET};
+    int before = errno;
+    for (int tries = 0; tries < LOCK_TRIES && fcntl(file, F_SETLK, &all) != 0; tries++)
+        poll(NULL, 0, 1);
+    errno = before;
+}
 
 /* A line that a loss of power has broken off is ended, so that the next one begins anew. */
 static bool end_last(int file, off_t size)
 {
     char last = '\n';
-    return size == 0 || (pread(file, &last, 1, size - 1) == 1 && (last == '\n' || append_line(file, "\n", 1)));
+    return size == 0 || (pread(file, &last, 1, size - 1) == 1 && (last == '\n' || write(file, "\n", 1) == 1));
 }
 
 /* The file that was opened last. */
@@ -78,11 +89,16 @@ void append_mend(int file, const char *name, bool (*is_whole)(const char *line, 
         say_text(stderr, "dfu-flash: ", name, ": its last line was broken off, and is taken away\n");
 }
 
+bool append_has_moved(void)
+{
+    return errno == ESTALE;
+}
+
 const char *append_why(void)
 {
-    return errno == ESTALE ? "it was removed or replaced while the program ran"
-           : errno == 0    ? "there is no room for the whole line"
-                           : strerror(errno);
+    return append_has_moved() ? "it was removed or replaced while the program ran"
+           : errno == 0       ? "there is no room for the whole line"
+                              : strerror(errno);
 }
 
 /* Takes back the part of a line that a full disk has left behind the file's `size` bytes, unless another program has added to it since. */
@@ -96,22 +112,30 @@ static void take_back(int file, off_t size, ssize_t count)
     errno = error;
 }
 
-/* The line is on the disk before true is returned, so that a loss of power leaves each board that was reported. */
-bool append_line(int file, const char *line, size_t length)
+/* Returns whether the line was added, whole, after the last one was ended. */
+static bool add_line(int file, const char *line, size_t length)
 {
     struct stat found;
     ssize_t count;
+    if (fstat(file, &found) != 0 || !end_last(file, found.st_size) || fstat(file, &found) != 0)
+        return false;
+    count = write(file, line, length);
+    if (count == (ssize_t)length)
+        return true;
+    take_back(file, found.st_size, count);
+    return false;
+}
+
+/* The line is on the disk before true is returned, so that a loss of power leaves each board that was reported. */
+bool append_line(int file, const char *line, size_t length)
+{
+    bool is_added;
     if (!is_in_place(file)) {
         errno = ESTALE;
         return false;
     }
-    if (length > 1 && (fstat(file, &found) != 0 || !end_last(file, found.st_size)))
-        return false;
-    if (fstat(file, &found) != 0)
-        return false;
-    count = write(file, line, length);
-    if (count == (ssize_t)length)
-        return fsync(file) == 0;
-    take_back(file, found.st_size, count);
-    return false;
+    append_lock(file, true);
+    is_added = add_line(file, line, length);
+    append_lock(file, false);
+    return is_added && fsync(file) == 0;
 }

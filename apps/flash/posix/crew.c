@@ -5,6 +5,7 @@
 #include "../clock.h"
 #include "../record.h"
 #include "../rows.h"
+#include "../same_serial.h"
 #include "../stamp.h"
 #include "../station.h"
 #include "../status.h"
@@ -132,6 +133,8 @@ static void leave_stamp(struct worker *worker)
 static void end_other(struct crew *crew, struct worker *worker, int status)
 {
     bool has_image = worker->has_image || status == STATUS_DONE || status == STATUS_UNCONFIRMED;
+    if (has_image && worker->has_serial && !crew->words->quiet)
+        same_serial_note(worker->bay, worker->bay->serial[worker->mode]);
     if (!worker->has_serial)
         worker->bay->has_serial[0] = worker->bay->has_serial[1] = false;
     count_end(crew, status, has_image, worker->is_proved);

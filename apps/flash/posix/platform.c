@@ -18,8 +18,8 @@ const char *platform_gone(void)
 static void say_rule(const struct found *found)
 {
     fprintf(stderr,
-            "To allow it to who sits at this computer, write this line to /etc/udev/rules.d/60-dfu-%04x.rules,\n"
-            "run `udevadm control --reload`, and plug the device in again:\n"
+            "To allow it to who sits at this computer, as root write this line to /etc/udev/rules.d/60-dfu-%04x.rules,\n"
+            "and run `udevadm control --reload`; then plug the device in again:\n"
             "SUBSYSTEM==\"usb\", ATTR{idVendor}==\"%04x\", ATTR{idProduct}==\"%04x\", MODE=\"0660\", TAG+=\"uaccess\"\n"
             "To allow it for every device with DFU, run `make install UDEVDIR=/etc/udev/rules.d` of Fustrelan as root, which\n"
             "installs 70-dfu.rules. Over ssh nobody sits there: that file has a line for the members of a group.\n",

@@ -3,6 +3,7 @@
 #define _DEFAULT_SOURCE
 #include "../used.h"
 #include "../advice.h"
+#include "../append.h"
 
 #include <errno.h>
 #include <fcntl.h>
@@ -143,7 +144,13 @@ static bool end_torn(void)
 
 bool used_add(const char *line, size_t length)
 {
-    return used >= 0 && is_in_place(used, used_name) && end_torn() && write(used, line, length) == (ssize_t)length && fsync(used) == 0;
+    bool is_added;
+    if (used < 0 || !is_in_place(used, used_name))
+        return false;
+    append_lock(used, true);
+    is_added = end_torn() && write(used, line, length) == (ssize_t)length;
+    append_lock(used, false);
+    return is_added && fsync(used) == 0;
 }
 
 bool used_is_there(void)

@@ -49,6 +49,12 @@ void append_mend(int file, const char *name, bool (*is_whole)(const char *line, 
         say_text(stderr, "dfu-flash: ", name, ": its last line was broken off, and is taken away\n");
 }
 
+/* A file that is open can't be removed there. */
+bool append_has_moved(void)
+{
+    return false;
+}
+
 const char *append_why(void)
 {
     return errno == 0 ? "there is no room for the whole line" : strerror(errno);

@@ -128,3 +128,18 @@ for words in '--no-verify image' '--transfer-size 64 image' '--length 5 image' '
     all --device 1209:0001 --address 0x08000400 $words
     expect "--all --address $words" test "$code" -eq 2
 done
+
+# Without serial numbers: a board that comes after its bay was empty for three seconds is another one. One that comes sooner counts as the
+# one before, and is named.
+no_boards
+page_board 1-1 USB_SERIAL= USB_PULLED=900
+page_board 1-1 USB_SERIAL= USB_PLUGGED=1 USB_PAUSE=3000 "USB_SAVE=$work/saved-next"
+page_board 1-2 USB_SERIAL= USB_PULLED=900
+page_board 1-2 USB_SERIAL= USB_PLUGGED=3 USB_PAUSE=500 "USB_SAVE=$work/saved-soon"
+rm -f saved-next saved-soon
+# shellcheck disable=SC2086
+all --wait=5 $raw
+expect "swapped without serial numbers: $code, $(cat out)" test "$code-$(grep -c '^1-1 .* verified: ' out)-$(wc -l < out)" = 0-2-3
+expect 'the next one has the image' cmp saved-next written
+expect 'one that came too soon has not' test ! -e saved-soon
+says '1-2: a device came soon after the one that was flashed here, and counts as it; if it is another one, unplug it for three seconds'

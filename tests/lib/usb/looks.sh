@@ -4,6 +4,7 @@
 
 has_no_suffix="NoSignature: the file has no DFU suffix; \`dfu add\` gives it one"
 of_format="NoSignature: the file is HEX, S-records, UF2 or ELF; \`dfu add --format auto\` makes a DFU file of the image in it"
+foreign_elf='NoSignature: the file is an ELF file of 64 bits or of big-endian numbers; `objcopy -O binary` makes an image of it'
 damaged='NoSignature: the file is HEX or S-records with a mistake in a line; build it anew'
 packed='NoSignature: the file is a zip or gzip archive; unpack it first'
 of_text='NoSignature: the file is text and no image; give the file that the build made'
@@ -56,6 +57,14 @@ printf ':0400000041414141F8\n:00000001FF\n' > it.ihex
 printf 'S1070000414141414F4\nS9030000FC\n' > it.srec
 { printf 'UF2\n'; head -c 508 /dev/zero; } > it.uf2
 { printf '\177ELF'; head -c 100 /dev/zero; } > it.elf
+{ printf '\177ELF\2\1\1'; head -c 100 /dev/zero; } > it.elf64
+{ printf '\177ELF\1\2\1'; head -c 100 /dev/zero; } > it.elfbe
+{ printf '\3757zXZ\0'; head -c 100 /dev/zero; } > it.xz
+{ printf 'BZh9\1AY&SY'; head -c 100 /dev/zero; } > it.bzip2
+{ printf '7z\274\257\47\34\0\4'; head -c 100 /dev/zero; } > it.7z
+{ printf '\50\265\57\375\44'; head -c 100 /dev/zero; } > it.zstd
+{ printf 'Rar!\32\7\1\0'; head -c 100 /dev/zero; } > it.rar
+{ printf 'fw.bin'; head -c 251 /dev/zero; printf 'ustar\0'; head -c 250 /dev/zero; } > it.tar
 { printf '\357\273\277'; cat it.ihex; } > marked.HEX
 { printf '\n\r\n'; cat it.ihex; } > after-lines.bin
 { printf ' \t '; cat it.ihex; } > after-blanks
@@ -181,10 +190,18 @@ warns() {
 warns it.ihex 'looks like Intel HEX: `dfu add --format ihex` takes out the image that it describes'
 warns marked.HEX 'looks like Intel HEX: `dfu add --format ihex` takes out'
 warns it.srec 'looks like Motorola S-records: `dfu add --format srec` takes out'
+warns it.elf64 'looks like an ELF file: unless the board loads ELF files, add a suffix to what `objcopy -O binary` makes of it'
 warns it.uf2 'looks like UF2: `dfu add --format uf2` takes out'
 warns it.elf 'looks like an ELF file: unless the board loads ELF files, `dfu add --format elf` takes out the image'
 warns it.zip 'looks like a zip archive: unless the board unpacks it, add a suffix to what is in it'
 warns it.dfu.gz 'looks like a gzip archive: unless the board unpacks it, add a suffix to what is in it'
+for archive in xz bzip2 7z zstd rar tar; do
+    warns "it.$archive" "looks like a $archive archive: unless the board unpacks it, add a suffix to what is in it"
+    row 0 "it.$archive" 'verified: ' USB_CAPACITY=1000 --device 1209:0001 "it.$archive"
+    says "dfu-flash: the file looks like a $archive archive: unless the board unpacks it, unpack it first"
+    row 0 "it.$archive" 'verified: ' USB_CAPACITY=1000 --raw --device 1209:0001 "it.$archive"
+    expect "it.$archive: --raw means it" test "$(grep -c archive err)" -eq 0
+done
 warns notes "is text: unless the board takes text, add a suffix to the build's image"
 # None of them is an image of a processor, or begins like one of these and is another.
 for bytes in '\0\40\0\40\301\1\0\10' '\1\2' '\0' '\377\377\377\377' ':1\1' 'S1\1' 'UF3\n\1' '\177EL\1' 'PK\3\1' '\37\1' 'text\1' 'DfuS\1' \

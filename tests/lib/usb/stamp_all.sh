@@ -110,3 +110,15 @@ each_ended() {
 }
 soon each_ended || :
 expect 'each entry that was begun has an end' each_ended
+
+# A log says which board it is of, and the report in JSON which log a board has.
+mkdir board-logs
+no_boards
+board 1-1 USB_SERIAL=F1
+printf '1-1 = bay 7\n' > board-ports
+printf 'SN-1\nSN-2\n' > board-serials
+all --ports board-ports --log board-logs --report logged.json --stamp board-serials --stamp-at 16:8 room.dfu
+expect 'a log has the board' test "$(grep -c -e '^# serial F1$' -e '^# port bay 7$' -e '^# stamp SN-1$' board-logs/1-1_1.log)" -eq 3
+expect 'the report has the log' grep -q '"report":"verified",.*,"log":"board-logs/1-1_1.log"}$' logged.json
+expect 'the summary has none' test "$(grep -c '"log"' logged.json)" -eq 1
+expect 'the judge reads it' test "$("$dfu" judge board-logs/1-1_1.log | cut -d ' ' -f 1)" = kept

@@ -57,6 +57,7 @@ if [ -z "${NO_ALL-}" ]; then
     wait "$!" || code=$?
     expect "a report that was removed: $code, $(cat other)" test "$code" -eq 3
     expect 'it says so' grep -q "torn.csv can't be written: it was removed or replaced while the program ran" other
+    expect 'its step' grep -q '^next: put the report back, or name another file by --report: what is missing in it was printed$' other
 fi
 # One for which there is no room is named, with the next step; what becomes of the board is said all the same.
 cp report.csv no-room.csv
@@ -112,7 +113,7 @@ done
 expect 'mine' test "$(cat mine.csv mine.json | tr '\n' ' ')" = 'mine mine '
 expect 'no file behind a link' test ! -e nothing
 row 3 - '' '' --report report.json.csv --ports nowhere new.dfu
-for words in '--report= new.dfu' '--ports= new.dfu' '--list --report r' '--list --ports p' '--dry-run --report r new.dfu' '--count 2 new.dfu' \
+for words in '--report= new.dfu' '--ports= new.dfu' '--list --report r' '--dry-run --report r new.dfu' '--count 2 new.dfu' \
     '--count 0 --all new.dfu' '--count x --all new.dfu' '--retry 0 new.dfu' '--retry 101 new.dfu' '--retry -1 new.dfu' '--retry 2 --list' \
     '--retry 2 --upload never' '--retry 1 --detach' '--demo --report r'; do
     # shellcheck disable=SC2086
@@ -126,6 +127,10 @@ row 0 new '{"status":0,' '' --json --ports ports new.dfu
 expect 'a record has it' grep -q '"port":"bay 7",' out
 row 0 new 'verified: ' '' --ports ports --report ports.csv new.dfu
 expect 'so has the report' grep -q ',"1-1","bay 7",' ports.csv
+row 0 - 'bay 7: 1209:0001 path 1-1 serial F1 ' '' --list --ports ports
+row 0 - '{"vendor":"1209",' '' --list --json --ports ports
+expect 'a list has it' grep -q ',"path":"1-1","port":"bay 7","serial":"F1",' out
+row 3 - '' '' --list --ports nowhere
 for line in '1-1' 'bay 7 = 1-1' '1 = bus' '1-1 =' '= x' '1-1 = a|1-1 = b' '1-1 = a|1-2 = a' '1-x = a' "$(head -c 80 /dev/zero | tr '\0' 1)-1 = a"; do
     printf '%s\n' "$line" | tr '|' '\n' > wrong-ports
     row 3 - '' '' --ports wrong-ports new.dfu

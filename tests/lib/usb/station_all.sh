@@ -121,3 +121,10 @@ early damaged.dfu
 early nowhere.dfu
 early any.dfu
 early other.dfu
+
+# The front of a line may be seen before its rest. None takes that for a line that was broken off, so that no empty line comes.
+# shellcheck disable=SC2086
+gcc -O1 -Wall -Wextra -Werror ${USB_HEADERS-$(pkg-config --cflags libusb-1.0 2> /dev/null || echo -I/usr/include/libusb-1.0)} -o appended \
+    "$top/tests/lib/usb/lines/appended.c" "$top/apps/flash/posix/append.c"
+expect 'sixteen processes add lines at once' ./appended lines
+expect "each line is whole, and none is empty" test "$(sort -u lines | wc -l)-$(wc -l < lines)" = 1-6400
