@@ -2,6 +2,7 @@
 /* A line is a path as --list shows it, = and a name, as `3-1.4 = bay 7`, with blanks around each if you like. A line that is empty or
    begins with # is none. */
 #include "ports_file.h"
+#include "advice.h"
 #include "files.h"
 #include "find.h"
 #include "say.h"
@@ -36,6 +37,11 @@ static bool is_taken(const char *name)
     return false;
 }
 
+static bool is_path(const char *text)
+{
+    return has_ports(text) && text[strspn(text, "0123456789-.")] == '\0' && strlen(text) < PATH_ROOM;
+}
+
 static bool fail(const char *file, size_t line, const char *why)
 {
     char place[40];
@@ -55,7 +61,7 @@ static bool take_line(const char *file, size_t number, char *line)
     *sign = '\0';
     path = trim(line);
     name = trim(sign + 1);
-    if (!has_ports(path) || path[strspn(path, "0123456789-.")] != '\0' || strlen(path) >= PATH_ROOM)
+    if (!is_path(path))
         return fail(file, number, "what is before = is no path, as 3-1.4");
     if (*name == '\0')
         return fail(file, number, "there is no name after =");
@@ -72,13 +78,24 @@ static bool take_line(const char *file, size_t number, char *line)
     return true;
 }
 
+/* `--port 3-1.4` is --ports, shortened. */
+static void advise_path(const char *file)
+{
+    char step[40 + PATH_ROOM];
+    snprintf(step, sizeof step, "did you mean --path %s?", file);
+    if (is_path(file))
+        advice_is(step);
+}
+
 bool ports_file_read(const char *file)
 {
     uint8_t *bytes;
     size_t length, number = 1;
     char *line;
-    if (!file_read(file, &bytes, &length))
+    if (!file_read(file, &bytes, &length)) {
+        advise_path(file);
         return false;
+    }
     bytes[length] = '\0'; /* there is room behind a file (files.h) */
     if (strlen((const char *)bytes) != length)
         return fail(file, 1, "there is a NUL in it");

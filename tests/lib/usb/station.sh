@@ -131,6 +131,8 @@ row 0 - 'bay 7: 1209:0001 path 1-1 serial F1 ' '' --list --ports ports
 row 0 - '{"vendor":"1209",' '' --list --json --ports ports
 expect 'a list has it' grep -q ',"path":"1-1","port":"bay 7","serial":"F1",' out
 row 3 - '' '' --list --ports nowhere
+row 3 - '' '' --port 3-1.4 new.dfu
+says 'next: did you mean --path 3-1.4?'
 for line in '1-1' 'bay 7 = 1-1' '1 = bus' '1-1 =' '= x' '1-1 = a|1-1 = b' '1-1 = a|1-2 = a' '1-x = a' "$(head -c 80 /dev/zero | tr '\0' 1)-1 = a"; do
     printf '%s\n' "$line" | tr '|' '\n' > wrong-ports
     row 3 - '' '' --ports wrong-ports new.dfu
