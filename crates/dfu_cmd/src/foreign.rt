@@ -5,7 +5,7 @@ use std::alloc::Global;
 
 const CHECK: &str = "type dfu check FILE";
 
-const ADD: &str = "type dfu add FILE OUT --vid 1209 --pid 0001 --did 0100";
+const ADD: &str = "type dfu add FILE OUT --vid VID --pid PID --did DID";
 
 const EXTRACT: &str = "type dfu extract FILE OUT";
 

@@ -169,8 +169,14 @@ fn print_text<R: Print + AllocGlobal>(rt: &R, error: &clap::Error) -> u8 {
     }
 }
 
-/// Performs the command of `words`. Returns the exit status, and the reason if `--explain` or `is_wanted` asks for it. For words of another
-/// program, always returns what to type instead.
+/// Returns true if the reason of `exit` is a hint, which is printed unasked: `dfu add` took FILE as it is, but FILE looks like something
+/// else. A build's log has no terminal, and its reader would flash the text of a HEX file.
+fn is_hint(subcommand: &Subcommand, exit: Exit) -> bool {
+    matches!(exit, Exit::Done) && matches!(subcommand, Subcommand::Add { .. })
+}
+
+/// Performs the command of `words`. Returns the exit status, and the reason if it is a hint, or if `--explain` or `is_wanted` asks for it.
+/// For words of another program, always returns what to type instead.
 fn answer_words<R: Files + Input + Print + AllocGlobal>(
     rt: &R,
     words: &[String],
@@ -189,8 +195,8 @@ where
         ) => {
             let is_wanted = is_wanted || explain;
             let Outcome { exit, reason } = perform(rt, &subcommand, is_wanted);
-            let reason = if is_wanted { reason } else { None };
-            (exit.status(), reason)
+            let is_said = is_wanted || is_hint(&subcommand, exit);
+            (exit.status(), if is_said { reason } else { None })
         }
         Err(fault) => match fault {
             ArgsFault::Words(error) => {
@@ -212,7 +218,7 @@ where
 }
 
 /// Performs the command of `words` as `run_words` does. Writes the reason of a refusal to standard error if `words` have `--explain` or
-/// `is_wanted` is set, and always, for words of another program, what to type instead. If the reason can't be written, nothing else
+/// `is_wanted` is set, and always a hint, or for words of another program what to type instead. If the reason can't be written, nothing else
 /// changes.
 pub fn run_explained<R: Files + Input + Print + Eprint + AllocGlobal>(
     rt: &R,

@@ -5,10 +5,10 @@ use crate::given::{Given, Held, RecordingReader, open};
 use crate::reasons::{error_reason, file_reason, reader_reason};
 use crate::replacing::{Replacement, finish};
 use crate::temp_file::Owned;
-use dfu_formats::images::{Format, ImageFileFault, Looks, bad_place, image_of, look_at};
+use dfu_formats::images::{Format, ImageFileFault, Looks, NotImage, bad_place, image_of, look_at};
 use dfu_output::{
     Exit, FormatChoice, Outcome, add_with_fault, fault_text, image_line, looks_like_hint,
-    not_image_line, refused_line, why, why_not, write_out,
+    not_image_hint, not_image_line, refused_line, why, why_not, write_out,
 };
 use dfu_suffix::{Findings, SuffixFault, gather, read};
 use dfu_wire::Ids;
@@ -33,12 +33,15 @@ struct Added<'w> {
     ids: Ids,
 }
 
-/// Returns a hint if `file` looks like one of a format, by its first bytes, `head`; None if it doesn't, or if there is no memory.
+/// Returns a hint if `file` looks like something other than an image, by its first bytes, `head`, and its name; None for text, which boards
+/// may take, and if there is no memory.
 fn hint(alloc: Global, file: &str, head: &[u8]) -> Option<String> {
-    let Looks::Of(format) = look_at(head, b"").looks else {
-        return None;
+    let why = match look_at(head, file.as_bytes()).looks {
+        Looks::Of(format) => looks_like_hint(alloc, format),
+        Looks::Raw | Looks::Other(NotImage::Text) => return None,
+        Looks::Other(other) => not_image_hint(alloc, other),
     };
-    match looks_like_hint(alloc, format) {
+    match why {
         Ok(why) => file_reason(alloc, file, &why),
         Err(_) => None,
     }

@@ -8,4 +8,4 @@ mod reasons;
 pub use asked::{FormatChoice, fill_in, format_choice_in};
 pub use faults::{not_image_line, refused_line};
 pub use lines::{format_name, image_line};
-pub use reasons::{looks_like_hint, why, why_not};
+pub use reasons::{looks_like_hint, not_image_hint, why, why_not};

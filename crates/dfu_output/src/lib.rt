@@ -40,7 +40,7 @@ pub use exit::{Exit, Outcome, bad_words, fault_text, write_out};
 pub use fields::{field, made_field, push};
 pub use image_output::{
     FormatChoice, fill_in, format_choice_in, format_name, image_line, looks_like_hint,
-    not_image_line, refused_line, why, why_not,
+    not_image_hint, not_image_line, refused_line, why, why_not,
 };
 pub use judge::{
     LogFault, LogLines, dfuse_departure_text, is_single, judge_text, judge_with_fault, stop_text,

@@ -58,3 +58,9 @@ pub fn looks_like_hint(alloc: Global, format: Format) -> Result<String, AllocErr
         "it looks like {name}, and was taken as it is; --format {name} takes the image out of it"
     )
 }
+
+/// Returns the hint that a file isn't an image, and was taken as it is.
+pub fn not_image_hint(alloc: Global, other: NotImage) -> Result<String, AllocError> {
+    let why = why_not(alloc, other)?;
+    format!(in alloc; "it was taken as it is, though {why}")
+}

@@ -30,11 +30,16 @@ const NO_MARK: &str = "dfu: a: line 1: no record begins so; the first wrong char
 const LOOKS: &str =
     "dfu: a: it looks like ihex, and was taken as it is; --format ihex takes the image out of it\n";
 
+const BEGINS_AS_DFUSE: &str =
+    "dfu: a: it was taken as it is, though it begins as a DfuSe file: give it to dfu-flash, and get it anew if that refuses it\n";
+
+const TAKEN_DFU: &str = "dfu: a.DFU: it was taken as it is, though its name ends in .dfu, but it has no DFU suffix: it was cut short or damaged; get it anew\n";
+
 /// One byte at 0, behind a byte order mark.
 const MARKED: &[u8] = b"\xef\xbb\xbf:0100000001FE\n:00000001FF\n";
 
 #[rustfmt::skip]
-static ROWS: [Row; 19] = [
+static ROWS: [Row; 26] = [
     ("a", b"hello\n", "--format auto",
         (1, "refused NotAnImage text\n", "dfu: a: it is text and no image: give the file that the build made of it\n")),
     ("a", b"DfuSe\x01", "--format auto",
@@ -61,6 +66,16 @@ static ROWS: [Row; 19] = [
     ("a", MARKED, "--format auto", (0, "wrote 17\nformat ihex address 0x00000000\n", "")),
     ("a", MARKED, "--format ihex", (0, "wrote 17\nformat ihex address 0x00000000\n", "")),
     ("a", MARKED, "", (0, "wrote 45\n", LOOKS)),
+    // Without --format what is no image is taken as it is, with a hint, which --format raw leaves out.
+    ("a", b"PK\x03\x04\0", "",
+        (0, "wrote 21\n", "dfu: a: it was taken as it is, though it is a zip archive: unpack it, and give the file in it\n")),
+    ("a", b"\x1f\x8b\x08", "",
+        (0, "wrote 19\n", "dfu: a: it was taken as it is, though it is a gzip archive: unpack it, and give the file in it\n")),
+    ("a", b"DfuSe\x01", "", (0, "wrote 22\n", BEGINS_AS_DFUSE)),
+    ("a.DFU", b"\0\x01", "", (0, "wrote 18\n", TAKEN_DFU)),
+    ("a.bin", b"\0\x01", "", (0, "wrote 18\n", "")),
+    ("a", b"", "", (0, "wrote 16\n", "")),
+    ("a", MARKED, "--format raw", (0, "wrote 45\n", "")),
     // Without --format text is taken as it is, without a word.
     ("a", b"hello\n", "", (0, "wrote 22\n", "")),
 ];

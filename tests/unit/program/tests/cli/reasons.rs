@@ -103,7 +103,7 @@ fn says_which_word_is_wrong() -> Outcome {
 #[rustfmt::skip]
 static FOREIGN: [(&str, &str); 8] = [
     ("dfu -c a", "dfu: -c: type dfu check FILE\n"),
-    ("dfu -v 1209 -a a", "dfu: -a: type dfu add FILE OUT --vid 1209 --pid 0001 --did 0100\n"),
+    ("dfu -v 1209 -a a", "dfu: -a: type dfu add FILE OUT --vid VID --pid PID --did DID\n"),
     ("dfu strip a", "dfu: strip: type dfu extract FILE OUT\n"),
     ("dfu -T a", "dfu: -T: a prefix is neither made nor read here; dfu-prefix does both\n"),
     ("dfu -v -a", ""),
