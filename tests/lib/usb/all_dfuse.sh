@@ -142,4 +142,4 @@ all --wait=5 $raw
 expect "swapped without serial numbers: $code, $(cat out)" test "$code-$(grep -c '^1-1 .* verified: ' out)-$(wc -l < out)" = 0-2-3
 expect 'the next one has the image' cmp saved-next written
 expect 'one that came too soon has not' test ! -e saved-soon
-says '1-2: a device came soon after the one that was flashed here, and counts as it; if it is another one, unplug it for three seconds'
+says '1-2: a device without a serial number came soon after, and counts as the one that was flashed here; if it is another one'

@@ -41,7 +41,7 @@ tr '\n' ' ' < "$top/apps/flash/dfuse_verdict.c" >> rows
 grep -o '{STATUS_[A-Z_]*, *"[^"]*", [^}]*}' rows |
     sed -n 's/^[^"]*"\(.*\)", NULL}$/\1/p; s/^[^"]*"\(.*\)", "\(.*\)"}$/\1; \2 may have the old image, the new one or neither/p' > lines
 sed -n 's/^    {[A-Z0-9_-]*, "\([A-Za-z]*\)", "\(.*\)"},/\1 \2/p' "$top/apps/flash/refusals.c" >> lines
-expect 'texts' test "$(wc -l < lines)" -eq 99
+expect 'texts' test "$(wc -l < lines)" -eq 100
 while read -r line; do
     has 'the man page' "$man" "$line"
 done < lines
