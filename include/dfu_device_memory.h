@@ -7,8 +7,7 @@
  *     static const struct dfu_driver driver = DFU_MEMORY_DRIVER(medium);
  *     static struct dfu_device dfu = {.config = &config, .flash = medium, .size = sizeof medium, .driver = &driver, ..};
  *
- * The stores are plain, a byte at a time and in order. Caches and memory have to keep that order, since the byte that opens a slot comes
- * last.
+ * Bytes are stored one at a time and in order. Caches and memory must keep that order, because the byte that opens a slot is stored last.
  */
 #ifndef DFU_DEVICE_MEMORY_H
 #define DFU_DEVICE_MEMORY_H
@@ -26,10 +25,11 @@
 extern "C" {
 #endif
 
-/** @brief Initializes a struct dfu_driver: medium is the same memory as flash. */
+/** @brief Initializer of a struct dfu_driver: medium is the memory to which dfu_device.flash points. */
 #define DFU_MEMORY_DRIVER(medium) {(medium), dfu_memory_erase, dfu_memory_program}
 
-/** @brief Erases `length` bytes to FFh. @return 0 */
+/** @brief Erases `length` bytes to FFh.
+ * @return 0 */
 static inline int dfu_memory_erase(void *own, uint32_t at, uint32_t length) {
     volatile uint8_t *to = DFU_TO(uint8_t *, own) + at;
     uint32_t i;
@@ -38,7 +38,8 @@ static inline int dfu_memory_erase(void *own, uint32_t at, uint32_t length) {
     return 0;
 }
 
-/** @brief Stores `length` bytes. @return 0 */
+/** @brief Stores `length` bytes.
+ * @return 0 */
 static inline int dfu_memory_program(void *own, uint32_t at, const uint8_t *bytes, uint32_t length) {
     volatile uint8_t *to = DFU_TO(uint8_t *, own) + at;
     uint32_t i;
@@ -47,7 +48,8 @@ static inline int dfu_memory_program(void *own, uint32_t at, const uint8_t *byte
     return 0;
 }
 
-/** @brief Makes, in memory, the first contents of a flash, for a programmer to write. @return as dfu_device_format */
+/** @brief Builds the first contents of a flash in memory, for a device programmer to write.
+ * @return the results of dfu_device_format */
 static inline int32_t dfu_memory_format(const struct dfu_config *c, uint8_t *medium, size_t size, const uint8_t *image, size_t length) {
     const struct dfu_driver stores = DFU_MEMORY_DRIVER(medium);
     struct dfu_device d;

@@ -1,14 +1,14 @@
 /* SPDX-License-Identifier: MIT OR Apache-2.0 */
 /**
  * @file dfu_trial_core.h
- * @brief Private: the proved calls that the inline calls of dfu_trial.h stand on. A program includes dfu_trial.h.
+ * @brief Private: the proved calls that the inline calls of dfu_trial.h are built on. A program includes dfu_trial.h.
  *
- * dfu_core_trial_NAME does what dfu_trial_NAME does, and returns the same, with the fields of struct dfu_trial one by one; dfu_trial.h says
- * what each needs and returns.
+ * dfu_core_trial_NAME does what dfu_trial_NAME does and returns the same result, but takes the fields of struct dfu_trial as separate
+ * parameters. dfu_trial.h documents each call.
  *
  * The code is dfu_boot.c, in C11, for little-endian processors of 32 or 64 bits. It keeps no state, allocates nothing, and needs at most
- * memcpy, memmove and memset of a C library. Each call reads the flash and asks for at most one operation. Whatever flash and structs
- * hold, a call returns, and touches only the memory that its pointers and lengths name.
+ * memcpy, memmove and memset of a C library. Each call reads the flash and requests at most one operation. For any contents of flash and
+ * structs, a call returns, and touches only the memory that its pointers and lengths name.
  */
 #include "dfu_device.h"
 #include "dfu_trial.h"

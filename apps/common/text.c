@@ -1,18 +1,18 @@
 /* SPDX-License-Identifier: MIT OR Apache-2.0 */
-/* Texts that others chose. A device may call itself by any string, and a file may have any name: what a terminal would take for a
-   command, or would draw in another order, is escaped. */
+/* Escapes untrusted text. The strings of a device and the names of files may contain any bytes. Bytes that a terminal would interpret as a
+ * command, or that would reorder the displayed text, are escaped. */
 #include "text.h"
 
 #include <string.h>
 
-/* C0, DEL and C1, the separators of lines and paragraphs, and what turns the direction of writing. */
+/* Control characters are C0, DEL, C1, the line and paragraph separators, and the characters that change the writing direction. */
 bool text_is_control(uint32_t character)
 {
     return character < 0x20 || (character >= 0x7f && character < 0xa0) || (character >= 0x200e && character <= 0x200f)
            || (character >= 0x2028 && character <= 0x202e) || (character >= 0x2066 && character <= 0x2069);
 }
 
-/* UTF-8 has each character in its shortest form, and no half of a pair of UTF-16. */
+/* Accepts only valid UTF-8: each character in its shortest form, and no surrogates. */
 size_t text_character(const char *text, uint32_t *character)
 {
     static const uint32_t least[] = {0, 0, 0x80, 0x800, 0x10000};
@@ -60,7 +60,7 @@ bool text_word(const char *text, char *word, size_t room)
     static const char safe[] = "ABCDEFGHIJKLMNOPQRSTUVWXYZabcdefghijklmnopqrstuvwxyz0123456789_./+,:=@%-";
     bool is_safe = text[0] != '\0' && text[strspn(text, safe)] == '\0';
     size_t at = 0;
-    /* A quote takes four bytes: what stood before it is closed, and opened again. */
+    /* A single quote in the text becomes four bytes, which close the quoted word, add an escaped quote, and open it again. */
     if (!text_is_typed(text) || 4 * strlen(text) + 3 > room)
         return false;
     if (!is_safe)
@@ -77,7 +77,7 @@ bool text_word(const char *text, char *word, size_t room)
     return true;
 }
 
-/* A half of a pair that has no other half becomes three bytes that are no UTF-8, and so are escaped when they are printed. */
+/* A lone surrogate becomes three bytes that aren't valid UTF-8, so they are escaped when they are printed. */
 static size_t put_point(uint32_t point, char bytes[4])
 {
     size_t count = point < 0x80 ? 1 : point < 0x800 ? 2 : point < 0x10000 ? 3 : 4;

@@ -1,5 +1,6 @@
 /* SPDX-License-Identifier: MIT OR Apache-2.0 */
-/* Next steps more specific than those in the tables of next.c, and the command to type next, made from the words of the command line. */
+/* Stores the suggested next step. A step that is set here replaces the general one from the tables of next.c, and may be a command line
+ * built from the arguments of this run. */
 #include "advice.h"
 #include "../common/text.h"
 
@@ -55,8 +56,8 @@ const char *advice_or(const char *step)
     return known.both;
 }
 
-/* Adds the words as a shell reads them, after the first `length` bytes of the line. Returns false if one can't be typed, or there is no
-   room. */
+/* Appends the program's arguments, quoted for a shell, after the first `length` bytes of the line. Returns false if one of them can't be
+ * typed or the line has no room for them. */
 static bool add_words(char *line, size_t length)
 {
     for (int at = 1; at < known.count; at++) {

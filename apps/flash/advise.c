@@ -1,8 +1,9 @@
 /* SPDX-License-Identifier: MIT OR Apache-2.0 */
-/* Derives the next step from the boards, the file and the memory map: a line to type, or the place where something is wrong. */
+/* Derives exact advice from the connected boards, the file and the memory map: a command line to type, or the address at which the image
+ * differs or doesn't fit. */
 #include "advice.h"
 #include "facts.h"
-#include "one.h"
+#include "one_device.h"
 #include "session.h"
 #include "standard.h"
 #include "../common/text.h"
@@ -11,11 +12,11 @@
 #include <stdio.h>
 #include <string.h>
 
-/* The blocks of which every device has room: the smallest packet of a control endpoint (USB 2.0, section 5.5.3). */
+/* Block size that every device accepts: the smallest packet of a control endpoint (USB 2.0, section 5.5.3). */
 #define SMALLEST_BLOCK 8
 
-/* Writes the options for the address where an image usually begins, the first address that the device's map has for images; for an upload
-   also the length of that range. Returns false if the map has none. */
+/* Writes the --address option for the first range of the device's map that accepts images, or for an upload, --address and --length of its
+ * first readable range. Returns false if the map has none. */
 static bool name_memory(const struct found *found, bool is_upload, char *words, size_t room)
 {
     struct dfuse_range range;
@@ -28,7 +29,8 @@ static bool name_memory(const struct found *found, bool is_upload, char *words, 
     return true;
 }
 
-/* The one board among those that are listed, by its first setting; NULL if there are several, or it can't be used. */
+/* Returns the first alternate setting of the only board in the list. Returns NULL if there are no or several boards, or if the board can't
+ * be opened. */
 static const struct found *only_one(const struct found *list, int count)
 {
     for (int at = 1; at < count; at++)
@@ -37,7 +39,7 @@ static const struct found *only_one(const struct found *list, int count)
     return count > 0 && list[0].access == 0 ? &list[0] : NULL;
 }
 
-/* Advises to flash it at the memory's first address, which is right only if the image is linked for that. */
+/* Suggests flashing at the start of the board's memory, with a condition, because the image must be linked for that address. */
 static void run_there(const char *more)
 {
     char condition[160];
@@ -67,7 +69,7 @@ void advise_raw(libusb_context *usb, const struct words *words)
     found_drop(list, count);
 }
 
-/* Names the part of the image that isn't all on the map, and the memory that the map has. */
+/* Reports the first part of the image, or the range of an upload, that isn't entirely inside the memory map, and the ranges of the map. */
 static void say_outside(const struct session *session)
 {
     const struct dfuse *dfuse = &session->dfuse;
@@ -87,7 +89,7 @@ static void say_outside(const struct session *session)
     }
 }
 
-/* Names the numbers of the file and of the device; or, of two, those of run-time mode that --device names. */
+/* Reports the identifiers in the file's suffix and those that the file must match: the device's, or those of --device if they differ. */
 static void say_targets(const struct session *session)
 {
     const struct found *info = &session->wire.device->info;
@@ -117,7 +119,7 @@ void advise_refused(const struct session *session, int32_t refusal)
         say_targets(session);
 }
 
-/* Adds an option with its value, as a shell reads it. */
+/* Appends an option with its value, quoted for a shell, or nothing if the value is empty, can't be typed or doesn't fit. */
 static void add_option(char *line, size_t room, const char *option, const char *value)
 {
     size_t length = strlen(line), more;
@@ -128,7 +130,7 @@ static void add_option(char *line, size_t room, const char *option, const char *
         line[length] = '\0';
 }
 
-/* The device to bring to DFU mode is named as the words name it. */
+/* The suggested --detach line contains the same --device, --path and --serial options as this run. */
 void advise_detach(const struct words *words)
 {
     char ids[20] = "", line[400] = "run dfu-flash --detach", step[440];
@@ -143,7 +145,8 @@ void advise_detach(const struct words *words)
     advice_is(step);
 }
 
-/* Names the place of the first byte that differs from the image. */
+/* Reports the offset or address of the first difference, and the bytes of the device and of the file there, or which of the two has ended.
+ */
 static void say_odd(const struct session *session)
 {
     const struct difference *difference = &session->difference;
@@ -161,7 +164,7 @@ static void say_odd(const struct session *session)
     advice_first(seen);
 }
 
-/* Returns whether larger blocks were asked for than the device says that it takes. */
+/* Returns true if --transfer-size sets larger blocks than the wTransferSize of the device. */
 static bool is_too_large(const struct session *session)
 {
     const struct found *info = &session->wire.device->info;
@@ -169,7 +172,7 @@ static bool is_too_large(const struct session *session)
            && session->transfer > two_bytes(info->descriptor + AT_TRANSFER);
 }
 
-/* Returns whether other blocks were asked for than the device says that it takes. */
+/* Returns true if --transfer-size was given and differs from the device's wTransferSize, which isn't 0. */
 static bool is_other_size(const struct session *session)
 {
     const struct found *info = &session->wire.device->info;
@@ -177,7 +180,7 @@ static bool is_other_size(const struct session *session)
     return session->transfer != 0 && most != 0 && session->transfer != most;
 }
 
-/* The step of a session whose image was compared, and isn't the file's. Behind its bytes a device may give more of its memory. */
+/* Suggests a step after a comparison that found a difference. A device may return more of its memory after the last byte of the image. */
 static void advise_different(const struct session *session)
 {
     say_odd(session);

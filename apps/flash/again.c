@@ -1,25 +1,25 @@
 /* SPDX-License-Identifier: MIT OR Apache-2.0 */
-/* A board is known by its serial number, if no other board that is there has the same one. A board without a number may have been changed
-   for another while it was away, so its entry counts as used. */
+/* A board that returns is recognized by its serial number if no other connected board has the same number. A board without a serial number
+ * may have been replaced while it was disconnected, so the stamp entry of the last attempt counts as used. */
 #include "again.h"
 #include "advice.h"
 #include "clock.h"
 #include "device.h"
 #include "find.h"
-#include "say.h"
+#include "messages.h"
 #include "stamp.h"
 #include "station.h"
 
 #include <stdio.h>
 #include <string.h>
 
-/* How the board was seen in this mode; in the other one if it wasn't. */
+/* Returns the description of the board when it was first found in this mode, or in the other mode if it wasn't found in this one. */
 static const struct found *seen_before(const struct session *session, bool is_upgrade)
 {
     return &session->first[session->has_first[is_upgrade] ? is_upgrade : !is_upgrade];
 }
 
-/* Returns whether a board at another path has this serial number too, or that can't be known. */
+/* Returns true if a board at another path has this serial number too, or if the bus can't be searched. */
 static bool is_shared(const struct device *device)
 {
     const struct wanted named = {.serial = device->info.serial, .place = ANYWHERE};

@@ -1,5 +1,6 @@
 /* SPDX-License-Identifier: MIT OR Apache-2.0 */
-/* --retry with --stamp: which board it is that came back, and what becomes of the entry that the last one may have. */
+/* --retry with --stamp: decides whether the returning board is the one of the last attempt, and whether the last stamp entry counts as
+ * used. */
 #ifndef DFU_FLASH_AGAIN_H
 #define DFU_FLASH_AGAIN_H
 
@@ -9,14 +10,14 @@
 #include <stdbool.h>
 #include <stdint.h>
 
-/* Returns whether the device that was found is known to be the board of the session before. */
+/* Returns true if the device that was found is known to be the board of the previous session. */
 bool again_is_same(const struct session *session);
 
-/* Returns whether what came may be another board, which must not get the entry of this one: it left by itself in the middle of a session
-   with --stamp, and has, or had, no serial number. */
+/* Returns true if the board that returned may be a different one, which must not get the same stamp entry. This is the case if the board
+ * left by itself after data was sent in a session with --stamp, and its serial number was missing before or is missing now. */
 bool again_is_doubtful(const struct session *session, uint32_t seen);
 
-/* Ends the session before: its board keeps the entry, with a line in the report, and what came must get another one. */
+/* Reports the previous session with its stamp entry as used, so that the board that returned gets the next entry. */
 void again_leave_entry(const struct session *session, const struct words *words);
 
 #endif

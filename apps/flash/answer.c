@@ -1,60 +1,64 @@
 /* SPDX-License-Identifier: MIT OR Apache-2.0 */
-/* Reports each answer of libusb to the host. The proof of what Installed and Verified mean rests on this file: a transfer
-   that is reported as acknowledged or answered was really made, and if the device lost its state, a restart is reported before
-   anything that it answers later.
-
-   Of a transfer:
-     as many bytes out as the body has  Ack         it was made, and acknowledged
-     bytes in, even fewer or none       Bytes       what came, as it came
-     LIBUSB_ERROR_PIPE                  Stall       the device refused the request
-     LIBUSB_ERROR_NO_DEVICE             Left        the device left after the end of a download, as below
-                                        Restarted   else: reported once it is back and open again
-     any other                          Nothing     such as TIMEOUT, IO, OVERFLOW: it may have been handled or not, and the host asks
-
-   Of a reset:
-     0                                  WasReset    once its interface is in its setting again, if that is another than 0
-     LIBUSB_ERROR_NOT_FOUND             WasReset    at once: libusb says this if the device has other descriptors after the
-                                                    reset, and comes as a new one, whose enumeration is a reset
-     LIBUSB_ERROR_NO_DEVICE             Left        it left before, after the end of a download, as below
-                                        Restarted   else: reported once it is back
-     any other                          Nothing     the host asks for it again
-   If the system makes no reset (properties.h) a person is asked to pull the plug of a device in DFU mode, and WasReset is
-   reported once it was seen to leave: it is enumerated, and so reset, once it is plugged in again. It may lose its power then, and
-   so its state: by the device table both lead to appIDLE from each state but appDETACH, and both leave the active image. From there
-   a reset leads to DFU mode and a loss of power doesn't; so in run-time mode no plug is asked for. If nobody pulls it the session
-   ends, and no reset is reported. If the system doesn't report that a device left, GET_STATUS of USB is sent after each transfer
-   that failed, but for TIMEOUT: every device answers it, and it changes nothing. If that fails too, the device left.
-   NOT_FOUND is also what Linux says of a device that left before the reset. It comes back reset then too; and after a reset
-   the host is done, or begins anew with asking for the device's state, as it does after a restart. A device that is to be
-   asked again is waited for before that request; one whose session is over need not come back, for example if its application has
-   no USB.
-
-   Of a wait: Waited, once the time has passed; Nothing, if a stop ended it (stop.h).
-
-   Left is reported if the device acknowledged the DNLOAD of no bytes, a GETSTATUS after it was answered with dfuMANIFEST-SYNC or
-   dfuMANIFEST, nothing but GETSTATUS was sent since, and the device is gone then: it may have started its image by itself, as
-   many bootloaders do, or have lost its power. It is reported at once, and only once: the device is waited for before the next request.
-   The host takes it as the last reset, and never reports Installed for it. If a reset is answered with NOT_FOUND it isn't reported:
-   there Installed is reported only if the device itself said that it is done, by dfuIDLE.
-
-   A device that leaves after an acknowledged DETACH does what it was asked to, up to the next request: that is no restart.
-   Until it is found again, nothing is sent. A reset that another program makes in between isn't seen here: the interface is
-   claimed, so that no other program has it for transfers.
-
-   One DETACH is this program's own, and no host hears of it (stalls.c). After it comes a reset that the host asked for, which is
-   reported as above; if the device left after that DETACH by itself it is reported as WasReset, and if it left without an answer
-   as Restarted. The host asks for the device's state after either. */
+/* Reports each result of libusb to the host. The proof of what Installed and Verified mean depends on this file: a transfer that is
+ * reported as acknowledged or answered was really made, and if the device lost its state, a restart is reported before any later answer.
+ *
+ * Results of a transfer:
+ *
+ *     all bytes of the body were sent    Ack         the transfer was made and acknowledged
+ *     bytes in, any number or none       Bytes       the answer, unchanged
+ *     LIBUSB_ERROR_PIPE                  Stall       the device refused the request
+ *     LIBUSB_ERROR_NO_DEVICE             Left        the device left after the end of a download, as below
+ *                                        Restarted   else: reported after the device is back and open again
+ *     any other                          Nothing     such as TIMEOUT, IO or OVERFLOW; the host asks what the device did
+ *
+ * Results of a reset:
+ *
+ *     0                                  WasReset    after the interface is in its setting again, if that isn't setting 0
+ *     LIBUSB_ERROR_NOT_FOUND             WasReset    at once: the device has other descriptors after the reset, and is
+ *                                                    enumerated as a new device, which includes a reset
+ *     LIBUSB_ERROR_NO_DEVICE             Left        the device left before the reset, after the end of a download, as below
+ *                                        Restarted   else: reported after the device is back
+ *     any other                          Nothing     the host requests the reset again
+ *
+ * If the system can't reset a device (properties.h), a person must pull the plug of a device in DFU mode, and WasReset is reported when the
+ * device has left. Plugging it in again enumerates and so resets it. The device may lose power and its state: by the device table a reset
+ * and a loss of power both lead to appIDLE from every state but appDETACH, and both keep the active image. From appDETACH a reset leads to
+ * DFU mode and a loss of power doesn't, so in run-time mode nobody is asked to pull the plug. If nobody pulls it, the session ends and no
+ * reset is reported.
+ *
+ * If the system doesn't report that a device left, the USB request GET_STATUS is sent after each failed transfer except TIMEOUT. Every
+ * device answers it, and it changes no state. If it fails too, the device left.
+ *
+ * Linux also returns NOT_FOUND for a device that left before the reset. That device too is reset when it returns, and after a reset the
+ * host is done or requests the device's state again, as after a restart. If the host sends another request, the program waits for the
+ * device first. A device whose session is over need not return, for example if its application has no USB.
+ *
+ * Results of a wait: Waited when the time is over, or Nothing if a stop ended it (stop.h).
+ *
+ * Left is reported if the device acknowledged the DNLOAD without data, then answered a GETSTATUS with dfuMANIFEST-SYNC or dfuMANIFEST,
+ * received nothing but GETSTATUS since, and is gone. It may have started its image by itself, as many bootloaders do, or have lost power.
+ * Left is reported at once and only once, and the program waits for the device before the next request. The host treats it as the last
+ * reset and never reports Installed after it. A reset that returns NOT_FOUND isn't reported as Left: Installed is reported after it only if
+ * the device itself reported the end by dfuIDLE.
+ *
+ * A device that leaves after an acknowledged DETACH obeys the request, so this isn't a restart. Nothing is sent until it is found again. A
+ * reset that another program makes in between isn't detected here, but the interface is claimed, so no other program can use it for
+ * transfers.
+ *
+ * One DETACH is this program's own, and its result isn't reported to the host (stalls.c). The host's reset after it is reported as
+ * above. If the device leaves by itself after that DETACH, WasReset is reported, and if it leaves without an answer, Restarted. The host
+ * requests the device's state after either. */
 #include "answer.h"
 #include "clock.h"
-#include "present.h"
+#include "presence.h"
 #include "properties.h"
 #include "standard.h"
 #include "transport.h"
 
 #include <string.h>
 
-#define TRANSFER_MS 5000 /* until a transfer counts as lost; what other programs for DFU take */
-#define STOPPED_MS 1000  /* the same of what is sent after a stop */
+#define TRANSFER_MS 5000 /* time until a transfer counts as lost, as in other DFU programs */
+#define STOPPED_MS 1000  /* replaces TRANSFER_MS after a stop */
 
 static struct answer reported(struct wire *wire, uint32_t seen)
 {
@@ -66,7 +70,7 @@ static void forget_end(struct wire *wire)
     wire->is_closed = wire->is_manifesting = false;
 }
 
-/* The device left: its restart is reported once it can be asked again. */
+/* Reports a restart of a device that left, after it is found and opened again. */
 static struct answer restarted(struct wire *wire)
 {
     struct answer answer = reported(wire, DFU_SEEN_RESTART);
@@ -75,7 +79,7 @@ static struct answer restarted(struct wire *wire)
     return answer;
 }
 
-/* The device left: by itself, if it may have started its image. */
+/* Reports that a device left by itself if it may have started its image; else reports its restart. */
 static struct answer left(struct wire *wire)
 {
     if (!wire->is_manifesting)
@@ -85,7 +89,7 @@ static struct answer left(struct wire *wire)
     return reported(wire, DFU_SEEN_LEFT);
 }
 
-/* The host's setups have wIndex 0 (bytes 4 and 5); USB wants the number of the interface there. Nothing else is changed. */
+/* The host's setup packets have wIndex 0 (bytes 4 and 5), but USB requires the interface number there. No other byte is changed. */
 static int transfer(struct wire *wire, const uint8_t setup[8], uint16_t length)
 {
     uint16_t value = setup_value(setup);
@@ -110,8 +114,8 @@ static struct answer answer_of(struct wire *wire, bool is_in, uint16_t length, i
     return answer;
 }
 
-/* Notes how far a download has come at its end: its closing request was acknowledged, and after it the device reported dfuMANIFEST-SYNC or
-   dfuMANIFEST. */
+/* Records the end of a download: the device acknowledged the download's closing request, and then reported dfuMANIFEST-SYNC or dfuMANIFEST.
+ */
 static void note_end(struct wire *wire, const struct dfu_action *action, const struct answer *answer)
 {
     bool is_status = is_request(action->setup, KIND_IN, REQUEST_GETSTATUS);
@@ -160,21 +164,21 @@ struct answer answer_wait(struct wire *wire, uint32_t ms)
     int64_t began_ms = clock_ms();
     struct answer answer = reported(wire, clock_wait(ms) ? DFU_SEEN_WAIT : DFU_SEEN_NOTHING);
     trace_wait(&wire->trace, ms, &answer, clock_ms() - began_ms);
-    /* With bitWillDetach it leaves by itself, and is opened again before the next request. */
+    /* A device with bitWillDetach leaves the bus by itself. It is opened again before the next request. */
     if (wire->is_leaving && !present_is(wire->device))
         device_close(wire->device);
     return answer;
 }
 
-/* A reset puts an interface into setting 0. libusb says that the system tries to put it back; that it is there isn't left to
-   that, since a block that goes to another setting is harm. */
+/* A reset puts an interface into setting 0, and libusb only tries to restore the previous setting. It is set again here, because blocks
+ * that go to another setting overwrite the wrong memory. */
 static int reset(struct device *device)
 {
     int error = transport->reset(device->handle);
     return error == 0 && device->info.alternate != 0 ? device_set(device) : error;
 }
 
-/* The place of a reset on a system that makes none. */
+/* Replaces a reset on a system that can't reset a device: a person pulls the plug instead. */
 static struct answer pulled(struct wire *wire)
 {
     if (!wire->device->info.is_upgrade || !present_is_pulled(wire->device)) {
@@ -186,7 +190,7 @@ static struct answer pulled(struct wire *wire)
     return reported(wire, DFU_SEEN_RESET);
 }
 
-/* Returns whether the device may be another one after a reset than before it. */
+/* Returns true if the device left with the reset or may have other descriptors after it, so that it must be found again. */
 static bool is_changed(const struct wire *wire, int error)
 {
     return error == LIBUSB_ERROR_NOT_FOUND || error == LIBUSB_ERROR_NO_DEVICE
@@ -197,7 +201,7 @@ static struct answer reset_reported(struct wire *wire)
 {
     struct answer answer = reported(wire, DFU_SEEN_RESET);
     int error;
-    if (wire->device->handle == NULL) /* it left before this reset */
+    if (wire->device->handle == NULL) /* the device left before this reset */
         return wire->is_leaving ? answer : restarted(wire);
     if (!platform_resets())
         return pulled(wire);

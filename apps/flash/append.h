@@ -1,30 +1,31 @@
 /* SPDX-License-Identifier: MIT OR Apache-2.0 */
-/* A file to which whole lines are added, by several processes too. */
+/* Appends whole lines to a file that several processes may use. */
 #ifndef DFU_FLASH_APPEND_H
 #define DFU_FLASH_APPEND_H
 
 #include <stdbool.h>
 #include <stddef.h>
 
-/* Opens a regular file, or makes it, to be added to; no link is followed. The front of what it has is written to `front`, with a NUL. A
-   descriptor that a process gets that is begun from here on; -1 for the reason that is in `why`. */
+/* Opens a regular file for appending, or creates it. Doesn't follow a symbolic link. Writes the beginning of the file's content to `front`,
+ * with a NUL at the end. Child processes that are started afterwards inherit the descriptor. Returns -1 on failure, with the reason in
+ * `why`. */
 int append_open(const char *name, char *front, size_t room, const char **why);
 
-/* Takes away what is behind the last newline, unless `is_whole` says that it is a line, and says so. */
+/* Removes the bytes after the last newline and reports that, unless `is_whole` returns true because they are a whole line. */
 void append_mend(int file, const char *name, bool (*is_whole)(const char *line, size_t length));
 
-/* Locks the file against other processes that add lines, or unlocks it. The system may make the front of a line visible before its rest, as
-   where a page of the file ends within it, so that only the holder of the lock can tell a line that was broken off. Gives up after some time,
-   because a file system may refuse locks. Leaves errno as it was. */
+/* Locks the file against other processes that append lines, or unlocks it. Only the holder of the lock can tell a broken line from one that
+ * is being written, because the system may show the beginning of a line before its rest, for example if it crosses a page of the file.
+ * Gives up after some time, because a file system may refuse locks. Leaves errno unchanged. */
 void append_lock(int file, bool is_on);
 
-/* Returns why the last line wasn't added. */
+/* Returns the reason why the last line wasn't added. */
 const char *append_why(void);
 
 /* Returns true if the last line wasn't added because the file was removed or replaced. */
 bool append_has_moved(void);
 
-/* Adds a line, whole, in one call of the system. */
+/* Adds a whole line in one system call. Returns false if that fails. */
 bool append_line(int file, const char *line, size_t length);
 
 #endif

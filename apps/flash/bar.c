@@ -1,5 +1,4 @@
 /* SPDX-License-Identifier: MIT OR Apache-2.0 */
-/* A bar of progress. */
 #include "bar.h"
 #include "terminal.h"
 
@@ -7,9 +6,9 @@
 #include <stdio.h>
 #include <string.h>
 
-#define BAR 30   /* characters of a bar at most, */
-#define LEAST 5  /* and at least */
-#define FRAME 20 /* what is around it: the words in front, brackets, the percentage */
+#define BAR 30   /* largest width of the bar */
+#define LEAST 5  /* smallest width of the bar */
+#define FRAME 20 /* columns around the bar: the text before it, brackets, the percentage */
 #define AMOUNT_ROOM 96
 
 int bar_columns(void)
@@ -24,7 +23,7 @@ int bar_lines(void)
     return terminal_size(&columns, &lines) ? lines : 24;
 }
 
-/* Adds the time that the rest takes at the rate so far, rounded up. */
+/* Appends the remaining time at the average rate so far, rounded up. */
 static void add_left(char *text, size_t room, uint64_t bytes, uint64_t total, int64_t passed_ms)
 {
     double seconds = (double)passed_ms / 1000 * ((double)(total - bytes) / (double)bytes);
@@ -34,7 +33,7 @@ static void add_left(char *text, size_t room, uint64_t bytes, uint64_t total, in
         snprintf(text, room, ", %d %s left", (int)count + 1, unit);
 }
 
-/* Writes the bytes that are done, the rate, and the time that is left. */
+/* Writes the number of bytes that are done, the rate and the remaining time. */
 static void write_amount(char text[AMOUNT_ROOM], uint64_t bytes, uint64_t total, int64_t passed_ms)
 {
     int at = snprintf(text, AMOUNT_ROOM, "%" PRIu64, bytes);

@@ -1,13 +1,13 @@
 /* SPDX-License-Identifier: MIT OR Apache-2.0 */
-/* When the device at a path is another one than before. A device that was flashed starts its image, so it leaves and comes back by itself:
-   if it were flashed again for that, this would never end. So:
-
-   - If it was seen after it was done, and is away for two seconds, it was pulled out, and the next one is another.
-   - If one comes within ten seconds after it was seen, or was done, it is another if it has another serial number than the one before
-     had in the same mode.
-   - If one comes later, it is the same if it has the same serial number as before in that mode.
-   - If one can't be opened, it is another if the one before was opened in the same mode: rights go by identifiers.
-   - One that failed is tried again if it was away for two seconds, once unless it was seen in between, because it may start slowly. */
+/* Decides whether the device at a path differs from the device that was flashed there before. A device that was flashed starts its image,
+ * so it leaves and returns by itself. If it were flashed again each time, this would never end. The rules are:
+ *
+ * - A device that was seen after its session and is then away for two seconds was pulled out, and the next one is a different device.
+ * - A device that returns within ten seconds is a different device if its serial number isn't the last one seen in the same mode.
+ * - A device that returns later is the same device if its serial number is the last one seen in the same mode.
+ * - A device that can't be opened is a different device if the last one could be opened in the same mode, because access rights depend on
+ *   the identifiers.
+ * - A device that failed is tried again if it was away for two seconds, but only once unless it was seen in between. */
 #include "bays.h"
 #include "status.h"
 
@@ -17,7 +17,7 @@
 #define PULLED_MS 2000
 #define LATE_MS 10000
 
-/* The bay of a path, or NULL. */
+/* Returns the bay of a path, or NULL if the path has none. */
 static struct bay *find(struct bays *bays, const char *path)
 {
     for (int at = 0; at < bays->count; at++)
@@ -26,7 +26,7 @@ static struct bay *find(struct bays *bays, const char *path)
     return NULL;
 }
 
-/* A new bay, in place of one about which nothing is known; NULL if there is no room. */
+/* Makes a new bay in a free entry that records no retry, or in a new entry. Returns NULL if there is no room. */
 static struct bay *make(struct bays *bays, const char *path, int64_t now_ms)
 {
     int at = 0;
@@ -75,7 +75,7 @@ static bool is_among(const struct bay *bay, const struct port *ports, int count)
     return false;
 }
 
-/* Returns whether a device that has left was pulled out. */
+/* Returns true if a device has been away long enough to count as pulled out. */
 static bool is_pulled(const struct bay *bay, int64_t now_ms)
 {
     return (bay->was_back || (bay->has_failed && !bay->has_retried)) && now_ms - bay->since_ms >= PULLED_MS;
@@ -105,7 +105,7 @@ bool bay_is_early(const struct bay *bay)
     return bay->state != BAY_FREE && !bay->is_late;
 }
 
-/* Returns whether the device in a bay is the one that was flashed before, or counts as it. */
+/* Returns true if the device in a bay is, or counts as, the one that was flashed there before. */
 static bool is_same_as_before(const struct bay *bay, const struct found *info)
 {
     const char *before = bay->serial[info->is_upgrade];
@@ -146,7 +146,7 @@ static const char *words_of(const struct bay *bay, int status)
                "unplug it for three seconds";
     if (bay->is_late)
         return "the device that was flashed here is back; another one with its serial number has to be plugged in again";
-    /* Once is what the device that was flashed does by itself. */
+    /* The device that was flashed returns once by itself, so a message is printed only from the second time on. */
     return bay->was_back ? "a device came soon after the one that was flashed here, and counts as it; if it is another one, unplug it for "
                            "three seconds"
                          : NULL;
@@ -166,7 +166,7 @@ void bay_end_same(struct bay *bay, int64_t now_ms)
     bay->since_ms = now_ms;
 }
 
-/* One that failed counts as away since it was seen last, if it is the first time. */
+/* After a first failure the time away is counted from when the device was last seen, not from the end of the session. */
 void bay_end(struct bay *bay, bool has_failed, int64_t now_ms)
 {
     bay->state = BAY_DONE;

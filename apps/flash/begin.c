@@ -1,19 +1,20 @@
 /* SPDX-License-Identifier: MIT OR Apache-2.0 */
-/* Begins a session: with the device's functional descriptor, and with limits. */
+/* Begins a session with the device's functional descriptor, and sets the limits of the session. */
 #include "facts.h"
 #include "properties.h"
-#include "say.h"
+#include "messages.h"
 #include "session.h"
 #include "standard.h"
 
 #include <stdio.h>
 #include <string.h>
 
-/* Linux carries at most 4,096 bytes in a control transfer, and libusb refuses more. A host may send smaller blocks than a device
-   takes (USB DFU 1.1, section 4.1.3: wTransferSize is the most that it takes). */
+/* Linux carries at most 4,096 bytes in a control transfer, and libusb refuses more. A host may send smaller blocks than the device's
+ * wTransferSize (USB DFU 1.1, section 4.1.3). */
 #define MAX_BYTES 4096
 
-/* A descriptor as the host gets it: with the bytes of a block that were asked for, or else with no more than are carried. */
+/* Sets the block size in the host's copy of the descriptor to the requested one. If none is requested, limits the block size to MAX_BYTES.
+ */
 static void cut(uint8_t descriptor[9], size_t size, uint16_t asked)
 {
     uint16_t bytes = asked != 0 ? asked : MAX_BYTES;
@@ -29,9 +30,9 @@ const char *goal_name(enum goal goal)
     return names[goal];
 }
 
-/* A clean session takes up to 4 actions a block, one more if it is compared, and some 20 around them. Twice that for losses and for a
-   device that asks to be polled often, the same again for each restart that is taken, and 300 for a device that was left in the middle of
-   something. An upload ends by itself after 65,535 parts. */
+/* A clean session takes up to 4 actions per block, one more if it is compared, and some 20 others. The limit allows twice as many per
+ * block, because of losses and frequent polls, and the same again for each restart. It allows 300 more, because an earlier session may have
+ * left the device in the middle of an operation. An upload ends by itself after 65,535 blocks. */
 static void take_limits(struct session *session, const uint8_t descriptor[9])
 {
     uint64_t transfer = two_bytes(descriptor + AT_TRANSFER);
@@ -44,13 +45,14 @@ static void take_limits(struct session *session, const uint8_t descriptor[9])
     session->actions = actions > UINT32_MAX ? UINT32_MAX : (uint32_t)actions;
 }
 
-/* On a system that makes no reset a device comes to DFU mode only if it leaves for it by itself. */
+/* On a system that can't reset a device, only a device that detaches by itself reaches DFU mode. */
 static bool may_detach(const struct found *info)
 {
     return platform_resets() || has_attribute(info->descriptor, info->descriptor_size, WILL_DETACH);
 }
 
-/* A download is verified if that is asked for and the device can upload, which takes it to DFU mode a second time. */
+/* A download is verified if verification wasn't turned off, the device can upload, and it can reach DFU mode a second time for the
+ * comparison. */
 static enum goal goal_of(const struct session *session)
 {
     const struct found *info = &session->wire.device->info;
@@ -70,16 +72,16 @@ static int32_t begin(struct session *session, const uint8_t descriptor[9], size_
                              session->restarts);
 }
 
-/* Returns whether a functional descriptor is missing, or is none that a session can go by. */
+/* Returns true if the functional descriptor is missing, or if no session can use it. */
 static bool is_odd(int32_t refusal)
 {
     return refusal == DFU_SHORT || refusal == DFU_LONG || refusal == DFU_WRONG_LENGTH || refusal == DFU_WRONG_TYPE
            || refusal == DFU_BAD_DESCRIPTOR;
 }
 
-/* In run-time mode the functional descriptor only says how to bring the device to DFU mode, where it has the one that counts (by USB DFU
-   1.1, section 4.2.4, both are the same). So if the one of run-time mode is odd, another takes its place, and session.c sees to it that no
-   block is sent by that. */
+/* In run-time mode the functional descriptor is used only to bring the device to DFU mode. There the descriptor for the transfers is read,
+ * although by USB DFU 1.1, section 4.2.4, both are the same. If the descriptor of run-time mode is unusable, a substitute replaces it, and
+ * session.c makes sure that no block is sent with the block size of the substitute. */
 static int32_t begin_by_another(struct session *session, int32_t refusal)
 {
     static const uint8_t another[FUNCTIONAL_BYTES] = {
@@ -89,15 +91,15 @@ static int32_t begin_by_another(struct session *session, int32_t refusal)
     if (!info->says_runtime || !is_odd(refusal))
         return refusal;
     session->runtime_refusal = refusal;
-    /* With wTransferSize 0 the rest counts: bmAttributes and wDetachTimeOut. */
+    /* If only wTransferSize is 0, bmAttributes and wDetachTimeOut are still used. */
     memcpy(session->substitute, another, sizeof another);
     if (refusal == DFU_BAD_DESCRIPTOR)
         memcpy(session->substitute + AT_ATTRIBUTES, info->descriptor + AT_ATTRIBUTES, AT_TRANSFER - AT_ATTRIBUTES);
     return begin(session, session->substitute, sizeof session->substitute);
 }
 
-/* A device in DFU mode that has no functional descriptor: who says how large its blocks are has it taken for one that does what is asked,
-   and nothing else, so that a download is neither compared nor known to be in place. */
+/* Writes a substitute for a device in DFU mode without a functional descriptor, if --transfer-size gives the block size. The substitute
+ * claims only the abilities that the session needs, so a download is neither compared nor known to be in place. */
 static size_t stand_in(const struct session *session, uint8_t descriptor[9])
 {
     const struct found *info = &session->wire.device->info;
@@ -110,8 +112,8 @@ static size_t stand_in(const struct session *session, uint8_t descriptor[9])
     return sizeof other;
 }
 
-/* Warns, once for each size, of blocks that are smaller than the board's own. A board that places block k at k times its own size writes
-   all but the first elsewhere; and since it reads them from there too, a comparison sees no difference. */
+/* Warns, once for each size, about blocks that are smaller than the board's own. A board that stores block k at k times its own block size
+ * writes all blocks but the first to wrong addresses. It also reads them from there, so a comparison finds no difference. */
 static void warn_of_blocks(const struct session *session)
 {
     static unsigned said;
@@ -137,7 +139,7 @@ int32_t session_begin(struct session *session)
     session->goal = goal_of(session);
     session->runtime_refusal = 0;
     facts_note(session);
-    /* A device of DfuSe would take the blocks for commands. */
+    /* A DfuSe device would interpret the blocks of a DFU 1.1 session as commands. */
     if (is_dfuse(info))
         return dfuse_begin_session(session);
     if (session->dfuse.has_address || session->dfuse.file != NULL)

@@ -1,10 +1,10 @@
 /* SPDX-License-Identifier: MIT OR Apache-2.0 */
-/* Which device is taken. More than one is a refusal: to write to the wrong one is harm. */
+/* Chooses the device. If several devices match, none is chosen, because writing to the wrong device does harm. */
 #include "advice.h"
 #include "clock.h"
 #include "device.h"
-#include "one.h"
-#include "say.h"
+#include "one_device.h"
+#include "messages.h"
 #include "status.h"
 #include "transport.h"
 
@@ -12,8 +12,8 @@
 #include <string.h>
 
 #define LOOK_MS 100
-#define SETTLE_MS 2000 /* by then udev has settled who may open a device that came, */
-#define BACK_MS 4000   /* and by then at the latest, also if many come at once */
+#define SETTLE_MS 2000 /* time after which udev has set the access rights of a new device */
+#define BACK_MS 4000   /* as SETTLE_MS, for a device that may be a known one; longer, because many may arrive at once */
 
 struct wanted wanted_of(const struct words *words)
 {
@@ -24,13 +24,13 @@ struct wanted wanted_of(const struct words *words)
                             .place = {words->interface, words->alternate, words->setting},
                             .has_dfu_ids = words->has_dfu_ids, .dfu_vendor = words->dfu_vendor, .dfu_product = words->dfu_product};
     /* clang-format on */
-    /* A device of DfuSe has a setting for each of its memories: the first is that of programs. */
+    /* A DfuSe device has a setting for each of its memories, and the first is the program memory. */
     if (words->has_address && words->alternate < 0 && words->setting == NULL)
         wanted.place.alternate = 0;
     return wanted;
 }
 
-/* One DFU interface may be there in several alternate settings, each for another part of the memory. */
+/* One DFU interface may have several alternate settings, each for another part of the memory. The user must select one. */
 static void ask_for_one(const struct found *list, int count)
 {
     fprintf(stderr, "dfu-flash: more than one device, interface or setting; choose by --device, --path, --serial, --interface or --alt:\n");
@@ -43,7 +43,7 @@ static void ask_for_one(const struct found *list, int count)
         advice_is("choose the setting that the file is for, by --alt or --interface");
 }
 
-/* Returns whether all that was found is one device that can't be opened, so that none of its settings' names could be read. */
+/* Returns true if a setting was requested by name, and the only device can't be opened, so that its settings' names are unknown. */
 static bool is_unread(const struct wanted *wanted, const struct found *list, int count)
 {
     for (int at = 0; at < count; at++)
@@ -52,7 +52,7 @@ static bool is_unread(const struct wanted *wanted, const struct found *list, int
     return wanted->place.name != NULL;
 }
 
-/* If one was read with the serial number that is asked for, those whose number can't be read aren't meant. */
+/* If a device with the requested serial number was read, the devices whose number can't be read are dropped. */
 static int drop_unread(const struct wanted *wanted, struct found *list, int count)
 {
     int read = 0;
@@ -69,7 +69,7 @@ static int drop_unread(const struct wanted *wanted, struct found *list, int coun
     return read;
 }
 
-/* Returns whether a device can be opened, and found again if it leaves. */
+/* Returns true if a device can be opened, and found again after it leaves. */
 static bool is_usable(const struct device *device)
 {
     return device->info.access == 0 && (has_ports(device->path) || device->serial != NULL);
@@ -84,7 +84,8 @@ static int say_unusable(struct device *device)
     return STATUS_NO_DEVICE;
 }
 
-/* Returns whether one of the devices can be opened, or has had its time: the rights of a device come a moment after it does. */
+/* Returns true if one of the devices can be opened, or has been present for the settling time. The access rights of a device are set a
+ * moment after it appears. */
 static bool is_settled(const struct patience *patience, const struct found *list, int count, int64_t *seen_ms)
 {
     int64_t now_ms = clock_ms();
@@ -106,7 +107,7 @@ static void say_waiting(const struct patience *patience)
     fputs("; Ctrl-C ends it\n", stderr);
 }
 
-/* Those that are wanted; with --wait once there is one, or when the time is over. */
+/* Finds the matching devices. With --wait it polls until one is connected and settled, the time is over, or a stop is requested. */
 static int look(const struct device *device, const struct wanted *wanted, struct found *list)
 {
     const struct patience *patience = &device->patience;
@@ -122,7 +123,7 @@ static int look(const struct device *device, const struct wanted *wanted, struct
             return count;
         if (is_first)
             say_waiting(patience);
-        /* One that was opened before is tried again, and the others were there then too. */
+        /* In a retry (opened > 0) the other devices aren't reported again, because they were connected before. */
         if (is_first && count == 0 && !patience->is_quiet && device->opened == 0)
             say_not_yet(device->usb, wanted);
         found_drop(list, count);
@@ -130,7 +131,7 @@ static int look(const struct device *device, const struct wanted *wanted, struct
     }
 }
 
-/* Prints why there is no device, and with --wait how long it was waited for. */
+/* Reports that no device matches, and the time limit of --wait if it has passed. */
 static int say_none(const struct device *device, const struct wanted *wanted)
 {
     int status = say_missing(device->usb, wanted);
@@ -158,7 +159,7 @@ int device_choose(struct device *device, const struct wanted *wanted)
     found_drop(list + 1, count - 1);
     device->place = wanted->place;
     memcpy(device->path, list[0].path, sizeof device->path);
-    /* One that was asked for at its path is found again nowhere else. */
+    /* A device that was selected by --path is found again only at that path, if the path names ports. */
     device->serial = wanted->path != NULL && has_ports(device->path) ? NULL : wanted->serial;
     device->dfu_serial = wanted->dfu_serial;
     device->bus = wanted->path;

@@ -1,8 +1,8 @@
 /* SPDX-License-Identifier: MIT OR Apache-2.0 */
-/* Meanings of the standard's status codes (section 6.1.2). share/man/dfu-flash.1 has the same list; tests/apps/flash compares them. */
+/* Meanings of the status codes of USB DFU 1.1 (section 6.1.2). share/man/dfu-flash.1 has the same list; tests/apps/flash compares them. */
 #include "standard.h"
 
-/* Codes with a next step of their own. Those of target, file and notdone say something of the file that was sent. */
+/* Status codes that have their own next step. errTARGET, errFILE and errNOTDONE refer to the file that was sent. */
 enum {
     ERR_TARGET = 1,
     ERR_FILE = 2,
@@ -21,7 +21,7 @@ enum {
     ERR_STALLED = 15,
 };
 
-/* As the standard has it, and of the commonest also what is the matter as a rule. */
+/* Meanings of the codes in the standard. The texts of the commonest codes also name the usual cause. */
 static const char *const meanings[] = {
     "there is no error",
     "the file isn't for this device, as the device says",
@@ -41,7 +41,7 @@ static const char *const meanings[] = {
     "the device stalled a request that it did not expect",
 };
 
-/* The next step behind a code of a download; NULL if the report's own step serves. */
+/* Next step for each code after a download, or NULL if the general step of the report applies. */
 static const char *const steps[] = {
     [ERR_TARGET] = "get the file that its maker gives for this board, and run it again",
     [ERR_FILE] = "get the file that its maker gives for this board, and run it again",

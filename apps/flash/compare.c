@@ -1,10 +1,10 @@
 /* SPDX-License-Identifier: MIT OR Apache-2.0 */
-/* The first byte of an answer that isn't the image's. An answer that is shorter than what was asked for is the last: it may be too short,
-   and it may be followed by nothing though the image goes on. */
+/* Finds the first byte of an answer that differs from the image. An answer that is shorter than requested is the last one, so it also
+ * differs if the image has more bytes. */
 #include "compare.h"
 #include "standard.h"
 
-/* `wanted` has the `left` bytes of the image from place `at` on. */
+/* Compares an answer with the `left` bytes of the image from offset `at` on, which are in `wanted`. */
 static void compare(struct session *session, uint64_t at, const uint8_t *wanted, size_t left, const struct answer *answer, size_t asked)
 {
     size_t both = left < answer->count ? left : answer->count, same = 0;

@@ -1,14 +1,14 @@
 /* SPDX-License-Identifier: MIT OR Apache-2.0 */
-/* The order of the demo. Each step is what the program does for a real board (one.c), over the simulated one. After each step the demo
-   looks at whether the board has what it must have. */
+/* Steps of the demo. Each step runs the code for real boards (one_device.c) on the simulated board. It then checks the exit status, and
+ * after a download the board's image. */
 #include "demo.h"
 #include "advice.h"
 #include "demo_board.h"
 #include "demo_usb.h"
 #include "image.h"
-#include "one.h"
+#include "one_device.h"
 #include "record.h"
-#include "say.h"
+#include "messages.h"
 #include "session.h"
 #include "standard.h"
 #include "status.h"
@@ -19,26 +19,26 @@
 #include <string.h>
 
 #define OWN_BYTES 3000
-#define AWAY_MS 300 /* how long a board that was pulled out is waited for: nobody comes to put it in */
+#define AWAY_MS 300 /* time to wait for the board that was pulled out, which doesn't return */
 
-/* Identifiers for tests, of pid.codes. */
+/* Identifiers for tests, from pid.codes. */
 #define OWN_VENDOR 0x1209
 #define OWN_PRODUCT 0x0001
 
 static struct {
-    struct words words; /* of each step */
+    struct words words; /* options of each step */
     struct image file, other;
-    int status; /* STATUS_DONE, as long as all goes as it has to */
+    int status; /* STATUS_DONE until a step fails */
 } demo;
 
-/* Announces a step; nothing once one went wrong. */
+/* Announces a step, unless an earlier one failed. */
 static void tell(const char *what)
 {
     if (!demo.words.quiet && demo.status == STATUS_DONE)
         fprintf(stderr, "%s%s\n", say_mark, what);
 }
 
-/* Without FILE: bytes that look like no text. */
+/* Makes an image for a demo without FILE, with pseudo-random bytes so that it doesn't look like text. */
 static int32_t make_own(struct image *image)
 {
     uint8_t bytes[OWN_BYTES];
@@ -50,7 +50,7 @@ static int32_t make_own(struct image *image)
     return image_make(image, bytes, sizeof bytes, OWN_VENDOR, OWN_PRODUCT);
 }
 
-/* Another image for the same board: each bit of the first one turned. */
+/* Makes a second image for the same board by inverting each bit of the first. */
 static int32_t make_other(struct image *image)
 {
     uint8_t *bytes = malloc(demo.file.payload + 1);
@@ -63,7 +63,7 @@ static int32_t make_other(struct image *image)
     return refusal;
 }
 
-/* Reads FILE, which has a board of its own: of the suffix's identifiers, or of the demo's if it has none. */
+/* Reads FILE and takes the board's identifiers from its suffix, or the demo's own where the suffix has none. */
 static int32_t read_file(const struct words *words)
 {
     int32_t refusal;
@@ -85,8 +85,8 @@ static int32_t read_file(const struct words *words)
     return refusal == 0 && demo.file.payload == 0 ? DFU_EMPTY_PAYLOAD : refusal;
 }
 
-/* Makes one run, as from a command line of its own. The demo fails unless the run ends with the wanted status, and the board would then
-   start the image `stands`. */
+/* Runs one step with its own options. The demo fails unless the run ends with the status `wanted` and, if `stands` isn't NULL, the board
+ * would then start the image `stands`. */
 static void step(enum job job, struct image *image, int wanted, const struct image *stands)
 {
     bool has_bar = !demo.words.quiet && terminal_is(stderr);
@@ -107,7 +107,7 @@ static void step(enum job job, struct image *image, int wanted, const struct ima
         demo.status = STATUS_BROKEN;
 }
 
-/* Makes the steps in their order; once one went wrong, the rest do nothing. */
+/* Runs the steps in order. After a failure the remaining steps do nothing. */
 static void show(void)
 {
     unsigned middle = (unsigned)(demo.file.payload / demo_block()) / 2;

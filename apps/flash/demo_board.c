@@ -1,5 +1,5 @@
 /* SPDX-License-Identifier: MIT OR Apache-2.0 */
-/* The proved device decides what the board does; this has its flash, its power and its mode on the bus. */
+/* Simulates the flash, the power and the bus mode of a board. The proved device code decides what the board does. */
 #include "demo_board.h"
 #include "standard.h"
 
@@ -10,7 +10,7 @@
 
 #define UNIT 16
 #define SECTOR 1024
-#define SMALL 65536 /* an image up to here comes in small blocks, so that there are some */
+#define SMALL 65536 /* an image up to this size is sent in small blocks, so that there are several */
 #define SMALL_BLOCK 64
 #define LARGE_BLOCK 4096
 
@@ -26,7 +26,8 @@ static struct {
     enum demo_fate fate;
 } board;
 
-/* The bus sees it anew once its descriptors are others. */
+/* The board is enumerated again when it changes between run-time mode and DFU mode, because its descriptors differ. Returns true if the
+ * mode is unchanged. */
 static bool look(void)
 {
     bool is_same = board.was_app == demo_is_app();
@@ -121,7 +122,7 @@ void demo_functional(uint8_t bytes[9])
     dfu_device_functional(&board.config, bytes);
 }
 
-/* Takes the planned fault if this request is the block that it was planned for. */
+/* Returns the planned fault, and clears it, if this request sends the block for which the fault was planned. */
 static enum demo_fate take_fate(const uint8_t setup[8])
 {
     enum demo_fate fate = board.fate;

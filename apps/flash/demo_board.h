@@ -1,5 +1,5 @@
 /* SPDX-License-Identifier: MIT OR Apache-2.0 */
-/* The simulated board: the proved device (dfu_device.h) over flash that is memory, and what happens to it. */
+/* The simulated board: the proved device (dfu_device.h) with flash in memory, and the faults that the demo plans for it. */
 #ifndef DFU_FLASH_DEMO_BOARD_H
 #define DFU_FLASH_DEMO_BOARD_H
 
@@ -7,45 +7,44 @@
 #include <stddef.h>
 #include <stdint.h>
 
-/* Faults at a block. */
+/* Fault of the simulated board, at the block for which it is planned. */
 enum demo_fate {
     DEMO_NOTHING,
-    DEMO_ANSWER, /* the board takes the block, and its answer is lost */
-    DEMO_PLUG    /* the plug is pulled before the block comes, and stays out */
+    DEMO_ANSWER, /* the board receives the block, and its answer is lost */
+    DEMO_PLUG    /* the plug is pulled before the block arrives, and stays out */
 };
 
-/* Makes the board with a first image, for images of up to so many bytes; its application runs. Returns false if there is no memory for
-   it. */
+/* Makes a board that runs its first image and has room for images of up to `most` bytes. Returns false if there is no memory. */
 bool demo_make(uint16_t vendor, uint16_t product, size_t most);
 
-/* Plans a fault at the block of that number, once. */
+/* Plans a fault at one block. `block` counts the DNLOAD requests from now on, beginning with 0. */
 void demo_plan(enum demo_fate fate, unsigned block);
 
-/* Puts the plug in again, so that the board gets power. */
+/* Plugs the board in again, so that it has power. */
 void demo_plug(void);
 
-/* Return whether the board has power, and whether its application runs, so that it is in run-time mode. */
+/* Return true if the board has power, and if its application runs, so that it is in run-time mode. */
 bool demo_has_power(void);
 bool demo_is_app(void);
 
-/* Returns the number of enumerations so far. Whoever opened the board before the last one reaches it no more. */
+/* Returns the number of enumerations so far. A handle that was opened before the last one no longer reaches the board. */
 unsigned demo_generation(void);
 
-/* Size of a block in bytes. */
+/* Returns the size of a block in bytes. */
 size_t demo_block(void);
 
-/* Its identifiers, and its functional descriptor. */
+/* Return the board's identifiers and its functional descriptor. */
 uint16_t demo_vendor(void);
 uint16_t demo_product(void);
 void demo_functional(uint8_t bytes[9]);
 
-/* Makes a request of the class. Returns the number of bytes that were sent or answered, or an error of libusb. */
+/* Makes a DFU class request. Returns the number of bytes that were sent or received, or a libusb error. */
 int demo_request(const uint8_t setup[8], uint8_t *data);
 
-/* Resets the bus. Returns whether the board has the same descriptors after it. */
+/* Resets the bus. Returns true if the board's descriptors are the same after it. */
 bool demo_reset(void);
 
-/* The image that it would start. */
+/* Returns the image that the board would start, and its length. */
 const uint8_t *demo_image(size_t *length);
 
 #endif

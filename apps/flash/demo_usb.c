@@ -1,5 +1,5 @@
 /* SPDX-License-Identifier: MIT OR Apache-2.0 */
-/* libusb's calls, answered by the simulated board (USB 2.0, chapter 9, for its descriptors). */
+/* Implements the USB operations with the simulated board, including its descriptors (USB 2.0, chapter 9). */
 #include "demo_usb.h"
 #include "demo_board.h"
 #include "standard.h"
@@ -12,7 +12,7 @@
 #define SERIAL_STRING 1
 #define NAME_STRING 2
 
-/* The device as it was enumerated once, and as it is held; libusb's types have no members of their own. */
+/* The device of one enumeration, with its number of references. It is cast to libusb's types, which are opaque. */
 struct plugged {
     unsigned holders, generation;
     bool is_app;
@@ -101,7 +101,7 @@ static int LIBUSB_CALL fields(libusb_device *device, struct libusb_device_descri
     return 0;
 }
 
-/* One interface with one setting, and the functional descriptor after it. */
+/* Builds a configuration that has one interface with one setting, followed by the functional descriptor. */
 static int LIBUSB_CALL active(libusb_device *device, struct libusb_config_descriptor **out)
 {
     static unsigned char functional[FUNCTIONAL_BYTES];
@@ -167,7 +167,7 @@ static int LIBUSB_CALL reset(libusb_device_handle *handle)
     return error != 0 ? error : demo_reset() ? 0 : LIBUSB_ERROR_NOT_FOUND;
 }
 
-/* A string descriptor: its length, its type, and UTF-16 with the low byte first. */
+/* Builds a string descriptor: its length, its type, and the text in UTF-16 with the low byte first. */
 static int string(unsigned index, unsigned char *bytes, uint16_t length)
 {
     static const char *const texts[] = {"", "SIMULATED", "simulated board"};

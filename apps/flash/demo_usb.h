@@ -1,5 +1,5 @@
 /* SPDX-License-Identifier: MIT OR Apache-2.0 */
-/* The bus that the simulated board is on: bus 0, which no system has. */
+/* The bus of the simulated board, which has number 0. */
 #ifndef DFU_FLASH_DEMO_USB_H
 #define DFU_FLASH_DEMO_USB_H
 

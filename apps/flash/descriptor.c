@@ -1,6 +1,6 @@
 /* SPDX-License-Identifier: MIT OR Apache-2.0 */
-/* Reads the functional descriptor (USB DFU 1.1, section 4.1.3) and the strings of a device. These are requests of USB itself, and are made
-   before a session and when a device has come back. */
+/* Reads the functional descriptor (USB DFU 1.1, section 4.1.3) and the strings of a device, by standard USB requests. They are read before
+ * a session and after a device has returned. */
 #include "find.h"
 #include "standard.h"
 #include "../common/text.h"
@@ -8,8 +8,8 @@
 
 #include <string.h>
 
-/* Finds a descriptor of this type. Descriptors come one after the other, each with its length first. Returns false if no whole one of the
-   type is there. */
+/* Finds the functional descriptor in a sequence of descriptors, each of which begins with its length. Returns false if there is no complete
+ * one. */
 static bool is_in(const unsigned char *bytes, int length, struct found *found)
 {
     int at = 0;
@@ -50,7 +50,7 @@ void string_find(libusb_device_handle *handle, uint8_t index, char text[TEXT_ROO
     text[0] = '\0';
     if (index == 0)
         return;
-    /* String 0 has the languages that there are; the first of them is asked for. */
+    /* String 0 lists the languages of the device, and the first of them is used. */
     length = transport_descriptor(handle, LIBUSB_DT_STRING, 0, 0, bytes, sizeof bytes);
     if (length < 4)
         return;

@@ -1,22 +1,22 @@
 /* SPDX-License-Identifier: MIT OR Apache-2.0 */
-/* The one request of DFU that is this program's own: DETACH (USB DFU 1.1, section 5.1). The host asks for the state first, and
-   sends DETACH once appIDLE was reported to it; but many a device stalls GETSTATUS in run-time mode, and knows nothing but DETACH there. */
+/* Sends this program's own DETACH (USB DFU 1.1, section 5.1), which the host doesn't request. The host requests the state first, and sends
+ * DETACH only after the device reported appIDLE. Many devices, however, stall GETSTATUS in run-time mode, and accept only DETACH there. */
 #include "detach.h"
 #include "clock.h"
 #include "properties.h"
 #include "standard.h"
 
-#define NO_DESCRIPTOR_MS 1000 /* wDetachTimeOut if there is no functional descriptor */
-#define ARRIVAL_MS 5000       /* a device may be in run-time mode still, and leave a while after the reset */
+#define NO_DESCRIPTOR_MS 1000 /* wDetachTimeOut for a device without a functional descriptor */
+#define ARRIVAL_MS 5000       /* time for a device to leave run-time mode, which it may do a while after the reset */
 #define LOOK_MS 200
 
-/* wDetachTimeOut, as the device wants it. */
+/* Returns the wDetachTimeOut of the device in milliseconds, or NO_DESCRIPTOR_MS if it has no functional descriptor. */
 static uint16_t time_of(const struct found *info)
 {
     return info->descriptor_size < FUNCTIONAL_BYTES_1_0 ? NO_DESCRIPTOR_MS : two_bytes(info->descriptor + AT_DETACH_MS);
 }
 
-/* It leaves and comes back by itself, within that time. */
+/* Returns true if the device detaches by itself within wDetachTimeOut (bitWillDetach). */
 static bool leaves_by_itself(const struct found *info)
 {
     return has_attribute(info->descriptor, info->descriptor_size, WILL_DETACH);
@@ -54,7 +54,7 @@ bool detach(struct wire *wire)
     if (answer.is_gone || answer.seen == DFU_SEEN_STALL)
         return false;
     wire->trace.is_own = true;
-    /* If the system makes no reset it may still leave by itself. */
+    /* On a system that can't reset a device, the device may still leave by itself. */
     if (!wire->device->info.is_upgrade && platform_resets())
         answer_reset(wire);
     wire->trace.is_own = false;

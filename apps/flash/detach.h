@@ -1,5 +1,5 @@
 /* SPDX-License-Identifier: MIT OR Apache-2.0 */
-/* DETACH by this program, if no host asks for it. */
+/* Sends this program's own DETACH, which the host doesn't request. */
 #ifndef DFU_FLASH_DETACH_H
 #define DFU_FLASH_DETACH_H
 
@@ -7,13 +7,15 @@
 
 #include <stdbool.h>
 
-/* Sends one DETACH to a device in run-time mode, waits if it detaches by itself, and returns what came of the request. */
+/* Sends one DETACH to a device in run-time mode. If the request is acknowledged and the device detaches by itself, waits for
+ * wDetachTimeOut. Returns the answer to the request. */
 struct answer detach_send(struct wire *wire);
 
-/* After DETACH and the reset: waits up to 5 seconds until the device is in DFU mode, and opens it. Returns whether it is there. */
+/* Waits, after DETACH and the reset, up to 5 seconds until the device is in DFU mode, and opens it. Returns true if it is in DFU mode. */
 bool detach_await(struct wire *wire);
 
-/* Brings a device from run-time mode to DFU mode: DETACH, a reset unless it left by itself, and the wait. Returns whether it is there. */
+/* Brings a device from run-time mode to DFU mode: DETACH, a reset unless the device left by itself, and the wait. Returns true if the
+ * device is then in DFU mode. */
 bool detach(struct wire *wire);
 
 #endif

@@ -1,24 +1,24 @@
 /* SPDX-License-Identifier: MIT OR Apache-2.0 */
-/* Opens the device, and finds it again after it left: a device that goes from run-time mode to DFU mode, or back, leaves the
-   bus and comes as another one, with other descriptors and often with other identifiers. So it is known by its path; and by
-   its serial number only if that was asked for, since two devices may have the same one. session.c detects another board at the same place,
-   because it compares a device with what it was before in the same mode. */
+/* Opens the device, and finds it again after it left. A device that changes between run-time mode and DFU mode leaves the bus and returns
+ * as a new device, with other descriptors and often other identifiers, so it is found by its path. The serial number is used only on
+ * request, because two devices may have the same one. A session detects another board at the same path by comparing it with the device that
+ * was first found in the same mode. */
 #include "device.h"
 #include "clock.h"
-#include "say.h"
+#include "messages.h"
 #include "terminal.h"
 #include "transport.h"
 
 #include <stdio.h>
 #include <string.h>
 
-#define AWAY_MS 10000 /* how long it may be away: an operating system takes a second or two to see a device; --wait gives it more */
+#define AWAY_MS 10000 /* time that a device may be away; a system takes 1 to 2 s to detect a device */
 #define LOOK_MS 50
 
 int device_set(struct device *device)
 {
     int error = transport->set(device->handle, device->info.interface, device->info.alternate);
-    /* If there is one setting a device may stall the request, and is in it all the same. */
+    /* A device with only one setting may stall the request, but is in that setting. */
     return error == LIBUSB_ERROR_PIPE && device->info.alternate == 0 ? 0 : error;
 }
 
@@ -60,7 +60,7 @@ void device_drop(struct device *device)
     device->info.device = NULL;
 }
 
-/* Counts the wanted devices that can be opened, and keeps one of them. */
+/* Counts the matching devices that can be opened, and keeps a reference to the last of them. */
 static int keep_one(struct device *device, const struct wanted *wanted)
 {
     struct found list[FOUND_ROOM];
@@ -77,8 +77,8 @@ static int keep_one(struct device *device, const struct wanted *wanted)
     return open;
 }
 
-/* Counts the devices on the bus that may be this one: those at its path, or if nothing is there, elsewhere. A device that can't be read for
-   a moment has not left, and another board may have its serial number. */
+/* Counts the devices that may be this one: those at its path, or if the path is free, those with its serial number. A device that
+ * temporarily can't be read has not left, and another board may have its serial number. */
 static int look_for(struct device *device)
 {
     const struct wanted here = {.path = device->path, .place = device->place};
@@ -89,7 +89,8 @@ static int look_for(struct device *device)
     return keep_one(device, &named);
 }
 
-/* One that is back, and that nobody may open, or that another program took: what it is now may have other rules than before. */
+/* Reports why a device that returned can't be opened, for example because of access rights or another program. Its access rights may differ
+ * from those before it left. */
 static void say_why(struct device *device, int error)
 {
     const struct wanted any = {.path = device->path, .place = ANYWHERE};
@@ -102,7 +103,7 @@ static void say_why(struct device *device, int error)
     found_drop(&one, count);
 }
 
-/* Returns whether to go on waiting for it. Once that has taken 10 seconds, this says so. */
+/* Returns true if the program should keep waiting for the device. Prints a message after 10 seconds, unless --quiet is given. */
 static bool is_awaited(const struct device *device, int64_t began_ms, bool *is_said)
 {
     int64_t most_ms = (int64_t)device->patience.seconds * 1000;
@@ -117,8 +118,8 @@ static bool is_awaited(const struct device *device, int64_t began_ms, bool *is_s
     return true;
 }
 
-/* A device whose name is in the list still, though it left, can't be opened; and its rights may come a moment after it does. Its reference
-   is given back first: on Windows libusb hands out the descriptors of before as long as somebody holds one. */
+/* A device that has left may still be listed, and can't be opened then. A device that has just appeared may get its access rights a moment
+ * later. The old reference is dropped first, because on Windows libusb returns the old descriptors as long as a reference exists. */
 bool device_reopen(struct device *device)
 {
     int64_t began_ms = clock_ms();
@@ -141,7 +142,7 @@ bool device_reopen(struct device *device)
     return false;
 }
 
-/* Returns whether a device with the serial number that was asked for is there. */
+/* Returns true if a device with the requested serial number can be opened at any path. */
 static bool is_elsewhere(const struct device *device)
 {
     const struct wanted named = {.path = device->bus, .serial = device->serial, .dfu_serial = device->dfu_serial, .place = ANYWHERE};

@@ -1,5 +1,5 @@
 /* SPDX-License-Identifier: MIT OR Apache-2.0 */
-/* --detach: a device is brought to DFU mode, by this program's own DETACH (detach.c), and that is all. No host has a part in it. */
+/* --detach: only brings a device to DFU mode, by this program's own DETACH (detach.c). The host isn't used. */
 #include "dfu_mode.h"
 #include "detach.h"
 #include "status.h"
@@ -21,7 +21,7 @@ static const struct outcome outcomes[] = {
     {STATUS_DONE, "detached", "the device was in DFU mode already: nothing was sent"},
 };
 
-/* A device that came back with several settings is in DFU mode too: in run-time mode there is one. */
+/* If the device returned with several settings, is_detached is false although the device is in DFU mode, as device->info shows. */
 static const struct outcome *outcome_of(const struct device *device, bool is_detached)
 {
     if (is_detached || device->info.is_upgrade)

@@ -1,12 +1,12 @@
 /* SPDX-License-Identifier: MIT OR Apache-2.0 */
-/* --detach: a device is brought to DFU mode, and that is all. */
+/* --detach: only brings a device to DFU mode. */
 #ifndef DFU_FLASH_DFU_MODE_H
 #define DFU_FLASH_DFU_MODE_H
 
-#include "say.h"
+#include "messages.h"
 #include "session.h"
 
-/* Brings the device that is open to DFU mode, unless it is in it. Returns what came of it. */
+/* Brings the open device to DFU mode, unless it is already there. Returns the verdict. */
 struct verdict dfu_mode(struct session *session);
 
 #endif

@@ -1,5 +1,5 @@
 /* SPDX-License-Identifier: MIT OR Apache-2.0 */
-/* Which options of dfu-util are taken, which are passed over, since they aren't needed here, and which are refused. */
+/* Decides which options of dfu-util are accepted, which are ignored because they aren't needed here, and which are refused. */
 #include "dfu_util.h"
 #include "advice.h"
 
@@ -10,7 +10,7 @@
 #include <string.h>
 
 /* clang-format off */
-/* Those that this program hasn't, or that mean something else here. */
+/* Long options of dfu-util that this program lacks or that mean something else here. */
 static const struct {
     const char *name;
     char option;
@@ -22,7 +22,7 @@ static const struct {
     {"detach-delay", 'E', true},
 };
 
-/* Options that are passed over, each with the reason why. */
+/* Options that are accepted and ignored, each with the reason. */
 static struct {
     int option;
     const char *note;
@@ -41,7 +41,7 @@ static struct {
 
 #define COUNT(table) (sizeof(table) / sizeof *(table))
 
-/* The short option, with its value in the same word; NULL if there is no memory. */
+/* Returns the short option with its value in the same argument, or NULL if there is no memory. */
 static char *join(char option, const char *value)
 {
     size_t room = strlen(value) + 3;
@@ -69,7 +69,7 @@ char *dfu_util_short(char *word)
     return word;
 }
 
-/* A number as C writes it, which dfu-util reads: with a 0 in front it is octal or hexadecimal. */
+/* dfu-util reads numbers as C does: one with a leading 0 is octal or hexadecimal. */
 static bool has_base(const char *value)
 {
     return value[0] == '0' && (isdigit((unsigned char)value[1]) || value[1] == 'x' || value[1] == 'X');
@@ -87,7 +87,7 @@ void dfu_util_pass(int option)
         notes[at].was_given = notes[at].was_given || notes[at].option == option;
 }
 
-/* Notes an option with a number that isn't needed. Returns true if the option is none of these. */
+/* Records an ignored option that takes a number. Returns false if its value isn't a number, and true for any other option. */
 static bool is_passed(int option, const char *value)
 {
     if (option != 'Z' && option != 'c' && option != 'E')

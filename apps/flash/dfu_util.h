@@ -1,5 +1,5 @@
 /* SPDX-License-Identifier: MIT OR Apache-2.0 */
-/* The options of dfu-util 0.11, so that a line for it works here, or is answered with its new form. */
+/* Options of dfu-util 0.11, so that a command line for dfu-util works here, or a message with the form to use instead is printed. */
 #ifndef DFU_FLASH_DFU_UTIL_H
 #define DFU_FLASH_DFU_UTIL_H
 
@@ -7,27 +7,28 @@
 
 #include <stdbool.h>
 
-/* For getopt: all that dfu-util 0.11 has, but for -h and -V. */
+/* Options of dfu-util 0.11 for getopt, except -h and -V. */
 #define DFU_UTIL_OPTIONS "D:U:ld:p:S:i:a:t:weRZ:n:c:E:vs:"
 
-/* A long option that dfu-util has and this program hasn't, as the short one that it is there: `--intf=0` as `-i0`. Any other word is handed
-   back as it is. The caller must not free the result. */
+/* Translates a long option that dfu-flash lacks, or that means something else in dfu-util, into dfu-util's short one, such as `--intf=0`
+ * into `-i0`. Returns any other argument unchanged. The caller must not free the result. */
 char *dfu_util_short(char *word);
 
-/* Returns whether the option, with its value, means here what it means in dfu-util, or isn't needed here. If it means something else, this
-   prints what to write in its place. An option that dfu-util doesn't have counts as different. */
+/* Returns true if the option, with its value, means the same here as in dfu-util, or isn't needed here. Else prints the reason or the
+ * option to use instead, and returns false. */
 bool dfu_util_is_same(int option, const char *value);
 
-/* Notes an option that isn't needed together with the others. */
+/* Records an option that is ignored because of another one, such as -e because of -D. */
 void dfu_util_pass(int option);
 
-/* Says which options were given that are passed over; if `is_quiet`, only what was asked for and isn't done. */
+/* Reports which of the given options are ignored. With `is_quiet`, reports only that the :leave of -s isn't done. */
 void dfu_util_notes(bool is_quiet);
 
-/* Reads the values of -d, -S and -s as dfu-util does. Each returns false, after printing why, if it isn't understood, or isn't taken. */
+/* Read the values of -d, -S and -s as dfu-util does. Each returns false, after printing why, if the value is invalid or isn't accepted
+ * here. */
 bool dfu_util_device(const char *text, struct words *words);
 
-/* Reads VENDOR:PRODUCT as -d does, but prints nothing if the text is neither. */
+/* Reads VENDOR:PRODUCT as -d does, but prints nothing if the text is invalid. */
 bool dfu_util_ids(const char *text, struct words *words);
 
 bool dfu_util_serial(char *text, struct words *words);

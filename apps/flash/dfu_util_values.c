@@ -1,6 +1,5 @@
 /* SPDX-License-Identifier: MIT OR Apache-2.0 */
-/* Values as dfu-util 0.11 reads them: identifiers with fewer digits or none, a serial number for each mode, and an address with what
-   is to be done there. */
+/* Parses values as dfu-util 0.11 does: identifiers with up to four digits, a serial number for each mode, and an address with modifiers. */
 #include "dfu_util.h"
 #include "advice.h"
 #include "standard.h"
@@ -14,8 +13,8 @@
 
 #define MAX_DIGITS 4
 
-/* One identifier at the front of `text`: up to four hexadecimal digits, with or without 0x, or * for any. A number that isn't there stays
-   as it is. Returns its end; NULL if it has more digits. */
+/* Parses one identifier at the start of `text`: up to four hexadecimal digits, with or without 0x, or * for any. A missing number leaves
+ * `id` unchanged. Returns the end, or NULL if there are more digits. */
 static const char *take_id(const char *text, uint16_t *id)
 {
     char digits[MAX_DIGITS + 1] = {0};
@@ -36,7 +35,7 @@ static const char *take_id(const char *text, uint16_t *id)
     return text + count;
 }
 
-/* VENDOR:PRODUCT, of which either may be left out. Returns its end; NULL if it is none. */
+/* Parses VENDOR:PRODUCT, either of which may be missing. Returns the end, or NULL if one of them has too many digits. */
 static const char *take_ids(const char *text, uint16_t *vendor, uint16_t *product)
 {
     const char *end = take_id(text, vendor);
@@ -45,8 +44,8 @@ static const char *take_ids(const char *text, uint16_t *vendor, uint16_t *produc
     return end;
 }
 
-/* Behind a comma are the identifiers of DFU mode, which are those of run-time mode if they are left out; with nothing before the comma
-   the device has to be in DFU mode, and so it has with a hyphen, which is no device. */
+/* The identifiers after a comma are those of DFU mode, and a missing one is the same as in run-time mode. With nothing or a hyphen before
+ * the comma, the device must be in DFU mode. */
 bool dfu_util_ids(const char *text, struct words *words)
 {
     const char *end = text, *rest;
@@ -93,7 +92,7 @@ bool dfu_util_serial(char *text, struct words *words)
            || words_refuse("-S takes a serial number, as --list shows it, or one for each mode with a comma between them", "");
 }
 
-/* Modifiers that dfu-util takes after an address, each with the reason why it isn't taken here. */
+/* Modifiers that dfu-util accepts after an address, each with the reason why it is refused here. */
 static const struct {
     const char *word, *answer;
 } modifiers[] = {
@@ -109,7 +108,7 @@ static bool is_modifier(const char *text, const char *word)
     return strncmp(text, word, length) == 0 && (text[length] == '\0' || text[length] == ':');
 }
 
-/* Returns the reason why the word at the front isn't taken here, or NULL. */
+/* Returns the reason why the modifier at the start of `text` is refused here, or NULL. */
 static const char *answer_to(const char *text)
 {
     for (size_t number = 0; number < sizeof modifiers / sizeof *modifiers; number++)
@@ -118,7 +117,7 @@ static const char *answer_to(const char *text)
     return NULL;
 }
 
-/* Returns whether none of these modifiers is among the words behind colons. Each is answered, a line for each, and the last ends it. */
+/* Returns true if the text has no refused modifier after its colons. Else prints one line for each reason. */
 static bool is_harmless(const char *text)
 {
     const char *last = NULL;
@@ -134,8 +133,8 @@ static bool is_harmless(const char *text)
     return last == NULL || words_refuse(last, text);
 }
 
-/* dfu-util stays in DFU mode unless `leave` is said, and reads to the end of the segment if no length is. Without an address it goes with a
-   DfuSe file, after which the device leaves here anyhow. */
+/* dfu-util stays in DFU mode unless `leave` is given, and reads to the end of the segment unless a length is given. `:leave` without an
+ * address is for a DfuSe file, after which the device leaves here by default. */
 bool dfu_util_address(const char *text, struct words *words)
 {
     const char *rest;

@@ -1,17 +1,17 @@
 /* SPDX-License-Identifier: MIT OR Apache-2.0 */
-/* Begins a session with a device of DfuSe: sets its limits, or refuses it before anything is sent. */
+/* Begins a session with a DfuSe device: sets its limits, or refuses it before anything is sent. */
 #include "session.h"
 #include "standard.h"
 
 #include <string.h>
 
-#define MAX_BYTES 4096   /* what Linux carries in a control transfer: a block is asked for by its number, so that it can't be smaller */
-#define FRONT_BYTES 32   /* of the image, which are written last: with less than them an application doesn't start */
-#define PAGE_POLLS 1000  /* GETSTATUS while a page is erased, if the device reports no times */
-#define BLOCK_ACTIONS 60 /* of a block, with one that is asked for its status again and again */
+#define MAX_BYTES 4096   /* Linux's limit for a control transfer; a device with larger blocks is refused */
+#define FRONT_BYTES 32   /* first bytes of the image, written last; without them no application starts */
+#define PAGE_POLLS 1000  /* number of GETSTATUS requests for an erase if the device reports no times */
+#define BLOCK_ACTIONS 60 /* actions per block with a device that needs many polls */
 
-/* Refuses by the host for DFU 1.1 a file with a wrong suffix, an empty image, or one for another device. Of a DfuSe file the suffix was
-   read already, and here its elements are taken. */
+/* Uses the host for DFU 1.1 to refuse a file with a wrong suffix, an empty image or another device's identifiers. The suffix of a DfuSe
+ * file was checked before, and its elements are taken here. */
 static int32_t file_refusal(struct session *session)
 {
     static const uint8_t any[FUNCTIONAL_BYTES] = {FUNCTIONAL_BYTES,   FUNCTIONAL_TYPE, CAN_DOWNLOAD, 0, 0, 64, 0,
@@ -22,8 +22,8 @@ static int32_t file_refusal(struct session *session)
     return dfu_host_download(&none, session->file, session->file_length, any, sizeof any, &session->ids, 1, 0);
 }
 
-/* Sets the limits of the session, unless the command line did: many times the actions of a clean session, because losses, restarts and a
-   device that is asked often cost more of them. A page of two elements counts twice. */
+/* Sets the session's limits, unless the command line set them. They allow many times the actions of a clean session, because losses,
+ * restarts and frequent polls need more. A page with parts of two elements counts twice. */
 static void take_limits(struct session *session, uint64_t pages, uint64_t length, uint64_t elements)
 {
     uint64_t blocks = length / session->dfuse.plan.transfer + elements + pages + 3;
@@ -35,13 +35,14 @@ static void take_limits(struct session *session, uint64_t pages, uint64_t length
     session->actions = actions > UINT32_MAX ? UINT32_MAX : (uint32_t)actions;
 }
 
-/* Counts the pages that these bytes touch. */
+/* Counts the pages that a range of addresses overlaps. */
 static uint64_t pages_of(const struct dfuse *dfuse, uint64_t address, uint64_t length)
 {
     return dfuse_pages(dfuse->map, dfuse->map_length, address, address + length);
 }
 
-/* Without a length it goes to the end of the range that has the address, as with dfu-util; off the map it is one byte, which is refused. */
+/* An upload without a length ends at the end of the range that contains the address, as with dfu-util. If no range contains it, the length
+ * is one byte, and the upload is refused. */
 static void take_length(struct dfuse *dfuse)
 {
     uint64_t end;
@@ -90,7 +91,7 @@ int32_t dfuse_begin_session(struct session *session)
     int32_t refusal = session->is_upload ? 0 : file_refusal(session);
     session->goal = session->is_upload ? GOAL_UPLOAD : GOAL_VERIFIED;
     dfuse->is_active = true;
-    /* An address, or another mode, doesn't make it the board that the file is for. */
+    /* A wrong target is refused first: an address or another mode wouldn't make this the right board. */
     if (refusal == DFU_WRONG_TARGET)
         return refusal;
     if (!info->is_upgrade)

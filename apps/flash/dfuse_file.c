@@ -1,5 +1,5 @@
 /* SPDX-License-Identifier: MIT OR Apache-2.0 */
-/* A DfuSe file, which the library reads: its elements for the device's setting, and how they are printed. */
+/* Takes from a DfuSe file the elements for the device's setting, and prints them. The library parses the file. */
 #include "json.h"
 #include "session.h"
 #include "standard.h"
@@ -12,7 +12,7 @@ static bool goes_with(uint16_t file, uint16_t device)
     return file == ANY_ID || file == device;
 }
 
-/* As a session wants them. They are at most 256, and in order as a rule. */
+/* Sorts the elements by address. Insertion sort is fast enough, because there are at most 256 and they are usually in order. */
 static void sort(struct dfuse_element *image, size_t count)
 {
     for (size_t from = 1; from < count; from++) {

@@ -1,5 +1,5 @@
 /* SPDX-License-Identifier: MIT OR Apache-2.0 */
-/* Memory maps, which the library reads: how they are printed, and what they say of a part of the memory. */
+/* Prints memory maps, which the library parses, and finds the ranges and permissions of parts of the memory. */
 #include "dfuse.h"
 #include "json.h"
 
@@ -12,7 +12,7 @@ static const uint8_t *bytes_of(const struct found *found)
     return (const uint8_t *)found->name;
 }
 
-/* The letters of what may be done with pages, or - in the place of each. */
+/* Writes the letters of the allowed operations, or - for each that isn't allowed. */
 static void letters(uint32_t access, char out[4])
 {
     out[0] = access & DFUSE_READABLE ? 'r' : '-';
@@ -34,7 +34,7 @@ static void print_range(const struct dfuse_range *range)
            range->count == 1 ? "" : "s", range->size, range->size == 1 ? "" : "s", access);
 }
 
-/* Of a device that can't be opened no name was read, so nothing is known of its map. */
+/* If a device can't be opened, its setting's name is unknown, and so is its memory map. */
 static bool is_unread(const struct found *found)
 {
     return found->access != 0 && found->name[0] == '\0';
@@ -87,7 +87,7 @@ void dfuse_print_json(const struct found *found)
     putchar(']');
 }
 
-/* The range that has an address: 0, DFUSE_NO_RANGE, or why the string is no map. */
+/* Finds the range that contains an address. Returns 0, DFUSE_NO_RANGE, or the error of a string that isn't a map. */
 static int32_t range_at(const uint8_t *map, size_t map_length, uint64_t address, struct dfuse_range *range)
 {
     int32_t refusal;

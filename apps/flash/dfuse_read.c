@@ -1,7 +1,7 @@
 /* SPDX-License-Identifier: MIT OR Apache-2.0 */
-/* An upload with DfuSe, by an address and a length: the device is cleared, its pointer is set, and blocks are asked for by their number.
-   After anything odd that begins anew at the first byte that didn't come, so that no pointer of before is believed. There is no proof
-   of this file; the host for DfuSe writes images. */
+/* Uploads by DfuSe from an address: brings the device to dfuIDLE, sets its address pointer, and requests blocks by their numbers. After any
+ * unexpected answer these steps are repeated from the first missing byte, so that an old address pointer is never relied on. This file has
+ * no proof, because the proved DfuSe host only writes images. */
 #include "session.h"
 #include "standard.h"
 #include "stop.h"
@@ -9,29 +9,29 @@
 #include <stdlib.h>
 #include <string.h>
 
-#define EARLY_MS 100  /* for a status that was asked for too early */
-#define FIRST_BLOCK 2 /* of those that have the memory at the pointer */
+#define EARLY_MS 100  /* time to wait after a status that was requested too early */
+#define FIRST_BLOCK 2 /* number of the block at the address pointer */
 #define LAST_BLOCK 65535
 #define SET_ADDRESS 0x21
 
-/* Ways for the upload to go on after a request: with the next one, from its beginning, or not at all, with a report or another end. */
+/* Continuation of the upload after a request: the next request, a new start at the first missing byte, or the end. */
 enum next { NEXT_ON, NEXT_ANEW, NEXT_OVER };
 
-/* Ends the upload in this way, without a report of the host. */
+/* Ends the upload without a report. */
 static enum next over(struct session *session, enum end end)
 {
     session->end = end;
     return NEXT_OVER;
 }
 
-/* Ends the upload with a report, by the numbers of dfuse_host.h. */
+/* Ends the upload with a report. `value` is the number of the report in dfuse_host.h or dfuse.h. */
 static enum next report(struct session *session, uint32_t value, uint32_t more)
 {
     session->dfuse.done = (struct dfuse_action){.what = DFU_DONE, .value = value, .more = more};
     return over(session, END_REPORT);
 }
 
-/* Spends one action of the limit. Ends the upload if none is left, or a stop came. */
+/* Spends one of the allowed actions. Ends the upload if none is left or a stop was requested. */
 static enum next spend(struct session *session)
 {
     int stop = *session->wire.device->is_stop;
@@ -43,7 +43,7 @@ static enum next spend(struct session *session)
     return NEXT_ON;
 }
 
-/* One request, and what came of it. A device that left has another pointer. */
+/* Makes one request. If the device left and returned, the upload starts anew, because the device lost its address pointer. */
 static enum next ask(struct session *session, uint8_t kind, uint8_t request, uint16_t value, const uint8_t *body, uint16_t length,
                      struct answer *answer)
 {
@@ -59,7 +59,7 @@ static enum next ask(struct session *session, uint8_t kind, uint8_t request, uin
         return next;
     *answer = dfuse_send(session, &action, body, &is_reached);
     course = dfuse_course(session, &action, body, answer, is_reached);
-    if (course == DFU_GOES_TO_STOP) /* it is gone */
+    if (course == DFU_GOES_TO_STOP) /* the device is gone, and the user has stopped the session */
         return over(session, session->wire.device->is_many ? END_MANY : END_GONE);
     if (course != DFU_GOES_ON) {
         dfuse_end(session, course);
@@ -85,7 +85,8 @@ static enum next wait_for(struct session *session, uint32_t ms)
     return next;
 }
 
-/* The status, as its code and its state; NEXT_ANEW if none came. */
+/* Requests the status, and stores its code, its state and its poll time. A stall counts as busy. Returns NEXT_ANEW if no valid status
+ * arrived. */
 static enum next status(struct session *session, uint32_t *code, uint32_t *state, uint32_t *poll_ms)
 {
     static const uint8_t nothing[1];
@@ -106,7 +107,7 @@ static enum next status(struct session *session, uint32_t *code, uint32_t *state
     return NEXT_ON;
 }
 
-/* Waits for what an earlier session has left running, or clears its fault. A device that is protected says errVENDOR again. */
+/* Waits for an operation that an earlier session left running, or clears an error. A second errVENDOR means read protection. */
 static enum next recover(struct session *session)
 {
     struct answer answer;
@@ -122,7 +123,7 @@ static enum next recover(struct session *session)
     return state == STATE_ERROR ? plain(session, REQUEST_CLRSTATUS, &answer) : wait_for(session, poll_ms);
 }
 
-/* Brings the device to dfuIDLE: ABORT drops what was brought and not started, and GETSTATUS would start it. */
+/* Brings the device to dfuIDLE. ABORT discards a command that was sent but not started, which GETSTATUS would start. */
 static enum next clear(struct session *session)
 {
     static const uint8_t nothing[1];
@@ -146,7 +147,7 @@ static enum next clear(struct session *session)
     }
 }
 
-/* Asks for the status until the device has carried out the command that it was sent, and waits as long as it asks for. */
+/* Polls the status until the device has executed the last command. Waits the device's poll time between two polls. */
 static enum next poll(struct session *session)
 {
     uint32_t code, state, poll_ms;
@@ -166,7 +167,7 @@ static enum next poll(struct session *session)
     }
 }
 
-/* Sets the pointer, and goes to dfuIDLE, from which UPLOAD is taken. */
+/* Sets the address pointer, and then brings the device to dfuIDLE, in which it accepts UPLOAD. */
 static enum next point(struct session *session, uint32_t address)
 {
     const uint8_t command[5] = {SET_ADDRESS, (uint8_t)address, (uint8_t)(address >> 8), (uint8_t)(address >> 16), (uint8_t)(address >> 24)};
@@ -181,8 +182,8 @@ static enum next point(struct session *session, uint32_t address)
     return next == NEXT_ON && answer.seen != DFU_SEEN_ACK ? NEXT_ANEW : next;
 }
 
-/* Asks for the status to learn why a block was stalled: the memory is protected, the device refuses, or the upload begins anew. No command
-   waits to be started then, so GETSTATUS starts none. */
+/* Requests the status after a stall. If the device reports errVENDOR, which means read protection, or any other error but errSTALLEDPKT,
+ * the upload ends. Else it starts anew. No command is pending after the stall, so GETSTATUS starts none. */
 static enum next explain(struct session *session)
 {
     uint32_t code, state, poll_ms;
@@ -192,7 +193,7 @@ static enum next explain(struct session *session)
     return code == CODE_VENDOR ? report(session, DFUSE_READ_PROTECTED, 0) : report(session, DFUSE_REFUSED, code);
 }
 
-/* Blocks from the pointer on. A lost answer is asked for again by its number; a short one is none. */
+/* Uploads the blocks from the address pointer on. A block whose answer was lost is requested again, and a short block is discarded. */
 static enum next fetch(struct session *session)
 {
     static const uint8_t nothing[1];

@@ -1,5 +1,5 @@
 /* SPDX-License-Identifier: MIT OR Apache-2.0 */
-/* The loop of a download with DfuSe: what the host asks for is carried out, and what came of that is reported to it. */
+/* The loop of a DfuSe download: carries out the host's actions, and reports their results to the host. */
 #include "again.h"
 #include "compare.h"
 #include "session.h"
@@ -9,7 +9,7 @@
 #include <string.h>
 
 #define STATE_ERROR 10
-#define STRING_AT 5 /* iString of a status */
+#define STRING_AT 5 /* offset of iString in a status */
 #define STATE_AT 4
 
 static bool end(struct session *session, enum end end)
@@ -26,7 +26,7 @@ bool dfuse_is_same(const struct session *session)
            && memcmp(info->descriptor, session->begin_descriptor, sizeof info->descriptor) == 0;
 }
 
-/* Notes the string in which a device in dfuERROR may give its reason. */
+/* Stores the string index by which a device in dfuERROR may explain the error. */
 static void note_string(struct session *session, const uint8_t setup[8], const struct answer *answer)
 {
     if (is_request(setup, KIND_IN, REQUEST_GETSTATUS) && answer->seen == DFU_SEEN_BYTES && answer->count == GETSTATUS_BYTES)
@@ -71,7 +71,7 @@ uint32_t dfuse_course(struct session *session, const struct dfuse_action *action
     return dfuse_watch_after(&dfuse->watch, &dfuse->host, action, action->length > 0 ? body[0] : 0, answer->seen, &facts);
 }
 
-/* A device that is to leave may be gone with any request. */
+/* A device that is about to leave may disappear at any request. This is reported as leaving, and not as a restart. */
 static struct answer perform(struct session *session, const struct dfuse_action *action, const uint8_t *body, bool *is_reached)
 {
     struct answer answer;
@@ -83,7 +83,8 @@ static struct answer perform(struct session *session, const struct dfuse_action 
     return answer;
 }
 
-/* The last step of a part is seen by the next part: what was erased or written is whole then, but for the front, which is written last. */
+/* Completes the progress of erasing or writing when the next part begins. The front of the image is written last, so it isn't counted as
+ * sent until then. */
 static void show_end(struct session *session)
 {
     const struct dfuse *dfuse = &session->dfuse;
@@ -94,7 +95,7 @@ static void show_end(struct session *session)
         progress_at(&session->progress, PROGRESS_SENDING, dfuse->shown_to < front ? total : total - front);
 }
 
-/* Shows the progress, by the address at which the host works. */
+/* Shows the progress by the address at which the host works. */
 static void show(struct session *session)
 {
     struct dfuse *dfuse = &session->dfuse;
@@ -127,7 +128,7 @@ static bool tell(struct session *session, const struct dfuse_action *action, con
     return true;
 }
 
-/* A number that dfuse_watch.h doesn't have is a mistake. */
+/* A number that isn't in dfuse_watch.h is an internal error. */
 bool dfuse_end(struct session *session, uint32_t course)
 {
     switch (course) {
@@ -139,7 +140,7 @@ bool dfuse_end(struct session *session, uint32_t course)
     }
 }
 
-/* One action. */
+/* Carries out one action. Returns true if the session continues. */
 static bool step(struct session *session, const struct dfuse_action *action, const uint8_t *body)
 {
     bool is_reached = false;
@@ -154,7 +155,8 @@ static bool step(struct session *session, const struct dfuse_action *action, con
     return course == DFU_GOES_ON || course == DFU_GOES_RESTARTED ? tell(session, action, &answer) : dfuse_end(session, course);
 }
 
-/* A stop ends it: what was brought and not started is dropped. Once all was read back that is what is reported. */
+/* Ends the session after a stop. ABORT discards a command that was sent but not started. If all bytes were compared before, the session
+ * still reports success. */
 static void stop(struct session *session)
 {
     static const struct dfuse_action abort_it = {.what = DFU_SEND, .setup = {KIND_OUT, REQUEST_ABORT}};
@@ -174,7 +176,7 @@ static void stop(struct session *session)
     end(session, *session->wire.device->is_stop == STOP_TIME ? END_TIMED_OUT : END_ABORTED);
 }
 
-/* Prints the reason of the device's refusal, in the device's own words. */
+/* Prints the reason for the device's refusal from its string descriptor. */
 static void say_string(struct session *session)
 {
     char text[TEXT_ROOM];

@@ -1,12 +1,12 @@
 /* SPDX-License-Identifier: MIT OR Apache-2.0 */
-/* Verdict on a session with DfuSe, if it has a report. */
+/* Finds the verdict on a DfuSe session that has a report. */
 #include "session.h"
 #include "status.h"
 
 #include <stdio.h>
 #include <string.h>
 
-/* By the number of the report; tests read this table. */
+/* Verdicts by the number of the report. tests/lib/page/texts.py parses this table. */
 /* clang-format off */
 static const struct {
     uint32_t report;
@@ -25,7 +25,7 @@ static const struct {
 };
 /* clang-format on */
 
-/* Words for how the device left, which follow those for Verified. */
+/* Texts about how the device left, which follow the text for Verified. */
 static const char *const leavings[] = {
     [DFUSE_STAYED] = "; the device stays in DFU mode",
     [DFUSE_LEFT] = "; the device starts its application",

@@ -1,11 +1,11 @@
 /* SPDX-License-Identifier: MIT OR Apache-2.0 */
-/* Facts of the device after an action, for dfu_watch.h. */
+/* Collects the facts about the device after an action, for dfu_watch.h. */
 #include "facts.h"
 #include "stamp.h"
 
 #include <string.h>
 
-/* Returns whether the device still has the functional descriptor with which the session began. */
+/* Returns true if the device's functional descriptor is the one with which the session began. */
 static bool is_as_begun(const struct session *session)
 {
     const struct found *info = &session->wire.device->info;
@@ -13,7 +13,8 @@ static bool is_as_begun(const struct session *session)
            && memcmp(info->descriptor, session->begin_descriptor, sizeof info->descriptor) == 0;
 }
 
-/* Returns whether the device is the one that was found first in this mode. With --stamp one that had no serial number still has none. */
+/* Returns true if the device is the one that was first found in this mode, or if none was found in it before. With --stamp, a device
+ * without a serial number must still have none. */
 static bool is_first_again(const struct session *session)
 {
     const struct found *info = &session->wire.device->info;

@@ -1,6 +1,6 @@
 /* SPDX-License-Identifier: MIT OR Apache-2.0 */
-/* Looks for devices with DFU: an interface of class FEh, subclass 01h (USB DFU 1.1, sections 4.1.2 and 4.2.3), in the configuration
-   that the device is in. Protocol 02h is DFU mode, any other one is taken as run-time mode. */
+/* Finds devices with DFU: those that have an interface of class FEh, subclass 01h (USB DFU 1.1, sections 4.1.2 and 4.2.3) in their active
+ * configuration. Protocol 02h is DFU mode, and any other protocol counts as run-time mode. */
 #include "find.h"
 #include "standard.h"
 #include "transport.h"
@@ -22,7 +22,7 @@ bool has_ports(const char *path)
     return strchr(path, '-') != NULL;
 }
 
-/* Counts the devices at a path; -1 if the bus can't be listed. */
+/* Counts the devices at a path. Returns -1 if the bus can't be listed. */
 static int count_at(libusb_context *usb, const char *path)
 {
     libusb_device **devices;
@@ -54,7 +54,7 @@ static bool has_ids(const struct found *found, uint16_t vendor, uint16_t product
     return (vendor == ANY_ID || vendor == found->vendor) && (product == ANY_ID || product == found->product);
 }
 
-/* Another one isn't touched: somebody may be at work with it. */
+/* A device that doesn't match isn't opened, because another program may be using it. */
 bool may_be(const struct wanted *wanted, const struct found *found)
 {
     bool is_named = !wanted->has_ids || has_ids(found, wanted->vendor, wanted->product)
@@ -67,7 +67,7 @@ bool is_dfuse(const struct found *found)
     return found->descriptor_size == FUNCTIONAL_BYTES && two_bytes(found->descriptor + AT_VERSION) == VERSION_DFUSE;
 }
 
-/* Returns whether the name is that of the memory map that a setting has: the text between @ and the first /, without spaces at its end. */
+/* Returns true if `name` is the name in the memory map of a setting: the text between @ and the first /, without trailing spaces. */
 static bool is_map_name(const char *name, const char *setting)
 {
     size_t length = strlen(name), end;
@@ -82,7 +82,7 @@ bool is_placed(const struct place *place, const struct found *found)
 {
     bool is_interface = place->interface < 0 || place->interface == found->interface;
     bool is_alternate = place->alternate < 0 || place->alternate == found->alternate;
-    /* As with a serial number: a name that may not be read may be the one. */
+    /* If the setting's name can't be read, it may be the requested one. */
     bool is_name =
         place->name == NULL || found->access != 0 || strcmp(place->name, found->name) == 0 || is_map_name(place->name, found->name);
     return !found->is_upgrade || (is_interface && is_alternate && is_name);
@@ -91,7 +91,7 @@ bool is_placed(const struct place *place, const struct found *found)
 bool is_wanted(const struct wanted *wanted, const struct found *found)
 {
     const char *serial = found->is_upgrade && wanted->dfu_serial != NULL ? wanted->dfu_serial : wanted->serial;
-    /* A serial number that may not be read may be the one: who chooses sees that it can't be opened. */
+    /* If the serial number can't be read, it may be the requested one. The caller sees that the device can't be opened. */
     bool is_serial = serial == NULL || *serial == '\0' || found->access != 0 || strcmp(serial, found->serial) == 0;
     return may_be(wanted, found) && is_serial && is_placed(&wanted->place, found) && (found->is_upgrade || !wanted->is_upgrade);
 }
@@ -112,7 +112,7 @@ size_t version_of(const char *name)
     return parts > 1 && digits > 0 && (at[digits] == '\0' || at[digits] == ',') ? (size_t)(at - name) + digits : 0;
 }
 
-/* A name that is a version is another one with another image. */
+/* A name that is a version number changes with the image, so two version numbers count as the same name. */
 static bool is_same_name(const char *first, const char *now)
 {
     return is_same_text(first, now) || (version_of(first) > 0 && version_of(now) > 0);
@@ -125,7 +125,7 @@ bool is_again(const struct found *first, const struct found *now)
            && is_same_name(first->name, now->name);
 }
 
-/* State of one look at the bus. */
+/* State of one search of the bus. */
 struct look {
     const struct wanted *wanted;
     struct found *list;
@@ -182,7 +182,7 @@ static void add_interface(struct look *look, const struct found *base, libusb_de
         add_setting(look, base, handle, configuration, interface, at);
 }
 
-/* A device is opened, for its serial number, only if it has DFU. */
+/* A device is opened to read its serial number only if it has DFU. */
 static void add_configuration(struct look *look, struct found *base, uint8_t serial, const struct libusb_config_descriptor *configuration)
 {
     libusb_device_handle *handle = NULL;

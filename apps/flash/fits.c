@@ -1,5 +1,5 @@
 /* SPDX-License-Identifier: MIT OR Apache-2.0 */
-/* Which options go together. */
+/* Checks which options may be combined. */
 #include "words.h"
 #include "advice.h"
 #include "../common/text.h"
@@ -7,7 +7,7 @@
 #include <stdio.h>
 #include <string.h>
 
-/* Returns whether the options go with --all. Each device is flashed by itself, so no option may name one. */
+/* Returns true if the options may be combined with --all, which flashes every device, so that no option may select one. */
 static bool is_fit_for_all(const struct words *words)
 {
     if (words->folder != NULL && !words->all)
@@ -21,7 +21,7 @@ static bool is_fit_for_all(const struct words *words)
     return (!words->verbose && words->log == NULL) || words_refuse("--all makes logs by --log FOLDER, and not by --verbose", "");
 }
 
-/* Returns whether the options for DfuSe go with the rest. */
+/* Returns true if the options for DfuSe may be combined with the others. */
 static bool is_fit_for_dfuse(const struct words *words)
 {
     bool is_upload = words->job == JOB_UPLOAD, is_download = words->job == JOB_DOWNLOAD;
@@ -35,11 +35,11 @@ static bool is_fit_for_dfuse(const struct words *words)
         return words_refuse("--length goes with --upload and --address", "");
     if (is_upload && words->has_address && words->length == 0 && !words->is_to_end)
         return words_refuse("--upload with --address takes --length", "");
-    /* -s of an upload says to stay too; what a download has is seen when its file is read. */
+    /* -s for an upload also sets `stays`. For a download the file is checked later, when it is read. */
     return !words->stays || words->has_address || is_download || words_refuse("--no-leave goes with --address, or with a DfuSe file", "");
 }
 
-/* Returns whether the options for a station go with the rest. */
+/* Returns true if the options for a station may be combined with the others. */
 static bool is_fit_for_station(const struct words *words)
 {
     bool is_session = words->job == JOB_DOWNLOAD || words->job == JOB_UPLOAD || words->job == JOB_DETACH;
@@ -63,13 +63,13 @@ static bool is_fit_for_station(const struct words *words)
            || words_refuse("--retry goes with a FILE that is flashed", "");
 }
 
-/* An option, and whether it was given. */
+/* Name of an option. is_given is true if the command line contains the option. */
 struct given {
     bool is_given;
     const char *name;
 };
 
-/* Adds the names of those that were given, with commas between. */
+/* Appends the names of the given options, separated by commas. */
 static void name_given(const struct given *all, size_t count, char *names, size_t room)
 {
     for (size_t at = 0; at < count; at++) {
@@ -79,7 +79,7 @@ static void name_given(const struct given *all, size_t count, char *names, size_
     }
 }
 
-/* Names the options that don't go with --demo: what is to be done, which board is meant, and how its session goes. */
+/* Names the given options that can't be combined with --demo, because they select the job, the board or details of the session. */
 static void name_session(const struct words *words, char *names, size_t room)
 {
     const struct given all[] = {
@@ -108,7 +108,7 @@ static void name_session(const struct words *words, char *names, size_t room)
     name_given(all, sizeof all / sizeof *all, names, room);
 }
 
-/* The same of those for what is printed, and for a station. */
+/* Names the given options for output and for a station that can't be combined with --demo. */
 static void name_station(const struct words *words, char *names, size_t room)
 {
     const struct given all[] = {
@@ -124,7 +124,7 @@ static void name_station(const struct words *words, char *names, size_t room)
     name_given(all, sizeof all / sizeof *all, names, room);
 }
 
-/* Returns whether all options go with --demo; if not, says what to type. */
+/* Returns true if all options may be combined with --demo; else suggests what to type. */
 static bool is_fit_for_demo(const struct words *words)
 {
     char line[1100], file[1000] = "", names[400];
@@ -143,7 +143,7 @@ static bool is_fit_for_demo(const struct words *words)
     return words_refuse("--demo goes with a FILE, --json and --quiet alone, because its one board is simulated; leave out", names);
 }
 
-/* Returns whether the options go with the job: a download, an upload, a list or a detach. */
+/* Returns true if the options may be combined with the job: a download, an upload, a list, a detach or a demo. */
 bool words_fit(const struct words *words)
 {
     bool has_session = words->has_limits || words->dry_run || words->transfer != 0;

@@ -1,5 +1,5 @@
 /* SPDX-License-Identifier: MIT OR Apache-2.0 */
-/* The texts of --help and --version. The man page and the completions say the same of each option; tests/apps/flash compares them. */
+/* Texts of --help and --version. The man page and the completions describe the same options, and tests/apps/flash compares them. */
 #include "words.h"
 
 #include <stdio.h>
@@ -75,7 +75,7 @@ void words_help(void)
     fputs(options, stdout);
 }
 
-/* The version of all of Fustrelan: `dfu --help` begins with it too. */
+/* Prints Fustrelan's version, with which `dfu --help` also begins. */
 void words_version(void)
 {
     puts("dfu-flash 0.3.0");

@@ -1,11 +1,11 @@
 /* SPDX-License-Identifier: MIT OR Apache-2.0 */
-/* Reads the file of a download. A DfuSe file is known by its front, or by its suffix. The suffix that a raw image gets here (USB DFU 1.1,
-   appendix B) is read by the host like any other, so a mistake in it is a refusal and no other image. looks.c decides what is raw. */
+/* Reads the file for a download. A DfuSe file is recognized by its prefix or its suffix. A raw image gets a suffix (USB DFU 1.1, appendix
+ * B), which the host checks like any other, so an error in it causes a refusal. looks.c decides which files are raw. */
 #include "image.h"
 #include "advice.h"
 #include "files.h"
 #include "looks.h"
-#include "say.h"
+#include "messages.h"
 #include "session.h"
 #include "stamp.h"
 #include "standard.h"
@@ -20,7 +20,7 @@
 
 _Static_assert(SUFFIX_BYTES <= FILE_SPARE, "the room after a file has place for a suffix");
 
-/* dwCRC of these bytes, four bits at a time. */
+/* Computes dwCRC of these bytes, four bits at a time. */
 static uint32_t crc_of(const uint8_t *bytes, size_t length)
 {
     static const uint32_t rows[16] = {
@@ -36,14 +36,14 @@ static uint32_t crc_of(const uint8_t *bytes, size_t length)
     return crc;
 }
 
-/* The last four bytes of a suffix. */
+/* Writes dwCRC, the last four bytes of a suffix, low byte first. */
 static void put_crc(uint8_t *place, uint32_t crc)
 {
     for (int at = 0; at < 4; at++)
         place[at] = (uint8_t)(crc >> 8 * at & 0xff);
 }
 
-/* For any release of the device. */
+/* Adds a suffix that is valid for any release of the device. */
 static void add_suffix(struct image *image, uint16_t vendor, uint16_t product)
 {
     const uint8_t suffix[SUFFIX_BYTES - 4] = {
@@ -65,7 +65,8 @@ static void add_suffix(struct image *image, uint16_t vendor, uint16_t product)
     put_crc(image->bytes + image->length - 4, crc_of(image->bytes, image->length - 4));
 }
 
-/* Returns whether the words name the device for a raw image, because nothing else does. */
+/* Returns true if the options give a raw image its target: an address, or the identifiers of a device. Else prints what is missing, unless
+ * the image is empty. */
 static bool has_target(const struct words *words, bool is_empty)
 {
     if (words->has_address || (words->has_ids && words->vendor != ANY_ID && words->product != ANY_ID))
@@ -81,7 +82,7 @@ static void say_empty(void)
     advice_is("build it anew: it is empty");
 }
 
-/* Takes the fields of the suffix into the image. */
+/* Copies the fields of the suffix into the image. */
 static int32_t take_suffix(struct image *image)
 {
     struct dfu_file file;
@@ -100,7 +101,7 @@ int32_t image_seal(struct image *image)
     return image->is_dfuse ? dfuse_read_file(image->bytes, image->length, &image->dfuse_info) : take_suffix(image);
 }
 
-/* A DfuSe file without its own check sum: the sum of the bytes before it and of itself is the same for every file. */
+/* A DfuSe file is hashed without its own CRC, because the CRC of bytes that end with their own CRC is the same for every file. */
 uint32_t image_crc(const struct image *image)
 {
     return ~crc_of(image->bytes, image->is_dfuse ? image->length - 4 : image->payload);
@@ -118,7 +119,7 @@ int32_t image_make(struct image *image, const uint8_t *bytes, size_t length, uin
     return take_suffix(image);
 }
 
-/* Returns whether --raw goes with the file. It must not have a suffix, or be a DfuSe file, because these say themselves what is sent. */
+/* Returns true if --raw may be used with the file. A file with a suffix and a DfuSe file define by themselves what is sent. */
 static bool may_be_raw(bool has_suffix, bool is_dfuse)
 {
     if (is_dfuse)
@@ -126,8 +127,8 @@ static bool may_be_raw(bool has_suffix, bool is_dfuse)
     return !has_suffix || words_refuse("the file has a suffix, so it says itself where its image ends: leave --raw out", "");
 }
 
-/* Returns whether the words go with the kind of file. For example --no-verify doesn't go with a DfuSe file, because that is always read
-   back. */
+/* Returns true if the options may be used with this kind of file. For example --no-verify can't be used with a DfuSe file, because its
+ * image is always read back. */
 static bool is_fit(const struct words *words, bool has_suffix, bool is_dfuse)
 {
     if (words->raw && !may_be_raw(has_suffix, is_dfuse))
@@ -139,7 +140,7 @@ static bool is_fit(const struct words *words, bool has_suffix, bool is_dfuse)
     return is_dfuse || !words->stays || words->has_address || words_refuse("--no-leave goes with --address, or with a DfuSe file", "");
 }
 
-/* dfu-util stays in DFU mode behind such a file, unless it has `:leave`. */
+/* With -D, reports that the application starts at the end, because dfu-util would stay in DFU mode after a DfuSe file without `:leave`. */
 static void note_leaving(const struct words *words)
 {
     if (words->is_by_letter && !words->leaves && !words->stays && !words->quiet)
@@ -148,7 +149,7 @@ static void note_leaving(const struct words *words)
             stderr);
 }
 
-/* A DfuSe file, whole. With targets of several settings it is asked for one: none is passed over in silence. */
+/* Reads a whole DfuSe file. If it has images for several settings, one must be selected, so that no image is skipped silently. */
 static int32_t read_dfuse(struct image *image, const struct words *words)
 {
     int32_t refusal = dfuse_read_file(image->bytes, image->length, &image->dfuse_info);
@@ -164,7 +165,8 @@ static int32_t read_dfuse(struct image *image, const struct words *words)
     return 0;
 }
 
-/* A file without a suffix: all of it is the image, if it looks like nothing else or the words say so. It gets a suffix. */
+/* Reads a file without a suffix. If it doesn't look like another format, or --raw is given, the whole file is the image, and gets a suffix.
+ */
 static int32_t read_raw(struct image *image, const struct words *words, const struct dfu_look *look, int32_t refusal)
 {
     if (look->looks != DFU_LOOKS_RAW && !words->raw)
@@ -185,7 +187,7 @@ static int32_t read_raw(struct image *image, const struct words *words, const st
     return take_suffix(image);
 }
 
-/* Both sums, as a file has them. */
+/* Reports the CRC in the file and the CRC of its bytes. */
 static void say_sums(const struct image *image)
 {
     uint32_t said = 0;
@@ -197,8 +199,8 @@ static void say_sums(const struct image *image)
     advice_first(seen);
 }
 
-/* Takes a file that begins as a DfuSe file for one even if it is damaged, unless it is a sound file of DFU 1.1, whose image may begin with
-   any bytes. */
+/* Treats a file with a DfuSe prefix as a DfuSe file even if it is damaged. A valid DFU 1.1 file isn't treated so unless --address is given,
+ * because its image may begin with any bytes. */
 static int32_t take_bytes(struct image *image, const struct words *words)
 {
     struct dfu_look look;
@@ -210,7 +212,8 @@ static int32_t take_bytes(struct image *image, const struct words *words)
         return IMAGE_WORDS;
     if (image->is_dfuse)
         return read_dfuse(image, words);
-    /* It is sent, since it says for which device; but `dfu add` without --format takes a build's text for the image. */
+    /* A file with a suffix is sent, because it names its device. A warning is printed if it looks like text, because `dfu add` without
+     * --format may have wrapped a text file. */
     if (refusal == 0)
         looks_warn(image->bytes, image->payload);
     return refusal == DFU_FILE_NO_SIGNATURE || refusal == DFU_FILE_TOO_SHORT ? read_raw(image, words, &look, refusal) : refusal;

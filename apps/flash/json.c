@@ -1,5 +1,4 @@
 /* SPDX-License-Identifier: MIT OR Apache-2.0 */
-/* Records in JSON. */
 #include "json.h"
 #include "session.h"
 #include "../common/text.h"
@@ -8,7 +7,7 @@
 #include <stdio.h>
 #include <string.h>
 
-/* Bytes that aren't UTF-8 have no place in JSON, and become the character for such bytes. */
+/* JSON allows only UTF-8, so each invalid byte becomes the replacement character U+FFFD. */
 static void print_quoted(const char *text)
 {
     putchar('"');
@@ -46,7 +45,7 @@ void json_truth(const char *name, bool value)
     printf(",\"%s\":%s", name, value ? "true" : "false");
 }
 
-/* Prints a name that begins with a version as two fields: the version, and the text after it, as `on trial, 2 starts left`. */
+/* Prints a name that begins with a version as two fields: the version, and the text after it, such as `on trial, 2 starts left`. */
 static void json_version(const struct found *found)
 {
     size_t length = version_of(found->name);

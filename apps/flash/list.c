@@ -1,10 +1,10 @@
 /* SPDX-License-Identifier: MIT OR Apache-2.0 */
-/* Prints the lines of --list and of --dry-run. */
+/* Prints the output of --list and of --dry-run. */
 #include "list.h"
 #include "json.h"
 #include "next.h"
 #include "record.h"
-#include "say.h"
+#include "messages.h"
 #include "stamp.h"
 #include "standard.h"
 #include "station.h"
@@ -83,7 +83,7 @@ int list_devices(libusb_context *usb, const struct wanted *wanted, bool is_json)
     return record_out() ? STATUS_DONE : STATUS_FILE;
 }
 
-/* Prints the record of a dry run: that of a session, as far as it is known before one. */
+/* Prints the record of a dry run: the fields of a session that are known before it starts. */
 static void print_plan_record(const struct session *session)
 {
     record_begin(session, STATUS_DONE, "dry-run",

@@ -1,10 +1,10 @@
 /* SPDX-License-Identifier: MIT OR Apache-2.0 */
-/* The log of --verbose=FILE. A reset that failed, and a device that is away, are in its comments only. */
+/* Writes the log of --verbose=FILE. A failed reset and the absence of a device appear only in its comments. */
 #include "log.h"
 #include "answer.h"
 #include "device.h"
 #include "../common/fresh.h"
-#include "say.h"
+#include "messages.h"
 #include "standard.h"
 #include "../common/text.h"
 
@@ -22,7 +22,7 @@ bool log_open(struct log *log, const char *name)
     return say_failed(name, " can't be made", errno == EEXIST ? "it is there already" : strerror(errno));
 }
 
-/* Writes a comment with a text, unless it is unknown. */
+/* Writes a comment line with a text, unless the text is unknown. */
 static void print_known(FILE *out, const char *front, const char *text)
 {
     if (text != NULL && *text != '\0')
@@ -72,7 +72,7 @@ void log_request(struct log *log, const uint8_t setup[8], unsigned interface, co
     fputc(' ', log->file);
     print_answer(log->file, answer);
     fputc('\n', log->file);
-    fflush(log->file); /* Windows writes no line by itself */
+    fflush(log->file); /* the C library of Windows has no line buffering */
 }
 
 void log_reset(struct log *log)

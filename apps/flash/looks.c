@@ -1,16 +1,16 @@
 /* SPDX-License-Identifier: MIT OR Apache-2.0 */
-/* Files that are no image: a device would be sent their text, and report it as verified. The library says what a file looks to be; here is
-   the sentence that says what was seen and what to type. */
+/* Detects files that aren't images. Without this check the device would receive such a file as its image, and the program would report it
+ * as verified. The library detects the format, and this file prints the format and the next step. */
 #include "looks.h"
 #include "image.h"
-#include "say.h"
+#include "messages.h"
 #include "../common/text.h"
 
 #include <ctype.h>
 #include <inttypes.h>
 #include <string.h>
 
-/* The four formats of which `dfu add` takes the image, with the words for --format. */
+/* The four formats from which `dfu add` extracts an image, with their values for --format. */
 static const struct {
     const char *name, *format;
 } formats[] = {
@@ -20,7 +20,7 @@ static const struct {
     [DFU_LOOKS_ELF] = {"an ELF file", "elf"},
 };
 
-/* Formats that a file should have by the ending of its name. */
+/* Formats by file name extension. */
 static const char *const nameds[] = {
     [DFU_NAMED_IHEX] = "Intel HEX",
     [DFU_NAMED_SREC] = "S-records",
@@ -28,7 +28,7 @@ static const char *const nameds[] = {
     [DFU_NAMED_ELF] = "ELF file",
 };
 
-/* Archives that the library takes for raw bytes, by the bytes at their front. */
+/* Archive formats that the library treats as raw bytes, with their first bytes. */
 static const struct {
     const char *name, *front;
     size_t length;
@@ -44,10 +44,10 @@ static const struct {
 };
 
 #define TAR_AT 257
-#define ELF_CLASS 4 /* 2 is 64 bits */
-#define ELF_ORDER 5 /* 2 is big-endian */
+#define ELF_CLASS 4 /* offset of EI_CLASS, a byte that is 2 for 64 bits */
+#define ELF_ORDER 5 /* offset of EI_DATA, a byte that is 2 for big-endian */
 
-/* Returns the kind of archive that the bytes look like, NULL for none. */
+/* Returns the kind of archive that the bytes look like, or NULL for none. */
 static const char *archive_of(const uint8_t *bytes, size_t length, uint32_t looks)
 {
     if (looks == DFU_LOOKS_ZIP || looks == DFU_LOOKS_GZIP)
@@ -58,7 +58,7 @@ static const char *archive_of(const uint8_t *bytes, size_t length, uint32_t look
     return length > TAR_AT + 5 && memcmp(bytes + TAR_AT, "ustar", 5) == 0 ? "tar" : NULL;
 }
 
-/* Returns true for an ELF file of 64 bits or of big-endian numbers, which `dfu add` refuses. */
+/* Returns true for a 64-bit or big-endian ELF file, which `dfu add` refuses. */
 static bool is_foreign_elf(const uint8_t *bytes, size_t length)
 {
     return length > ELF_ORDER && (bytes[ELF_CLASS] == 2 || bytes[ELF_ORDER] == 2);
@@ -99,7 +99,8 @@ void looks_warn_raw(const uint8_t *bytes, size_t length)
         fprintf(stderr, "%sdfu-flash: the file looks like a %s archive: unless the board unpacks it, unpack it first\n", say_mark, archive);
 }
 
-/* The name as one word of a shell's line, behind which a blank follows. One that can't be typed is FILE. */
+/* Prints the file name as one shell word, with ./ before a leading hyphen, and a blank. For standard input, or a name that can't be typed,
+ * prints FILE. */
 static void say_file(const char *name)
 {
     char word[1024];
@@ -110,7 +111,8 @@ static void say_file(const char *name)
         fprintf(stderr, "%s ", can ? word : "FILE");
 }
 
-/* Returns the place where a line begins, counted from 1; `length` if the file has fewer lines. A byte order mark stands before line 1. */
+/* Returns the offset at which a line begins. Lines are counted from 1, and a byte order mark is skipped. Returns `length` if the file has
+ * fewer lines. */
 static size_t line_at(const uint8_t *bytes, size_t length, uint64_t line)
 {
     static const uint8_t mark[] = {0xef, 0xbb, 0xbf};
@@ -120,7 +122,7 @@ static size_t line_at(const uint8_t *bytes, size_t length, uint64_t line)
     return at;
 }
 
-/* Prints why a byte doesn't belong to a record. Only blanks may stand before a record in its line. */
+/* Prints why a byte doesn't belong to a record. Only blanks may precede a record in its line. */
 static void say_why(const struct dfu_look *look, const uint8_t *line, size_t before)
 {
     uint8_t byte = line[before];
@@ -133,7 +135,7 @@ static void say_why(const struct dfu_look *look, const uint8_t *line, size_t bef
         fputs(isxdigit(byte) ? ", behind the end of a record" : ", which is no hexadecimal digit", stderr);
 }
 
-/* Prints the first character that no record of Intel HEX or S-records has at its place. */
+/* Prints the first character that is invalid in an Intel HEX or S-record file, with its line and column. */
 static void say_odd(const struct dfu_look *look, const uint8_t *bytes, size_t length)
 {
     size_t line = line_at(bytes, length, look->line);
@@ -150,7 +152,7 @@ static void say_odd(const struct dfu_look *look, const uint8_t *bytes, size_t le
     fputs(": build it anew\n", stderr);
 }
 
-/* `dfu add` takes an image out of 32-bit little-endian ELF files alone. */
+/* `dfu add` extracts images only from 32-bit little-endian ELF files. */
 static int32_t say_foreign_elf(const char *file)
 {
     fputs("dfu-flash: it is an ELF file of 64 bits or of big-endian numbers, which `dfu add` doesn't read: `objcopy -O binary ", stderr);
@@ -168,7 +170,7 @@ static int32_t say_format(const struct dfu_look *look, const char *file)
     return IMAGE_FORMAT;
 }
 
-/* Bytes under the name of a format that they don't have. */
+/* Reports a file whose name belongs to a format that its bytes don't have. */
 static int32_t say_named(const struct dfu_look *look, size_t length, const char *file)
 {
     const char *end = strrchr(file, '.');

@@ -1,12 +1,12 @@
 /* SPDX-License-Identifier: MIT OR Apache-2.0 */
-/* dfu-flash: brings a DFU file to a device over USB, or fetches the image that it has. The proved host decides what comes next, and what a
-   session comes to (dfu_host.h); this program finds the device, carries out what the host asks for and reports to it what came of it.
-   share/man/dfu-flash.1 says how it is used, and apps/flash/README.md what is this program's own. */
+/* dfu-flash writes a DFU file to a device over USB, or reads the image of a device. The proved host decides the next action and the result
+ * of a session (dfu_host.h). This program finds the device, carries out the host's actions, and reports their results to the host.
+ * share/man/dfu-flash.1 describes its use, and apps/flash/README.md its own part. */
 #include "advice.h"
-#include "all.h"
+#include "all_devices.h"
 #include "demo.h"
 #include "next.h"
-#include "one.h"
+#include "one_device.h"
 #include "platform.h"
 #include "record.h"
 #include "stamp.h"

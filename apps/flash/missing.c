@@ -1,19 +1,19 @@
 /* SPDX-License-Identifier: MIT OR Apache-2.0 */
-/* Explains why no device is the wanted one: it applies one criterion after the other to the devices that are left, and names the first that
-   none of them meets. */
+/* Explains why no device matches. It applies one criterion after the other to the remaining devices, and reports the first that no device
+ * meets. */
 #include "advice.h"
 #include "properties.h"
-#include "say.h"
+#include "messages.h"
 #include "standard.h"
 #include "status.h"
 
 #include <stdio.h>
 #include <string.h>
 
-/* Criteria, in the order in which they are applied. */
+/* Criteria in the order in which they are applied. */
 enum criterion { IDENTIFIERS, PATH, SERIAL, INTERFACE, SETTING, CRITERIA };
 
-/* Returns the criteria up to this one, and none after it. */
+/* Returns the criteria up to and including `last`. */
 static struct wanted up_to(const struct wanted *wanted, enum criterion last)
 {
     struct wanted part = *wanted;
@@ -28,7 +28,7 @@ static struct wanted up_to(const struct wanted *wanted, enum criterion last)
     return part;
 }
 
-/* Moves the devices that fit to the front of the list. Returns their number. */
+/* Moves the matching devices to the front of the list, and returns their number. */
 static int take_fitting(const struct wanted *wanted, struct found *list, int count)
 {
     int fitting = 0;
@@ -71,7 +71,7 @@ static void say_list(const struct found *list, int count)
         say_found(stderr, &list[at]);
 }
 
-/* In DFU mode a device may have other identifiers than those that a file is for. If one device is in that mode its are named. */
+/* In DFU mode a device may have other identifiers than the file's. If only one device is in DFU mode, its identifiers are suggested. */
 static void say_modes(const struct wanted *wanted, const struct found *list, int count)
 {
     const struct found *one = NULL;
@@ -100,7 +100,8 @@ static void say_nothing(void)
     advice_is("run it on the computer that the device is plugged into, or give the container its /dev/bus/usb and /sys/bus/usb");
 }
 
-/* Sorts out which devices fit up to which criterion. Those that fit come first in the list; `left` is their number. */
+/* Finds the first criterion that none of the remaining devices meets. The devices that meet all earlier ones are moved to the front of the
+ * list, and `left` is their number. */
 static enum criterion find_failed(const struct wanted *wanted, struct found *list, int count, int *left)
 {
     enum criterion failed = IDENTIFIERS;
@@ -115,10 +116,10 @@ static enum criterion find_failed(const struct wanted *wanted, struct found *lis
     return failed;
 }
 
-/* Prints what no device meets, and which devices are there. */
+/* Prints the criterion that no device meets, and the connected devices. */
 static void say_failed_by(const struct wanted *wanted, enum criterion failed, const struct found *list, int left, int count)
 {
-    if (failed == CRITERIA) /* it came just now */
+    if (failed == CRITERIA) /* some device meets all criteria, so it arrived just now */
         fputs("none was there in time", stderr);
     else
         say_criterion(wanted, failed);

@@ -1,15 +1,15 @@
 /* SPDX-License-Identifier: MIT OR Apache-2.0 */
-/* The next steps, once: each is the manual's. */
+/* Tables of the next steps. The manual has the same texts. */
 #include "next.h"
 #include "advice.h"
 #include "image.h"
-#include "say.h"
+#include "messages.h"
 #include "session.h"
 
 #include <stdio.h>
 #include <string.h>
 
-/* Tests read these tables. */
+/* tests/lib/usb/next.sh parses these tables. */
 /* clang-format off */
 static const struct {
     const char *name, *step;

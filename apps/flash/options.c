@@ -1,5 +1,5 @@
 /* SPDX-License-Identifier: MIT OR Apache-2.0 */
-/* The long options, and which of them a word is like that is none. */
+/* The long options, and suggestions for unknown ones. */
 #include "options.h"
 #include "advice.h"
 #include "dfu_util.h"
@@ -30,7 +30,7 @@ const struct option options[] = {
 };
 /* clang-format on */
 
-/* Words that people try, and what is there in their place. */
+/* Unknown options that people often try, with what to use instead. */
 static const struct {
     const char *word, *step;
 } tried[] = {
@@ -63,7 +63,7 @@ static size_t least(size_t one, size_t other)
     return one < other ? one : other;
 }
 
-/* Counts the letters that must be inserted, removed, changed, or swapped with their neighbour to turn one word into the other. */
+/* Returns the edit distance of two words: letters that are inserted, removed, changed, or swapped with their neighbour. */
 static size_t distance(const char *one, const char *other)
 {
     size_t rows[3][LONGEST + 1], width = strlen(other);
@@ -81,7 +81,7 @@ static size_t distance(const char *one, const char *other)
     return rows[strlen(one) % 3][width];
 }
 
-/* The option of exactly this name, or NULL. */
+/* Returns the option with exactly this name, or NULL. */
 static const struct option *option_of(const char *name)
 {
     for (const struct option *option = options; option->name != NULL; option++)
@@ -90,8 +90,8 @@ static const struct option *option_of(const char *name)
     return NULL;
 }
 
-/* The option that a word is like, or of which it is the beginning; NULL if none is, or two are. A download is meant by --dowload, which is
-   as near to --upload. */
+/* Returns the option that is most similar to a word, or NULL if none is similar or two are equally similar. For a misspelled `download`,
+ * which isn't an option, returns `download` and not the similar `upload`. */
 static const char *nearest(const char *word)
 {
     static const char download[] = "download";

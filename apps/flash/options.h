@@ -1,5 +1,5 @@
 /* SPDX-License-Identifier: MIT OR Apache-2.0 */
-/* The long options, each with the code by which words.c takes it. */
+/* The long options, with their codes for words.c. */
 #ifndef DFU_FLASH_OPTIONS_H
 #define DFU_FLASH_OPTIONS_H
 
@@ -12,7 +12,7 @@ enum option_code {
 };
 /* clang-format on */
 
-/* For getopt_long; the last one has no name. */
+/* Options for getopt_long. The last one has no name. */
 extern const struct option options[];
 
 #endif

@@ -1,6 +1,6 @@
 /* SPDX-License-Identifier: MIT OR Apache-2.0 */
-/* A look at the bus. libusb is begun for it and ended after it: a process that has it open may not be forked, since threads and
-   descriptors of libusb would be left half in the new one. */
+/* Lists the bus. libusb is initialized for each list and closed after it, because a process in which libusb is initialized must not be
+ * forked: the child would get libusb's descriptors, but not its threads. */
 #include "ports.h"
 #include "transport.h"
 

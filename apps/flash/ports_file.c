@@ -1,11 +1,11 @@
 /* SPDX-License-Identifier: MIT OR Apache-2.0 */
-/* A line is a path as --list shows it, = and a name, as `3-1.4 = bay 7`, with blanks around each if you like. A line that is empty or
-   begins with # is none. */
+/* Each line of the file has a path as --list shows it, = and a name, such as `3-1.4 = bay 7`, with optional blanks. Empty lines and lines
+ * that begin with # are ignored. */
 #include "ports_file.h"
 #include "advice.h"
 #include "files.h"
 #include "find.h"
-#include "say.h"
+#include "messages.h"
 
 #include <stdio.h>
 #include <stdlib.h>
@@ -18,7 +18,7 @@ static struct {
 } * ports;
 static size_t count;
 
-/* Takes the blanks away from both ends. */
+/* Removes the blanks at both ends. */
 static char *trim(char *text)
 {
     size_t length;
@@ -28,7 +28,7 @@ static char *trim(char *text)
     return text;
 }
 
-/* Returns whether a path has this name. Two ports of one name couldn't be told apart in a report. */
+/* Returns true if a path has this name already. Two ports with one name couldn't be told apart in a report. */
 static bool is_taken(const char *name)
 {
     for (size_t at = 0; at < count; at++)
@@ -78,7 +78,7 @@ static bool take_line(const char *file, size_t number, char *line)
     return true;
 }
 
-/* `--port 3-1.4` is --ports, shortened. */
+/* getopt accepts `--port 3-1.4` as an abbreviation of --ports, where --path was meant. */
 static void advise_path(const char *file)
 {
     char step[40 + PATH_ROOM];
@@ -96,7 +96,7 @@ bool ports_file_read(const char *file)
         advise_path(file);
         return false;
     }
-    bytes[length] = '\0'; /* there is room behind a file (files.h) */
+    bytes[length] = '\0'; /* file_read leaves room for the NUL (FILE_SPARE) */
     if (strlen((const char *)bytes) != length)
         return fail(file, 1, "there is a NUL in it");
     for (line = (char *)bytes; line != NULL; number++) {

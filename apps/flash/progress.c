@@ -1,21 +1,21 @@
 /* SPDX-License-Identifier: MIT OR Apache-2.0 */
-/* Shows the progress of a session: a bar, or a line for each ten percent. The length of an upload isn't known before it ends, so it has a
-   line for each 65,536 bytes. */
+/* Shows the progress of a session by a bar, or by a line for each ten percent. For an upload of unknown length, a line is printed for each
+ * 65,536 bytes. */
 #include "progress.h"
 #include "bar.h"
 #include "clock.h"
-#include "say.h"
+#include "messages.h"
 #include "terminal.h"
 
 #include <inttypes.h>
 #include <stdio.h>
 #include <string.h>
 
-#define SHOW_MS 100 /* a bar is drawn so often at most */
+#define SHOW_MS 100 /* minimum time between two drawings of a bar */
 #define LINE_BYTES 65536
-#define LONG_MS 10000   /* a wait of more than this is said */
-#define BAR_MOST 30     /* characters of a bar, */
-#define ROW_BAR_MOST 10 /* and of one that follows other words */
+#define LONG_MS 10000   /* waits longer than this are reported */
+#define BAR_MOST 30     /* largest width of a bar */
+#define ROW_BAR_MOST 10 /* largest width of a bar in a row */
 
 static const char *const names[] = {"", "downloading", "comparing", "uploading", "erasing"};
 
@@ -29,7 +29,7 @@ void progress_begin(struct progress *progress, enum progress_style style, uint64
     *progress = (struct progress){.style = style, .total = total};
 }
 
-/* Spaces cover the text before, which may have been longer. */
+/* Spaces overwrite the rest of the previous text, which may have been longer. */
 static void show_bar(struct progress *progress, const char *line)
 {
     int length = (int)strlen(line);
@@ -86,7 +86,7 @@ void progress_at(struct progress *progress, enum progress_part part, uint64_t by
         return;
     if (part != progress->part)
         begin_part(progress, part);
-    /* After a restart it begins anew, and may be printed again. */
+    /* During the comparison a device may return more bytes than the image has. */
     if (progress->total > 0 && bytes > progress->total)
         bytes = progress->total;
     if (progress->style == PROGRESS_LINES)

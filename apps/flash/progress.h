@@ -8,33 +8,34 @@
 
 enum progress_part { PROGRESS_NONE, PROGRESS_SENDING, PROGRESS_COMPARING, PROGRESS_FETCHING, PROGRESS_ERASING };
 
-/* Ways to show the progress: not at all; by lines on standard error; by a bar there, if it is a terminal; or, for a program that shows many
-   sessions, by lines on standard output that begin with a tab and have a bar in them. */
+/* Ways to show the progress: none; lines on standard error; a bar there, if it is a terminal; or, for a program that shows many sessions,
+ * lines on standard output that begin with a tab and contain a bar. */
 enum progress_style { PROGRESS_SILENT, PROGRESS_LINES, PROGRESS_BAR, PROGRESS_ROWS };
 
 struct progress {
     enum progress_style style;
-    uint64_t total;          /* bytes of the payload; of an upload nobody knows them, and this is 0 */
-    enum progress_part part; /* what goes on, and since when */
+    uint64_t total;          /* bytes to transfer; 0 for an upload of unknown length */
+    enum progress_part part; /* current part of the session */
     int64_t began_ms, shown_ms;
-    uint64_t told_mark; /* tenths that were printed; of an upload the bytes after which the next line comes */
-    bool is_open;       /* a bar is on the terminal's line, */
-    int shown;          /* of so many characters */
-    uint32_t said_ms;   /* the longest wait that was said */
+    uint64_t told_mark; /* tenths that were printed, or multiples of 65,536 bytes if the total is unknown */
+    bool is_open;       /* a bar is on the current line of the terminal */
+    int shown;          /* length of that line */
+    uint32_t said_ms;   /* longest wait that was reported */
 };
 
-/* Chooses a bar if standard error is a terminal, unless `is_lines`: then other lines are printed on it too. */
+/* Chooses no progress with `is_quiet`. Else chooses a bar if standard error is a terminal, or lines if it isn't, or if `is_lines` is true
+ * because other lines are printed there too. */
 enum progress_style progress_style(bool is_quiet, bool is_lines);
 
 void progress_begin(struct progress *progress, enum progress_style style, uint64_t total);
 
-/* Shows that so many bytes of this part are done. */
+/* Shows that `bytes` bytes of this part are done. */
 void progress_at(struct progress *progress, enum progress_part part, uint64_t bytes);
 
-/* Says that the device asks for a wait of over 10 seconds, unless one as long was said before. */
+/* Reports that the device requests a wait of over 10 seconds, unless an equal or longer one was reported before. */
 void progress_wait(struct progress *progress, uint32_t ms);
 
-/* Ends the line of a bar. */
+/* Ends the terminal line that shows the bar, if there is one. */
 void progress_end(struct progress *progress);
 
 #endif

@@ -1,8 +1,8 @@
 /* SPDX-License-Identifier: MIT OR Apache-2.0 */
-/* Reads the file of a download. */
+/* Reads the file for a download. */
 #include "files.h"
 #include "advice.h"
-#include "say.h"
+#include "messages.h"
 #include "terminal.h"
 
 #include <errno.h>
@@ -10,9 +10,9 @@
 #include <stdlib.h>
 #include <string.h>
 
-#define MAX_FILE_BYTES 16777216 /* bytes of a DFU file; with one more it is refused as TooLarge */
+#define MAX_FILE_BYTES 16777216 /* largest DFU file; one more byte is read, and refused as TooLarge */
 
-/* A file that is called - is ./- */
+/* Opens standard input for `-`. A file with that name is given as ./- */
 static FILE *open_file(const char *name)
 {
     if (strcmp(name, "-") != 0)

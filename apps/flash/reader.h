@@ -1,5 +1,5 @@
 /* SPDX-License-Identifier: MIT OR Apache-2.0 */
-/* A pipe that is read line by line, and not waited for. */
+/* Reads a pipe line by line without blocking. */
 #ifndef DFU_FLASH_READER_H
 #define DFU_FLASH_READER_H
 
@@ -7,17 +7,17 @@
 #include <stddef.h>
 
 struct reader {
-    int from;            /* what is read; -1 once it is at its end */
-    char *text;          /* what has come of a line, */
-    size_t length, room; /* so many bytes */
+    int from;            /* descriptor of the pipe; -1 after its end */
+    char *text;          /* bytes of an incomplete line */
+    size_t length, room; /* number of these bytes, and the size of the buffer */
 };
 
 void reader_begin(struct reader *reader, int from);
 
-/* Reads what has come, and hands each line that is whole to `take`. Of a line that is too long the front is kept. */
+/* Reads the available bytes, and passes each complete line to `take`. If a line is too long, only its beginning is kept. */
 void reader_read(struct reader *reader, void (*take)(void *with, const char *line), void *with);
 
-/* Closes the pipe, and frees the part of a line that was kept. */
+/* Closes the pipe, and frees the incomplete line. */
 void reader_drop(struct reader *reader);
 
 #endif

@@ -1,5 +1,5 @@
 /* SPDX-License-Identifier: MIT OR Apache-2.0 */
-/* The last line of standard output, or that of one of several devices. */
+/* Prints the last line of standard output: the record of the device, or with --all of each device. */
 #include "record.h"
 #include "advice.h"
 #include "clock.h"
@@ -12,7 +12,7 @@
 #include <stddef.h>
 #include <stdio.h>
 
-/* Of several devices, the one that records are of; the path is NULL if there is only one. */
+/* The device that records are about; the path is NULL if the run has only one device. */
 static struct {
     const char *path;
     const struct found *info;
@@ -40,7 +40,7 @@ void record_of(const struct found *info, struct log *log)
     each.began_ms = each.path == NULL ? clock_ms() : each.began_ms;
 }
 
-/* A record says whether its log is whole, so the log ends before. */
+/* Closes the log before the record is printed, because the record states if the log is complete. */
 static void end_log(int status, const char *report)
 {
     char time[32];
@@ -58,7 +58,7 @@ int record_status(int status)
     return is_cut && (status == STATUS_DONE || status == STATUS_UNCONFIRMED) ? STATUS_FILE : status;
 }
 
-/* Returns whether the device and its path are known. */
+/* Returns true if the device was found. Until then its identifiers are 0. */
 static bool is_known(void)
 {
     return each.info != NULL && (each.info->vendor != 0 || each.info->product != 0);
@@ -69,13 +69,13 @@ static const char *path_known(void)
     return each.path != NULL ? each.path : is_known() && each.info->path[0] != '\0' ? each.info->path : NULL;
 }
 
-/* Seconds since the board was begun; 0 of a record that is of none. */
+/* Returns the seconds since the session began, or 0 if the record isn't about a session. */
 static double each_seconds(void)
 {
     return each.began_ms == 0 ? 0 : (double)(clock_ms() - each.began_ms) / 1000;
 }
 
-/* A simulated board's report has another name too, so that who looks at nothing else isn't deceived. */
+/* For a simulated board the report's name begins with `simulated`, so that a program that reads only the name isn't misled. */
 static void begin(int status, const char *report)
 {
     char name[48];
@@ -99,7 +99,8 @@ static void end(const char *path, const char *step)
     puts("}");
 }
 
-/* Begins a line that is not JSON. */
+/* Prints the beginning of a text line: the mark of a simulated board, and with --all the path, port, serial number, stamp entry and seconds
+ * of the device. */
 static void begin_line(void)
 {
     fputs(say_mark, stdout);
@@ -121,7 +122,7 @@ void record_begin(const struct session *session, int status, const char *report,
     json_session(session);
 }
 
-/* Prints the report on standard error if standard output fails, so that the outcome isn't lost. */
+/* If standard output failed, prints the report on standard error, so that the outcome isn't lost. */
 static bool is_printed(const char *name, const char *code, const char *words)
 {
     if (record_out())
@@ -184,7 +185,7 @@ static void print_short(int status, const char *name, const char *words, const c
     end(path_known(), step);
 }
 
-/* The step comes behind the line that it is for. */
+/* Prints a short record. In text output the next step follows the line. */
 static bool end_short(int status, const char *report, const char *words, const char *step, bool is_json)
 {
     bool is_out;

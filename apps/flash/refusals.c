@@ -1,8 +1,7 @@
 /* SPDX-License-Identifier: MIT OR Apache-2.0 */
-/* Reasons why a session does not begin: the host's refusals of dfu_host.h, with their names in docs/REFUSALS.md, and those of
-   this program's own. */
+/* Reasons why a session doesn't begin: the host's refusals (dfu_host.h), with their names in docs/REFUSALS.md, and this program's own. */
 #include "image.h"
-#include "say.h"
+#include "messages.h"
 #include "session.h"
 
 #include <stddef.h>

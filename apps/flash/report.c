@@ -1,14 +1,14 @@
 /* SPDX-License-Identifier: MIT OR Apache-2.0 */
-/* The last line of a report that a loss of power has broken off, or an editor has left without its end. */
+/* Repairs the last line of a report that a power cut has broken off, or that an editor has left without a newline. */
 #include "station.h"
 #include "append.h"
 
 #include <errno.h>
 #include <string.h>
 
-static const char *columns; /* the first line of a report in CSV */
+static const char *columns; /* first line of a CSV report */
 
-/* Counts the commas outside of quotation marks. */
+/* Counts the commas outside of quotation marks. Sets `is_quoted` if a quotation isn't closed. */
 static size_t commas(const char *line, size_t length, bool *is_quoted)
 {
     size_t count = 0;

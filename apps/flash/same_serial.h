@@ -5,8 +5,8 @@
 
 #include "bays.h"
 
-/* Notes a board that was flashed. If another path, or this one before, had a board with that serial number, prints so: two boards may share
-   a number, or one board was flashed twice. */
+/* Stores a board that was flashed. Prints a message if a board with that serial number was flashed before in this run, because two boards
+ * may share a number, or one board was flashed twice. */
 void same_serial_note(const struct bay *bay, const char *serial);
 
 #endif

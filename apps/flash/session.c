@@ -1,6 +1,6 @@
 /* SPDX-License-Identifier: MIT OR Apache-2.0 */
-/* The loop: what the host asks for is carried out, and what came of that is reported to it. Nothing else is sent, but for the DETACH of
-   stalls.c. */
+/* The loop of a session: carries out the host's actions, and reports their results to the host. Only the DETACH of stalls.c is sent in
+ * addition. */
 #include "again.h"
 #include "compare.h"
 #include "facts.h"
@@ -12,7 +12,7 @@
 #include <stdlib.h>
 #include <string.h>
 
-#define SETTLE_MS 2000 /* for a device that left with the last reset, so that who calls this program again finds it */
+#define SETTLE_MS 2000 /* time in which a device that left at the last reset may return, so that the next run finds it */
 
 static void grow(struct session *session)
 {
@@ -20,7 +20,7 @@ static void grow(struct session *session)
     uint8_t *more;
     if (session->goal != GOAL_UPLOAD || wanted <= session->room)
         return;
-    /* If there is no memory the host is handed the room that there is, and reports NoMemory once a part finds none in it. */
+    /* If there is no memory, the host keeps the buffer that it has, and reports NoMemory when a block doesn't fit. */
     more = realloc(session->room == 0 ? NULL : session->kept, 2 * wanted);
     if (more == NULL)
         return;
@@ -38,7 +38,7 @@ static bool is_upload(const struct dfu_action *action)
     return action->what == DFU_SEND && is_request(action->setup, KIND_IN, REQUEST_UPLOAD);
 }
 
-/* Shows the progress, by the bytes that were sent or came. */
+/* Shows the progress by the number of bytes that were sent or received. */
 static void show(struct session *session, const struct dfu_action *action, const struct answer *answer)
 {
     uint64_t number = setup_value(action->setup), length = setup_length(action->setup);
@@ -49,14 +49,15 @@ static void show(struct session *session, const struct dfu_action *action, const
                     number * length + answer->count);
 }
 
-/* A device that left is found again before it is asked anything; and if it is another one then, nothing is sent to it. */
+/* If the device left, finds it again before the next request. Returns false, so that nothing is sent, if the session was aborted, the
+ * device stays away, or another device is at its path. */
 static bool is_ready(struct session *session, bool *is_gone)
 {
     struct device *device = session->wire.device;
     struct dfu_facts facts;
     if (device->handle != NULL)
         return true;
-    /* An aborted session asks a device that is away no more. */
+    /* An aborted session doesn't wait for a device that is away. */
     if (session->is_aborted)
         return false;
     *is_gone = !device_reopen(device);
@@ -110,7 +111,7 @@ static bool tell(struct session *session, const struct answer *answer)
     return true;
 }
 
-/* With what the host has begun: its descriptor may be used in place of the device's, and its identifiers be those of run-time mode. */
+/* Traces the descriptor and the identifiers that the host uses. In run-time mode the descriptor may be a substitute. */
 static void trace_session(const struct session *session)
 {
     struct found info = session->wire.device->info;
@@ -127,8 +128,8 @@ static void trace_session(const struct session *session)
                     session->dfuse.is_active ? session->restarts : session->host.restarts);
 }
 
-/* In DFU mode a device may have another functional descriptor than in run-time mode: then the session that brought it there, which
-   has sent no block, is dropped, and another one begins. */
+/* A device may have another functional descriptor in DFU mode than in run-time mode. The session that brought it to DFU mode has sent no
+ * block, so that session is dropped, and a new one begins. */
 static bool begin_anew(struct session *session)
 {
     session->refusal = session_begin(session);
@@ -136,7 +137,7 @@ static bool begin_anew(struct session *session)
     return session->refusal == 0 || end(session, END_REFUSED);
 }
 
-/* Returns the end that a course of dfu_watch.h means; a number that it doesn't have is a mistake. */
+/* Returns the end for a course of dfu_watch.h. An unknown number is an internal error. */
 static enum end end_of(uint32_t course)
 {
     switch (course) {
@@ -150,7 +151,7 @@ static enum end end_of(uint32_t course)
     }
 }
 
-/* Returns whether the session goes on, as dfu_watch.h says. */
+/* Follows the course that dfu_watch.h chose. Returns true if the session continues. */
 static bool follow(struct session *session, uint32_t course, const struct answer *answer)
 {
     if (course == DFU_GOES_ON)
@@ -158,13 +159,13 @@ static bool follow(struct session *session, uint32_t course, const struct answer
     return course == DFU_BEGINS_ANEW ? begin_anew(session) : end(session, end_of(course));
 }
 
-/* Returns whether a device that leaves with this was asked to. */
+/* Returns true for a reset or a DETACH, after which the device leaves as requested. */
 static bool is_asked(const struct dfu_action *action)
 {
     return action->what == DFU_RESET || is_request(action->setup, KIND_OUT, REQUEST_DETACH);
 }
 
-/* One action. */
+/* Carries out one action. Returns true if the session continues. */
 static bool step(struct session *session, const struct dfu_action *action)
 {
     uint32_t course = dfu_watch_before(&session->watch, action, session->runtime_refusal != 0);
@@ -189,7 +190,7 @@ static bool step(struct session *session, const struct dfu_action *action)
     return follow(session, course, &answer);
 }
 
-/* The first signal: the host has the device leave what it is in. */
+/* On the first stop, aborts the host's session. Returns 0, or the error of the host's library. */
 static int32_t stop(struct session *session)
 {
     if (!*session->wire.device->is_stop || session->is_aborted)
@@ -199,13 +200,13 @@ static int32_t stop(struct session *session)
     return dfu_host_abort(&session->host, session->file, session->payload_length);
 }
 
-/* Returns whether the host gave up because the time is spent, and not for a signal. */
+/* Returns true if the host gave up because of --timeout and not because of a signal. */
 static bool is_timed_out(const struct session *session)
 {
     return session->done.value == DFU_ABORTED && *session->wire.device->is_stop == STOP_TIME;
 }
 
-/* The last reset leads a device out of DFU mode. It need not come back, for example if its application has no USB. */
+/* The last reset brings a device out of DFU mode. The device need not return, for example if its application has no USB. */
 static void settle(struct session *session)
 {
     if (session->wire.device->handle == NULL)

@@ -1,12 +1,12 @@
 /* SPDX-License-Identifier: MIT OR Apache-2.0 */
-/* A device in run-time mode may stall GETSTATUS: in appIDLE the standard has it answered (USB DFU 1.1, appendix A.2.1), and many
-   leave it out. If it is stalled twice the host has the bus reset, and asks again. So before the first of these resets the program
-   sends a DETACH of its own, which makes it the reset that leads to DFU mode. When, and after how many resets the device is given
-   up, dfu_watch.h says. */
+/* A device in run-time mode may stall GETSTATUS. The standard requires an answer in appIDLE (USB DFU 1.1, appendix A.2.1), but many devices
+ * lack it. After two stalls the host resets the bus and requests the status again. Before the first of these resets the program sends its
+ * own DETACH, so that the reset leads to DFU mode. dfu_watch.h decides when this happens, and when the session gives up. */
 #include "stalls.h"
 #include "detach.h"
 
-/* If the device left after that DETACH it is reset already. */
+/* Sends this program's DETACH before the first reset. A device that leaves by itself after that DETACH counts as reset, and one that leaves
+ * without an answer as restarted. */
 struct answer stalls_reset(const struct dfu_watch *watch, struct wire *wire)
 {
     bool is_first = dfu_watch_detaches(watch) && wire->device->info.says_runtime;
@@ -20,7 +20,7 @@ struct answer stalls_reset(const struct dfu_watch *watch, struct wire *wire)
     is_first = is_first && answer.seen == DFU_SEEN_ACK;
     answer = answer_reset(wire);
     if (is_first && detach_await(wire) && wire->is_unreset) {
-        wire->is_unreset = false; /* it left by itself, and late */
+        wire->is_unreset = false; /* the device left by itself after the failed reset */
         answer.seen = DFU_SEEN_RESTART;
     }
     return answer;

@@ -1,5 +1,5 @@
 /* SPDX-License-Identifier: MIT OR Apache-2.0 */
-/* Devices that stall what they are asked for in run-time mode. */
+/* Handles devices that stall GETSTATUS in run-time mode. */
 #ifndef DFU_FLASH_STALLS_H
 #define DFU_FLASH_STALLS_H
 
@@ -7,7 +7,7 @@
 
 #include <dfu_watch.h>
 
-/* Resets the bus, as the host asks for it. */
+/* Resets the bus for the host, and sends a DETACH before it if the device stalls GETSTATUS. */
 struct answer stalls_reset(const struct dfu_watch *watch, struct wire *wire);
 
 #endif

@@ -1,10 +1,10 @@
 /* SPDX-License-Identifier: MIT OR Apache-2.0 */
-/* Chooses the entry of the list for a board. A line of LIST.used has a time, an entry's name, a path and a report, separated by tabs.
-   The first report of each board is `begun`. */
+/* Chooses the entry of the list for a board. A line of LIST.used has a time, an entry's name, a path and a report, separated by tabs. The
+ * first report of each board is `begun`. */
 #include "stamp.h"
 #include "advice.h"
 #include "find.h"
-#include "say.h"
+#include "messages.h"
 #include "stamp_list.h"
 #include "station.h"
 #include "status.h"
@@ -31,8 +31,8 @@ static void mark_used(struct stamp *stamp, const char *lost_at)
     stamp->lost_at = lost_at;
 }
 
-/* A line of LIST.used. An entry that the list no longer has is nobody's; one that it has in another form, such as hexadecimal, is used
-   all the same. */
+/* Parses a line of LIST.used. An entry that is no longer in the list is ignored. An entry that the list has in another form, such as
+ * hexadecimal, also counts as used. */
 static bool take_used(size_t number, char *line, struct stamp **sorted)
 {
     char *fields[4], *lost_at;
@@ -61,7 +61,7 @@ static bool add(const char *name, const char *path, const char *report)
     return length > 0 && (size_t)length < sizeof line && used_add(line, (size_t)length);
 }
 
-/* The program was killed while a board had it. It is said once. */
+/* Reports, once, each entry whose board was being flashed when the program was killed. */
 static void say_lost(void)
 {
     static const struct {
@@ -84,7 +84,7 @@ static bool take_record(size_t number, char *line, void *with)
     return take_used(number, line, with);
 }
 
-/* The record was made just now, or is empty: then boards may have entries of the list, and nothing says so. */
+/* Reports that the record is new or empty, because boards may have entries of the list that aren't recorded. */
 static void say_new(void)
 {
     say_text(stderr, "dfu-flash: ", stamp_list.file, ".used is new, so the list begins with ");

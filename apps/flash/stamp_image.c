@@ -1,6 +1,6 @@
 /* SPDX-License-Identifier: MIT OR Apache-2.0 */
-/* The place of --stamp-at in an image. It has to be room that the image leaves: bytes that are all the same, so that a wrong number isn't
-   written over code. */
+/* Finds the location of --stamp-at in an image. All bytes of the location must have the same value, so that a wrong number doesn't
+ * overwrite code. */
 #include "advice.h"
 #include "session.h"
 #include "stamp.h"
@@ -10,7 +10,7 @@
 #include <stdio.h>
 #include <string.h>
 
-/* The parts of an image that go to a device, each with its address: one without --address is at 0. */
+/* Parts of an image that are sent to the device, each with its address. Without --address the address is 0. */
 struct parts {
     struct dfuse_element list[DFUSE_ELEMENTS];
     uint64_t count;
@@ -31,7 +31,7 @@ static int32_t parts_of(struct parts *parts, const struct image *image, const st
     return dfuse_file_image(image->bytes, image->length, (uint8_t)setting, parts->list, DFUSE_ELEMENTS, &parts->count);
 }
 
-/* Says where the parts of the image are, of which none has room for the entry. */
+/* Reports the addresses of the image's parts, because none of them contains the whole location. */
 static void say_parts(const struct parts *parts, const struct words *words)
 {
     char seen[200];
@@ -44,7 +44,7 @@ static void say_parts(const struct parts *parts, const struct words *words)
     advice_first(seen);
 }
 
-/* Returns whether all bytes of the place have one value; if not, says which is the first that differs. */
+/* Returns true if all bytes of the location have the same value; else reports the first that differs. */
 static bool is_room(const uint8_t *bytes, const struct words *words)
 {
     char seen[120];

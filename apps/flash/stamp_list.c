@@ -1,9 +1,9 @@
 /* SPDX-License-Identifier: MIT OR Apache-2.0 */
-/* A line of the list is an entry: text, or after 0x bytes in hexadecimal. With a tab in it, what is before that is its name in records,
-   so that they don't have a key. A line that is empty or begins with # is none. */
+/* Each line of the list is an entry: text, or hexadecimal bytes after 0x. If the line has a tab, the part before it is the entry's name in
+ * records, so that the records don't contain a key. Empty lines and lines that begin with # are ignored. */
 #include "stamp_list.h"
 #include "files.h"
-#include "say.h"
+#include "messages.h"
 #include "used.h"
 #include "../common/text.h"
 
@@ -45,7 +45,7 @@ const char *stamp_list_bytes(const char *value, uint8_t bytes[STAMP_BYTES])
     return NULL;
 }
 
-/* Takes the blanks away from both ends. */
+/* Removes the blanks at both ends. */
 static char *trim(char *text)
 {
     size_t length;
@@ -55,7 +55,8 @@ static char *trim(char *text)
     return text;
 }
 
-/* Bytes in hexadecimal are named in small letters, so that the same ones have the same name. */
+/* Sets the name and the value of an entry. Hexadecimal bytes without a name are named by their digits in lower case, so that equal bytes
+ * have the same name. */
 static void name_it(struct stamp *stamp)
 {
     char *tab = strchr(stamp->name, '\t');
@@ -68,7 +69,7 @@ static void name_it(struct stamp *stamp)
             *at = (char)tolower((unsigned char)*at);
 }
 
-/* Returns why a line is no entry, before its blanks are taken away; NULL if it may be one. */
+/* Returns the reason why a line is invalid, or NULL. The blanks at its ends aren't removed yet. */
 static const char *why_none(char *line)
 {
     size_t length;
@@ -80,7 +81,7 @@ static const char *why_none(char *line)
     return line[0] == '"' ? "it begins with a quotation mark, which would be written too" : NULL;
 }
 
-/* Returns whether a text looks as if it had more in it than an entry. */
+/* Returns true if a text seems to contain more than an entry, such as another column or a comment. */
 static bool is_odd(const char *text)
 {
     return strpbrk(text, ",;") != NULL || strstr(text, " #") != NULL || strstr(text, "  ") != NULL;
@@ -198,7 +199,7 @@ bool stamp_list_lines(char *text, void *with, bool (*take)(size_t number, char *
     return true;
 }
 
-/* Returns whether a line has its four fields, and a report that isn't broken off in `begun`. */
+/* Returns true if a line has its four fields, and its report isn't a part of `begun` that was broken off. */
 static bool is_record(const char *line)
 {
     for (int tab = 0; tab < 3; tab++) {
@@ -229,7 +230,7 @@ bool stamp_list_read(void)
     char *text;
     if (!file_read(stamp_list.file, &bytes, &length))
         return false;
-    bytes[length] = '\0'; /* there is room behind a file (files.h) */
+    bytes[length] = '\0'; /* file_read leaves room for the NUL (FILE_SPARE) */
     text = (char *)bytes;
     if (strlen(text) != length)
         return stamp_list_fail("", 0, "there is a NUL in it");

@@ -1,5 +1,5 @@
 /* SPDX-License-Identifier: MIT OR Apache-2.0 */
-/* The standard's names of status codes. */
+/* Names of the status codes. */
 #include "standard.h"
 
 static const char *const codes[] = {

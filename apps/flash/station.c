@@ -1,16 +1,16 @@
 /* SPDX-License-Identifier: MIT OR Apache-2.0 */
-/* Lines of the report: JSON, or CSV (RFC 4180) if the file's name ends in .csv. One that would be no line of such a report isn't added to:
-   a file that is something else stays as it is. */
+/* Lines of the report: JSON, or CSV (RFC 4180) if the file name ends in .csv. If the file exists and isn't such a report, no line is added,
+ * and the file stays unchanged. */
 #include "station.h"
 #include "advice.h"
 #include "append.h"
 #include "json.h"
 #include "next.h"
 #include "ports_file.h"
-#include "say.h"
+#include "report_line.h"
+#include "messages.h"
 #include "stamp.h"
 #include "status.h"
-#include "../common/text.h"
 
 #include <errno.h>
 #include <inttypes.h>
@@ -18,13 +18,11 @@
 #include <string.h>
 #include <time.h>
 
-#define LINE_ROOM 16384
-
 #define OLD_COLUMNS "time,status,report,words,image,crc32,vendor,product,release,serial,path,port,seconds"
 #define COLUMNS OLD_COLUMNS ",tries"
 
 static const char *header = COLUMNS "\n";
-static const char stamp_header[] = COLUMNS ",stamp\n"; /* with --stamp */
+static const char stamp_header[] = COLUMNS ",stamp\n"; /* header of a report with --stamp */
 static const char json_front[] = "{\"time\":\"";
 
 static struct {
@@ -34,68 +32,6 @@ static struct {
     uint32_t crc, tries;
 } station;
 
-/* A line as it grows; one that has no more room is cut, and isn't written. */
-struct line {
-    char text[LINE_ROOM];
-    size_t length;
-    bool is_full;
-};
-
-static void put(struct line *line, const char *bytes, size_t length)
-{
-    line->is_full = line->is_full || length >= sizeof line->text - line->length;
-    if (line->is_full)
-        return;
-    memcpy(line->text + line->length, bytes, length);
-    line->length += length;
-}
-
-/* A byte that has no place in a line, as \xNN; in JSON the backslash is escaped once more. */
-static void put_escaped(struct line *line, unsigned char byte)
-{
-    char digits[8];
-    int length = snprintf(digits, sizeof digits, station.is_csv ? "\\x%02x" : "\\\\x%02x", byte);
-    put(line, digits, (size_t)length);
-}
-
-static void put_text(struct line *line, const char *text)
-{
-    put(line, "\"", 1);
-    while (*text != '\0') {
-        uint32_t character = 0;
-        size_t length = text_character(text, &character);
-        if (length == 0 || text_is_control(character))
-            for (size_t at = 0; at < (length > 0 ? length : 1); at++)
-                put_escaped(line, (unsigned char)text[at]);
-        else if (*text == '"')
-            put(line, station.is_csv ? "\"\"" : "\\\"", 2);
-        else if (*text == '\\' && !station.is_csv)
-            put(line, "\\\\", 2);
-        else
-            put(line, text, length);
-        text += length > 0 ? length : 1;
-    }
-    put(line, "\"", 1);
-}
-
-/* One member, after a comma but for the first; with CSV one that isn't known is an empty column. */
-static void put_member(struct line *line, const char *name, const char *text, bool is_number)
-{
-    bool is_first = line->length == 0 || line->text[line->length - 1] == '{';
-    if (text == NULL && !station.is_csv)
-        return;
-    if (!is_first)
-        put(line, ",", 1);
-    if (!station.is_csv) {
-        put_text(line, name);
-        put(line, ":", 1);
-    }
-    if (text != NULL && is_number)
-        put(line, text, strlen(text));
-    else if (text != NULL)
-        put_text(line, text);
-}
-
 void station_time(char text[32])
 {
     time_t seconds = time(NULL);
@@ -104,7 +40,7 @@ void station_time(char text[32])
         text[0] = '\0';
 }
 
-/* Says once that the report lacks a line, and the next step. Returns false. */
+/* Reports once that the report lacks a line, with the next step. Returns false. */
 static bool say_unwritten(bool is_full, const char *step)
 {
     bool has_moved = !is_full && append_has_moved();
@@ -116,7 +52,7 @@ static bool say_unwritten(bool is_full, const char *step)
     return false;
 }
 
-/* Says why lines can't be added to a file that begins so; NULL if they can. */
+/* Returns the reason why lines can't be added to a file that begins with `front`, or NULL. */
 static const char *why_not(const char *front)
 {
     const char *wanted = station.is_csv ? header : json_front;
@@ -131,7 +67,7 @@ static const char *why_not(const char *front)
     return "what is there is no report of this program, and stays as it is";
 }
 
-/* Opens the report, and returns whether lines may be added: it is new, or begins as a report does. */
+/* Opens the report. Returns true if lines may be added, because it is new or begins like a report. */
 static bool open_report(const char *name)
 {
     char front[sizeof stamp_header];
@@ -207,18 +143,18 @@ void station_log(const char *name)
     station.log = name;
 }
 
-/* Adds the words, and in parentheses what is known of this board's end: the code, the place or the file. */
-static void put_words(struct line *line, int status, const char *words)
+/* Appends the text of the result, with details in parentheses: the status code, the reason of a failed file, or what advice.h reports. */
+static void put_words(struct report_line *line, int status, const char *words)
 {
-    char text[LINE_ROOM];
+    char text[REPORT_LINE_ROOM];
     const char *seen = station.code != NULL && *station.code != '\0' ? station.code : status == STATUS_FILE ? say_reason() : advice_seen();
     snprintf(text, sizeof text, seen != NULL ? "%s (%s)" : "%s", words, seen);
-    put_member(line, "words", text, false);
+    report_line_member(line, "words", text, false);
 }
 
 bool station_add(int status, const char *report, const char *words, const char *path, const struct found *info, double seconds)
 {
-    struct line line = {.length = 0};
+    struct report_line line = {.is_csv = station.is_csv};
     char time[32], number[16], crc[9], ids[3][8] = {"", "", ""}, took[32], tries[16];
     bool is_known = info != NULL && (info->vendor != 0 || info->product != 0);
     stamp_end(status, report);
@@ -232,26 +168,26 @@ bool station_add(int status, const char *report, const char *words, const char *
     for (int at = 0; is_known && at < 3; at++)
         snprintf(ids[at], sizeof ids[at], "%04x", at == 0 ? info->vendor : at == 1 ? info->product : info->release);
     if (!station.is_csv)
-        put(&line, "{", 1);
-    put_member(&line, "time", time, false);
-    put_member(&line, "status", number, true);
-    put_member(&line, "report", report, false);
+        report_line_put(&line, "{", 1);
+    report_line_member(&line, "time", time, false);
+    report_line_member(&line, "status", number, true);
+    report_line_member(&line, "report", report, false);
     put_words(&line, status, words);
-    put_member(&line, "image", station.image, false);
-    put_member(&line, "crc32", station.has_image ? crc : NULL, false);
-    put_member(&line, "vendor", is_known ? ids[0] : NULL, false);
-    put_member(&line, "product", is_known ? ids[1] : NULL, false);
-    put_member(&line, "release", is_known && !info->lacks_release ? ids[2] : NULL, false);
-    put_member(&line, "serial", info != NULL && info->serial[0] != '\0' ? info->serial : NULL, false);
-    put_member(&line, "path", path, false);
-    put_member(&line, "port", station_port(path), false);
-    put_member(&line, "seconds", took, true);
-    put_member(&line, "tries", station.tries > 0 ? tries : NULL, true);
+    report_line_member(&line, "image", station.image, false);
+    report_line_member(&line, "crc32", station.has_image ? crc : NULL, false);
+    report_line_member(&line, "vendor", is_known ? ids[0] : NULL, false);
+    report_line_member(&line, "product", is_known ? ids[1] : NULL, false);
+    report_line_member(&line, "release", is_known && !info->lacks_release ? ids[2] : NULL, false);
+    report_line_member(&line, "serial", info != NULL && info->serial[0] != '\0' ? info->serial : NULL, false);
+    report_line_member(&line, "path", path, false);
+    report_line_member(&line, "port", station_port(path), false);
+    report_line_member(&line, "seconds", took, true);
+    report_line_member(&line, "tries", station.tries > 0 ? tries : NULL, true);
     if (header == stamp_header)
-        put_member(&line, "stamp", stamp_taken(), false);
+        report_line_member(&line, "stamp", stamp_taken(), false);
     if (!station.is_csv)
-        put_member(&line, "log", station.log, false);
-    put(&line, station.is_csv ? "\n" : "}\n", station.is_csv ? 1 : 2);
+        report_line_member(&line, "log", station.log, false);
+    report_line_put(&line, station.is_csv ? "\n" : "}\n", station.is_csv ? 1 : 2);
     errno = 0;
     return (!line.is_full && append_line(station.file, line.text, line.length))
            || say_unwritten(line.is_full, "make room, or name another file by --report: what is missing in it was printed");

@@ -3,7 +3,8 @@
 #ifndef DFU_FLASH_STREAMS_H
 #define DFU_FLASH_STREAMS_H
 
-/* If whoever started the program had closed one of them, no file, pipe or device that is opened here takes its place: using it fails. */
+/* Reserves the descriptors of standard streams that are closed, so that no file, pipe or device gets their numbers. Using such a stream
+ * fails. */
 void streams_keep(void);
 
 #endif

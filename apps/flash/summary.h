@@ -1,13 +1,13 @@
 /* SPDX-License-Identifier: MIT OR Apache-2.0 */
-/* The end of --all. */
+/* The summary at the end of --all. */
 #ifndef DFU_FLASH_SUMMARY_H
 #define DFU_FLASH_SUMMARY_H
 
 #include "crew.h"
 #include "words.h"
 
-/* Prints how many devices were flashed, and with --report or --count a record of all of them. If fewer were than --count asks for, `worst`
-   is no success from here on. */
+/* Prints the number of flashed devices, unless --quiet was given, and with --report or --count a record of the whole run. If fewer boards
+ * than --count were flashed, the exit status `crew->worst` becomes a failure. */
 void summary_print(struct crew *crew, const struct words *words, double seconds);
 
 #endif

@@ -1,7 +1,7 @@
 /* SPDX-License-Identifier: MIT OR Apache-2.0 */
-/* The trace of --verbose. An action has seven words with one space between: its number, the request (or WAIT, or RESET), wValue (or
-   the milliseconds), wLength, what is reported to the host, the state that the device reported in that, and the milliseconds that it took.
-   The begin and the end of a session have a line that begins with a word. Other programs read this: what is here stays. */
+/* The trace of --verbose. The line of an action has seven fields, separated by one space: its number, the request (or WAIT, or RESET),
+ * wValue (or the milliseconds), wLength, the report to the host, the state in the device's answer, and the duration in milliseconds. The
+ * lines of a session's beginning and end begin with a word. Other programs parse this format, so it must not change. */
 #include "trace.h"
 #include "answer.h"
 #include "standard.h"
@@ -12,7 +12,7 @@
 #include <stdio.h>
 #include <string.h>
 
-#define SHORT_BYTES 8 /* an answer of up to so many is shown byte by byte */
+#define SHORT_BYTES 8 /* longest answer whose bytes are shown */
 
 /* Begins a line of the trace, which is a comment in a log. Returns the stream for the rest of it. */
 static FILE *begin_line(const struct trace *trace)
@@ -31,7 +31,7 @@ static void print_bytes(FILE *out, const struct answer *answer)
         text_hex(out, answer->bytes, answer->count);
 }
 
-/* Prints the report to the host, and for `nothing` the error of libusb. */
+/* Prints the report to the host, and for `nothing` also the libusb error. */
 static void print_answer(FILE *out, const struct answer *answer)
 {
     static const char *const seen[] = {
@@ -50,7 +50,7 @@ static void print_answer(FILE *out, const struct answer *answer)
         fprintf(out, ":%s", strncmp(error, prefix, sizeof prefix - 1) == 0 ? error + sizeof prefix - 1 : error);
 }
 
-/* The state that an answer to GETSTATUS or GETSTATE has in it (USB DFU 1.1, sections 6.1.2 and 6.1.5). */
+/* Returns the state in an answer to GETSTATUS or GETSTATE (USB DFU 1.1, sections 6.1.2 and 6.1.5), or "-" if there is none. */
 static const char *state_in(uint8_t request, const struct answer *answer)
 {
     if (answer->seen == DFU_SEEN_BYTES && request == REQUEST_GETSTATUS && answer->count == GETSTATUS_BYTES)
@@ -60,7 +60,7 @@ static const char *state_in(uint8_t request, const struct answer *answer)
     return "-";
 }
 
-/* The first four words. */
+/* Prints the first four fields of an action's line. */
 static FILE *print_front(struct trace *trace, const char *what, uint32_t value, unsigned length)
 {
     FILE *out = begin_line(trace);

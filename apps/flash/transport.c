@@ -1,5 +1,5 @@
 /* SPDX-License-Identifier: MIT OR Apache-2.0 */
-/* libusb's calls, and which are used. */
+/* The table of libusb's calls, and the selection of another table. */
 #include "transport.h"
 
 #define GET_DESCRIPTOR 6

@@ -1,13 +1,13 @@
 /* SPDX-License-Identifier: MIT OR Apache-2.0 */
-/* The calls by which boards are reached: those of libusb-1.0, or those of --demo, which simulates a board (demo_usb.h). No other file calls
-   libusb but for the names of its errors. */
+/* The calls that access boards: those of libusb-1.0, or those of --demo, which simulates a board (demo_usb.h). Other files call libusb only
+ * for the names of its errors. */
 #ifndef DFU_FLASH_TRANSPORT_H
 #define DFU_FLASH_TRANSPORT_H
 
 #include <libusb.h>
 #include <stdint.h>
 
-/* Each is as the call of libusb that stands behind it. */
+/* Each function behaves like the libusb function named beside it. */
 struct transport {
     int(LIBUSB_CALL *begin)(libusb_context **);                                    /* libusb_init */
     void(LIBUSB_CALL *end)(libusb_context *);                                      /* libusb_exit */
@@ -31,12 +31,13 @@ struct transport {
                                unsigned int); /* libusb_control_transfer */
 };
 
-/* Those that are used: libusb's, up to transport_use. */
+/* The calls in use: libusb's, unless transport_use selected others. */
 extern const struct transport *transport;
 
 void transport_use(const struct transport *other);
 
-/* GET_DESCRIPTOR (USB 2.0, section 9.4.3), of a type and an index, in a language: bytes, or an error of libusb. */
+/* Reads a descriptor of a type and an index, in a language, by GET_DESCRIPTOR (USB 2.0, section 9.4.3). Returns the number of bytes, or a
+ * libusb error. */
 int transport_descriptor(libusb_device_handle *handle, uint8_t type, uint8_t index, uint16_t language, uint8_t *bytes, uint16_t length);
 
 #endif

@@ -1,5 +1,5 @@
 /* SPDX-License-Identifier: MIT OR Apache-2.0 */
-/* Next steps of a command line that isn't understood: how the value is typed, or which option to leave out. */
+/* Next steps after an invalid command line: how to type the value, or which option to leave out. */
 #include "usage.h"
 #include "advice.h"
 

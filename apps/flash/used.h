@@ -1,24 +1,23 @@
 /* SPDX-License-Identifier: MIT OR Apache-2.0 */
-/* The record of the entries of a list that boards took: the file LIST.used beside it. It is one process's at a time, with those that it
-   begins. */
+/* The record of used entries: the file LIST.used beside the list. One process, with its children, uses it at a time. */
 #ifndef DFU_FLASH_USED_H
 #define DFU_FLASH_USED_H
 
 #include <stdbool.h>
 #include <stddef.h>
 
-/* Opens the record, or makes it, and locks it for this process. `text` gets its content, with a NUL, and must be freed; an incomplete last
-   line is removed. With `only_looks` nothing is made, locked or changed. Returns false for the reason in `why`. */
+/* Opens the record, or creates it, and locks it for this process. `text` receives the record's content with a NUL, and must be freed. An
+ * incomplete last line is removed. With `only_looks` nothing is created, locked or changed. Returns false with the reason in `why`. */
 bool used_open(const char *list, bool only_looks, char **text, const char **why);
 
-/* Counts the bytes of the lines that are whole: a last one without its newline counts if its four fields are there, since a board may have
-   that entry. */
+/* Counts the bytes of the complete lines. A last line without its newline counts if it has its four fields, because a board may have that
+ * entry. */
 size_t used_whole(const char *text);
 
-/* Returns whether the record is still the file of its name. */
+/* Returns true if the name of the record still refers to the open file. */
 bool used_is_there(void);
 
-/* Adds a line, and waits until the disk has it. Returns false unless the whole line is there. */
+/* Appends a line, and waits until it is on the disk. Returns true only if the whole line was written. */
 bool used_add(const char *line, size_t length);
 
 #endif

@@ -1,5 +1,5 @@
 /* SPDX-License-Identifier: MIT OR Apache-2.0 */
-/* Reads the values of options, and refuses those that an option can't have. */
+/* Parses the values of options, and refuses invalid ones. */
 #include "values.h"
 #include "advice.h"
 #include "dfu_util.h"
@@ -11,11 +11,11 @@
 #include <stdlib.h>
 #include <string.h>
 
-#define MAX_SECONDS 1000000 /* some eleven days */
-#define MAX_TRANSFER 4096   /* bytes of a block: what Linux carries */
+#define MAX_SECONDS 1000000 /* about eleven days */
+#define MAX_TRANSFER 4096   /* limit of a control transfer on Linux, in bytes */
 #define DIGITS "0123456789"
 
-/* A decimal number up to `most`, with no sign and no other character. */
+/* Parses a decimal number up to `most`, without a sign or any other character. */
 static bool is_number(const char *text, unsigned long most, unsigned long *number)
 {
     char *end;
@@ -26,7 +26,7 @@ static bool is_number(const char *text, unsigned long most, unsigned long *numbe
     return errno == 0 && *end == '\0' && *number <= most;
 }
 
-/* Four hexadecimal digits, at the front of `text`. */
+/* Parses four hexadecimal digits at the start of `text`. */
 static bool is_identifier(const char *text, uint16_t *identifier)
 {
     char digits[5] = {0};
@@ -38,7 +38,7 @@ static bool is_identifier(const char *text, uint16_t *identifier)
     return true;
 }
 
-/* VID:PID, four hexadecimal digits each, at the front of `text`. */
+/* Parses VID:PID, with four hexadecimal digits each, at the start of `text`. */
 static bool is_pair(const char *text, uint16_t *vendor, uint16_t *product)
 {
     return is_identifier(text, vendor) && text[4] == ':' && is_identifier(text + 5, product);
@@ -50,7 +50,7 @@ bool value_is_ids(const char *text)
     return strlen(text) == 9 && is_pair(text, &vendor, &product);
 }
 
-/* One pair; or two with a comma between them, of run-time mode and of DFU mode; or as dfu-util has them. */
+/* Accepts one pair, or two pairs separated by a comma, for run-time mode and DFU mode, or the forms of dfu-util. */
 bool value_device(const char *text, struct words *words)
 {
     bool is_first = is_pair(text, &words->vendor, &words->product);
@@ -83,7 +83,7 @@ bool value_interface(const char *text, struct words *words)
     return true;
 }
 
-/* The number of an alternate setting, or its name: only digits are a number. */
+/* Accepts the number of an alternate setting, or its name. A text of digits is a number. */
 bool value_setting(const char *text, struct words *words)
 {
     unsigned long number;
@@ -106,7 +106,7 @@ bool value_limits(const char *first, const char *second, struct words *words)
     return true;
 }
 
-/* From 1 up to `most`, for the option of that name. */
+/* Parses a number from 1 to `most`. `what` is the error message. */
 static bool is_count(const char *what, const char *text, unsigned long most, uint32_t *count)
 {
     unsigned long number;
@@ -145,7 +145,7 @@ bool value_is_seconds(const char *word)
     return word != NULL && *word != '\0' && word[strspn(word, DIGITS)] == '\0';
 }
 
-/* The word after --verbose is none of it. */
+/* The argument after --verbose isn't its value, so a file needs the form --verbose=FILE. */
 bool value_verbose(const char *text, struct words *words)
 {
     words->verbose = words->verbose || text == NULL;
@@ -217,7 +217,7 @@ bool value_stamp(const char *text, struct words *words)
            || words_refuse("--stamp takes the name of a file, beside which LIST.used is kept", text);
 }
 
-/* PLACE:BYTES. */
+/* Accepts PLACE:BYTES. PLACE may be 0, and BYTES is from 1 to 256. */
 bool value_stamp_at(const char *text, struct words *words)
 {
     const char *rest = text + strspn(text, "0");

@@ -1,5 +1,5 @@
 /* SPDX-License-Identifier: MIT OR Apache-2.0 */
-/* Reads the values of options into `words`. Each call returns false, after printing why, if it doesn't understand the value. */
+/* Parses the values of options into `words`. Each function returns false, after printing why, if the value is invalid. */
 #ifndef DFU_FLASH_VALUES_H
 #define DFU_FLASH_VALUES_H
 
@@ -21,24 +21,24 @@ bool value_length(const char *text, struct words *words);
 bool value_stamp(const char *text, struct words *words);
 bool value_stamp_at(const char *text, struct words *words);
 
-/* Read a hexadecimal number after 0x, up to 32 bits, and a count of bytes from 1 on, decimal or hexadecimal, at the front of `text`; `rest`
-   is the text after it. */
+/* Parse, at the start of `text`, a hexadecimal number of up to 32 bits after 0x, and a count of at least 1 byte, decimal or hexadecimal.
+ * `rest` is set to the text after it. */
 bool value_is_hexadecimal(const char *text, uint32_t *number, const char **rest);
 bool value_is_length(const char *text, uint32_t *length, const char **rest);
 
-/* Returns whether the text is VID:PID, four hexadecimal digits each. */
+/* Returns true if the text is VID:PID, with four hexadecimal digits each. */
 bool value_is_ids(const char *text);
 
-/* --verbose, or --verbose=FILE: NULL if there is none. */
+/* Parses --verbose, with `text` NULL, or --verbose=FILE. */
 bool value_verbose(const char *text, struct words *words);
 
-/* --limits takes two words, ACTIONS and RESTARTS; NULL if the second one is missing. */
+/* Parses the two values of --limits, ACTIONS and RESTARTS. `second` is NULL if it is missing. */
 bool value_limits(const char *first, const char *second, struct words *words);
 
-/* --wait, or --wait=SECONDS: NULL if there are none. */
+/* Parses --wait, with `text` NULL, or --wait=SECONDS. */
 bool value_wait(const char *text, struct words *words);
 
-/* Returns whether the word after --wait is its seconds: digits and nothing else. */
+/* Returns true if the argument after --wait has only digits, so that it is the number of seconds. */
 bool value_is_seconds(const char *word);
 
 #endif

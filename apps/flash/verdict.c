@@ -1,15 +1,15 @@
 /* SPDX-License-Identifier: MIT OR Apache-2.0 */
-/* Verdict on a session: the report's name, the exit status, and what it means in words. */
-#include "say.h"
+/* Finds the verdict on a session: the report's name, the exit status, and the meaning as text. */
+#include "messages.h"
 #include "session.h"
 #include "status.h"
 
 #include <stdio.h>
 #include <string.h>
 
-/* Tests read these tables. */
+/* tests/lib/page/texts.py parses these tables. */
 /* clang-format off */
-/* By the number of the report, from 1 on. */
+/* Meanings by the number of the report, from 1 on. */
 static const struct meaning reports[] = {
     [DFU_INSTALLED] = {STATUS_DONE, "the device took the whole image, reported that it is in place, and was reset", NULL},
     [DFU_UNCONFIRMED] = {STATUS_UNCONFIRMED, "the device took the whole image and was reset; it can't tell whether it is in place", NULL},
@@ -24,7 +24,7 @@ static const struct meaning reports[] = {
     [DFU_DIFFERENT] = {STATUS_DIFFERENT, "after a reset the device gave back another image than the file's", NULL},
 };
 
-/* If there is no report: the program's own ends, by `enum end`. */
+/* Names and meanings by `enum end`, for a session without a report. */
 static const struct {
     const char *name;
     struct meaning meaning;
@@ -41,7 +41,7 @@ static const struct {
     [END_UNRESET] = {"not-reset", {STATUS_UNRESET, "a reset is missing, which this system does not make", "the device"}},
 };
 
-/* Meanings of the same ends if the device took the whole image, and was to give it back or to be reset. */
+/* Meanings of ends without a report if the device took the whole image and only the comparison or the reset is missing. */
 static const struct meaning uncompared[] = {
     [END_UNRESET] = {STATUS_UNRESET,
         "the device took the whole image; a reset is missing, which this system does not make: pull its plug, and put it in again", NULL},
@@ -51,12 +51,13 @@ static const struct meaning uncompared[] = {
         "the device took the whole image, and stalls GETSTATUS in run-time mode: it was not compared; see --no-verify", NULL},
 };
 
-/* Meanings of the same ends if the device gave the whole image. */
+/* Meaning of END_UNRESET if the device returned the whole image. */
 static const struct meaning fetched = {STATUS_UNRESET,
     "the device gave the image that it has; to leave DFU mode it needs its plug pulled", NULL};
 /* clang-format on */
 
-/* Adds which image the device may have only if a block was sent. */
+/* If meaning->device isn't NULL, the text states if a block was sent, in this session or an earlier one of --retry, and then which image
+ * the device may have. */
 void verdict_words(struct verdict *verdict, const struct session *session, const struct meaning *meaning)
 {
     bool has_sent = session->had_sent || (session->dfuse.is_active ? session->dfuse.watch.sent : session->watch.sent) != 0;
@@ -70,7 +71,7 @@ void verdict_words(struct verdict *verdict, const struct session *session, const
         snprintf(verdict->words, sizeof verdict->words, "%s; no block was sent", meaning->words);
 }
 
-/* A number that is no end, or an end that has no verdict, is a mistake of this program. */
+/* An unknown number, or an end without a verdict, is an internal error. */
 static enum end known(enum end end)
 {
     size_t at = (size_t)end;
@@ -87,7 +88,7 @@ static void take_end(struct verdict *verdict, const struct session *session)
     verdict_words(verdict, session, is_fetched ? &fetched : is_uncompared ? &uncompared[end] : &ends[end].meaning);
 }
 
-/* Finds the verdict on a session with DFU 1.1 by the number of its report. Returns false if dfu_host.h has no report of this number. */
+/* Finds the verdict on a DFU 1.1 session by the number of its report. Returns false if dfu_host.h has no report of this number. */
 static bool take_report(struct verdict *verdict, const struct session *session)
 {
     uint32_t report = session->done.value;

@@ -1,11 +1,11 @@
 /* SPDX-License-Identifier: MIT OR Apache-2.0 */
-/* The command line: what each word means, and which words go together. */
+/* Parses the command line, and checks which arguments may be combined. */
 #include "words.h"
 #include "advice.h"
 #include "dfu_util.h"
 #include "next.h"
 #include "options.h"
-#include "say.h"
+#include "messages.h"
 #include "usage.h"
 #include "values.h"
 
@@ -20,10 +20,10 @@ bool words_refuse(const char *what, const char *word)
     return false;
 }
 
-/* --upload, --detach and --list each say what is to be done, in place of a download. */
+/* Sets the job. --upload, --detach and --list each replace the download. */
 static bool is_job(struct words *words, enum job job)
 {
-    /* A list, an upload or a detach beside a demo is answered together with the other words that don't go with it. */
+    /* A list, an upload or a detach with --demo is refused later, together with the other options that don't fit. */
     if (words->job == JOB_DEMO || (job == JOB_DEMO && words->job != JOB_DOWNLOAD)) {
         words->file = job == JOB_DEMO && words->job == JOB_UPLOAD ? NULL : words->file;
         words->beside = job == JOB_DEMO ? words->job : job;
@@ -47,8 +47,8 @@ static bool is_upload(struct words *words, const char *out)
     return is_taken;
 }
 
-/* -D FILE is FILE. Behind -e it is a download too, as in dfu-util, where the last of such options counts: a download brings the device to
-   DFU mode by itself. */
+/* -D FILE is the same as FILE. After -e it is a download too, as in dfu-util, where the last of these options counts. A download brings the
+ * device to DFU mode by itself. */
 static bool is_download(struct words *words, const char *file)
 {
     if (words->job == JOB_DETACH) {
@@ -62,7 +62,7 @@ static bool is_download(struct words *words, const char *file)
     return true;
 }
 
-/* The seconds of --wait may be a word of their own: a file that has such a name is ./5 here. */
+/* The seconds of --wait may be a separate argument. A file with a name such as 5 must be typed as ./5. */
 static bool is_wait(struct words *words, const char *seconds, int count, char **texts)
 {
     if (seconds == NULL && optind < count && value_is_seconds(texts[optind]))
@@ -70,7 +70,8 @@ static bool is_wait(struct words *words, const char *seconds, int count, char **
     return value_wait(seconds, words);
 }
 
-/* getopt_long has said which word is none of the options. Of "-list", say, it took the letters one by one. */
+/* Prints the next step after getopt_long has reported an unknown option. For an argument such as "-list", getopt_long reports single
+ * letters. */
 static bool is_no_option(char **texts)
 {
     bool is_long = strncmp(texts[optind - 1], "--", 2) == 0;
@@ -125,7 +126,7 @@ static bool take_option(struct words *words, int code, int count, char **texts)
     case LIST: return is_job(words, JOB_LIST);
     case 'c':
     case 'E':
-    case 'Z': return true; /* noted */
+    case 'Z': return true; /* recorded by dfu_util_is_same */
     case 'R': dfu_util_pass('R'); return true;
     case REPORT: words->report = optarg; return *optarg != '\0' || words_refuse("--report takes the name of a file", "");
     case PORTS: words->ports = optarg; return *optarg != '\0' || words_refuse("--ports takes the name of a file", "");
@@ -142,13 +143,13 @@ static bool take_option(struct words *words, int code, int count, char **texts)
     }
 }
 
-/* The words that are no options: FILE, and one that may be too many. */
+/* Arguments that aren't options: FILE, and one that may be too many. */
 struct plain {
     const char *texts[2];
     int count;
 };
 
-/* Refuses a second file, or a word behind what takes none. */
+/* Refuses a second file, or an argument for a job that takes none. */
 static bool is_too_many(const struct words *words, const char *word)
 {
     char step[80];
@@ -167,7 +168,7 @@ static bool is_too_many(const struct words *words, const char *word)
     return false;
 }
 
-/* Returns whether the words go together. */
+/* Takes FILE from the plain arguments. Returns true if none is missing or too many, and all options may be combined. */
 static bool is_whole(struct words *words, const struct plain *plain)
 {
     bool has_file = words->job == JOB_DOWNLOAD || words->job == JOB_UPLOAD || (words->job == JOB_DEMO && words->file != NULL);
@@ -193,8 +194,8 @@ static void take_plain(struct plain *plain, const char *text)
         plain->texts[plain->count++] = text;
 }
 
-/* Takes the words up to the next option, and whether there is one; after "--" there is none. getopt_long doesn't handle words that are no
-   options: when it moves them differs by system, and an option's second word has to be found in its place. */
+/* Collects the arguments before the next option. Returns true if there is one. All arguments after "--" are collected too. getopt_long
+ * can't do this, because it moves such arguments differently on each system, and an option's second value must stay in its position. */
 static bool is_option_next(struct plain *plain, int count, char **texts)
 {
     while (optind < count && (texts[optind][0] != '-' || texts[optind][1] == '\0'))
@@ -206,7 +207,8 @@ static bool is_option_next(struct plain *plain, int count, char **texts)
     return false;
 }
 
-/* The code of the next option; its value is in optarg, NULL if it has none: not every getopt_long sets it then. */
+/* Returns the code of the next option, with its value in optarg. Some versions of getopt_long don't set optarg to NULL for an option
+ * without a value. */
 static int next_option(int count, char **texts)
 {
     optarg = NULL;

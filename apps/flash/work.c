@@ -1,5 +1,5 @@
 /* SPDX-License-Identifier: MIT OR Apache-2.0 */
-/* The session of a device that was found: what the words ask of it, its beginning, its run and what is said of its end. */
+/* Carries out a session with the device that was found: sets it up from the options, begins it, runs it, and reports its end. */
 #include "work.h"
 #include "advice.h"
 #include "clock.h"
@@ -7,7 +7,7 @@
 #include "files.h"
 #include "next.h"
 #include "record.h"
-#include "say.h"
+#include "messages.h"
 #include "stamp.h"
 #include "standard.h"
 #include "station.h"
@@ -26,7 +26,7 @@ int work_refused(const struct session *session, const struct words *words, int32
     return record_refused(refusal, words->json) ? STATUS_REFUSED : STATUS_FILE;
 }
 
-/* Returns whether the suffix has the identifiers that the words name for DFU mode. */
+/* Returns true if the suffix has the identifiers that --device gives for DFU mode. */
 static bool is_for_dfu_mode(const struct session *session, const struct words *words)
 {
     const uint8_t *end = session->file + session->file_length;
@@ -34,8 +34,8 @@ static bool is_for_dfu_mode(const struct session *session, const struct words *w
            && two_bytes(end - VENDOR_BACK) == words->dfu_vendor && two_bytes(end - PRODUCT_BACK) == words->dfu_product;
 }
 
-/* For which device the file has to be: the one that was found; or, if the identifiers of both modes were given, that of run-time
-   mode, unless the file is for the one of DFU mode. */
+/* Returns the identifiers that the file must have: those of the device that was found. If --device gives the identifiers of both modes,
+ * they are those of run-time mode, unless the file has those of DFU mode. */
 static struct dfu_ids target(const struct session *session, const struct words *words)
 {
     struct dfu_ids ids = {session->wire.device->info.release, session->wire.device->info.product, session->wire.device->info.vendor};
@@ -80,7 +80,7 @@ void work_say_board(const struct session *session, const struct words *words, co
     fprintf(stderr, "; it %s sent to %04x:%04x at %s\n", words->dry_run ? "would be" : "is", info->vendor, info->product, info->path);
 }
 
-/* From here on the entry of --stamp is this board's. The first process of several knows before the record does. */
+/* Marks the --stamp entry as taken by this board. With --all the first process is informed before the entry is recorded. */
 static bool take_entry(const struct session *session, const struct words *words)
 {
     if (words->bay != NULL && !worker_print_begun(session->tries + 1, words->stamp != NULL))
@@ -94,7 +94,7 @@ static bool take_entry(const struct session *session, const struct words *words)
     return true;
 }
 
-/* Opens the device; from here on signals and --timeout end what is done with it. */
+/* Opens the log and the device, and takes the board's stamp entry. From then on signals and --timeout end the session. */
 int work_begin(struct session *session, const struct words *words)
 {
     int error;
@@ -128,7 +128,7 @@ int work_print(const struct session *session, const struct words *words, const s
     return is_out ? record_status(verdict->status) : STATUS_FILE;
 }
 
-/* Makes the file of an upload. */
+/* Creates the file of an upload. */
 static bool make_file(struct session *session, const struct words *words)
 {
     if (!file_make(words->file, words->force, session->kept, (size_t)session->host.kept))
@@ -141,7 +141,7 @@ static bool make_file(struct session *session, const struct words *words)
     return true;
 }
 
-/* With --retry a device that went or fell silent has another session, and one record of the last. */
+/* With --retry a session whose device left or stopped answering is repeated, and only the last session has a record. */
 static bool is_tried_again(struct session *session, const struct words *words, const struct verdict *verdict)
 {
     bool is_lost = session->end == END_GONE || session->end == END_SILENT;
@@ -154,7 +154,8 @@ static bool is_tried_again(struct session *session, const struct words *words, c
     return true;
 }
 
-/* Another device came: what is printed is of the one that was left, as it was seen first in that mode, and the step names the other. */
+/* If another device returned, the record describes the device that left, as it was first seen in that mode, and the next step names the
+ * other one. */
 static void name_left(struct session *session)
 {
     struct found *info = &session->wire.device->info;

@@ -1,5 +1,5 @@
 /* SPDX-License-Identifier: MIT OR Apache-2.0 */
-/* The session of a device that was found. Each call that gives a number gives an exit status. */
+/* A session with the device that was found. Functions that return int return an exit status. */
 #ifndef DFU_FLASH_WORK_H
 #define DFU_FLASH_WORK_H
 
@@ -8,25 +8,25 @@
 #include "session.h"
 #include "words.h"
 
-/* Returned in place of an exit status if the session must be made once more, as --retry asks for. Nothing was printed of it. */
+/* Returned instead of an exit status if the session must be repeated for --retry. No record was printed. */
 #define WORK_AGAIN 101
 
-/* Takes into the session what the words ask for. */
+/* Sets up the session from the options. */
 void work_ask(struct session *session, const struct words *words);
 
-/* Says which board gets a file that is for any one, unless the words name the board. */
+/* Prints which board gets a file that is for any board, unless an option selects the board. */
 void work_say_board(const struct session *session, const struct words *words, const struct image *image);
 
-/* Opens the device; from here on signals and --timeout end what is done with it. */
+/* Opens the log and the device, and takes the board's stamp entry. From then on signals and --timeout end the session. */
 int work_begin(struct session *session, const struct words *words);
 
-/* Runs the session from there to the record of its end. */
+/* Runs the session, and prints its record. */
 int work_run(struct session *session, const struct words *words, enum progress_style style);
 
-/* Prints what a session came to that is not made once more, since the device stayed away. */
+/* Prints the record of a session that can't be repeated, because the device didn't return. */
 int work_end(struct session *session, const struct words *words);
 
-/* Print what the session came to, or why it is refused. */
+/* Print the record of a session that ended, or of one that was refused. */
 int work_print(const struct session *session, const struct words *words, const struct verdict *verdict);
 int work_refused(const struct session *session, const struct words *words, int32_t refusal);
 

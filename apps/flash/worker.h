@@ -1,5 +1,5 @@
 /* SPDX-License-Identifier: MIT OR Apache-2.0 */
-/* A process that flashes one device of several. */
+/* A process that flashes one of several devices. */
 #ifndef DFU_FLASH_WORKER_H
 #define DFU_FLASH_WORKER_H
 
@@ -16,59 +16,59 @@ struct worker {
     pid_t process;
     struct bay *bay;
     struct reader out, err;
-    char row[160]; /* how far it is */
-    char *record;  /* its last line, or NULL */
+    char row[160]; /* progress line of the process */
+    char *record;  /* record of the process, which is the last line of its output, or NULL */
     int64_t began_ms;
-    int64_t deadline_ms; /* when it is killed, or 0: never */
+    int64_t deadline_ms; /* time at which the process is killed; 0 is never */
     bool is_killed;
-    struct stamp *stamp; /* the entry that the device is to get, or NULL, */
-    bool has_stamp;      /* and it has it */
-    uint32_t tries;      /* how many sessions the device had */
-    bool is_early;       /* it looks whether the device is another one than before, and as a rule it isn't, */
-    char *kept;          /* so that what it says on standard error is kept until that is known; NULL if it is nothing */
-    bool has_serial;     /* it said how the device was seen, */
-    int mode;            /* first in this mode */
-    bool has_image;      /* the device took the whole image, */
-    bool is_proved;      /* and it is in place */
+    struct stamp *stamp; /* entry of --stamp's list that is reserved for the device, or NULL */
+    bool has_stamp;      /* the device has taken the entry */
+    uint32_t tries;      /* number of the device's sessions */
+    bool is_early;       /* the process still checks if the device is a new one */
+    char *kept;          /* messages that are kept while is_early is true, or NULL */
+    bool has_serial;     /* a serial number of the device was reported */
+    int mode;            /* mode of the first serial number that was reported */
+    bool has_image;      /* the device took the whole image */
+    bool is_proved;      /* the image is proved to be in place */
 };
 
-/* Begins a process that flashes the device in the bay, with the image that was read. With `has_rows` it says how far it is.
-   Returns false, after printing why, if the system has no more processes. */
+/* Starts a process that flashes the device in the bay with this image. With `has_rows` it reports its progress. Returns false, after
+ * printing why, if no process can be started. */
 bool worker_begin(struct worker *worker, const struct words *words, struct image *image, struct bay *bay, bool has_rows);
 
-/* Reads what has come. Each line of standard error is handed to `say`, with the worker. */
+/* Reads the available output. Each line of standard error is passed to `say`, with the worker. */
 void worker_read(struct worker *worker, void (*say)(void *worker, const char *line));
 
-/* Takes a line of standard output. */
+/* Processes a line of standard output. */
 void worker_take(void *worker, const char *line);
 
-/* Keeps a line of standard error. */
+/* Stores a line of standard error. */
 void worker_keep(struct worker *worker, const char *line);
 
-/* Returns whether both streams of the process are at their end, so that it is about to end. */
+/* Returns true if both streams of the process are closed, so that the process is about to end. */
 bool worker_is_ending(const struct worker *worker);
 
-/* Returns whether the process has ended. If so, `status` is its exit status, or that of a mistake, with the reason in `why`. */
+/* Returns true if the process has ended. Then `status` is its exit status, or that of an internal error, with the reason in `why`. */
 bool worker_has_ended(struct worker *worker, int *status, const char **why);
 
-/* Tells the process to give up, which it must do by the deadline. */
+/* Sends SIGINT to the process, so that it gives up. The process is killed after the deadline. */
 void worker_stop(struct worker *worker, int64_t deadline_ms);
 
-/* Ends it at once. */
+/* Kills the process. */
 void worker_kill(struct worker *worker);
 
-/* Gives back the memory and streams of a process that has ended. */
+/* Frees the memory and closes the streams of a process that has ended. */
 void worker_drop(struct worker *worker);
 
-/* Prints, in that process, how the device was seen in a mode, for the bay. */
+/* Called in the worker process: reports the device's serial number in a mode to the first process. */
 void worker_print_serial(bool is_upgrade, const char *serial);
 
-/* Prints, in that process, that a session begins: its number, and whether the device takes its entry of --stamp. Returns false if the
-   first process doesn't get that. */
+/* Called in the worker process: reports the number of the session that begins, and if the device takes its --stamp entry. Returns false if
+ * the message can't be written. */
 bool worker_print_begun(uint32_t number, bool has_stamp);
 
-/* Prints, in that process, that the device took the whole image, and whether that is in place: so it did, also if a report or a log of that
-   can't be written. */
+/* Called in the worker process: reports that the device took the whole image, and if the image is in place, even if a report or a log can't
+ * be written. */
 void worker_print_taken(bool is_proved);
 
 #endif

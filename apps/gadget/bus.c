@@ -1,13 +1,13 @@
 /* SPDX-License-Identifier: MIT OR Apache-2.0 */
-/* Requests, time and resets, as they come from the bus, and what is sent back. */
+/* Passes requests, time and resets from the bus to the machine, and sends the machine's answers to the host. */
 #include "bus.h"
 #include "clock.h"
-#include "say.h"
+#include "messages.h"
 #include "../common/names.h"
 
 #include <string.h>
 
-/* Runs the command of --on-installed after a change of the machine that put an image in place. */
+/* Runs the command of --on-installed if the machine has installed another image since the last call. */
 static void look(struct bus *bus)
 {
     if (!bus->machine.is_installed || bus->machine.refusal != 0)
@@ -16,8 +16,8 @@ static void look(struct bus *bus)
     installed_run(&bus->installed, bus->machine.place.at, bus->machine.place.length);
 }
 
-/* In dfuDNBUSY and dfuMANIFEST all of the time that the host waits for passes at once, and so the work is done; only in appDETACH does
-   passing time count. */
+/* In dfuDNBUSY and dfuMANIFEST the machine gets the host's whole waiting time at once, so it does its work immediately. Elapsed time counts
+ * only in appDETACH. */
 void bus_pass(struct bus *bus)
 {
     int32_t before = machine_state(&bus->machine);
@@ -54,7 +54,7 @@ void bus_name(const struct bus *bus, char name[FUNCTION_NAME])
         trial_words(&bus->machine.trial, bus->machine.config.device, name);
 }
 
-/* To leave with the one gadget and come with the other is no reset of the machine's. */
+/* Changing from one gadget to the other on the bus isn't a reset for the machine. */
 bool bus_settle(struct bus *bus)
 {
     char name[FUNCTION_NAME];
@@ -75,7 +75,7 @@ bool bus_settle(struct bus *bus)
     return true;
 }
 
-/* An answer, or an acknowledgement. A data stage that was taken is acknowledged already. */
+/* Sends an answer, an acknowledgement or a stall. A data stage that was received is already acknowledged. */
 static void send(struct function *function, const uint8_t setup[8], int32_t answer, const uint8_t *out)
 {
     if (answer < 0)
@@ -86,8 +86,8 @@ static void send(struct function *function, const uint8_t setup[8], int32_t answ
         function_acknowledge(function);
 }
 
-/* The program of --check refuses the image that this setup closes. Then the machine is in dfuERROR. What can't be checked is not handed
-   in. */
+/* Returns true if this setup packet closes a download and the program of --check refuses the image, after which the machine is in dfuERROR,
+ * or if the library failed. An image that can't be checked is refused too. */
 static bool is_refused(struct bus *bus, const uint8_t setup[8])
 {
     struct dfu_place place;
@@ -98,7 +98,7 @@ static bool is_refused(struct bus *bus, const uint8_t setup[8])
     return why != 0 && machine_refuse_close(&bus->machine, setup, why);
 }
 
-/* The data stage is taken, unless the library stalls the setup before it: DFU_STALL, or its answer; and false if the host gave up. */
+/* Handles a request. The data stage is received only if the library won't stall the request. Returns false if the host gave up. */
 static bool decide(struct bus *bus, const uint8_t setup[8], uint8_t out[MAX_TRANSFER], int32_t *answer)
 {
     uint8_t body[MAX_TRANSFER];
@@ -127,8 +127,8 @@ static bool decide(struct bus *bus, const uint8_t setup[8], uint8_t out[MAX_TRAN
     return true;
 }
 
-/* FunctionFS has put this function's own number of the interface into wIndex, which is 0, as in the configuration. Other requests than
-   those of the class are stalled. */
+/* FunctionFS has replaced wIndex by this function's own interface number, which is 0, as in the configuration. Requests that aren't DFU
+ * class requests are stalled. */
 void bus_serve(struct bus *bus, const uint8_t setup[8])
 {
     struct function *function = &bus->functions[bus->mode];

@@ -1,5 +1,5 @@
 /* SPDX-License-Identifier: MIT OR Apache-2.0 */
-/* The device on the bus: which of its two gadgets is there, and the time and the resets that are passed on to the machine. */
+/* The device on the bus: selects one of its two gadgets, and passes time and resets to the machine. */
 #ifndef DFU_GADGET_BUS_H
 #define DFU_GADGET_BUS_H
 
@@ -17,31 +17,31 @@ struct bus {
     struct function functions[MODES];
     struct check check;
     struct installed installed;
-    int mode;             /* whose gadget is on the bus, or NOWHERE */
-    int64_t last_tick_ms; /* up to when the time was passed on to the machine, ms */
+    int mode;             /* index of the gadget that is on the bus, or NOWHERE */
+    int64_t last_tick_ms; /* time in ms up to which the machine has been advanced */
 };
 
-/* Does the work that is due, and in appDETACH passes the time on. To be called once an answer is out, before a request, and before a
-   reset. */
+/* Does the pending work, and in appDETACH passes the elapsed time to the machine. Must be called after an answer was sent, before a
+ * request, and before a reset. */
 void bus_pass(struct bus *bus);
 
-/* Takes a reset of the bus. */
+/* Handles a bus reset. */
 void bus_reset(struct bus *bus);
 
-/* Puts the gadget that the state asks for on the bus. Returns false if it can't. */
+/* Puts the gadget for the machine's mode on the bus. Returns false if that fails. */
 bool bus_settle(struct bus *bus);
 
-/* Writes the name of the interface: `Firmware`, or with images on trial the version, and the trial. */
+/* Writes the name of the interface: `Firmware`, or with images on trial the version and the state of the trial. */
 void bus_name(const struct bus *bus, char name[FUNCTION_NAME]);
 void bus_leave(struct bus *bus);
 
-/* Answers a setup that waits there, and does what the answer announced. */
+/* Answers the setup packet, and then does the work that it started. */
 void bus_serve(struct bus *bus, const uint8_t setup[8]);
 
-/* Returns how long poll may wait, in ms: until the time of appDETACH is over, else -1. */
+/* Returns the timeout for poll in ms: the rest of the appDETACH time, or -1 in other states. */
 int bus_pause(struct bus *bus);
 
-/* Returns whether the machine goes on; false if the library refused its own record. */
+/* Returns false if the library has refused a call, so that the machine can't continue. */
 bool bus_is_sound(const struct bus *bus);
 
 #endif

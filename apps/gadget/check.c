@@ -1,12 +1,12 @@
 /* SPDX-License-Identifier: MIT OR Apache-2.0 */
-/* The host waits for the answer to its last DNLOAD meanwhile. Linux gives a request up after 5 seconds, so a program that hangs is
-   killed before. What isn't known to be good is refused. */
+/* The host waits for the answer to its last DNLOAD during the check. Linux gives up a request after 5 seconds, so a hanging program is
+ * killed before that, and the image is refused. */
 #define _GNU_SOURCE
 #include "check.h"
 #include "clock.h"
 #include "dfu_device.h"
 #include "program.h"
-#include "say.h"
+#include "messages.h"
 #include "stop.h"
 
 #include <errno.h>
@@ -17,7 +17,7 @@
 #include <time.h>
 #include <unistd.h>
 
-/* Returns whether the program ended within CHECK_MS, and before a signal ends this one. */
+/* Returns true if the program ended within CHECK_MS, and before a signal arrived. */
 static bool is_over(int child)
 {
     struct pollfd waits[] = {{.fd = child, .events = POLLIN}, {.fd = stop_descriptor(), .events = POLLIN}};

@@ -4,7 +4,7 @@
 
 #include <stdint.h>
 
-/* Milliseconds of a clock that is never set. */
+/* Returns the milliseconds of a clock that can't be set. */
 int64_t clock_ms(void);
 
 #endif

@@ -1,6 +1,7 @@
 /* SPDX-License-Identifier: MIT OR Apache-2.0 */
-/* The file of --config: a line for each option, without its dashes, as `transfer-size 1024`. A line that begins with # is a comment. */
-#include "say.h"
+/* Reads the file of --config. It has one option per line, without the leading hyphens, such as `transfer-size 1024`. A line that begins
+ * with # is a comment. */
+#include "messages.h"
 #include "words.h"
 
 #include <errno.h>
@@ -8,9 +9,9 @@
 #include <stdlib.h>
 #include <string.h>
 
-#define MAX_CONFIG_BYTES 65536 /* bytes of the file */
+#define MAX_CONFIG_BYTES 65536 /* size limit of the file in bytes */
 
-/* The bytes stay until the program ends: the words point into them. */
+/* The buffer is static, because the options keep pointers into it. */
 static char *read_all(const char *name)
 {
     static char bytes[MAX_CONFIG_BYTES + 1];
@@ -27,7 +28,7 @@ static char *read_all(const char *name)
     return is_read ? bytes : NULL;
 }
 
-/* Cuts white space off both ends. */
+/* Removes white space at both ends. */
 static char *trim(char *text)
 {
     size_t length;

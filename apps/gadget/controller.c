@@ -1,9 +1,9 @@
 /* SPDX-License-Identifier: MIT OR Apache-2.0 */
-/* The controller: its state below /sys/class/udc, and the file UDC of a gadget, which names the controller that it is on the bus of. */
+/* The controller's state is a file below /sys/class/udc. A gadget is on the bus of the controller that is named in its file UDC. */
 #define _POSIX_C_SOURCE 200809L
 #include "controller.h"
 #include "paths.h"
-#include "say.h"
+#include "messages.h"
 
 #include <errno.h>
 #include <fcntl.h>
@@ -34,7 +34,7 @@ void controller_close(struct controller *controller)
     controller->state = -1;
 }
 
-/* To read it from its beginning is what makes poll wait for the next time. If the controller is gone, so is the file. */
+/* Reading the file from its beginning resets poll for the next change. If the controller is gone, so is the file. */
 bool controller_is_new_state(struct controller *controller)
 {
     char line[MAX_LINE];
@@ -69,7 +69,7 @@ bool controller_join(const struct controller *controller, const char *gadget)
     return set_controller(gadget, controller->name) || say_failed(gadget, "can't come to the controller's bus");
 }
 
-/* ENODEV: it has left already, for example because the controller is gone. */
+/* ENODEV means that the gadget has already left, for example because the controller is gone. */
 bool controller_leave(const char *gadget)
 {
     return set_controller(gadget, "") || errno == ENODEV || say_failed(gadget, "can't leave the bus");

@@ -1,5 +1,5 @@
 /* SPDX-License-Identifier: MIT OR Apache-2.0 */
-/* The descriptors of the interface, for each speed, and its name. */
+/* Builds the descriptors of the interface for each speed, and its name. */
 #define _DEFAULT_SOURCE
 #include "descriptors.h"
 

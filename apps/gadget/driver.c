@@ -1,6 +1,6 @@
 /* SPDX-License-Identifier: MIT OR Apache-2.0 */
 #include "driver.h"
-#include "say.h"
+#include "messages.h"
 #include "stop.h"
 
 #include <errno.h>
@@ -8,15 +8,17 @@
 #include <stdio.h>
 #include <string.h>
 
-/* Others have these bytes mapped, so that Linux doesn't drop them: what was there before is put back, for whoever reads. The disk may have
-   either, as after a loss of power. */
+/* Restores the old bytes after a failed write. Linux keeps the new bytes in memory, because other programs have them mapped, so the old
+ * bytes are written again for these programs. The disk may have the old or the new bytes, as after a power cut. Returns true if the mapping
+ * has the old bytes. */
 static bool put_back(const struct medium *medium, uint32_t at, const uint8_t *before, uint32_t length)
 {
     (void)medium_write(medium, at, before, length);
     return memcmp(medium->bytes + at, before, length) == 0;
 }
 
-/* One write, and how it went: 0 if it is on the disk. After one that failed the library reads what the disk has. */
+/* Writes the bytes once. Returns 0 if they are on the disk. After a failed write, drops them from memory or restores the old bytes; if
+ * neither is possible, ends the program. */
 static int write_once(const struct medium *medium, uint32_t at, const uint8_t *bytes, uint32_t length)
 {
     uint8_t before[MEDIUM_MAX_WRITE];
@@ -39,7 +41,7 @@ static int program(void *own, uint32_t at, const uint8_t *bytes, uint32_t length
     return write_once(own, at, bytes, length);
 }
 
-/* It is asked for if images run on trial: else the medium is written over in place. */
+/* The library erases only if images run on trial. Else the medium is overwritten in place. */
 static int erase(void *own, uint32_t at, uint32_t length)
 {
     uint8_t bytes[MEDIUM_TRIAL_SECTOR];

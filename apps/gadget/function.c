@@ -1,13 +1,13 @@
 /* SPDX-License-Identifier: MIT OR Apache-2.0 */
-/* FunctionFS reports no reset of the bus as such. If a configuration was set, it reports DISABLE once the bus is reset, the cable is
-   pulled or another configuration is set; and after a reset ENABLE, once the host has set one again. Either drops those that were not read
-   yet: a program that is late finds only ENABLE, as after a SET_INTERFACE, which dfu-util sends each time. Two things show these apart,
-   and a reset needs both: the eventfd counts events that were dropped too, and a reset writes the controller's state. */
+/* FunctionFS doesn't report a bus reset as such. If a configuration was set, FunctionFS reports DISABLE when the bus is reset, the cable is
+ * pulled or another configuration is set, and after a reset it reports ENABLE when the host sets a configuration. Either event drops the
+ * events that weren't read. A program that reads late therefore finds only ENABLE, just as after a SET_INTERFACE, which dfu-util sends each
+ * time. A reset is recognized by two signs together: the eventfd also counts dropped events, and a reset writes the controller's state. */
 #define _GNU_SOURCE
 #include "function.h"
 #include "descriptors.h"
 #include "paths.h"
-#include "say.h"
+#include "messages.h"
 
 #include <errno.h>
 #include <fcntl.h>
@@ -18,7 +18,7 @@
 #include <sys/eventfd.h>
 #include <unistd.h>
 
-#define MAX_EVENTS 4 /* as many as FunctionFS keeps */
+#define MAX_EVENTS 4 /* number of events that FunctionFS keeps */
 
 static int open_signals(void)
 {
@@ -43,7 +43,7 @@ bool function_open(struct function *function, const char *gadget, uint8_t protoc
     return errno == EINVAL ? say_wrong(path, "Linux takes them from 6.11 on") : false;
 }
 
-/* If this was the last one, the kernel takes the gadget off the bus. */
+/* After the last function is closed, the kernel removes the gadget from the bus. */
 void function_close(struct function *function)
 {
     if (function->ep0 >= 0)
@@ -75,7 +75,7 @@ static bool has_event(const struct function *function)
     return poll(&wait, 1, 0) > 0 && (wait.revents & POLLIN) != 0;
 }
 
-/* Reads the events that wait. Returns their number, or -1. */
+/* Reads the pending events. Returns their number, or -1. */
 static int read_events(struct function *function, struct usb_functionfs_event events[MAX_EVENTS])
 {
     ssize_t length = read(function->ep0, events, MAX_EVENTS * sizeof *events);
@@ -85,7 +85,8 @@ static int read_events(struct function *function, struct usb_functionfs_event ev
     return found;
 }
 
-/* They are counted before it is looked whether one waits there: one that comes between is in neither or in both. */
+/* The events are counted before the check for a pending one. An event that arrives in between is found by the check, so it isn't counted as
+ * dropped. */
 void function_rest(struct function *function)
 {
     count(function);
@@ -103,8 +104,8 @@ void function_begin(struct function *function)
     function->is_enabled = false;
 }
 
-/* Returns whether more events were dropped unread, after those that were read. While a setup waits, poll reports the setup and no event;
-   else the event that it reports came since. */
+/* Returns true if more events were dropped after those that were read. While a setup packet is pending, poll reports only that packet.
+ * Otherwise an event that poll reports is a new one, which isn't counted as dropped. */
 static bool is_more_dropped(struct function *function, bool has_setup)
 {
     count(function);
@@ -131,7 +132,7 @@ static void take_event(struct function *function, const struct usb_functionfs_ev
     }
 }
 
-/* EIDRM: the host gave up the setup that waited there. */
+/* EIDRM means that the host gave up the pending setup packet. */
 bool function_read(struct function *function, bool is_new_state, struct events *events)
 {
     struct usb_functionfs_event found[MAX_EVENTS];
@@ -153,7 +154,7 @@ int function_take(struct function *function, uint8_t *body, size_t length)
     return (int)read(function->ep0, body, length);
 }
 
-/* If the host gave up meanwhile, none of these is sent, and the next event is that of what it did. */
+/* If the host has given up, the answer isn't sent, and the next event reports what the host did. */
 void function_answer(struct function *function, const uint8_t *bytes, size_t length)
 {
     ssize_t count = write(function->ep0, bytes, length);
@@ -167,7 +168,7 @@ void function_acknowledge(struct function *function)
     (void)count;
 }
 
-/* A transfer in the other direction than the setup's is a stall. */
+/* A transfer in the wrong direction makes FunctionFS stall the request. */
 void function_stall(struct function *function, const uint8_t setup[8])
 {
     char none[1] = "";

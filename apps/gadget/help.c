@@ -1,5 +1,5 @@
 /* SPDX-License-Identifier: MIT OR Apache-2.0 */
-/* The texts of --help and --version. The man page says the same of each option; tests/apps/gadget compares them. */
+/* Texts of --help and --version. The man page describes the same options, and tests/apps/gadget compares them. */
 #include "words.h"
 
 #include <stdio.h>
@@ -54,7 +54,7 @@ void words_help(void)
         stdout);
 }
 
-/* The version of all of Fustrelan. */
+/* Prints Fustrelan's version. */
 void words_version(void)
 {
     puts("dfu-gadget 0.3.0");

@@ -1,7 +1,7 @@
 /* SPDX-License-Identifier: MIT OR Apache-2.0 */
 #include "installed.h"
 #include "program.h"
-#include "say.h"
+#include "messages.h"
 
 #include <inttypes.h>
 #include <stddef.h>

@@ -9,17 +9,18 @@
 struct installed {
     const char *command; /* NULL if there is none */
     const char *medium;
-    int child; /* a descriptor that poll reports once the command ended; -1 if none runs */
+    int child; /* descriptor for which poll reports the end of the command; -1 if none runs */
     int process;
-    bool is_due; /* another image came meanwhile, and is at: */
+    bool is_due; /* another image was installed while the command ran */
     uint32_t at, length;
 };
 
-/* Runs the command with MEDIUM, AT and LENGTH for an image that is in place. If it still runs for the image before, it is run again after
-   that. Nothing waits for it. */
+/* Runs the command with MEDIUM, AT and LENGTH for the installed image, and doesn't wait for its end. If the command still runs for the
+ * previous image, it is run again after its end. */
 void installed_run(struct installed *installed, uint32_t at, uint32_t length);
 
-/* To be called once poll reports `child`. */
+/* Handles the end of the command, which poll reported for `child`. If another image was installed in the meantime, runs the command again.
+ */
 void installed_end(struct installed *installed);
 
 #endif

@@ -1,15 +1,15 @@
 /* SPDX-License-Identifier: MIT OR Apache-2.0 */
-/* The calls of the proved library. Each may ask for writes: these are carried out one by one, in the order in which they are asked
-   for, each on the disk before the next, and no other call is made meanwhile. */
+/* Calls the proved library. If a call requests writes, they are made one by one in the requested order. Each is on the disk before the next
+ * begins, and no other call is made until then. */
 #include "machine.h"
 #include "dfu_device_memory.h"
 #include "driver.h"
-#include "say.h"
+#include "messages.h"
 
 #include <string.h>
 
-/* For calls about a medium only, which look at just the unit and the sector of a configuration. A file is written over in place, except
-   with images on trial. */
+/* Returns a configuration for calls that use only its unit and its sector. The sector is 0, so that the file is overwritten in place,
+ * except with images on trial. */
 static struct dfu_config layout(uint32_t sector)
 {
     return (struct dfu_config){.version = DFU_VERSION,
@@ -43,7 +43,7 @@ static bool is_gate_noted(const struct machine *machine)
     return memcmp(machine->gate, gate_of(machine), sizeof machine->gate) == 0;
 }
 
-/* Another image is in place if the active one begins somewhere else. */
+/* Finds the active image. If it begins at another offset than before, another image was installed. */
 static void look_for_image(struct machine *machine)
 {
     struct dfu_place place;
@@ -54,7 +54,7 @@ static void look_for_image(struct machine *machine)
     note_gate(machine);
 }
 
-/* The writes that are due, until the library has its answer. */
+/* Makes the pending writes, and returns the final answer of the library. */
 static int32_t settle(struct machine *machine, int32_t answer, uint8_t *out, size_t room)
 {
     int32_t state = dfu_device_state(&machine->device);
@@ -93,8 +93,8 @@ void machine_again(struct machine *machine)
     machine_power_on(machine, machine->medium, machine_is_upgrade(machine));
 }
 
-/* A download ends a trial first: it would write over the image that was confirmed. So does an upload if no start is left: a host would
-   verify an image that starts no more. Returns false if the setup must be stalled. */
+/* A download ends a trial first, because it would overwrite the image that was confirmed. An upload also ends it if no start is left,
+ * because a host would verify an image that is never started again. Returns false if the request must be stalled. */
 static bool make_room(struct machine *machine, const uint8_t setup[8])
 {
     int32_t answer = dfu_trial_transfer(&machine->trial, &machine->device, setup);
@@ -111,7 +111,7 @@ static bool make_room(struct machine *machine, const uint8_t setup[8])
     return machine->refusal == 0;
 }
 
-/* A data stage that the host sends is acknowledged as it is taken, so the library is asked before. */
+/* Receiving a data stage acknowledges it, so the library is called first to find out if it would stall the request. */
 enum plan machine_plan(struct machine *machine, const uint8_t setup[8])
 {
     size_t length = (size_t)(setup[6] | setup[7] << 8);
@@ -137,7 +137,8 @@ int32_t machine_handle(struct machine *machine, const uint8_t setup[8], const ui
     return settle(machine, dfu_device_handle(&machine->device, setup, body, out, MAX_TRANSFER), out, MAX_TRANSFER);
 }
 
-/* A byte of the image is on the disk as soon as it was taken, since the medium's unit is a byte: none is held back in memory. */
+/* Every byte of the image is on the disk as soon as it was received, because the medium's unit is one byte and nothing is held back in
+ * memory. */
 bool machine_closes(struct machine *machine, const uint8_t setup[8], struct dfu_place *place)
 {
     return note(machine, dfu_device_closes(&machine->device, setup)) == 1

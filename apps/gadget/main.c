@@ -1,22 +1,22 @@
 /* SPDX-License-Identifier: MIT OR Apache-2.0 */
-/* dfu-gadget: a Linux board as a device of DFU. What is answered, when time matters and what is written, and in which order, is decided
-   by the proved device (dfu_device.h and dfu_trial.h, called only in machine.c and trial.c); this program carries it out, by
-   FunctionFS and on the medium. The rest is not proved. share/man/dfu-gadget.1 says how it is used.
-
-   words, config, help     the command line, and the file of --config
-   make, look, run         the work of format and image, of --dry-run, and of run
-   machine, driver         the calls of the library, and the writes that it asks for
-   trial                   images on trial, and the work of start, confirm and end
-   bus                     requests, time, resets, and which gadget is on the bus
-   function, descriptors   FunctionFS: its events, transfers and descriptors
-   controller, paths       the controller, and the files below /sys, /dev and /proc
-   medium                  what may be one, and how it is written
-   installed, stop, say    the program of --on-installed, signals, and the log */
-#include "look.h"
-#include "make.h"
+/* dfu-gadget makes a Linux board a DFU device. The proved device (dfu_device.h and dfu_trial.h, called only in machine.c and trial.c)
+ * decides the answers, the effect of time, and the writes with their order. This program carries them out by FunctionFS and on the medium,
+ * and isn't proved. share/man/dfu-gadget.1 describes its use.
+ *
+ *     words, config, help     the command line, and the file of --config
+ *     make, look, run         the commands format and image, --dry-run, and run
+ *     machine, driver         the calls of the library, and the writes that it requests
+ *     trial                   images on trial: the commands start, confirm and end
+ *     bus                     requests, time, resets, and the gadget on the bus
+ *     function, descriptors   FunctionFS: its events, transfers and descriptors
+ *     controller, paths       the controller, and the files below /sys, /dev and /proc
+ *     medium                  files and block devices with two slots, and writes to them
+ *     installed, stop, say    the command of --on-installed, signals, and the log */
+#include "requirements.h"
+#include "medium_file.h"
 #include "paths.h"
 #include "run.h"
-#include "say.h"
+#include "messages.h"
 #include "trial.h"
 
 #include <stdio.h>
@@ -35,7 +35,7 @@ static int print_text(const struct words *words)
 
 int main(int count, char **texts)
 {
-    static char lines[BUFSIZ]; /* a line is written at once: others write there too, as the program of --on-installed */
+    static char lines[BUFSIZ]; /* each line is one write, because other programs write to this stream too */
     struct words words;
     int status;
     setvbuf(stderr, lines, _IOLBF, sizeof lines);

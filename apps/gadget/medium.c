@@ -1,8 +1,8 @@
 /* SPDX-License-Identifier: MIT OR Apache-2.0 */
-/* The medium: what may be one, its size, and how it is written. */
+/* Opens, maps, locks and writes a medium, and computes its size. */
 #define _GNU_SOURCE
 #include "medium.h"
-#include "say.h"
+#include "messages.h"
 
 #include <errno.h>
 #include <fcntl.h>
@@ -13,10 +13,10 @@
 #include <sys/stat.h>
 #include <unistd.h>
 
-#define SECTOR 4096              /* bytes, the largest sector of common disks and cards */
-#define MAX_IMAGE_BYTES 16777216 /* bytes, the library's limit */
+#define SECTOR 4096              /* largest sector of common disks and cards, in bytes */
+#define MAX_IMAGE_BYTES 16777216 /* largest image that the library accepts, in bytes */
 
-/* The largest slot is a whole number of sectors too. */
+/* The size of a slot is a multiple of the sector size, also if the library's limit applies. */
 size_t medium_slots(size_t size, size_t sector, size_t head)
 {
     size_t slot = size / 2 / sector * sector, largest = (head + MAX_IMAGE_BYTES) / sector * sector;
@@ -39,8 +39,8 @@ size_t medium_head(uint32_t tries)
     return tries == 0 ? MEDIUM_HEAD : MEDIUM_TRIAL_HEAD;
 }
 
-/* A link is followed only to a block device, as those in /dev/disk are: a link to a file may be someone else's. What would block, such as
-   a pipe, is opened all the same, and refused. For a block device O_EXCL asks that nothing else has it, such as a file system. */
+/* A link is followed only to a block device, such as those in /dev/disk, because a link to a file may be another user's. O_NONBLOCK opens a
+ * pipe without waiting, and it is refused later. For a block device O_EXCL requires that nothing else uses it, such as a file system. */
 static int open_there(const char *name, int flags)
 {
     int file = open(name, flags | O_CLOEXEC | O_NOFOLLOW | O_NONBLOCK);
@@ -76,7 +76,7 @@ static bool take_alone(const struct medium *medium, enum medium_use use)
            || say_failed(medium->name, "is in use by another dfu-gadget");
 }
 
-/* Who may write it can also make it shorter, which ends a program that has it mapped. */
+/* Returns true if another user may write the file. Such a user can also truncate it, which ends a program that has it mapped. */
 static bool is_shared(const struct stat *found)
 {
     return S_ISREG(found->st_mode) && ((found->st_mode & 022) != 0 || (found->st_uid != geteuid() && found->st_uid != 0));
@@ -117,7 +117,7 @@ bool medium_map(struct medium *medium, const char *name, enum medium_use use, si
         medium_close(medium);
         return say_wrong(name, "it is too small for a medium: `dfu-gadget format` makes one");
     }
-    if (use == MEDIUM_WRITE) /* an earlier program may have ended after a write that failed */
+    if (use == MEDIUM_WRITE) /* drops the bytes of a failed write, after which an earlier program ended without dropping them */
         medium_forget(medium, 0, 0);
     bytes = mmap(NULL, medium->size, PROT_READ, MAP_SHARED, medium->file, 0);
     if (bytes == MAP_FAILED) {
@@ -139,7 +139,7 @@ void medium_close(struct medium *medium)
     medium->file = -1;
 }
 
-/* A lock of the open file, beside that of flock, which one `run` keeps. */
+/* Locks or unlocks the medium for a turn, by an open-file lock. This lock is separate from the flock that `run` holds all the time. */
 static bool set_turn(const struct medium *medium, short kind)
 {
     struct flock lock = {.l_type = kind, .l_whence = SEEK_SET, .l_start = 0, .l_len = 1};
@@ -176,7 +176,7 @@ bool medium_write(const struct medium *medium, size_t at, const uint8_t *bytes, 
     return fdatasync(medium->file) == 0;
 }
 
-/* Returns whether the kernel still has a page of these bytes in its memory. */
+/* Returns true if the kernel still has a page of these bytes in memory. */
 static bool is_kept(const struct medium *medium, size_t at, size_t length)
 {
     size_t page = (size_t)sysconf(_SC_PAGESIZE), from = at / page * page;
@@ -187,7 +187,7 @@ static bool is_kept(const struct medium *medium, size_t at, size_t length)
     return has_page;
 }
 
-/* Linux drops no page that is mapped, so these bytes are not mapped meanwhile. */
+/* Linux doesn't drop mapped pages, so the mapping is replaced by an empty one until its pages are dropped. */
 bool medium_forget(const struct medium *medium, size_t at, size_t length)
 {
     void *bytes = (void *)(uintptr_t)medium->bytes;

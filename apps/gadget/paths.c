@@ -1,5 +1,5 @@
 /* SPDX-License-Identifier: MIT OR Apache-2.0 */
-/* Finds the folders in which Linux keeps the parts of a gadget, and reads and writes the files of one line there. */
+/* Finds the folders in which Linux keeps the parts of a gadget, and reads their one-line files. */
 #define _POSIX_C_SOURCE 200809L
 #include "paths.h"
 

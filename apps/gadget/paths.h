@@ -8,22 +8,22 @@
 
 #define MAX_PATH_BYTES 512
 
-/* The folder in front of all of these: "" but in tests (--root). */
+/* Prefix of all paths that these functions build: "" except in tests (--root). */
 extern const char *paths_root;
 
-/* Make /sys/kernel/config/usb_gadget/GADGET/ATTRIBUTE, /dev/usb-ffs/GADGET/ep0 and /sys/class/udc/CONTROLLER/ATTRIBUTE. Return false if
-   the path is too long. */
+/* Build /sys/kernel/config/usb_gadget/GADGET/ATTRIBUTE, /dev/usb-ffs/GADGET/ep0 and /sys/class/udc/CONTROLLER/ATTRIBUTE. Return false if
+ * the path is too long. */
 bool path_of_gadget(char path[MAX_PATH_BYTES], const char *gadget, const char *attribute);
 bool path_of_function(char path[MAX_PATH_BYTES], const char *gadget);
 bool path_of_controller(char path[MAX_PATH_BYTES], const char *controller, const char *attribute);
 
-/* Below /proc: sys/kernel/osrelease and filesystems. */
+/* Builds a path below /proc, for sys/kernel/osrelease and filesystems. */
 bool path_of_kernel(char path[MAX_PATH_BYTES], const char *name);
 
-/* Reads the first line of a file, without its end. Returns false, with errno, if it can't be read. */
+/* Reads the first line of a file, without its newline. Returns false, with the reason in errno, if it can't be read. */
 bool path_line(const char *path, char *line, size_t room);
 
-/* A name that may be part of a path: no slash, not empty, and no dot in front. */
+/* Returns true if the name may be part of a path: not empty, without a slash, and not beginning with a dot. */
 bool path_is_name(const char *name);
 
 #endif

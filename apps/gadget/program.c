@@ -1,7 +1,7 @@
 /* SPDX-License-Identifier: MIT OR Apache-2.0 */
 #define _GNU_SOURCE
 #include "program.h"
-#include "say.h"
+#include "messages.h"
 #include "stop.h"
 
 #include <errno.h>
@@ -13,7 +13,7 @@
 #include <sys/wait.h>
 #include <unistd.h>
 
-/* Gives the program /dev/null as its standard input. If that descriptor was closed, open returns its number, and the program keeps it. */
+/* Opens /dev/null as the program's standard input. If descriptor 0 was closed, open already returns 0, and it must stay open. */
 static bool take_no_input(void)
 {
     int nothing = open("/dev/null", O_RDONLY);

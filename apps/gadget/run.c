@@ -1,15 +1,15 @@
 /* SPDX-License-Identifier: MIT OR Apache-2.0 */
-/* The work of `run`: the device is set up, and waits for what comes. */
+/* Implements `run`: sets the device up, and handles its events. */
 #define _POSIX_C_SOURCE 200809L
 #include "run.h"
 #include "bus.h"
-#include "say.h"
+#include "messages.h"
 #include "stop.h"
 
 #include <errno.h>
 #include <poll.h>
 
-/* Descriptors that a wait looks at. */
+/* Indices of the descriptors for poll. */
 enum { EVENTS, STOP, CHILD, CONTROLLER_STATE, WAITS };
 
 static bool take_numbers(struct dfu_config *config, const struct words *words)
@@ -59,7 +59,8 @@ static int set_up(struct bus *bus, struct medium *medium, const struct words *wo
                : STATUS_MISSING;
 }
 
-/* Takes the events of FunctionFS, once poll reports them. A reset may call for the other gadget: then the setup after it is gone. */
+/* Handles the events of FunctionFS after poll has reported them. If a reset changes the gadget on the bus, the setup packet after it is
+ * dropped. */
 static int take_events(struct bus *bus)
 {
     struct function *function = &bus->functions[bus->mode];
@@ -82,7 +83,8 @@ static int take_events(struct bus *bus)
     return STATUS_DONE;
 }
 
-/* Takes everything that a wait reports. If there is nothing to read, the controller's state belongs to an event that was read before. */
+/* Handles everything that poll reported. Without a FunctionFS event, a new state of the controller belongs to an event that was read
+ * before. */
 static int take_what_came(struct bus *bus, const struct pollfd waits[WAITS])
 {
     if (waits[CHILD].revents != 0)
@@ -99,7 +101,7 @@ static int take_what_came(struct bus *bus, const struct pollfd waits[WAITS])
     return STATUS_DONE;
 }
 
-/* With images on trial other programs have their turn at the medium while this waits. */
+/* With images on trial other programs get their turn at the medium during this wait. */
 static int wait_once(struct bus *bus)
 {
     struct function *function = &bus->functions[bus->mode];

@@ -1,5 +1,5 @@
 /* SPDX-License-Identifier: MIT OR Apache-2.0 */
-/* The work of `run`. */
+/* Implements `run`. */
 #ifndef DFU_GADGET_RUN_H
 #define DFU_GADGET_RUN_H
 

@@ -1,6 +1,6 @@
 /* SPDX-License-Identifier: MIT OR Apache-2.0 */
-/* Signals. A handler notes which one came, and writes to a pipe that each wait looks at: so one that comes just before a wait ends it
-   too. A transfer of endpoint 0 is broken off by it. */
+/* Handles signals. The handler stores the signal and writes to a pipe that each wait polls, so a signal that arrives just before a wait
+ * ends that wait too. A signal also interrupts a transfer of endpoint 0. */
 #define _GNU_SOURCE
 #include "stop.h"
 #include "status.h"
@@ -34,7 +34,7 @@ _Noreturn void stop_lost(void)
     _exit(STATUS_MEDIUM);
 }
 
-/* A page of the mapping that can't be read: the disk failed, or somebody made the file shorter. */
+/* SIGBUS means that a page of the mapping can't be read, because the disk failed or the file was truncated. */
 static void on_lost(int number)
 {
     (void)number;

@@ -5,23 +5,23 @@
 
 #include <stdbool.h>
 
-/* Has a signal noted, and end a wait and a transfer that is under way. Returns false if there is no pipe for it. */
+/* Makes a signal end the current wait or transfer, and stores the signal. Returns false if no pipe can be made. */
 bool stop_catch(void);
 
-/* The signal that came, 0 if none did. */
+/* Returns the signal that arrived, or 0 if none did. */
 int stop_signal(void);
 
-/* A file descriptor that can be read once one came, for poll. */
+/* Returns a file descriptor for poll that becomes readable after a signal. */
 int stop_descriptor(void);
 
-/* Sets the signals back, in a child before its program. */
+/* Restores the default actions of the signals, in a child before it executes its program. */
 void stop_forget(void);
 
-/* Prints that the medium can't be read any more, and ends the program with STATUS_MEDIUM. Endpoint 0 is closed with it, and so the gadget
-   leaves the bus. */
+/* Reports that the medium can't be read any more, and ends the program with STATUS_MEDIUM. This closes endpoint 0, so the gadget leaves the
+ * bus. */
 _Noreturn void stop_lost(void);
 
-/* Has a page of the mapping that can't be read end the program so. */
+/* Makes an unreadable page of the mapping end the program by stop_lost. */
 void stop_at_lost_medium(void);
 
 #endif

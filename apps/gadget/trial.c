@@ -1,10 +1,10 @@
 /* SPDX-License-Identifier: MIT OR Apache-2.0 */
-/* Each of start, confirm and end is one call of the library, which asks for at most one write. It waits for its turn, since `run` may have
-   the medium meanwhile. */
+/* Each of the commands start, confirm and end makes one call of the library, which requests at most one write. The command waits for its
+ * turn first, because `run` may be using the medium. */
 #include "trial.h"
 #include "driver.h"
 #include "machine.h"
-#include "say.h"
+#include "messages.h"
 #include "stop.h"
 
 #include <inttypes.h>
@@ -18,7 +18,7 @@ struct dfu_trial trial_of(const struct medium *medium, const struct dfu_driver *
                               .tries = {.unit = MACHINE_UNIT, .sector = MEDIUM_TRIAL_SECTOR, .tries = tries}};
 }
 
-/* An image on trial that was not started yet is the next one: what runs is the one before. */
+/* An image on trial that was never started is called the next one, because the previous image still runs. */
 void trial_words(const struct dfu_trial *trial, uint16_t release, char text[TRIAL_WORDS])
 {
     struct dfu_standing standing;
@@ -29,7 +29,7 @@ void trial_words(const struct dfu_trial *trial, uint16_t release, char text[TRIA
              standing.left == trial->tries.tries ? "next " : "", standing.left, standing.left == 1 ? "" : "s");
 }
 
-/* Says the meaning of a result of the library other than 0, and returns the exit status for it. */
+/* Prints the meaning of a nonzero result of the library, and returns the exit status for the result. */
 static int say_result(const char *name, int32_t result)
 {
     switch (result) {
@@ -39,7 +39,7 @@ static int say_result(const char *name, int32_t result)
     }
 }
 
-/* Maps the medium and waits for its turn. Returns false, after printing why, if one of both fails. */
+/* Maps the medium, and waits for this program's turn to use it. Returns false, after printing why, if either fails. */
 static bool take_medium(struct medium *medium, const char *name)
 {
     stop_at_lost_medium();

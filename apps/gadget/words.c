@@ -1,7 +1,7 @@
 /* SPDX-License-Identifier: MIT OR Apache-2.0 */
-/* The command line: what each word means, and which words go together. */
+/* Parses the command line, and checks which arguments may be combined. */
 #include "words.h"
-#include "say.h"
+#include "messages.h"
 
 #include <ctype.h>
 #include <getopt.h>
@@ -41,10 +41,10 @@ static const struct option options[] = {
 };
 /* clang-format on */
 
-#define MAX_IMAGE_BYTES 16777216 /* bytes */
+#define MAX_IMAGE_BYTES 16777216 /* largest image that the library accepts, in bytes */
 #define MAX_MS 16777215
-#define MAX_TRIES 254            /* what a sector has marks for */
-#define BY_ATTRIBUTES UINT32_MAX /* of --manifest that isn't given */
+#define MAX_TRIES 254            /* number of marks that fit into a sector */
+#define BY_ATTRIBUTES UINT32_MAX /* value of --manifest if it isn't given */
 
 static bool refuse_to(const char *name, const char *why, const char *next)
 {
@@ -58,7 +58,7 @@ static bool refuse(const char *name, const char *why)
     return refuse_to(name, why, strcmp(name, "usage") == 0 ? "type that line, with your names" : "correct that word");
 }
 
-/* A decimal number, with K or M after it for 1024 or 1048576 of them if it counts bytes. */
+/* Parses a decimal number, for sizes also with K or M for 1024 or 1048576 bytes. */
 static bool take_number(const char *text, bool is_size, uint32_t least, uint32_t most, uint32_t *number)
 {
     uint64_t found = 0;
@@ -99,7 +99,7 @@ static bool take_short_ms(const char *text, uint16_t *number)
     return take_short(text, 0, 65535, "it is no number of milliseconds, from 0 to 65535", number);
 }
 
-/* The names of the bits of bmAttributes, with commas between. */
+/* Parses names of bmAttributes bits, separated by commas. */
 static bool take_attributes(const char *text, uint8_t *attributes)
 {
     static const char *const names[] = {"download", "upload", "tolerant", "detach"};
@@ -181,7 +181,7 @@ static bool take_job(struct words *words, const char *text)
            || refuse_to(text, "it is none of format, image, run, start, confirm and end", "type one of these first, or --help");
 }
 
-/* Returns whether the words go together. */
+/* Returns true if no argument is missing and all may be combined; else prints what is wrong. */
 static bool is_whole(const struct words *words, bool has_more)
 {
     if (words->job == JOB_NONE || words->medium == NULL || *words->medium == '\0')
@@ -205,7 +205,7 @@ static bool take_at(struct words *words, const char *text)
     return take_number(text, false, 0, UINT32_MAX, &words->at) || refuse(text, "confirm takes AT, a number of bytes as start prints it");
 }
 
-/* All options, and the words that aren't one. */
+/* Processes all options, and the arguments that aren't options. */
 static int take_all(struct words *words, int count, char **texts)
 {
     int code;

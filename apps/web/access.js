@@ -1,5 +1,5 @@
 // SPDX-License-Identifier: MIT OR Apache-2.0
-// Why a device can't be had, and what to do about it on this system.
+// Error messages for a device that can't be opened, with advice.
 import { NOT_DFU, SEVERAL } from './board.js'
 
 const RULE = 'On Linux a rule of udev lets you: `make install UDEVDIR=/etc/udev/rules.d` of Fustrelan installs one for every device ' +

@@ -1,12 +1,12 @@
 // SPDX-License-Identifier: MIT OR Apache-2.0
-// An action of the host in words: what it wants, what becomes of it, and what the host hears.
+// Describes a host's action as text: the request, its fate, and the answer that the host gets.
 import { SEEN, WHAT } from './host.js'
 import { CODES, REQUEST, REQUESTS, STATES, hexOf, partsOf, pollOf, stateOf } from './names.js'
 
 const HEARS = ['it is acknowledged', '', 'a stall', 'nothing', 'the time has passed', 'the bus was reset', 'the device restarted']
 const FATES = { pass: 'it goes well', lostout: 'the request is lost', lostback: 'the answer is lost', twice: 'it comes twice',
   twicelostback: 'it comes twice, the answer is lost' }
-const MAX_SHOWN = 16 // bytes of an answer
+const MAX_SHOWN = 16 // bytes of an answer that are shown
 
 export function fateOf({ fate, ms, writes, tear }) {
   if (fate === 'slip') return `${ms} ms pass`
@@ -23,7 +23,7 @@ export function actionOf({ what, value, setup }) {
   return parts.request === REQUEST.DETACH ? `${name}, within ${parts.value} ms` : name
 }
 
-// Returns the meaning of an answer in words: code, state and wait of a status, a state, or nothing.
+// Returns the meaning of an answer: code, state and poll time of a status, or a state, or ''.
 function meaningOf({ setup }, bytes) {
   const { request } = partsOf(setup)
   const state = stateOf(request, bytes)
@@ -33,7 +33,7 @@ function meaningOf({ setup }, bytes) {
   return `${CODES[bytes[0]] ?? '?'}, ${name}${pollOf(bytes) > 0 ? `, wait ${pollOf(bytes)} ms` : ''}`
 }
 
-// Returns the words for what the host is told of an action, and the bytes of the answer.
+// Returns a text for the answer that the host gets, and the answer's bytes.
 export function hearsOf({ action, seen, bytes }) {
   if (seen !== SEEN.BYTES) return [HEARS[seen], '']
   if (bytes.length === 0) return ['no bytes', '']

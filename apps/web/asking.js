@@ -1,5 +1,5 @@
 // SPDX-License-Identifier: MIT OR Apache-2.0
-// What a session asks a person for: to choose the device that came back, and to pull the plug.
+// Questions to a person during a session: choose the device that returned, or pull the plug.
 import { FILTERS } from './board.js'
 import { by } from './elements.js'
 
@@ -25,7 +25,7 @@ export class Asking {
     this.finish = null
   }
 
-  // The device that a person chooses, or null if it doesn't come back. One that was there all the time isn't it.
+  // Returns the device that a person chooses, or null. Refuses bystanders, which never left.
   choose(bystanders) {
     const pick = async () => {
       const device = await this.usb.requestDevice({ filters: FILTERS }).catch(() => null)
@@ -37,7 +37,7 @@ export class Asking {
       'Choose the device', 'It does not come back', pick)
   }
 
-  // Asks a person to unplug the device. Returns whether it left; a click alone doesn't count.
+  // Asks a person to unplug the device. Returns true if it left; a click alone doesn't count.
   async replug(isGone) {
     this.show('This system could not reset the device. Pull its plug now, and put it in again.', '', 'It can\'t be unplugged')
     let isGivenUp = false

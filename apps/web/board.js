@@ -1,8 +1,7 @@
 // SPDX-License-Identifier: MIT OR Apache-2.0
-// The device of a session: opened, let go, and found again after it left. WebUSB doesn't say to which port a device is plugged in. So it
-// is found again as one that was not there before, of which there is no second: with the same serial number, if both have one. One that
-// the page may not see a person has to choose. session.js sees to it that the device is no other board, because it compares it with what
-// was there before in the same mode.
+// Opens and closes the device of a session, and finds it again after it left. WebUSB doesn't report ports, so the returned device is the
+// only new one, with the same serial number if both have one. A person must choose a device that the page may not see. session.js detects
+// another board by comparing it with the previous device in the same mode.
 import { LATE } from './clock.js'
 import { releaseOf, saidOf, settingsOf } from './descriptors.js'
 import { INTERFACE } from './names.js'
@@ -11,12 +10,12 @@ import { closesUnheard } from './system.js'
 export const FILTERS = [{ classCode: INTERFACE.CLASS, subclassCode: INTERFACE.SUBCLASS }]
 const OPEN_MS = 5000
 const LOOK_MS = 50
-const ASK_MS = 3000 // a device that a page may see is back by then; else a person is asked
+const ASK_MS = 3000 // time until a person is asked; a visible device returns sooner
 
 export const NOT_DFU = 'NotDfuError'
 export const SEVERAL = 'SeveralSettingsError'
 
-// The setting that is meant: in run-time mode each one is (there is one of each, USB DFU 1.1, section 4.1.2).
+// Returns the matching setting. In run-time mode each one matches (there is only one, USB DFU 1.1, section 4.1.2).
 export function settingOf(device, place) {
   const fits = settingsOf(device).filter(one => !one.isUpgrade
     || ((place.interface ?? one.interface) === one.interface && (place.alternate ?? one.alternate) === one.alternate))
@@ -31,7 +30,7 @@ async function within(clock, promise) {
   return result
 }
 
-// Reads what a device says of each of these settings, before one is chosen, and closes it again.
+// Opens the device, reads the descriptors of these settings, and closes it.
 export async function peek(device, clock, settings) {
   await within(clock, device.open())
   try {
@@ -45,7 +44,7 @@ export async function peek(device, clock, settings) {
 }
 
 export class Board {
-  // place: { interface, alternate } in DFU mode, if one was chosen. ask: what a person is asked for, as flash.js has it.
+  // place: the chosen { interface, alternate } for DFU mode. ask: an Asking.
   constructor(usb, clock, ask, place = {}) {
     Object.assign(this, { usb, clock, ask, place, handle: null, hasLeft: false, isMany: false, returns: 0, bystanders: new Set() })
     this.onDisconnect = event => {
@@ -60,14 +59,14 @@ export class Board {
     return this.handle !== null
   }
 
-  // The devices that are there with this one are others, also if this one is away.
+  // Opens the device. All other connected devices become bystanders, which are never taken for this one later.
   async choose(device) {
     for (const one of await this.usb.getDevices()) if (one !== device) this.bystanders.add(one)
     await this.open(device)
     this.serial = this.info.serial
   }
 
-  // Opens it and claims its interface, and reads what it is.
+  // Opens the device, claims its interface, and reads its descriptors.
   async open(device, isSet = true) {
     await this.within(device.open())
     try {
@@ -89,8 +88,8 @@ export class Board {
     return within(this.clock, promise)
   }
 
-  // If there is one setting a device may stall the request, and is in it all the same. If there are several, a block that
-  // goes to another one is harm.
+  // A device with only one setting may stall the request, but is in that setting. If it has several, blocks to the wrong one overwrite
+  // other memory.
   async set(device, setting) {
     try {
       await this.within(device.selectAlternateInterface(setting.interface, setting.alternate))
@@ -100,14 +99,14 @@ export class Board {
     }
   }
 
-  // Lets it go. Returns false if the device can't be closed, because it may still be at a transfer then.
+  // Returns false if closing times out, because the device may still be in a transfer then.
   async close() {
     const device = this.handle
     Object.assign(this, { handle: null, hasLeft: false })
     return device === null || await this.clock.limit(device.close(), OPEN_MS).catch(() => {}) !== LATE
   }
 
-  // Forgets the device once it has left and the session knows that.
+  // Forgets a device that has left, after the session has noticed that.
   letGo() {
     Object.assign(this, { handle: null, hasLeft: false })
   }
@@ -117,8 +116,8 @@ export class Board {
     return this.close()
   }
 
-  // Closes it and opens it again, which ends a transfer that is under way. 'same' if the device heard nothing of that, 'anew'
-  // if it may have, 'left' if it isn't there, and 'stuck' if it can't be closed or had again.
+  // Closes and reopens the device to end a pending transfer. Returns 'same' if the device doesn't notice that, 'anew' if it may, 'left' if
+  // it is gone, and 'stuck' if it can't be closed or reopened.
   async renew() {
     const device = this.handle
     if (!await this.close()) return 'stuck'
@@ -131,14 +130,14 @@ export class Board {
     return this.info.alternate === 0 && closesUnheard() ? 'same' : 'anew'
   }
 
-  // Returns the devices of this page that may be the one that left: no bystander, and no other serial number.
+  // Returns the devices that may be this one: no bystander, and none with another serial number.
   async again() {
     const all = await this.usb.getDevices()
     return all.filter(one => !this.bystanders.has(one) && settingsOf(one).length > 0
       && (this.serial === '' || !one.serialNumber || one.serialNumber === this.serial))
   }
 
-  // Returns whether the device could be opened. The list may have one that left for a moment, and that can't be opened.
+  // Tries to open the device. A device that has left may still be listed for a moment, and can't be opened.
   async isOpened(device) {
     try {
       await this.open(device)
@@ -149,8 +148,8 @@ export class Board {
     }
   }
 
-  // Waits for the device, and returns true once it is back and open. A person is asked for it once it is overdue, and may say that it
-  // doesn't come.
+  // Waits for the device, and returns true after it is open again. When it is overdue a person is asked to choose it, and may say that it
+  // doesn't return.
   async reopen() {
     await this.close()
     this.isMany = false

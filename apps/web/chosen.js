@@ -1,6 +1,6 @@
 // SPDX-License-Identifier: MIT OR Apache-2.0
-// The file that is to be flashed: chosen or dropped, read by the proved host, and shown. The image in a file that a build made is taken out
-// of it. A raw image gets its suffix here; with a device of DfuSe it needs none.
+// The file to flash: it is chosen or dropped, checked by the proved host, and displayed. The image of a build's HEX, S-record, UF2 or ELF
+// file is extracted. A raw image gets its suffix here, except for a DfuSe device.
 import { DfuseHost, FILE } from './dfuse_host.js'
 import { elementText } from './dfuse_map.js'
 import { by, download, listOf, plain, say, showFields } from './elements.js'
@@ -13,20 +13,20 @@ import { refusalOf } from './refusals.js'
 import { FILL, FILL_NONE, FORMATS, isFormat, takeImage, takingRefusal, TAKE } from './taking.js'
 
 const MAX_FILE = 16777216
-const MAX_SHOWN = 8 // elements
+const MAX_SHOWN = 8 // number of elements that are shown
 const ANY = 0xffff
 
 const orAny = number => (number === ANY ? 'any' : digits(number, 4))
 const target = ({ vendor, product, device }) => `${orAny(vendor)}:${orAny(product)}, version ${orAny(device)}`
 
 export class ChosenFile {
-  // onChange is called when there is another file; ids gives the identifiers of the connected device, or null if there is none.
+  // onChange is called for a new file. ids returns the identifiers of the connected device, or null.
   constructor({ host, image }, onChange, ids) {
     Object.assign(this, { module: host, reader: image, own: null, taken: null, address: '' })
     Object.assign(this, { onChange, bytes: null, said: null, look: null, isDfuse: false, isAdded: false, name: '' })
     Object.assign(this, { choices: 0, shown: null, isLocked: false, isForDfuse: false, setting: null })
     this.raw = new RawImage(bytes => this.take(bytes, this.name, true), ids)
-    // A file may be chosen a second time, because it may have been built anew.
+    // A file may be chosen a second time, because it may have been rebuilt.
     by('file').onclick = event => { event.target.value = '' }
     by('file').oncancel = event => { if (this.shown !== null) event.target.files = listOf(this.shown) }
     by('file').onchange = event => event.target.files[0] && this.read(event.target.files[0])
@@ -45,36 +45,37 @@ export class ChosenFile {
     }
   }
 
-  // True if it is sound, or a raw image for a device of DfuSe.
+  // Returns true for a valid file, or a raw image for a DfuSe device.
   isGood() {
     return this.said !== null && (this.said.refusal === undefined || this.isRaw())
   }
 
-  // True if all of its bytes are an image, for an address.
+  // Returns true if the whole file is a raw image for a DfuSe device.
   isRaw() {
     return this.isForDfuse && mayBeRaw(this, this.bytes)
   }
 
-  // Returns the part of the file that a session takes.
+  // Returns the properties of the file that a session needs.
   forSession() {
     const { bytes, isDfuse, said, look } = this
     return { bytes, isDfuse, isRaw: this.isRaw(), said, look }
   }
 
-  // No other file while a session goes on.
+  // Disables the inputs of the file while a session runs, or enables them again.
   lock(isLocked) {
     this.isLocked = by('file').disabled = isLocked
     this.raw.refresh(isLocked)
   }
 
-  // Sets for which device the file is shown: whether it speaks DfuSe, and the setting that a person chose, or null.
+  // Sets the device for which the file is shown: true for DfuSe, and the setting that a person chose, or null.
   fit(isForDfuse, setting) {
     if (isForDfuse === this.isForDfuse && setting === this.setting) return
     Object.assign(this, { isForDfuse, setting })
     if (this.bytes !== null && (this.isDfuse || lacksSuffix(this, this.bytes))) this.render()
   }
 
-  // One byte more than a file may have shows the host that it is too large. Of two files that are read at once the last chosen counts.
+  // Reads one byte more than the limit, so that the host detects a file that is too large. If two files are being read, the last one chosen
+  // counts.
   async read(file) {
     const choice = ++this.choices
     const failed = error => say('file-refused', `The file can't be read: ${error.message}`)
@@ -85,7 +86,7 @@ export class ChosenFile {
     this.take(new Uint8Array(buffer), file.name)
   }
 
-  // isAdded: it had no suffix, and the page added one.
+  // isAdded: the page added the suffix.
   take(bytes, name, isAdded = false) {
     Object.assign(this, { bytes, name, isAdded, ...readFile(this.module, bytes, name) })
     if (!isAdded) this.begin(bytes)
@@ -94,7 +95,7 @@ export class ChosenFile {
     this.onChange()
   }
 
-  // A file that a person chose: of one that a build made the image is taken.
+  // Begins with a file that a person chose, and extracts its image if it has one of FORMATS.
   begin(bytes) {
     by('fill').checked = false
     Object.assign(this, { own: { bytes, look: this.look }, taken: null })
@@ -110,12 +111,12 @@ export class ChosenFile {
     this.sayAddress()
   }
 
-  // True if the image was taken out of the file.
+  // Returns true if the image was extracted from the file.
   isTaken() {
     return this.taken !== null && this.taken.refusal === undefined
   }
 
-  // A device of DfuSe is told the image's own address, unless a person types another one.
+  // Fills in the image's address. If it has none, clears the field, unless a person typed an address.
   sayAddress() {
     const address = this.isTaken() ? `0x${digits(this.taken.address, 8)}` : ''
     if (address !== '' || by('address').value === this.address) by('address').value = address
@@ -136,7 +137,7 @@ export class ChosenFile {
     else this.refuseFormat()
   }
 
-  // Facts that were read of a file that a build made.
+  // Returns the format and the addresses of an extracted image.
   takenFields() {
     if (!this.isTaken()) return []
     const { format, fill, address, bytes } = this.taken
@@ -154,7 +155,7 @@ export class ChosenFile {
       ['Check sum', `${digits(crc, 8)}${this.isAdded ? ', added by this page' : ', and it is right'}`]]
   }
 
-  // The elements are those for the setting that the file names, or, if it has several, for the one that is chosen.
+  // Returns the fields of a DfuSe file, with its setting's elements or, if it has several settings, those of the chosen one.
   dfuseFields() {
     const isOfSeveral = this.said.setting === FILE.SEVERAL
     const setting = isOfSeveral ? this.setting : this.said.setting
@@ -166,7 +167,7 @@ export class ChosenFile {
       ...(lines.length > 0 ? [['Elements', lines.join('\n')]] : [])]
   }
 
-  // Without a suffix it may be a raw image. A DFU file that was cut is none, whatever a person says of it.
+  // A file without a suffix may be a raw image, but not if it is a DFU file that was cut.
   refuse() {
     const isSuffixed = !lacksSuffix(this, this.bytes)
     const isOther = !isSuffixed && !mayBeRaw(this, this.bytes)
@@ -176,7 +177,7 @@ export class ChosenFile {
     if (!isSuffixed && !isCut(this.look)) this.raw.ask(this.bytes, isOther)
   }
 
-  // A file that a build made, and that has no image, or a gap in it. A person may send its own bytes.
+  // Refuses a file from which no image can be extracted. A person may still send the file unchanged.
   refuseFormat() {
     const { name, words, advice } = takingRefusal(this.taken)
     const seen = `It looks like ${FORMATS[this.taken.format]}.`

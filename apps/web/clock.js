@@ -12,13 +12,13 @@ export class Clock {
     return performance.now()
   }
 
-  // From here on waits end at once.
+  // Makes all waits end at once.
   stop() {
     this.isStopped = true
     this.tellStopped()
   }
 
-  // Waits until `ms` milliseconds have passed, and looks at the clock, because a timer may end early. Returns false after a stop.
+  // Waits `ms` milliseconds by the clock, because a timer may end early. Returns false after a stop.
   async wait(ms) {
     const end = this.now() + ms
     while (!this.isStopped && this.now() < end) {
@@ -30,7 +30,7 @@ export class Clock {
     return !this.isStopped
   }
 
-  // Returns the promise's value if it has one within so many milliseconds, else LATE. One that fails later is heard by nobody.
+  // Returns the promise's value, or LATE after `ms` milliseconds. A later rejection is ignored.
   async limit(promise, ms) {
     let timer
     const late = new Promise(done => { timer = setTimeout(done, ms, LATE) })

@@ -1,5 +1,5 @@
 // SPDX-License-Identifier: MIT OR Apache-2.0
-// A connected device in words: what it is, in which mode, where its image goes, and why it can't be compared.
+// Describes a connected device: its identifiers, mode, interface and setting, and why its image can't be compared.
 import { canCompare, canUpload, isDfuse } from './begin.js'
 import { by, plain, say } from './elements.js'
 import { FUNCTIONAL, digits, transferOf } from './names.js'

@@ -1,5 +1,5 @@
 // SPDX-License-Identifier: MIT OR Apache-2.0
-// What a device says of its DFU interface (USB DFU 1.1, sections 4.1.2, 4.1.3 and 4.2.3).
+// Reads the descriptors of a DFU interface (USB DFU 1.1, sections 4.1.2, 4.1.3 and 4.2.3).
 import { LATE } from './clock.js'
 import { FUNCTIONAL, INTERFACE as DFU, speaksDfuse } from './names.js'
 
@@ -11,7 +11,7 @@ const STRING_BYTES = 255
 const GET_DESCRIPTOR = 6
 const DESCRIPTOR_MS = 5000
 
-// Each alternate setting with DFU of a device. Protocol 2 is DFU mode, any other one is taken as run-time mode.
+// Returns each alternate setting with DFU. Protocol 2 is DFU mode, any other counts as run-time mode.
 export function settingsOf(device) {
   const found = []
   const { interfaces = [] } = device.configuration ?? device.configurations?.[0] ?? {}
@@ -28,12 +28,12 @@ export function settingsOf(device) {
   return found
 }
 
-// bcdDevice, which WebUSB gives in three parts.
+// Returns bcdDevice, which WebUSB splits into three parts.
 export const releaseOf = device =>
   (device.deviceVersionMajor << 8) | (device.deviceVersionMinor << 4) | device.deviceVersionSubminor
 
-// The functional descriptor of a setting in the bytes of a configuration: the one after that setting, else after another one of
-// its interface, else before all interfaces. It has 9 bytes, or 7 in DFU 1.0; no bytes if there is none that is whole.
+// Finds the functional descriptor of a setting in a configuration: after that setting, else after another one of its interface, else before
+// all interfaces. It has 9 bytes, or 7 in DFU 1.0. Returns no bytes if there is none.
 export function functionalIn(bytes, number, alternate) {
   const found = { own: null, other: null, before: null }
   let place = 'before'
@@ -47,7 +47,7 @@ export function functionalIn(bytes, number, alternate) {
   return found.own ?? found.other ?? found.before ?? new Uint8Array(0)
 }
 
-// iInterface of a setting in the bytes of a configuration, the index of its name; 0 if it has none.
+// Returns iInterface of a setting in a configuration, the index of its name, or 0.
 function nameIndexIn(bytes, number, alternate) {
   for (let at = 0; at + INTERFACE_BYTES <= bytes.length && bytes[at] >= 2; at += bytes[at])
     if (bytes[at + 1] === INTERFACE && bytes[at] === INTERFACE_BYTES && bytes[at + 2] === number && bytes[at + 3] === alternate)
@@ -63,7 +63,7 @@ async function descriptor(device, clock, kind, index, length, language = 0) {
   return new Uint8Array(result.data.buffer, result.data.byteOffset, result.data.byteLength)
 }
 
-// The bytes of the configuration that the device is in, of which WebUSB shows only a part.
+// Reads the active configuration as bytes, because WebUSB shows only a part of it.
 async function configurationBytes(device, clock) {
   for (let index = 0; index < device.configurations.length; index++) {
     const head = await descriptor(device, clock, CONFIGURATION, index, 9)
@@ -73,7 +73,7 @@ async function configurationBytes(device, clock) {
   return new Uint8Array(0)
 }
 
-// The string of that index of an open device, in the first language that it has; empty if there is none.
+// Reads a string descriptor in the device's first language, or returns '' if there is none.
 export async function nameAt(device, clock, index) {
   const languages = index === 0 ? [] : await descriptor(device, clock, STRING, 0, STRING_BYTES)
   if (languages.length < 4) return ''
@@ -83,8 +83,7 @@ export async function nameAt(device, clock, index) {
   return String.fromCharCode(...units).split('\0')[0]
 }
 
-// Reads what an open device says of a setting: its functional descriptor, from its configuration, or asked for; and its name. With DfuSe
-// that is a memory map, which a browser need not show.
+// Reads the functional descriptor and the name of a setting. With DfuSe the name is a memory map, which a browser may hide.
 export async function saidOf(device, clock, setting) {
   const bytes = await configurationBytes(device, clock)
   const found = functionalIn(bytes, setting.interface, setting.alternate)

@@ -1,5 +1,5 @@
 // SPDX-License-Identifier: MIT OR Apache-2.0
-// The proved device. It asks for each operation of the flash, which is carried out here, in the memory of the library: its driver.
+// The proved device. The library requests each flash operation, and this driver carries it out in the library's memory.
 import { LAYOUT } from './records.js'
 import { Library } from './library.js'
 
@@ -12,9 +12,9 @@ const ERASE = 1
 const ERASED = 0xff
 const MAX_BODY = 65536
 const MAX_ANSWER = 4096
-const MAX_BLOCK = 4096 + 256 // a block, and behind it a unit
+const MAX_BLOCK = 4096 + 256 // bytes of a block and of a unit
 
-// A device is refused: `number` is that of dfu_core.h.
+// A refusal by the device; `number` is an error of dfu_core.h.
 export class Refused extends Error {
   constructor(number) {
     super(`the proved device refuses: ${number}`)
@@ -28,7 +28,7 @@ function taken(number) {
 }
 
 export class Device extends Library {
-  // config: the fields of struct dfu_config. The medium is made for images of up to `capacity` bytes, all FFh but for `image`.
+  // config: the fields of struct dfu_config. The medium has room for images of `capacity` bytes, and is erased except for `image`.
   constructor(module, config, capacity, image) {
     super(module)
     const whole = { unit: 1, sector: 0, erase_ms: 0, program_ms: 0, ...config }
@@ -37,7 +37,7 @@ export class Device extends Library {
     this.ask = this.record('dfu_ask')
     this.block = this.reserve(MAX_BLOCK)
     this.transfer = whole.transfer
-    this.gate = Math.max(16, whole.unit, whole.sector) // bytes of a slot's gate, and of its header
+    this.gate = Math.max(16, whole.unit, whole.sector) // size of a gate, and of a header
     this.size = 2 * (2 * this.gate + capacity)
     this.medium = this.reserve(this.size)
     this.mediumBytes().fill(ERASED)
@@ -50,13 +50,13 @@ export class Device extends Library {
     this.power()
   }
 
-  // Carries out an operation, bytes that are to be there: whether that was done.
+  // Carries out an operation by writing its bytes. Returns true on success.
   carryOut({ at, bytes }) {
     this.mediumBytes().set(bytes, at)
     return true
   }
 
-  // The operation that the library asks for.
+  // Returns the operation that the library requests.
   asked() {
     const { kind, at, length } = this.read('dfu_ask', this.ask)
     const isErase = kind === ERASE
@@ -64,7 +64,7 @@ export class Device extends Library {
     return { isErase, at, bytes }
   }
 
-  // Has the operations carried out that a call asks for, one by one; its answer then.
+  // Carries out all operations that a call requests. Returns the call's answer.
   settle(number, next, took) {
     let answer = number
     while (answer === ASKS) {
@@ -90,12 +90,12 @@ export class Device extends Library {
     taken(this.settle(start(...words), () => next(...words, BigInt(this.ask)), failed => took(...words, failed)))
   }
 
-  // The power comes, or goes and comes back.
+  // Powers the device on, also after a power cut.
   power() {
     taken(this.calls.dfu_core_power_on(...[this.config, this.kept, this.medium, this.size].map(BigInt)))
   }
 
-  // The bytes of the answer, none if it is acknowledged; null for a stall.
+  // Returns the bytes of the answer, none for an acknowledgement, or null for a stall.
   handle(setup, body = new Uint8Array(0)) {
     this.bytes(this.setup, 8).set(setup)
     this.bytes(this.body, body.length).set(body)
@@ -104,7 +104,7 @@ export class Device extends Library {
     return count === STALL ? null : this.copy(this.out, taken(count))
   }
 
-  // The bytes of an image that was taken: what is on the medium, and what is held back; null if there is none that may be refused.
+  // Returns the bytes of a received image, on the medium and in memory, or null if none can be refused.
   candidate() {
     const words = [this.config, this.kept, this.medium, this.size, this.place].map(BigInt)
     const number = this.calls.dfu_core_candidate(...words)
@@ -115,7 +115,7 @@ export class Device extends Library {
     return [...this.copy(this.medium + at, length), ...this.copy(this.block + this.transfer, count)]
   }
 
-  // A program that takes only images that begin with these bytes: whether it refuses the image that this setup closes.
+  // Simulates a program that accepts only images with this prefix. Returns true if it refuses the one that this setup packet closes.
   refuses(setup, front) {
     const image = this.candidate()
     if (image === null || front.every((byte, at) => image[at] === byte)) return false
@@ -124,7 +124,7 @@ export class Device extends Library {
     return number === STALL || (number !== NO_CLOSE && taken(number) !== 0)
   }
 
-  // The program refuses the image that was closed, if one was.
+  // Refuses the image of a closed download.
   refuse(objection) {
     taken(this.calls.dfu_core_refuse(...[this.config, this.kept].map(BigInt), objection))
   }
@@ -151,7 +151,7 @@ export class Device extends Library {
     return taken(this.calls.dfu_core_code(BigInt(this.kept)))
   }
 
-  // Returns the place of the active image on the medium.
+  // Returns the offset and length of the active image.
   imagePlace() {
     taken(this.calls.dfu_core_image(...[this.config, this.medium, this.size, this.place].map(BigInt)))
     return this.read('dfu_place', this.place)
@@ -162,7 +162,7 @@ export class Device extends Library {
     return this.copy(this.medium + at, length)
   }
 
-  // The bytes of the medium: a view of them, until the memory grows.
+  // Returns a view of the medium, valid until the memory grows.
   mediumBytes() {
     return this.bytes(this.medium, this.size)
   }

@@ -1,10 +1,10 @@
 // SPDX-License-Identifier: MIT OR Apache-2.0
-// The proved host for DfuSe: a file, memory maps, and one session. An instance is for one session.
+// The proved host for DfuSe: a file, memory maps, and one session per instance.
 import { Library } from './library.js'
 import { LAYOUT, writeRecord } from './records.js'
 
-// The numbers of dfuse_host.h that aren't those of host.js: what a session works at, its reports, how a device left, what may be done
-// with a page; and the setting of a file that has several.
+// Numbers of dfuse_host.h that host.js lacks: the work of a session, its reports, how a device left, access rights of a page, and the
+// setting of a file that has several.
 export const WORK = { ERASE: 0, WRITE: 2, COMPARE: 3, LEAVE: 6, OVER: 7 }
 export const OUTCOME = { VERIFIED: 1, DIFFERENT: 2, REFUSED: 3, READ_PROTECTED: 4, GAVE_UP: 5, RESTARTS_SPENT: 6, NOT_DFU: 7 }
 export const LEAVING = { STAYED: 0, LEFT: 1, UNKNOWN: 2 }
@@ -33,7 +33,7 @@ export class DfuseHost extends Library {
     return refusal === 0 ? this.read('dfuse_file', at) : { refusal }
   }
 
-  // One after the other; where they begin.
+  // Writes the elements as an array, and returns its address.
   putElements(elements) {
     const { size } = LAYOUT.dfuse_element
     const at = this.reserve(elements.length * size)
@@ -41,7 +41,7 @@ export class DfuseHost extends Library {
     return at
   }
 
-  // The elements of a DfuSe file for a setting, in the order of the file; or { refusal }. Their bytes are in the file.
+  // Returns the elements of a DfuSe file for a setting, in file order, or { refusal }.
   readElements(setting) {
     const places = this.putElements(Array.from({ length: MAX_ELEMENTS }, () => ({ address: 0, bytes: this.file, length: 0 })))
     const count = this.reserve(8)
@@ -62,7 +62,7 @@ export class DfuseHost extends Library {
     return [BigInt(this.put(bytes)), BigInt(bytes.length)]
   }
 
-  // The title of a setting's memory map, and its ranges in their order; or { refusal }.
+  // Returns the title and the ranges of a setting's memory map, or { refusal }.
   readMap(text) {
     const words = this.putMap(text)
     const [map, range] = [this.record('dfuse_map'), this.record('dfuse_range')]
@@ -77,13 +77,13 @@ export class DfuseHost extends Library {
     return { title, ranges: Array.from({ length: ranges }, (_, number) => read(number)) }
   }
 
-  // map: the string of the setting. plan: the fields of struct dfuse_plan. 0, or a refusal.
+  // map: the setting's string. plan: the fields of struct dfuse_plan. Returns 0 or a refusal.
   begin(map, elements, plan) {
     this.words = [...this.putMap(map), BigInt(this.putElements(elements)), BigInt(elements.length)]
     return this.calls.dfuse_begin(BigInt(this.session), ...this.words, BigInt(this.record('dfuse_plan', plan)))
   }
 
-  // Returns the next action, with its setup and its body; null if the library refuses the record.
+  // Returns the next action with its setup packet and body, or null if the library refuses the record.
   next() {
     const words = [BigInt(this.session), ...this.words, BigInt(this.body), BigInt(MAX_BODY), BigInt(this.action)]
     if (this.calls.dfuse_next(...words) !== 0) return null
@@ -93,13 +93,13 @@ export class DfuseHost extends Library {
     return action
   }
 
-  // Reports the result of the action to the library; `bytes` is the answer of BYTES. Returns whether the library took it.
+  // Reports the result of the action to the library; `bytes` is the answer of BYTES. Returns true if the library accepts it.
   take(seen, bytes = new Uint8Array(0)) {
     this.bytes(this.answer, bytes.length).set(bytes)
     return this.calls.dfuse_take(BigInt(this.session), ...this.words, seen, BigInt(this.answer), BigInt(bytes.length)) === 0
   }
 
-  // The record, to be read: what it works at, and at which address.
+  // Returns the session's record, with its work and its address.
   state() {
     return this.read('dfuse_session', this.session)
   }

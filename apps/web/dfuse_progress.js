@@ -1,5 +1,5 @@
 // SPDX-License-Identifier: MIT OR Apache-2.0
-// How far a session with DfuSe is: what the host works at, and at which address. As apps/flash/dfuse_session.c shows it.
+// Progress of a DfuSe session by the address at which the host works, like apps/flash/dfuse_session.c.
 import { OUTCOME, WORK } from './dfuse_host.js'
 import { bytesBelow } from './dfuse_map.js'
 import { Progress } from './progress.js'
@@ -16,7 +16,7 @@ export class DfuseProgress extends Progress {
     return PHASES[this.session.host.state().work] ?? null
   }
 
-  // While the front is written and compared it stays as it is: these are few bytes.
+  // The progress stays the same while the front of the image is written, because it is only a few bytes.
   bytesOf() {
     const { work, at, report } = this.session.host.state()
     if (work === WORK.LEAVE || report === OUTCOME.VERIFIED) return this.total

@@ -1,6 +1,6 @@
 // SPDX-License-Identifier: MIT OR Apache-2.0
-// Why a session with DfuSe does not begin, and what to do, as refusals.js has it: by the numbers of dfuse_file.h and dfuse_host.h, and by
-// the names of dfu-flash's own refusals. The words are those of apps/flash/refusals.c.
+// Refusals of a DfuSe session with advice, like refusals.js, by the numbers of dfuse_file.h and dfuse_host.h and the names of dfu-flash's
+// own. The words are those of apps/flash/refusals.c.
 const OTHER_FILE = 'Take another file, or ask who made it.'
 const CUT = 'Download the file again.'
 const ITS_MAP = 'Nothing was sent. Choose another memory, if there is one; else the maker of the device has to mend that.'

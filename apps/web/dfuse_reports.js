@@ -1,13 +1,13 @@
 // SPDX-License-Identifier: MIT OR Apache-2.0
-// What a session with DfuSe came to: the words and the status of dfu-flash (apps/flash/dfuse_verdict.c), and for a person what it means.
-// Its other ends are those of reports.js.
+// Reports of a DfuSe session: words and status of dfu-flash (apps/flash/dfuse_verdict.c), and an explanation. The other ends are in
+// reports.js.
 import { LEAVING, OUTCOME } from './dfuse_host.js'
 import { CODES } from './names.js'
 import { AGAIN, MAYBE, rowOf, verdictOf } from './reports.js'
 
 const PROTECTION = 'To take the protection away erases all of the memory, and is nothing that this page does.'
 
-// By the number of the report: name, status, words, title, what it means, and what it doesn't.
+// By report number: name, status, words, title, meaning, and what isn't certain.
 const REPORTS = {
   [OUTCOME.VERIFIED]: ['verified', 0, "each byte was read back from the device's memory, and is the file's", 'Verified',
     'Each byte of the image was read back from the device\'s memory, and is the file\'s.',
@@ -31,14 +31,14 @@ const REPORTS = {
     'In its application', 'The device is in its application, and no longer in DFU mode.', MAYBE],
 }
 
-// Words for how the device left, which follow those for Verified; and words for a person.
+// Texts for how the device left, which follow those for Verified: for dfu-flash's line, and for a person.
 const LEAVINGS = {
   [LEAVING.STAYED]: ['; the device stays in DFU mode', ' The device stays in DFU mode.'],
   [LEAVING.LEFT]: ['; the device starts its application', ' The device starts its application.'],
   [LEAVING.UNKNOWN]: ["; whether it starts its application isn't known", ' Whether it starts its application isn\'t known.'],
 }
 
-// ended: what DfuseSession.run answers, and no refusal.
+// ended: the result of DfuseSession.run, unless it is a refusal.
 export function dfuseVerdictOf(ended, session) {
   if (ended.end !== 'report') return { ...verdictOf(ended, session), deviceText: '' }
   const [name, ...row] = REPORTS[ended.report]

@@ -1,6 +1,6 @@
 // SPDX-License-Identifier: MIT OR Apache-2.0
-// A download with DfuSe: what the proved host asks for is carried out, and what came of that goes back to it. It decides what is erased
-// and written, what counts as read back, and when the device is asked to leave. As apps/flash/dfuse_begin.c and apps/flash/dfuse_session.c.
+// A DfuSe download: carries out the host's actions and reports their results, like apps/flash/dfuse_begin.c and dfuse_session.c. The host
+// decides what is erased, written and compared, and when the device leaves.
 import { deviceRefusal, imageOf, limitsOf, planOf, totalOf, wordsRefusal } from './dfuse_begin.js'
 import { LEAVING, OUTCOME, WORK } from './dfuse_host.js'
 import { COURSES, DfuseWatch } from './dfuse_watch.js'
@@ -10,13 +10,13 @@ import { KIND, REQUEST, REQUESTS, STATES, isStatus, stateOf, transferOf } from '
 import { isAgain, nothing, sameBytes } from './session.js'
 import { COURSE, endOf } from './watch.js'
 
-const STRING_AT = 5 // iString of a status
+const STRING_AT = 5 // offset of iString in a status
 const NONE = new Uint8Array(0)
 const ABORT = new Uint8Array([KIND.OUT, REQUESTS.indexOf('ABORT'), 0, 0, 0, 0, 0, 0])
 
 export class DfuseSession {
-  // file: { bytes, isDfuse, isRaw, said, look }. words: for which device it has to be, the address of its first byte, or null, whether a
-  // person chose the setting, and whether the device is to leave; limits and onStep are as of Session.
+  // file: { bytes, isDfuse, isRaw, said, look }. ids: the identifiers that the file must match. address: that of the first byte, or null.
+  // isChosen: a person chose the setting. leaves: the device starts its application. limits and onStep: as in Session.
   constructor(host, module, wire, file, { ids, address = null, isChosen = false, leaves = true, limits = null, onStep = () => {} }) {
     Object.assign(this, { host, module, wire, board: wire.board, clock: wire.clock, trace: wire.trace, file })
     Object.assign(this, { ids, address, isChosen, leaves, limits, onStep, goal: 'verified', total: 0, elements: [] })
@@ -27,7 +27,7 @@ export class DfuseSession {
     return this.watch.hasSent()
   }
 
-  // 0, a refusal of dfuse_host.h, dfuse_file.h or dfu_host.h, or the name of one of dfu-flash's own. Nothing is sent.
+  // Returns 0, a refusal of dfuse_host.h, dfuse_file.h or dfu_host.h, or the name of a refusal of dfu-flash. Sends nothing.
   begin() {
     const { info } = this.board
     this.first = info
@@ -46,13 +46,13 @@ export class DfuseSession {
     return this.host.begin(name, elements, planOf(elements, this.limits, this.transfer, this.leaves))
   }
 
-  // Returns whether the open device is the one with which the session began, in the same setting, with the same map.
+  // Returns true if the open device, its setting and its map are those with which the session began.
   isSame() {
     const { info } = this.board
     return info.isUpgrade && isAgain(this.first, info) && info.name === this.first.name && sameBytes(this.first.descriptor, info.descriptor)
   }
 
-  // A device may say in a string of its own why it is in dfuERROR.
+  // Stores the index of the string in which a device may explain dfuERROR.
   noteString(setup, { seen, bytes }) {
     if (!isStatus(setup) || seen !== SEEN.BYTES || bytes.length <= STRING_AT) return
     this.string = STATES[stateOf(REQUEST.GETSTATUS, bytes)] === 'dfuERROR' ? bytes[STRING_AT] : 0
@@ -66,7 +66,7 @@ export class DfuseSession {
     return { ...answer, isReached: true }
   }
 
-  // A device that is to leave may be gone with any request.
+  // A device that is about to leave may disappear at any request.
   async perform(action) {
     if (action.what === WHAT.WAIT) return this.wire.wait(this.watch.wait(action.value))
     this.wire.isManifesting = this.watch.closes()
@@ -89,7 +89,7 @@ export class DfuseSession {
     return this.host.take(seen, bytes) ? null : { end: 'broken' }
   }
 
-  // One action: null, or how the session ended.
+  // Carries out one action. Returns null, or the end of the session.
   async step(action) {
     this.onStep(action, null)
     const answer = await this.perform(action)
@@ -102,7 +102,8 @@ export class DfuseSession {
     return ended
   }
 
-  // A stop ends it: what was brought and not started is dropped. Once all was read back that is what is reported.
+  // Ends the session after a stop. ABORT discards a command that was sent but not started. If all bytes were compared before, the session
+  // reports success.
   async stop() {
     if (this.host.state().work === WORK.LEAVE)
       return { end: 'report', report: OUTCOME.VERIFIED, more: this.watch.closes() ? LEAVING.UNKNOWN : LEAVING.STAYED, deviceText: '' }
@@ -111,13 +112,13 @@ export class DfuseSession {
     return { end: 'aborted' }
   }
 
-  // Returns the device's own words for its refusal.
+  // Returns the device's own text for its refusal.
   async deviceTextOf(report) {
     if (report !== OUTCOME.REFUSED || this.string === 0 || !this.board.isOpen()) return ''
     return nameAt(this.board.handle, this.clock, this.string).catch(() => '')
   }
 
-  // { end: 'report', report, more, says }, or an end without a report.
+  // Returns { end: 'report', report, more, deviceText }, or an end without a report.
   async run() {
     this.trace.begin(this.goal, { ...this.board.info, ...this.ids }, { transfer: this.transfer, ...this.limits })
     for (;;) {

@@ -1,22 +1,22 @@
 // SPDX-License-Identifier: MIT OR Apache-2.0
-// When a device of DfuSe is given up: the proved library decides (dfuse_watch.h); as dfu-flash does.
+// The proved library decides when a DfuSe session gives up (dfuse_watch.h), as in dfu-flash.
 import { writeRecord } from './records.js'
 
-// The numbers that dfuse_watch.h has beside those of dfu_watch.h.
+// Numbers of dfuse_watch.h that dfu_watch.h lacks.
 export const COURSES = { GOES_RESTARTED: 8, GOES_TO_STOP: 9 }
 
 export class DfuseWatch {
-  // host: the session's; its action is the one that `after` is about.
+  // host: the session's host, whose current action `after` evaluates.
   constructor(host) {
     Object.assign(this, { host, calls: host.calls, record: host.record('dfuse_watch'), facts: host.record('dfu_facts') })
   }
 
-  // Returns whether the device was asked to leave, because it may be gone with any request after that.
+  // Returns true after the command to leave, because the device may disappear at any request then.
   closes() {
     return this.calls.dfuse_watch_closes(BigInt(this.host.session)) === 1
   }
 
-  // Returns the milliseconds to wait if the host asks for `ms`: the same, but 5 from the fourth wait of 0 ms in a row on.
+  // Returns the milliseconds to wait for the host's `ms`: the same, but 5 from the fourth wait of 0 ms in a row.
   wait(ms) {
     return this.calls.dfuse_watch_wait(BigInt(this.record), ms) >>> 0
   }

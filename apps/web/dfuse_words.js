@@ -1,6 +1,6 @@
 // SPDX-License-Identifier: MIT OR Apache-2.0
-// What a person says of a session with DfuSe: the address of an image that has none of its own, and whether the device is to start its
-// application. As --address and --no-leave of dfu-flash.
+// Inputs for a DfuSe session, like --address and --no-leave of dfu-flash: the address of an image that has none, and if the device starts
+// its application.
 import { by, say } from './elements.js'
 
 const IS_ADDRESS = /^0x[0-9a-f]{1,8}$/i
@@ -15,7 +15,7 @@ export class DfuseWords {
     return by('address').value.trim()
   }
 
-  // Null if there is none.
+  // Returns the address, or null.
   address() {
     return IS_ADDRESS.test(this.text()) ? parseInt(this.text(), 16) : null
   }
@@ -24,7 +24,7 @@ export class DfuseWords {
     return by('leave').checked
   }
 
-  // isDfuse: the device speaks DfuSe. An image that is written at an address is always compared.
+  // isDfuse: the device speaks DfuSe. An image with an address is always compared.
   show(isDfuse, needsAddress) {
     by('verify-row').hidden = isDfuse
     by('leave-row').hidden = !isDfuse

@@ -1,6 +1,6 @@
 // SPDX-License-Identifier: MIT OR Apache-2.0
-// The states of a device (USB DFU 1.1, appendix A), drawn, with the one lit up in which it is. The picture is narrow enough to be
-// read on a phone; docs/pictures/states.svg has the rules of each arrow.
+// Draws the states of a device (USB DFU 1.1, appendix A), and highlights the current one.
+// docs/pictures/states.svg has the rules of each arrow.
 import { STATES } from './names.js'
 
 const SVG = 'http://www.w3.org/2000/svg'
@@ -8,11 +8,11 @@ const WIDTH = 440
 const HEIGHT = 426
 const BOX = 26
 
-// By the number of the state: the middle of its box, and its width.
+// By state number: the center and the width of its box.
 const PLACES = [[115, 24, 84], [340, 24, 110], [340, 102, 84], [340, 180, 144], [115, 180, 104], [340, 258, 136], [340, 332, 154],
   [115, 332, 112], [125, 406, 190], [115, 102, 142], [115, 258, 88]]
 
-// The way of each arrow, and what leads along it: the text, its place, and which part of the text is there.
+// Path of each arrow, its label, the label's position and its text anchor.
 const ARROWS = [
   ['M157 18H283', 'DETACH', 221, 12, 'middle'],
   ['M285 30H159', 'time', 221, 44, 'middle'],
@@ -42,7 +42,7 @@ function shape(tag, attributes, text) {
   return element
 }
 
-// A way that joins another one has no head.
+// A path that joins another one has no arrowhead.
 function arrow([d, label, x, y, anchor, join]) {
   const way = shape('path', join ? { d, class: 'way' } : { d, class: 'way', 'marker-end': 'url(#head)' })
   return [way, shape('text', { x, y, 'text-anchor': anchor, class: 'label' }, label)]

@@ -25,7 +25,7 @@ const ANY = 0xffff
 const CANCELLING = 'Cancelling, which may take some seconds.'
 
 export class FlashView {
-  // own: navigator.usb, or undefined where a browser has none. usb: that, or a simulated board's.
+  // own: navigator.usb, or undefined if the browser lacks it. usb: own, or a simulated board's.
   constructor(modules, own) {
     Object.assign(this, { modules, own, usb: own, board: null, clock: null, isGoing: false, simulated: 0, opening: Promise.resolve() })
     Object.assign(this, { refused: false, outcome: new Outcome() })
@@ -65,7 +65,7 @@ export class FlashView {
     this.words.show(this.file.isForDfuse, this.file.isForDfuse && this.file.isGood() && !this.file.isDfuse)
   }
 
-  // The line below the buttons: a session that goes on, or a thing that is missing before one can begin.
+  // Returns the line below the buttons, about the running session or a missing input.
   hint(isReady) {
     if (this.isGoing) return this.clock.isStopped ? CANCELLING : 'Leave the device plugged in, and this page open.'
     if (isReady || this.outcome.isShown()) return ''
@@ -73,7 +73,7 @@ export class FlashView {
     return this.file.isGood() ? '' : 'The file is refused.'
   }
 
-  // Lets the device go that was connected. A person says anew of each device that it is the right board.
+  // Closes the connected device. A person must confirm the next one as the right board again.
   forget(text = NOBODY) {
     this.board?.done()
     Object.assign(this, { board: null, refused: false })
@@ -84,7 +84,7 @@ export class FlashView {
     this.refresh()
   }
 
-  // A simulated board, and if no file is chosen, one that it takes. Without WebUSB the steps come with it.
+  // Connects a simulated board, even in a browser without WebUSB. Reads an example file if none is chosen.
   async simulate() {
     by('flash').classList.remove('no-usb')
     by('no-usb').hidden = true
@@ -99,7 +99,7 @@ export class FlashView {
     return usb
   }
 
-  // Flashes the same file onto another board, which is chosen, and begins at once if no question is open.
+  // Flashes the same file onto another board, at once if nothing has to be confirmed.
   async next() {
     await this.connect(this.usb === this.own ? this.own : this.newSimulated())
     if (!by('begin').disabled) await this.flash()
@@ -122,7 +122,7 @@ export class FlashView {
     }
   }
 
-  // A device may have several alternate settings, each for another part of its memory: nothing goes to another one than the chosen.
+  // A device may have several alternate settings for parts of its memory. Blocks go only to the chosen one.
   async chooseSetting(device, settings) {
     if (settings.length > 1) {
       this.memories.show(device, await peek(device, new Clock(), settings))
@@ -135,7 +135,7 @@ export class FlashView {
     await this.settle()
   }
 
-  // With DfuSe the setting that is meant is opened unless a person chose one. If the file names none of them, that is refused by its name.
+  // With DfuSe opens the file's setting, unless a person chose one. A file for other settings is refused later.
   async settle() {
     const { memories } = this
     if (!memories.isDfuse || memories.isChosen) return
@@ -151,7 +151,7 @@ export class FlashView {
     by('device').textContent = NOBODY
   }
 
-  // One after the other: two at once could leave the device in the setting of the first.
+  // Opens devices one after the other, because two at once could leave the device in the first one's setting.
   open(device, place) {
     const closed = this.board?.done()
     this.refresh()
@@ -171,7 +171,7 @@ export class FlashView {
     this.look()
   }
 
-  // A session of this file and this device, which has begun, or was refused. Nothing is sent.
+  // Begins a session for this file and device, or refuses it. Sends nothing.
   prepare() {
     const { board, clock, file, words } = this
     const isSure = by('sure').checked && board.info.isUpgrade
@@ -189,13 +189,13 @@ export class FlashView {
     return { ...made, trace }
   }
 
-  // There is another file, for which another setting may be meant.
+  // Handles a new file, which may be for another setting.
   lookAnew() {
     this.settle().catch(error => this.sayNoAccess(error))
     this.look(true)
   }
 
-  // Looks whether file and device belong together, before anything is sent. A person said of the file before that it is the right board.
+  // Checks that file and device fit, before anything is sent. A confirmation of the right board isn't valid for another file.
   look(isOther = false) {
     this.refused = false
     if (isOther) {

@@ -1,13 +1,13 @@
 // SPDX-License-Identifier: MIT OR Apache-2.0
-// A write of the medium that is harmed: it cuts the power, fails or lies, as docs/PROFILE.md has it ("The slot medium"). The library asks
-// for a write in operations of at most 256 bytes, so the call is made twice: to see which operations make up each write, and once all is
-// as before, with that write harmed. tests/apps/web holds what comes of it against `dfu run`.
+// Harms one write of the medium by a power cut, a failure or a false success, as in docs/PROFILE.md ("The slot medium"). The library splits
+// a write into operations of at most 256 bytes, so the call is made twice: to find each write's operations, and again, after a restore,
+// with that write harmed. tests/apps/web compares the results with `dfu run`.
 
 const MAX_OPERATION = 256
 
 class Cut extends Error {}
 
-// Makes the call with this driver in place of the device's own.
+// Makes the call with this driver instead of the device's own.
 function callWith(device, driver, call) {
   const own = device.driver
   device.driver = driver
@@ -18,7 +18,7 @@ function callWith(device, driver, call) {
   }
 }
 
-// The writes of a call, in their order: where each begins, how many bytes it has, and the numbers of its first and last operation.
+// Returns the writes of a call in order, each with its offset, its length, and the numbers of its first and last operation.
 function writesOf(device, call) {
   const memory = device.bytes(0, device.end).slice()
   const { first, held_length: held } = device.read('dfu_record', device.kept)
@@ -38,8 +38,8 @@ function writesOf(device, call) {
   return writes
 }
 
-// Makes a call of the device, with the write of that number harmed if it makes so many: 'cut', 'fail' or 'lie'. The harmed one leaves the
-// bytes of `tear` at the front of its range.
+// Makes a call to the device, in which write `number`, if there is one, is harmed by `kind`: 'cut', 'fail' or 'lie'. The harmed write
+// leaves the bytes of `tear` at the start of its range.
 export function harm(device, kind, number, tear, call) {
   const write = writesOf(device, call)[number] ?? { first: Infinity, last: Infinity }
   let count = 0

@@ -1,16 +1,16 @@
 // SPDX-License-Identifier: MIT OR Apache-2.0
-// The proved host: a file, and one session with it. An instance is for one session.
+// The proved host: a file, and one session per instance.
 import { Library } from './library.js'
 import { LAYOUT } from './records.js'
 
-// The numbers of dfu_host.h.
+// Numbers of dfu_host.h.
 export const WHAT = { SEND: 0, WAIT: 1, RESET: 2, DONE: 3 }
 export const SEEN = { ACK: 0, BYTES: 1, STALL: 2, NOTHING: 3, WAIT: 4, RESET: 5, RESTART: 6, LEFT: 7 }
 export const REPORT = { INSTALLED: 1, UNCONFIRMED: 2, ABORTED: 3, REFUSED: 5, UPLOADED: 7, VERIFIED: 10, DIFFERENT: 11 }
 export const REFUSAL = { FILE_TOO_SHORT: -1, FILE_NO_SIGNATURE: -2, FILE_DFUSE: -4, WRONG_TARGET: -22, CANNOT_DOWNLOAD: -23,
   CANNOT_UPLOAD: -24, BAD_DESCRIPTOR: -25, SHORT: -31, LONG: -32, WRONG_LENGTH: -33, WRONG_TYPE: -34 }
 
-// The numbers of dfu_image.h.
+// Numbers of dfu_image.h.
 export const LOOKS = { RAW: 0, IHEX: 1, SREC: 2, UF2: 3, ELF: 4, DFUSE: 5, ZIP: 6, GZIP: 7, TEXT: 8, NAMED: 9 }
 export const NAMED = { NONE: 0, IHEX: 1, SREC: 2, UF2: 3, ELF: 4, DFU: 5 }
 
@@ -41,8 +41,7 @@ export class Host extends Library {
     return said
   }
 
-  // Returns what the file looks to be under a name: one of LOOKS, the format of its name, and the place of the first byte that no record
-  // has there.
+  // Returns the file's apparent format under a name: one of LOOKS, the format of its name, and the position of the first invalid byte.
   look(name) {
     const bytes = new TextEncoder().encode(name)
     const at = this.record('dfu_look')
@@ -51,7 +50,7 @@ export class Host extends Library {
     return this.read('dfu_look', at)
   }
 
-  // goal: 'download', 'verified' or 'upload'. 0, or a refusal. The file is read anew with it.
+  // goal: 'download', 'verified' or 'upload'. Returns 0 or a refusal. The library reads the file again.
   begin(goal, descriptor, ids, actions, restarts) {
     const words = [BigInt(this.put(descriptor)), BigInt(descriptor.length)]
     this.isUpload = goal === 'upload'
@@ -61,7 +60,7 @@ export class Host extends Library {
     return call(BigInt(this.session), ...file, ...words, BigInt(this.record('dfu_ids', ids)), actions, restarts)
   }
 
-  // Returns the next action, with its setup and its body; null if the library refuses the record.
+  // Returns the next action with its setup packet and body, or null if the library refuses the record.
   next() {
     const words = [this.session, this.file, this.payload, this.action].map(BigInt)
     if (this.calls.dfu_host_next(...words) !== 0) return null
@@ -71,7 +70,7 @@ export class Host extends Library {
     return action
   }
 
-  // Reports the result of the action to the library; `bytes` is the answer of BYTES. Returns whether the library took it.
+  // Reports the result of the action to the library; `bytes` is the answer of BYTES. Returns true if the library accepts it.
   take(seen, bytes = new Uint8Array(0)) {
     this.growKept()
     this.bytes(this.answer, bytes.length).set(bytes)
@@ -79,19 +78,19 @@ export class Host extends Library {
       BigInt(this.room), seen, BigInt(this.answer), BigInt(bytes.length)) === 0
   }
 
-  // The session is given up: what it wants next is ABORT. Returns whether the library took that.
+  // Aborts the session, so that its next request is ABORT. Returns true if the library accepts that.
   abort() {
     return this.calls.dfu_host_abort(BigInt(this.session), BigInt(this.file), BigInt(this.payload)) === 0
   }
 
-  // The name of a report, as gave-up.
+  // Returns the name of a report, such as gave-up.
   name(report) {
     const at = this.reserve(NAME_ROOM)
     const length = this.calls.dfu_host_name(report, BigInt(at), BigInt(NAME_ROOM))
     return new TextDecoder().decode(this.copy(at, length))
   }
 
-  // The record, to be read: what is left of the limits, the bytes of a block.
+  // Returns the session's record, with the remaining limits and the block size.
   state() {
     return this.read('dfu_session', this.session)
   }
@@ -101,7 +100,7 @@ export class Host extends Library {
     return this.copy(this.kept, this.state().kept)
   }
 
-  // An upload has room for one more answer after what came. The buffer is last in the memory, and grows there.
+  // Keeps room for one more answer of an upload. The buffer is the last in the memory, so it can grow.
   growKept() {
     if (!this.isUpload) return
     const wanted = this.state().kept + MAX_ANSWER

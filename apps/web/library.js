@@ -1,8 +1,7 @@
 // SPDX-License-Identifier: MIT OR Apache-2.0
-// A proved library in WebAssembly, with its memory. Of both sizes a pointer and a size_t are BigInt (wasm64). The libraries take no
-// memory of their own: what follows __heap_base is this file's. It is handed out from the front, and given back as a whole,
-// with the instance. Each instance is its own: two sessions in two instances share nothing. records.js is of one version of include/, which
-// apps/web/build puts into version.js: a library of another one may have other records, and is refused.
+// A proved library in WebAssembly, with its memory. Pointers and sizes are BigInt (wasm64). The libraries allocate no memory: this file
+// allocates the memory from __heap_base on, and never frees a part of it. records.js is for one version of include/, which apps/web/build
+// writes to version.js. A library of another version is refused.
 import { LAYOUT, readRecord, writeRecord } from './records.js'
 import { VERSION } from './version.js'
 
@@ -16,7 +15,7 @@ export class Library {
       throw new Error(`its library has version ${this.version()}, and the page version ${VERSION}: load the page anew, or build it anew`)
   }
 
-  // So many bytes, all 0; where they begin. Memory that grows loses the views on it, so none is kept.
+  // Allocates zeroed bytes, and returns their address. No view is kept, because growing the memory invalidates views.
   reserve(size) {
     const at = Math.ceil(this.end / 16) * 16
     this.end = at + size
@@ -25,7 +24,7 @@ export class Library {
     return at
   }
 
-  // Copies bytes into the memory of the library, and returns the address at which they begin there.
+  // Copies bytes into the library's memory, and returns their address.
   put(bytes) {
     const at = this.reserve(bytes.length)
     this.bytes(at, bytes.length).set(bytes)
@@ -44,7 +43,7 @@ export class Library {
     return new DataView(this.calls.memory.buffer)
   }
 
-  // A record with these fields, and 0 in the others; where it begins. If it has a version it gets that of the page.
+  // Allocates a record with these fields, and 0 in the others. A version field gets the page's version. Returns its address.
   record(name, values = {}) {
     const at = this.reserve(LAYOUT[name].size)
     writeRecord(this.view(), name, at, { version: VERSION, ...values })
@@ -55,19 +54,19 @@ export class Library {
     return readRecord(this.view(), name, at)
   }
 
-  // The version that the library says of itself, or null.
+  // Returns the library's version, or null.
   version() {
     const { dfu_core_version: ofDevice, dfu_host_version: ofHost, dfu_image_version: ofImage } = this.calls
     return (ofDevice ?? ofHost ?? ofImage ?? (() => null))()
   }
 }
 
-// Returns whether this browser runs wasm64: it takes a module that has nothing but a memory with addresses of 64 bits.
+// Returns true if this browser supports wasm64: it must accept a module that has only a memory with 64-bit addresses.
 export function runsWasm64() {
   return WebAssembly.validate(new Uint8Array([0, 0x61, 0x73, 0x6d, 1, 0, 0, 0, 5, 3, 1, 4, 0]))
 }
 
-// A module of the page's version. A static host may serve it under any type, so it isn't compiled as it comes.
+// Loads a module of the page's version. It isn't compiled while streaming, because static hosts may send a wrong MIME type.
 export async function load(name) {
   const answer = await fetch(new URL(`${name}.wasm`, import.meta.url))
   if (!answer.ok) throw new Error(`${name}.wasm can't be had: ${answer.status}; make page makes it`)

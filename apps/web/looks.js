@@ -1,6 +1,6 @@
 // SPDX-License-Identifier: MIT OR Apache-2.0
-// Files without a suffix that are no image: a device would be sent their text. The library says what a file looks to be; here is what was
-// seen and what to do, in words. As apps/flash/looks.c; the words are those of apps/flash/refusals.c.
+// Texts for files that aren't images and would otherwise be sent as they are, like apps/flash/looks.c. The library detects the format; the
+// words are those of apps/flash/refusals.c.
 import { LOOKS, NAMED } from './host.js'
 import { digits } from './names.js'
 
@@ -19,7 +19,7 @@ const OTHERS = {
 const MARK = [0xef, 0xbb, 0xbf]
 const LINE_FEED = 10
 
-// The byte in a line and a column, from 1, as a person reads it. A byte order mark is before the first line.
+// Returns the byte at a line and a column, both from 1, as text. A byte order mark is skipped.
 function byteAt(bytes, line, column) {
   let at = MARK.every((byte, place) => bytes[place] === byte) ? MARK.length : 0
   for (let number = 1; number < line; number++) at = bytes.indexOf(LINE_FEED, at) + 1
@@ -27,10 +27,10 @@ function byteAt(bytes, line, column) {
   return byte > 0x20 && byte < 0x7f ? `'${String.fromCharCode(byte)}'` : `the byte ${digits(byte, 2)}`
 }
 
-// Returns whether a DFU file was cut, or changed at its end: its name is that of one.
+// Returns true if the name is a DFU file's but the suffix is missing, because the file was cut or changed.
 export const isCut = ({ looks, named }) => looks === LOOKS.NAMED && named === NAMED.DFU
 
-// { words, advice } of a file that is neither raw nor of a format.
+// Returns { words, advice } for a file that is neither raw nor in a known format.
 export function otherThanRaw(look) {
   if (isCut(look)) return { words: WORDS.CUT, advice: 'Download the file again.' }
   if (OTHERS[look.looks] === undefined) return { words: WORDS.NAMED, advice: 'Its name says one of HEX, S-records, UF2 and ELF.' }
@@ -38,6 +38,6 @@ export function otherThanRaw(look) {
   return { words: WORDS[words], advice: `It looks like ${name}. ${advice}` }
 }
 
-// Returns the sentence about the first byte that no record has there, or nothing if there is none.
+// Returns a sentence about the first invalid byte, or ''.
 export const badByte = ({ line, column }, bytes) =>
   (line === 0 ? '' : `The first wrong character is at line ${line}, column ${column}: ${byteAt(bytes, line, column)}.`)

@@ -1,16 +1,16 @@
 // SPDX-License-Identifier: MIT OR Apache-2.0
-// The medium of the proved device, as bytes: two slots, each a gate, a header and data (docs/PROFILE.md, "The slot medium").
+// Shows the proved device's medium as bytes: two slots, each with a gate, a header and data (docs/PROFILE.md, "The slot medium").
 import { make } from './elements.js'
 import { digits } from './names.js'
 
 const OPEN = 0xa5
-const HEAD = 16 // bytes of a gate and of a header that say something
-const MAX_SHOWN = 256 // bytes of a slot's data, a multiple of 16
-const ACROSS = 8 // bytes of a row; style.css sets two rows side by side if there is room
+const HEAD = 16 // used bytes of a gate and of a header
+const MAX_SHOWN = 256 // bytes of data for one slot, a multiple of 16
+const ACROSS = 8 // bytes of a row; style.css puts two side by side if there is room
 
 const number4 = (bytes, at) => new DataView(bytes.buffer, bytes.byteOffset).getUint32(at, true)
 
-// Returns the words for a slot. Its gate and its header have `gate` bytes each.
+// Describes a slot, whose gate and header have `gate` bytes each.
 function wordsOf(bytes, gate, isActive) {
   const header = bytes.subarray(gate)
   const isOpen = bytes[0] === OPEN ? 'gate open' : 'gate closed'
@@ -19,7 +19,7 @@ function wordsOf(bytes, gate, isActive) {
   return `${isActive ? 'active, ' : ''}${isOpen}, ${content}`
 }
 
-// The row of bytes from there on, with each part of the slot in a class of its own, and what changed marked.
+// Makes a row of bytes, with a class for each part of the slot, and changed bytes marked.
 function rowOf(bytes, before, gate, from) {
   const row = make('div', {}, make('span', { className: 'at' }, digits(from, 4)))
   for (let at = from; at < Math.min(from + ACROSS, bytes.length); at++) {
@@ -30,7 +30,7 @@ function rowOf(bytes, before, gate, from) {
   return row
 }
 
-// Of a gate and a header that are longer than what they say, the rest is left out.
+// Makes a slot's figure, without the unused rest of the gate and of the header.
 function slotOf(name, bytes, before, gate, isActive) {
   const end = Math.min(2 * gate + MAX_SHOWN, bytes.length)
   const rows = []
@@ -41,7 +41,7 @@ function slotOf(name, bytes, before, gate, isActive) {
     make('figcaption', {}, `${name}: ${wordsOf(bytes, gate, isActive)}`), make('div', { className: 'bytes' }, ...rows))
 }
 
-// Shows the medium in that place. `before` is what it was when it was shown last, or null.
+// Shows the medium in `place`. `before` has the bytes that were shown last, or null.
 export function showMedium(place, device, before) {
   const half = device.size / 2
   const bytes = device.mediumBytes().slice()

@@ -1,6 +1,6 @@
 // SPDX-License-Identifier: MIT OR Apache-2.0
-// The alternate settings of a device in DFU mode, of which a person chooses one. With DfuSe each is a memory, and its name the map of it,
-// which is shown as dfu-flash --list prints it.
+// The alternate settings of a device in DFU mode, for a person to choose from. With DfuSe each is a memory, and its name is the map, shown
+// as in dfu-flash --list.
 import { isDfuse } from './begin.js'
 import { DfuseHost } from './dfuse_host.js'
 import { rangeText } from './dfuse_map.js'
@@ -10,7 +10,7 @@ import { refusalOf } from './refusals.js'
 const LETTERS = 'Its pages can be read (r), erased (e) and written (w).'
 
 export class Memories {
-  // onChoice gets the setting that a person chooses.
+  // onChoice gets the chosen setting.
   constructor(module, onChoice) {
     Object.assign(this, { module, onChoice })
     this.hide()
@@ -21,7 +21,7 @@ export class Memories {
     by('settings').hidden = true
   }
 
-  // settings: as peek or Board.is has them.
+  // settings: from peek or Board.info.
   show(device, settings) {
     Object.assign(this, { device, settings, isDfuse: settings.some(isDfuse), isChosen: false })
     this.inputs = settings.map(one => make('input', { type: 'radio', name: 'setting', onchange: () => this.choose(one) }))
@@ -52,7 +52,7 @@ export class Memories {
     this.onChoice(one)
   }
 
-  // Returns the setting that a DfuSe file names; else the first one, which is that of programs. Null if there is none.
+  // Returns the setting that a DfuSe file names, or for other files setting 0, the program memory; null if it is missing.
   meant(file) {
     const wanted = file.isDfuse && file.isGood() ? file.said.setting : 0
     return this.settings.find(one => one.alternate === wanted) ?? null

@@ -1,6 +1,6 @@
 // SPDX-License-Identifier: MIT OR Apache-2.0
-// The page offline: sw.js keeps its files. A browser that keeps nothing, or a page that isn't served over https or by this computer, goes
-// without.
+// Registers sw.js, which makes the page work offline. Without https or localhost, or if the browser stores nothing, the page works only
+// online.
 export function keepOffline() {
   navigator.serviceWorker?.register(new URL('sw.js', import.meta.url)).catch(() => {})
 }

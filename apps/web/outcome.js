@@ -1,6 +1,6 @@
 // SPDX-License-Identifier: MIT OR Apache-2.0
-// Shows the outcome of a session to the person: the report in large plain words, the title and the icon of the tab, and how many boards
-// were flashed since the page was opened. Nothing makes a sound.
+// Shows the outcome of a session: a large report, the title and the icon of the tab, and the number of boards flashed since the page was
+// opened.
 import { by, download, make, plain } from './elements.js'
 import { lineOf } from './reports.js'
 
@@ -29,7 +29,7 @@ export class Outcome {
     this.mark('')
   }
 
-  // Shows the progress of a session; part is of 1, or null.
+  // Shows the progress of a session; part is from 0 to 1, or null.
   going({ phase, part, left }) {
     by('phase').textContent = phase
     by('left').textContent = left
@@ -38,7 +38,7 @@ export class Outcome {
     this.mark(part === null ? '…' : `${Math.floor(100 * part)} %`)
   }
 
-  // The report. isReal: it is of a board, and not of a simulated one.
+  // Shows the report. isReal: the board isn't simulated.
   show(verdict, trace, isReal) {
     const { title = 'Refused', means = '', not = '', words, shown, advice = '', status, code, name, deviceText = '' } = verdict
     const kind = status === 0 ? 'good' : name === 'unconfirmed' ? 'unsure' : 'bad'
@@ -56,7 +56,7 @@ export class Outcome {
     this.tally(status === 0, isReal ? 'board' : 'simulated board')
   }
 
-  // Boards and simulated ones are counted apart.
+  // Counts real and simulated boards separately.
   tally(isGood, what) {
     const counts = this.counts[what]
     counts[isGood ? 0 : 1]++

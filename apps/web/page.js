@@ -1,5 +1,5 @@
 // SPDX-License-Identifier: MIT OR Apache-2.0
-// The page: what this browser lacks, the three libraries, and the views.
+// Sets up the page: reports what this browser lacks, loads the three libraries, and opens the views.
 import { by, say } from './elements.js'
 import { FlashView } from './flash.js'
 import { load, runsWasm64 } from './library.js'

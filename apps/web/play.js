@@ -1,6 +1,6 @@
 // SPDX-License-Identifier: MIT OR Apache-2.0
-// The view without a board: the proved device and the proved host, with a wire between them on which a person decides what becomes of
-// each action. Whatever is done is a line of a script, so that `dfu run` does the same.
+// The view without a board: a proved device and host, and a wire on which a person decides the fate of each action. Each click adds a line
+// to a script that `dfu run` plays too.
 import { actionOf, fateOf, hearsOf } from './actions.js'
 import { Diagram } from './diagram.js'
 import { by, make, say } from './elements.js'
@@ -11,10 +11,10 @@ import { fileOf } from './suffix.js'
 import { ScriptEnd, World } from './world.js'
 
 const OPENS_ON = 'clean-run'
-const OPENS_AFTER = 6 // actions
+const OPENS_AFTER = 6 // number of actions at the start
 const MAX_ROWS = 500
 const MAX_AT_ONCE = 10000
-const MAX_PASSES = 1000000 // of a line
+const MAX_PASSES = 1000000 // largest count in a line of passes
 const SETUP = ['blank', 'ids', 'device', 'unit', 'erase', 'pace', 'capacity', 'image', 'check', 'limits']
 export class PlayView {
   constructor(modules, examples) {
@@ -25,7 +25,7 @@ export class PlayView {
     this.open()
   }
 
-  // The view opens in the midst of a session in which nothing goes wrong.
+  // Opens the view in the middle of a session without faults.
   open() {
     if (this.examples.some(({ name }) => name === OPENS_ON)) by('example').value = OPENS_ON
     this.restart()
@@ -34,7 +34,7 @@ export class PlayView {
     this.refresh()
   }
 
-  // One action of the next line, which stays with one less; a line of another kind is played whole.
+  // Plays one action of a `go pass N` line and decrements N. Any other line is played whole.
   one() {
     while (this.lines[0]?.startsWith('#')) this.next()
     const passes = Number(/^go pass ([0-9]+)$/.exec(this.lines[0] ?? '')?.[1] ?? 0)
@@ -55,7 +55,7 @@ export class PlayView {
     for (const button of document.querySelectorAll('#play [data-line]')) button.onclick = () => this.click(button.dataset)
   }
 
-  // A world of its own, as the example begins it.
+  // Makes a new world, and plays the settings of the example.
   restart() {
     const example = this.examples.find(({ name }) => name === by('example').value)
     this.world = new World(this.modules, entry => this.addRow(entry))
@@ -69,7 +69,7 @@ export class PlayView {
     this.refresh()
   }
 
-  // Plays the next line of the example. Returns whether there is one more.
+  // Plays the next line of the example. Returns true if there is one more.
   next() {
     if (this.lines.length === 0 || this.isOver) return false
     this.play(this.lines.shift())
@@ -88,7 +88,7 @@ export class PlayView {
     }
   }
 
-  // Passes in a row are one line.
+  // Joins consecutive passes into one line.
   note(line) {
     const [last, now] = [this.script.at(-1), line].map(text => /^go pass ([0-9]+)$/.exec(text ?? ''))
     const passes = last && now ? Number(last[1]) + Number(now[1]) : Infinity
@@ -107,7 +107,7 @@ export class PlayView {
     this.refresh()
   }
 
-  // An image that no earlier one is.
+  // Offers an image that differs from all earlier ones.
   offer(word) {
     const payload = new TextEncoder().encode(`image ${++this.offers} of this page`).slice(0, this.world.capacity)
     this.play(`${word} ${hexOf(fileOf(payload, this.world.config))}`)

@@ -1,5 +1,5 @@
 // SPDX-License-Identifier: MIT OR Apache-2.0
-// A session of a file with the device that is open: by the host for DFU 1.1, or by that for DfuSe. The device decides which.
+// Prepares a session with the host for DFU 1.1 or the one for DfuSe, depending on the open device.
 import { isDfuse } from './begin.js'
 import { DfuseHost } from './dfuse_host.js'
 import { DfuseProgress } from './dfuse_progress.js'
@@ -16,8 +16,8 @@ function prepareDfuse(module, wire, file, words) {
   return { session, refusal: session.begin(), progressOf, verdictOf: dfuseVerdictOf }
 }
 
-// The session, whether it has begun, as a refusal or 0, and what shows how far it is and what it came to. Nothing is sent.
-// file: { bytes, isDfuse, isRaw, said, look }. words: what a session of either kind takes.
+// Returns the session, its refusal or 0, and functions for its progress and its verdict. Sends nothing. file: { bytes, isDfuse, isRaw,
+// said, look }. words: options of both kinds of session.
 export function prepare(module, wire, file, words) {
   if (isDfuse(wire.board.info)) return prepareDfuse(module, wire, file, words)
   if (file.isDfuse) return { session: null, refusal: 'NotDfuSe' }

@@ -1,22 +1,22 @@
 // SPDX-License-Identifier: MIT OR Apache-2.0
-// How far a session is: its phase, the bytes of it, and the time that is left of it.
+// The progress of a session: its phase, the bytes of the phase, and the remaining time.
 import { SEEN, WHAT } from './host.js'
 import { isDetach, isDownload, isUpload, partsOf } from './names.js'
 
-const LONG_MS = 3000 // a wait of more than this is said
-const SOON_MS = 1500 // until then a rate says little
+const LONG_MS = 3000 // longer waits are reported
+const SOON_MS = 1500 // before this time the rate is unreliable
 
 const PHASES = { ask: 'Asking the device for its state', detach: 'Bringing the device to DFU mode', reset: 'Resetting the device',
   erase: 'Erasing the pages of the image', send: 'Sending the image', compare: 'Reading the image back, and comparing it' }
 const MEASURED = ['erase', 'send', 'compare']
 
 export class Progress {
-  // show({ phase, part, left }): words, a part of 1 or null, and words.
+  // show({ phase, part, left }): a text, a number from 0 to 1 or null, and a text.
   constructor(total, now, show) {
     Object.assign(this, { total, now, show, phase: 'ask', bytes: 0, began: 0 })
   }
 
-  // A step of the session: before its action is carried out, and with its answer after it.
+  // Called before an action, with answer null, and after it.
   step(action, answer) {
     const phase = this.phaseOf(action) ?? this.phase
     if (phase !== this.phase) Object.assign(this, { phase, bytes: 0, began: this.now() })
@@ -45,7 +45,7 @@ export class Progress {
     this.show({ phase: `${PHASES[this.phase]}${ofBytes}${waits}`, part, left: this.left(part) })
   }
 
-  // Says how long this phase will still take at the rate that it has had. Nothing is said of the phases after it.
+  // Estimates the remaining time of this phase from its rate so far, without later phases.
   left(part) {
     const passed = this.now() - this.began
     if (part === null || part === 0 || part === 1 || passed < SOON_MS) return ''

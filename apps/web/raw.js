@@ -1,6 +1,6 @@
 // SPDX-License-Identifier: MIT OR Apache-2.0
-// A file without a suffix may be a raw image: a person says which device it is for, and the page adds the suffix. Of one that looks like
-// something else the person says first, in a box of the form, that its bytes are to be sent as they are.
+// Adds a suffix to a raw image for the device that a person names. If the file looks like another format, the person must first confirm
+// that its bytes are sent unchanged.
 import { by, say } from './elements.js'
 import { digits } from './names.js'
 import { fileOf } from './suffix.js'
@@ -9,7 +9,7 @@ const FIELDS = ['vendor', 'product', 'device']
 const IS_FOUR = /^[0-9a-f]{4}$/i
 
 export class RawImage {
-  // onFile gets the DFU file; ids gives the identifiers of the connected device, or null if there is none.
+  // onFile gets the DFU file. ids returns the identifiers of the connected device, or null.
   constructor(onFile, ids) {
     Object.assign(this, { onFile, ids, bytes: null, isOther: false, isGoing: false })
     by('raw-add').onclick = () => this.add()
@@ -18,8 +18,7 @@ export class RawImage {
     for (const field of FIELDS) by(`raw-${field}`).onkeydown = event => { if (event.key === 'Enter') this.add() }
   }
 
-  // Asks which device these bytes are for. isOther: they look like something else than a raw image. isTaken: the page took them out of a
-  // file.
+  // Asks which device the image is for. isOther: it looks like another format. isTaken: the page extracted it from a file.
   ask(bytes, isOther, isTaken = false) {
     Object.assign(this, { bytes, isOther })
     say('raw-legend', isTaken ? 'Which device is the image for?' : 'Is it a raw image? Then say which device it is for.')
@@ -43,7 +42,7 @@ export class RawImage {
     by('raw-same').disabled = isShut || this.ids() === null
   }
 
-  // The version stays as it is: the next image is for this device too, whichever its own is.
+  // Doesn't fill in the version, because the image may be for another version of the device.
   fill({ vendor, product }) {
     by('raw-vendor').value = digits(vendor, 4)
     by('raw-product').value = digits(product, 4)

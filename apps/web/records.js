@@ -1,9 +1,7 @@
 // SPDX-License-Identifier: MIT OR Apache-2.0
-// The records of dfu_host.h, dfu_image.h, dfu_image_take.h, dfu_watch.h, dfuse_host.h, dfuse_watch.h, dfuse_file.h and dfu_core.h of
-// include/, as they lie in the memory of the libraries. This is the one place that knows them: the fields in their order, with their
-// types, a pointer as u64. The place of each field follows by the rules of C: a number is at a multiple of its size, and a record ends
-// at a multiple of its largest. tests/lib/headers/layout compares the places with those of a compiler, and tests/apps/web the fields
-// with the headers.
+// Records of the C headers in the libraries' memory: their fields in order with their types, a pointer as u64. Offsets follow the rules of
+// C: a number is aligned to its size, and a record to its largest number. tests/lib/headers/layout compares them with a compiler's, and
+// tests/apps/web the fields with the headers.
 export const RECORDS = {
   dfu_ids: 'u16 device, u16 product, u16 vendor',
   dfu_look: 'u32 looks, u32 named, u64 line, u64 column',
@@ -52,11 +50,10 @@ function placed(text) {
   return { fields, size: Math.ceil(at / widest) * widest }
 }
 
-// By the name of the record: its size, and of each field its place, how many bytes a number of it has, and how many numbers
-// an array has, 0 for none.
+// For each record its size, and for each field its offset, the size of a number in bytes, and the count of an array, or 0.
 export const LAYOUT = Object.fromEntries(Object.entries(RECORDS).map(([name, text]) => [name, placed(text)]))
 
-// Writes these fields of the record that is there; the others stay as they are. A field that the record hasn't is left out.
+// Writes these fields of an existing record. Fields that the record lacks are skipped.
 export function writeRecord(view, name, record, values) {
   for (const [field, value] of Object.entries(values)) {
     const place = LAYOUT[name].fields[field]
@@ -69,7 +66,7 @@ export function writeRecord(view, name, record, values) {
   }
 }
 
-// The fields of a record that are one number. Those of 8 bytes are of files and buffers, far below 2^53.
+// Reads the fields that are one number. 8-byte numbers are sizes and addresses far below 2^53.
 export function readRecord(view, name, record) {
   const values = {}
   for (const [field, { at, size, count }] of Object.entries(LAYOUT[name].fields)) {

@@ -1,5 +1,5 @@
 // SPDX-License-Identifier: MIT OR Apache-2.0
-// Why a session does not begin, and what to do. The names are those of docs/REFUSALS.md, and the words those of apps/flash/refusals.c.
+// Refusals and advice: names from docs/REFUSALS.md, words from apps/flash/refusals.c.
 import { DFUSE_REFUSALS } from './dfuse_refusals.js'
 
 const OTHER_FILE = 'Take another file, or ask who made it.'
@@ -26,7 +26,7 @@ const REFUSALS = {
   DfuSeDevice: ['DfuSeDevice', 'the device speaks DfuSe, which is another protocol', 'Connect it again, now that it is in DFU mode.'],
 }
 
-// shown: the words without options of dfu-flash: the page has none.
+// shown: the words without options of dfu-flash, which the page lacks.
 export function refusalOf(number) {
   const [name, words, advice] = REFUSALS[number] ?? DFUSE_REFUSALS[number] ?? ['Unknown', 'the host refuses it', '']
   return { name, words, shown: words.replace(/[:,][^:,]* --.*/, ''), advice, status: 1, code: '' }

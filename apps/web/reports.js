@@ -1,13 +1,12 @@
 // SPDX-License-Identifier: MIT OR Apache-2.0
-// What a session came to: the words and the status of dfu-flash (apps/flash/verdict.c), and for a person what it means and what it doesn't.
+// Reports of a session: words and status of dfu-flash (apps/flash/verdict.c), meaning, and what isn't certain.
 import { CODES } from './names.js'
 
 export const MAYBE = 'The device may have the old image, the new one or neither. Connect it again, and flash it again.'
 const UNTOUCHED = 'No block was sent: the device has the image that it had.'
 export const AGAIN = 'Connect it again, and flash it again.'
 
-// By name: status, words, title, what it means, and what it doesn't; the last is left out if it would say nothing more. Words that come
-// with the name of a device end with what that device may have.
+// By name: status, words, title, meaning, and what isn't certain, or ''. If the words are a pair, the second names the device for rowOf.
 const REPORTS = {
   'installed': [0, 'the device took the whole image, reported that it is in place, and was reset', 'Installed',
     'The device took the whole image, said itself that it is in place, and was reset.',
@@ -34,7 +33,7 @@ const REPORTS = {
   'too-many-blocks': [7, 'the image has 65535 full blocks or more: too many for an upload, or to compare it', 'Too large to compare',
     'The image has too many blocks to be read back.', 'Flash it without comparing.'],
   'no-memory': [7, 'there was no memory for the image', 'Out of memory', 'There was no memory for the image.', ''],
-  // The page's own ends, which are no reports of the host.
+  // The page's own ends, which aren't reports of the host.
   'gone': [10, ['the device left and did not come back', 'it'], 'The device is gone',
     'The device left, and did not come back.', MAYBE],
   'silent': [10, ['the device answers no more', 'it'], 'No answer',
@@ -51,7 +50,7 @@ const REPORTS = {
     'The page lost track of the session.', MAYBE],
 }
 
-// Words for the same ends, if the device took the whole image and was to give it back.
+// Texts for ends without a report if the device took the whole image and only the comparison is missing.
 const UNCOMPARED = {
   'gone': [10, 'the device took the whole image, left, and did not come back to be compared; see --no-verify and --wait',
     'Sent, not compared', 'The device took the whole image, left, and did not come back to be compared.',
@@ -61,7 +60,7 @@ const UNCOMPARED = {
     'It may be in place. For such a device, flash without comparing.'],
 }
 
-// A row as it is said: what a device may have only if a block was sent.
+// Completes a row: which image the device may have depends on whether a block was sent.
 export function rowOf([status, words, title, means, not], hasSent) {
   if (typeof words === 'string') return [status, words, title, means, not]
   const [said, device] = words
@@ -69,7 +68,7 @@ export function rowOf([status, words, title, means, not], hasSent) {
   return [status, `${said}; ${device} may have the old image, the new one or neither`, title, means, not]
 }
 
-// ended: what Session.run answers, and no refusal.
+// ended: the result of Session.run, unless it is a refusal.
 export function verdictOf(ended, { hasSent, isWhole, goal }) {
   const name = ended.end === 'report' ? ended.name : ended.end
   const isUncompared = ended.end !== 'report' && goal === 'verified' && isWhole && name in UNCOMPARED
@@ -78,5 +77,5 @@ export function verdictOf(ended, { hasSent, isWhole, goal }) {
   return { name, status, words, title, means, not, code: name === 'refused' ? CODES[ended.code] : '' }
 }
 
-// Writes a report as dfu-flash prints it: `refused CODE: words`, or `name: words`.
+// Writes a report like dfu-flash: `refused CODE: words`, or `name: words`.
 export const lineOf = ({ name, code, words }) => `${name}${code === '' ? '' : ` ${code}`}: ${words}`

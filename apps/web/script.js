@@ -1,5 +1,5 @@
 // SPDX-License-Identifier: MIT OR Apache-2.0
-// A line of a script, read as docs/SCRIPT.md has it. Null if it is none; { what: 'blank' } if it has no words or is a comment.
+// Parses a line of a script (docs/SCRIPT.md). Returns null if it is invalid, or { what: 'blank' } for an empty line or a comment.
 
 const MAX_LINE = 65536
 const DIGITS = /^[0-9]{1,10}$/
@@ -9,7 +9,7 @@ const FATES = { lostout: 'lost out', lostback: 'lost back', twice: 'twice', twic
 const HARMS = ['cut', 'fail', 'lie']
 const OBJECTIONS = { errTARGET: 1, errFILE: 2 }
 
-// A number of at most `most`, and of at least `least`; undefined if the word is none.
+// Parses a number from `least` to `most`. Returns undefined if the word is invalid.
 function number(word, most = 4294967295, least = 0) {
   if (word === undefined || !DIGITS.test(word)) return undefined
   const value = Number(word)
@@ -24,10 +24,10 @@ export function bytesOf(word) {
 
 const four = word => (word !== undefined && FOUR.test(word) ? parseInt(word, 16) : undefined)
 
-// Null if a value is undefined.
+// Returns the line, or null if a value is undefined.
 const whole = line => (Object.values(line).includes(undefined) ? null : line)
 
-// By the first word: how many words follow it, and what they say.
+// By first word: the number of words after it, and their parser.
 const FORMS = {
   ids: [3, (vendor, product, device) => ({ what: 'ids', vendor: four(vendor), product: four(product), device: four(device) })],
   device: [6, (flags, detach, transfer, least, busy, manifest) => ({
@@ -73,5 +73,5 @@ export function lineOf(text) {
   return rest.length === count ? whole(read(...rest)) : null
 }
 
-// The lines of a text: each ends at a line feed, which the last one may lack.
+// Splits a text into lines. The last line feed may be missing.
 export const linesOf = text => (text.endsWith('\n') ? text.slice(0, -1) : text).split('\n')

@@ -1,6 +1,6 @@
 // SPDX-License-Identifier: MIT OR Apache-2.0
-// The loop: what the host asks for is carried out, and what came of that is reported to it. Nothing else is sent, but for the DETACH of
-// stalls.js. As apps/flash/session.c. A device that speaks DfuSe has its own loop in dfuse_session.js.
+// The loop of a session: carries out the host's actions and reports their results, like apps/flash/session.c. Only the DETACH of stalls.js
+// is sent in addition. dfuse_session.js has the loop for DfuSe.
 import { cut, goalOf, isDfuse, limitsOf, standIn } from './begin.js'
 import { SEEN, WHAT } from './host.js'
 import { isDownload } from './names.js'
@@ -14,13 +14,13 @@ const sameText = (first, now) => first === '' || now === '' || first === now
 const modeOf = info => (info.isUpgrade ? 'dfu' : 'app')
 export const sameBytes = (first, now) => first.length === now.length && first.every((byte, at) => byte === now[at])
 
-// Returns whether two looks at a device in one mode saw the same device.
+// Returns true if two descriptions of a device in one mode match.
 export const isAgain = (first, now) => first.vendor === now.vendor && first.product === now.product && first.interface === now.interface
   && first.alternate === now.alternate && sameText(first.serial, now.serial) && sameText(first.name, now.name)
 
 export class Session {
-  // ids: for which device the file has to be. limits: { actions, restarts }, or null for those by the file's size. onStep gets each
-  // action before it is carried out, and its answer after it.
+  // ids: the identifiers that the file must match. limits: { actions, restarts }, or null for the default by the file's size. onStep is
+  // called before each action and with its answer.
   constructor(host, wire, { wantsVerified, ids, limits = null, onStep = () => {} }) {
     Object.assign(this, { host, wire, board: wire.board, clock: wire.clock, trace: wire.trace, wantsVerified, ids, limits, onStep })
     this.watch = new Watch(host)
@@ -28,7 +28,7 @@ export class Session {
     Object.assign(this, { isWhole: false, isAborted: false, taken: 0, restarted: 0 })
   }
 
-  // 0, a refusal of dfu_host.h, or 'DfuSeDevice'. Nothing is sent.
+  // Returns 0, a refusal of dfu_host.h, or 'DfuSeDevice'. Sends nothing.
   begin() {
     const { info } = this.board
     this.goal = goalOf(info, this.wantsVerified)
@@ -58,13 +58,13 @@ export class Session {
     return this.watch.hasSent()
   }
 
-  // Once a block was sent, a device in run-time mode may be that of another image: it isn't noted.
+  // After a block was sent, a device in run-time mode may run another image, so its description isn't stored.
   note() {
     const { info } = this.board
     if (info.isUpgrade || !this.watch.hasSent()) this.first[modeOf(info)] ??= info
   }
 
-  // Returns the facts of the device after an action, for dfu_watch.h.
+  // Returns the facts about the device after an action, for dfu_watch.h.
   facts(isReached, isGone) {
     const { info } = this.board
     return { reached: isReached, gone: isGone, many: this.board.isMany, stopped: this.clock.isStopped, open: this.board.isOpen(),
@@ -72,8 +72,8 @@ export class Session {
       same: sameBytes(info.descriptor, this.beginDescriptor) }
   }
 
-  // A device that left is found again before it is asked anything; and if it is another one then, nothing is sent to it. An aborted
-  // session asks a device that is away no more.
+  // Finds the device again if it left before a request, but sends nothing to another one. An aborted session doesn't wait for a device that
+  // is away.
   async send(action) {
     if (!this.wire.isReady()) {
       if (this.isAborted) return nothing()
@@ -90,7 +90,7 @@ export class Session {
     return action.what === WHAT.RESET ? this.stalls.reset() : this.send(action)
   }
 
-  // One action: null, or how the session ended.
+  // Carries out one action. Returns null, or the end of the session.
   async step(action) {
     const before = this.watch.before(this.runtimeRefusal !== 0)
     if (before !== COURSE.GOES_ON) return { ...endOf(before), refusal: this.runtimeRefusal }
@@ -110,8 +110,8 @@ export class Session {
     return this.host.take(answer.seen, answer.bytes) ? null : { end: 'broken' }
   }
 
-  // In DFU mode a device may have another functional descriptor than in run-time mode: then the session that brought it there, which
-  // has sent no block, is dropped, and another one begins.
+  // A device may have another functional descriptor in DFU mode than in run-time mode. The session that brought it to DFU mode has sent no
+  // block, so that session is dropped, and a new one begins.
   beginAnew() {
     const refusal = this.begin()
     if (refusal !== 0) return { end: 'refusal', refusal }
@@ -119,7 +119,7 @@ export class Session {
     return null
   }
 
-  // The first stop: the host has the device leave what it is in.
+  // On the first stop, aborts the host's session. Returns false if the library refuses that.
   isStoppedWell() {
     if (!this.clock.isStopped || this.isAborted) return true
     this.isAborted = true
@@ -127,7 +127,7 @@ export class Session {
     return this.host.abort()
   }
 
-  // { end: 'report', report, name, code }, or an end without a report.
+  // Returns { end: 'report', report, name, code }, or an end without a report.
   async run() {
     this.traceBegin()
     for (;;) {

@@ -1,6 +1,6 @@
 // SPDX-License-Identifier: MIT OR Apache-2.0
-// A simulated board for the view that flashes: the proved device behind those calls of WebUSB that the page makes. It takes the times that
-// a small board takes, and gives the image that it was sent. Each one has a serial number of its own.
+// A simulated board: the proved device behind the WebUSB calls that the page makes. It is as slow as a small board, and has its own serial
+// number.
 import { Device } from './device.js'
 import { INTERFACE, KIND, REQUEST } from './names.js'
 import { fileOf } from './suffix.js'
@@ -16,11 +16,11 @@ const DETACH_LEAVE_MS = 30 // after a DETACH the board leaves the bus by itself,
 
 const viewOf = bytes => new DataView(bytes.buffer, bytes.byteOffset, bytes.byteLength)
 
-// A file that the board takes, for who has none at hand.
+// Returns an example file for the board.
 export const exampleFile = () =>
   fileOf(Uint8Array.from({ length: BYTES }, (_, at) => (at * 31 + (at >> 3)) & 255), { ...IDS, device: 0xffff })
 
-// A board as it was enumerated once. It leaves with what leads to its other mode, a DETACH or a reset, and comes back as another one.
+// One enumeration of the board. A DETACH or a reset that changes the mode replaces it by a new one.
 class SimulatedDevice {
   constructor(usb) {
     const isApp = usb.device.state() <= 1
@@ -40,7 +40,7 @@ class SimulatedDevice {
   async claimInterface() {}
   async selectAlternateInterface() {}
 
-  // A transfer to a board that came back as another one fails.
+  // Throws, so that the transfer fails, if the board left or returned as a new one.
   isHere() {
     this.usb.catchUp()
     if (this.usb.current !== this) throw new DOMException('The device was disconnected.', 'NotFoundError')
@@ -53,7 +53,7 @@ class SimulatedDevice {
     return bytes === null ? { status: 'stall' } : { status: 'ok', data: viewOf(bytes) }
   }
 
-  // Answers a standard request: the device gives its configuration descriptor, and stalls every other one, also a string.
+  // Answers only the request for the configuration descriptor, and stalls all other standard requests, such as strings.
   describe({ value }, length) {
     return value === 0x0200 ? { status: 'ok', data: viewOf(this.bytes.slice(0, length)) } : { status: 'stall' }
   }
@@ -82,7 +82,7 @@ export class SimulatedUsb extends EventTarget {
   async requestDevice() { return this.current }
   async getDevices() { return [this.current] }
 
-  // The time that passed.
+  // Passes the elapsed time to the device.
   catchUp() {
     const ms = Math.floor(performance.now() - this.lastTick)
     if (ms <= 0) return
@@ -104,7 +104,7 @@ export class SimulatedUsb extends EventTarget {
     this.look()
   }
 
-  // In another mode it is another device.
+  // Enumerates the board again if its mode has changed.
   look() {
     const before = this.current
     if (before.isApp === (this.device.state() <= 1)) return

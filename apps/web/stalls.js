@@ -1,21 +1,19 @@
 // SPDX-License-Identifier: MIT OR Apache-2.0
-// Devices that stall what they are asked for in run-time mode, and the one request that is this page's own. A device in run-time
-// mode may stall GETSTATUS: in appIDLE the standard has it answered (USB DFU 1.1, appendix A.2.1), and many leave it out. If it is
-// stalled twice the host has the bus reset, and asks again. So before the first of these resets the page sends a DETACH of its own,
-// which makes it the reset that leads to DFU mode. When, and after how many resets the device is given up, dfu_watch.h says. As
-// apps/flash/stalls.c and apps/flash/detach.c.
+// A device in run-time mode may stall GETSTATUS, though the standard requires an answer in appIDLE (USB DFU 1.1, appendix A.2.1). After two
+// stalls the host resets the bus and requests the status again. Before the first of these resets the page sends its own DETACH, so that the
+// reset leads to DFU mode. dfu_watch.h decides when, and when to give up.
 import { SEEN } from './host.js'
 import { ATTRIBUTE, FUNCTIONAL, KIND, REQUEST, detachTimeOf, hasAttribute } from './names.js'
 
-const NO_DESCRIPTOR_MS = 1000 // wDetachTimeOut if there is no functional descriptor
-const ARRIVAL_MS = 5000       // a device may be in run-time mode still, and leave a while after the reset
+const NO_DESCRIPTOR_MS = 1000 // wDetachTimeOut without a functional descriptor
+const ARRIVAL_MS = 5000       // time to leave run-time mode after a reset
 const LOOK_MS = 200
 const NONE = new Uint8Array(0)
 
-// wDetachTimeOut, as the device wants it.
+// Returns wDetachTimeOut, or NO_DESCRIPTOR_MS if it is unknown.
 const detachTime = ({ descriptor }) => (descriptor.length < FUNCTIONAL.BYTES_1_0 ? NO_DESCRIPTOR_MS : detachTimeOf(descriptor))
 
-// Returns whether the device detaches and comes back by itself, within its wDetachTimeOut.
+// Returns true if the device detaches by itself within wDetachTimeOut (bitWillDetach).
 export const willDetach = ({ descriptor }) => hasAttribute(descriptor, ATTRIBUTE.WILL_DETACH)
 
 export class Stalls {
@@ -33,7 +31,7 @@ export class Stalls {
     return answer
   }
 
-  // Waits for it in DFU mode.
+  // Waits up to 5 s until the device is in DFU mode.
   async arrival() {
     const { board, clock } = this.wire
     const end = clock.now() + ARRIVAL_MS
@@ -43,7 +41,7 @@ export class Stalls {
     }
   }
 
-  // Resets the bus, as the host asks for it. If the device left after that DETACH it is reset already.
+  // Resets the bus, the first time after a DETACH. A device that left then counts as reset.
   async reset() {
     const { wire } = this
     const isFirst = this.watch.detaches() && wire.board.info.saysRuntime

@@ -1,5 +1,5 @@
 // SPDX-License-Identifier: MIT OR Apache-2.0
-// A DFU file (USB DFU 1.1, appendix B) of a payload: the suffix with its check sum follows it, as `dfu add` writes it.
+// Makes a DFU file (USB DFU 1.1, appendix B) by appending a suffix with its CRC to a payload, like `dfu add`.
 const BYTES = 16
 const TABLE = Uint32Array.from({ length: 256 }, (_, byte) => {
   for (let bit = 0; bit < 8; bit++) byte = byte & 1 ? (byte >>> 1) ^ 0xedb88320 : byte >>> 1
@@ -12,7 +12,7 @@ function crcOf(bytes) {
   return crc >>> 0
 }
 
-// For a device with these identifiers; FFFFh is any.
+// Makes a file for a device with these identifiers; FFFFh matches any.
 export function fileOf(payload, { device, product, vendor }) {
   const file = new Uint8Array(payload.length + BYTES)
   const view = new DataView(file.buffer, payload.length)

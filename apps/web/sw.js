@@ -1,6 +1,6 @@
 // SPDX-License-Identifier: MIT OR Apache-2.0
-// The service worker: it keeps the files of the page, all of one build, and hands them out where the server isn't reached. With a server
-// each file is the server's. apps/web/build writes kept.js, which has FILES, and NAME, another one for each build.
+// The service worker stores the files of one build of the page, and returns them if the server can't be reached. apps/web/build writes
+// kept.js with FILES and a NAME for each build.
 importScripts('kept.js')
 
 async function keep() {
@@ -8,7 +8,7 @@ async function keep() {
   await kept.addAll(FILES.map(file => new Request(file, { cache: 'reload' })))
 }
 
-// Other builds go once this one is whole.
+// Deletes the caches of other builds.
 async function begin() {
   const names = await caches.keys()
   await Promise.all(names.filter(name => name !== NAME).map(name => caches.delete(name)))

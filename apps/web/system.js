@@ -1,11 +1,11 @@
 // SPDX-License-Identifier: MIT OR Apache-2.0
-// What differs by the operating system.
+// Differences between operating systems.
 
 const name = () => navigator.userAgentData?.platform ?? navigator.platform ?? ''
 
-// On Windows reset() of WebUSB isn't there, and always fails.
+// On Windows WebUSB's reset() isn't implemented, and always fails.
 export const canReset = () => !/^Win/i.test(name())
 
-// Returns whether a device in alternate setting 0 hears nothing of being closed and opened again. Linux sends no request then. Of other
-// systems this isn't known.
+// Returns true if a device in alternate setting 0 doesn't notice being closed and reopened. Linux sends no request then. Other systems are
+// unknown.
 export const closesUnheard = () => /^(Linux|Android|Chrome OS|Chromium OS)/i.test(name())

@@ -1,23 +1,22 @@
 // SPDX-License-Identifier: MIT OR Apache-2.0
-// The image in a file of Intel HEX, S-records, UF2 or ELF, by the proved readers of `dfu add --format`. Names and words of a refusal are
-// those of that command.
+// Extracts the image of an Intel HEX, S-record, UF2 or ELF file by the proved readers of `dfu add --format`, with that command's refusals.
 import { LOOKS } from './host.js'
 import { Library } from './library.js'
 import { digits } from './names.js'
 
 export const FORMATS = { [LOOKS.IHEX]: 'Intel HEX', [LOOKS.SREC]: 'Motorola S-records', [LOOKS.UF2]: 'UF2', [LOOKS.ELF]: 'ELF' }
-// The numbers of dfu_image_take.h that this page names.
+// Numbers of dfu_image_take.h that this page names.
 export const TAKE = { NO_MEMORY: -103, NO_MARK: -104, TOO_LARGE: -123, TOO_MANY_ELEMENTS: -124, OVERLAPS: -125, NO_DATA: -126, GAP: -127,
   TOO_LARGE_FILLED: -128 }
 export const FILL_NONE = 256
 export const FILL = 0xff
 
 const MAX_IMAGE_BYTES = 16777216
-// More than a file with the largest image takes.
+// Working memory in bytes: more than a file with the largest image needs.
 const MEMORY = 4 * MAX_IMAGE_BYTES + 200000
 const ANEW = 'Build it anew.'
 
-// From NO_MARK on: the name of a fault, what it counts, and its words.
+// From NO_MARK on: the name of an error, the unit of its position, and its words.
 const FAULTS = [
   ['NoMark', 'line', 'no record begins so'],
   ['BadDigit', 'line', 'not all is pairs of hexadecimal digits'],
@@ -50,10 +49,10 @@ const ADVICE = {
   [TAKE.TOO_LARGE_FILLED]: 'Take a file for one part of the memory.',
 }
 
-// Returns whether a look finds a file of such a format.
+// Returns true if the file has one of FORMATS.
 export const isFormat = ({ looks }) => FORMATS[looks] !== undefined
 
-// The image of a file of a format: { format, fill, address, bytes }; or { format, refusal, from, to }. fill is a byte or FILL_NONE.
+// Returns { format, fill, address, bytes }, or { format, refusal, from, to }. fill is a byte or FILL_NONE.
 export function takeImage(module, file, format, fill) {
   const library = new Library(module)
   const [at, taken, room] = [library.put(file), library.record('dfu_taken'), library.reserve(MAX_IMAGE_BYTES)]
@@ -64,7 +63,7 @@ export function takeImage(module, file, format, fill) {
   return result === 0 ? { format, fill, address, bytes: library.copy(room, length) } : { format, refusal: result, from, to }
 }
 
-// The name of a refusal with its place, as `dfu add` prints it, and its words.
+// Returns the name of a refusal with its position, as in `dfu add`, and its words.
 function wordsOf({ refusal, from, to }) {
   const [first, behind] = [digits(from, 8), digits(to, 8)]
   if (refusal === TAKE.GAP) return [`Gap ${first} ${behind}`, `nothing is at ${first} to before ${behind}, and no filling is given`]
@@ -76,7 +75,7 @@ function wordsOf({ refusal, from, to }) {
   return counted === '' ? [name, words] : [`${name} ${from}`, `${counted} ${from}: ${words}`]
 }
 
-// { name, words, advice } of a file that makes no image.
+// Returns { name, words, advice } for a file without an image.
 export function takingRefusal(taken) {
   const [name, words] = wordsOf(taken)
   return { name, words, advice: ADVICE[taken.refusal] ?? ANEW }

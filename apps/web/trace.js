@@ -1,10 +1,10 @@
 // SPDX-License-Identifier: MIT OR Apache-2.0
-// The log of a session, as `dfu-flash --verbose=FILE` writes it (its manual, TRACE; apps/flash/log.h): for readers, and for `dfu judge`.
-// WebUSB has no path: it is 0, a bus without ports.
+// The log of a session in the format of `dfu-flash --verbose=FILE` (its manual, TRACE; apps/flash/log.h), also for `dfu judge`. WebUSB has
+// no path, so the path is 0, a bus without ports.
 import { SEEN } from './host.js'
 import { REQUESTS, STATES, digits, hexOf, partsOf, stateOf } from './names.js'
 
-const SHORT_BYTES = 8 // an answer of up to so many is shown byte by byte
+const SHORT_BYTES = 8 // longest answer whose bytes are shown
 const TOLD = ['ack', '', 'stall', 'nothing', 'waited', 'reset', 'restarted', 'left']
 
 function answerWord({ seen, bytes, isGone, error }) {
@@ -13,7 +13,7 @@ function answerWord({ seen, bytes, isGone, error }) {
   return seen === SEEN.NOTHING && error !== '' ? `nothing:${error}` : TOLD[seen]
 }
 
-// The state that an answer to GETSTATUS or GETSTATE has in it (USB DFU 1.1, sections 6.1.2 and 6.1.5), or '-'.
+// Returns the state in an answer to GETSTATUS or GETSTATE (USB DFU 1.1, sections 6.1.2 and 6.1.5), or '-'.
 export function stateIn(request, { seen, bytes }) {
   const state = seen === SEEN.BYTES ? stateOf(request, bytes) : undefined
   return state === undefined ? '-' : STATES[state] ?? '?'
@@ -28,7 +28,7 @@ export class Trace {
     this.lines.push(`# ${text}`)
   }
 
-  // The first word is the number of the action, or says that it is none of the host's.
+  // The first word is the number of the action, or `own:` if it isn't the host's.
   add(what, value, length, answer, state, ms) {
     const front = this.isOwn ? 'own:' : ++this.number
     this.say(`${front} ${what} ${value} ${length} ${answerWord(answer)} ${state} ${Math.round(ms)}`)
@@ -39,13 +39,13 @@ export class Trace {
     this.add(REQUESTS[request], value, length, answer, stateIn(request, answer), ms)
   }
 
-  // A request that was sent to that interface, for the judge.
+  // Adds a line for `dfu judge`: a request and its answer.
   exchange(setup, index, body, { seen, bytes }) {
     const sent = hexOf([...setup.slice(0, 4), index, 0, ...setup.slice(6)])
     this.lines.push(`${sent} ${hexOf(body) || '-'} ${['ack', hexOf(bytes) || 'ack', 'stall'][seen] ?? 'nothing'}`)
   }
 
-  // Before a request: a device that was away since the last one, and is back, was reset.
+  // Adds a reset before a request if the device has left and returned since the last one.
   returned(returns) {
     if (returns > this.returns) this.lines.push('reset')
     this.returns = returns

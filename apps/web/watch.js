@@ -1,9 +1,9 @@
 // SPDX-License-Identifier: MIT OR Apache-2.0
-// When a device is given up: one that stalls GETSTATUS in run-time mode, is silent, leaves, or comes back as another one. The proved
-// library decides (dfu_watch.h); as dfu-flash does.
+// The proved library decides when a session gives up, because the device stalls GETSTATUS, doesn't answer, leaves, or is another one
+// (dfu_watch.h), as in dfu-flash.
 import { writeRecord } from './records.js'
 
-// The numbers of dfu_watch.h: two ways to go on, and the ends by their names.
+// Numbers of dfu_watch.h: two ways to continue, and the ends by name.
 export const COURSE = { GOES_ON: 0, BEGINS_ANEW: 1, ENDS_GONE: 2, ENDS_MANY: 3, ENDS_SILENT: 4, ENDS_OTHER: 5, ENDS_STALLED: 6,
   ENDS_REFUSED: 7 }
 const NAMES = ['', '', 'gone', 'many', 'silent', 'other', 'stalled', 'refusal']
@@ -11,22 +11,22 @@ const NAMES = ['', '', 'gone', 'many', 'silent', 'other', 'stalled', 'refusal']
 export const endOf = course => ({ end: NAMES[course] })
 
 export class Watch {
-  // host: the session's; its action is the one that `before` and `after` are about.
+  // host: the session's host, whose current action `before` and `after` evaluate.
   constructor(host) {
     Object.assign(this, { host, calls: host.calls, record: host.record('dfu_watch'), facts: host.record('dfu_facts') })
   }
 
-  // Returns the course before the next action is done.
+  // Returns the course before the next action.
   before(isByAnother) {
     return this.calls.dfu_watch_before(BigInt(this.record), BigInt(this.host.action), isByAnother ? 1 : 0)
   }
 
-  // Returns whether a DETACH precedes the reset that the host asks for.
+  // Returns true if a DETACH must precede the reset that the host requests.
   detaches() {
     return this.calls.dfu_watch_detaches(BigInt(this.record)) === 1
   }
 
-  // Returns whether the open device is another one than the session's.
+  // Returns true if the open device isn't the session's.
   isOther(facts) {
     return this.calls.dfu_watch_is_other(BigInt(this.record), this.put(facts)) === 1
   }

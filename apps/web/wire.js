@@ -1,50 +1,48 @@
 // SPDX-License-Identifier: MIT OR Apache-2.0
-// Which answer of WebUSB is reported to the host as what. As apps/flash/answer.c is for dfu-flash, this file is what the proof of Installed
-// and Verified rests on: a transfer that is reported as acknowledged or answered was really made, and a restart is reported if the device
-// lost its state, before anything that it answers later.
+// Translates WebUSB's results into reports to the host, like apps/flash/answer.c. The proof of Installed and Verified depends on this file:
+// a transfer that is reported as acknowledged or answered was really made, and if the device lost its state, a restart is reported before
+// any later answer.
 //
-// Of a transfer:
-//   ok, with as many bytes out as the body has   Ack       it was made, and acknowledged
-//   ok, with bytes in                            Bytes     what came, as it came
-//   stall                                        Stall     the device refused the request
-//   it left before or in it, or within a second  Left      after the end of a download, as below
-//   of an error
-//                                                Restart   else: reported once it is back and open again
-//   no answer for 5 s                            Nothing   once the device is closed and open again: a transfer of WebUSB has no time
-//                                                          of its own, and may be made at any time until then
-//                                                Restart   if the device may have heard of that (board.js, renew)
-//   any other                                    Nothing   it may have been handled or not, and the host asks
+// Results of a transfer:
+//   ok, all bytes of the body sent       Ack       the transfer was made and acknowledged
+//   ok, with bytes in                    Bytes     the answer, unchanged
+//   stall                                Stall     the device refused the request
+//   the device left before, during or    Left      after the end of a download, as below
+//   within a second of an error          Restart   else: reported after the device is back and open
+//   no answer for 5 s                    Nothing   after closing and reopening the device: a WebUSB transfer has
+//                                                  no timeout, and may still be made until then
+//                                        Restart   if the device may have noticed that (board.js, renew)
+//   any other                            Nothing   the host asks if the device handled it
 //
-// Of a reset:
-//   it is made                                   Reset     once its interface is in its setting again, if that is another than 0
-//   the device leaves with it                    Reset     at once: it comes back as a new one, whose enumeration is a reset
-//   it can't be made, and a person pulls         Reset     the same, once the device is seen to leave; nothing else that a person
-//   the plug                                               says counts. In run-time mode Restart: in appDETACH a loss of power
-//                                                          doesn't lead to DFU mode, as a reset does
-//   it left before, unasked                      Left, Restart, as of a transfer
-//   any other                                    Nothing   the host asks for it again
-// After a reset the host is done, or asks for the device's state, as after a restart. So it may have lost its power too.
+// Results of a reset:
+//   it is made                           Reset     after the interface is in its setting again, if that isn't 0
+//   the device leaves with it            Reset     at once: its new enumeration is a reset
+//   a person pulls the plug instead      Reset     only when the device has left. In run-time mode Restart: in
+//                                                  appDETACH a power cut doesn't lead to DFU mode, but a reset does
+//   the device left before               Left or Restart, as for a transfer
+//   any other                            Nothing   the host requests it again
+// After a reset the host is done or requests the state, as after a restart. Reset is right even if the device lost power.
 //
-// Of a wait: Wait, once the time has passed; Nothing, if a stop ended it.
+// Results of a wait: Wait when the time is over, or Nothing after a stop.
 //
-// Left is reported if the device acknowledged the DNLOAD of no bytes, a GETSTATUS after it was answered with dfuMANIFEST-SYNC or
-// dfuMANIFEST, nothing but GETSTATUS was sent since, and the device is gone then. It is reported at once, and only once. The host takes it
-// as the last reset, and never reports Installed for it.
+// Left is reported if the device acknowledged the DNLOAD without data, then answered a GETSTATUS with dfuMANIFEST-SYNC or dfuMANIFEST,
+// received nothing but GETSTATUS since, and is gone. It is reported at once, and only once. The host treats it as the last reset, and never
+// reports Installed after it.
 //
-// A device that leaves after an acknowledged DETACH does what it was asked to, up to the next request: that is no restart.
+// A device that leaves after an acknowledged DETACH obeys the request, so this isn't a restart.
 import { LATE } from './clock.js'
 import { SEEN } from './host.js'
 import { KIND, REQUEST, STATE, isDetach, isDownload, isStatus, partsOf, stateOf } from './names.js'
 
 const TRANSFER_MS = 5000
-const STOPPED_MS = 1000 // the same of what is sent after a stop
-const LEAVE_MS = 1000   // from a transfer or a reset that fails to the event that says that the device left,
-const GRACE_MS = 100    // and from a reset that is made,
-const DETACH_MS = 3000  // and from the end of the time in which a device detaches itself
+const STOPPED_MS = 1000 // replaces TRANSFER_MS after a stop
+const LEAVE_MS = 1000   // time from a failed transfer or reset to the disconnect event
+const GRACE_MS = 100    // time from a successful reset to the disconnect event
+const DETACH_MS = 3000  // time from the end of the detach timeout to the event
 const LOOK_MS = 20
 const NONE = new Uint8Array(0)
-const PULLED = 'PULLED'  // the plug, in run-time mode
-// For the trace: what libusb calls them.
+const PULLED = 'PULLED'  // a person pulled the plug in run-time mode
+// Names of libusb's errors, for the trace.
 const ERRORS = { NotFoundError: 'NO_DEVICE', NetworkError: 'IO', TimeoutError: 'TIMEOUT', SecurityError: 'ACCESS',
   AbortError: 'INTERRUPTED' }
 
@@ -55,7 +53,7 @@ export class Wire {
     Object.assign(this, { board, clock, ask, trace, transfers: 0, isLeaving: false, isClosed: false, isManifesting: false })
   }
 
-  // Returns whether a request goes out at once; if not, the device is waited for first.
+  // Returns true if the device is open, or has left and this isn't reported yet.
   isReady() {
     return this.board.isOpen() || (this.board.hasLeft && !this.isLeaving)
   }
@@ -76,7 +74,7 @@ export class Wire {
     return answerOf(SEEN.LEFT)
   }
 
-  // Notes the end of a download: its last request, and the state that the device reports after it.
+  // Records the end of a download: its last request, and the state that the device reports after it.
   noteEnd(setup, length, answer) {
     if (!isStatus(setup)) {
       this.isClosed = isDownload(setup) && length === 0 && answer.seen === SEEN.ACK
@@ -97,7 +95,7 @@ export class Wire {
   async sent(setup, body) {
     const { board } = this
     if (board.hasLeft && !this.isLeaving) {
-      this.transfers++ // as of a request that finds it gone
+      this.transfers++ // counts as a transfer that failed
       return this.left()
     }
     if (!board.isOpen() && !await board.reopen()) return answerOf(SEEN.NOTHING, { isGone: true })
@@ -109,7 +107,7 @@ export class Wire {
     return answer
   }
 
-  // The host's setups have wIndex 0; USB wants the number of the interface there. Nothing else is changed.
+  // The host's setup packets have wIndex 0, but USB requires the interface number there. No other field is changed.
   transfer(setup, body) {
     const { kind, request, value, length } = partsOf(setup)
     const { handle, info } = this.board
@@ -139,7 +137,7 @@ export class Wire {
     return bytes.length <= length ? answerOf(SEEN.BYTES, { bytes: bytes.slice() }) : answerOf(SEEN.NOTHING, { error: 'OVERFLOW' })
   }
 
-  // Before the host asks again, what is under way has to be at its end.
+  // Ends the pending transfer before the host sends another request.
   async late() {
     if (!this.board.isOpen()) return this.left()
     const how = await this.board.renew()
@@ -153,7 +151,7 @@ export class Wire {
   async wait(ms) {
     const began = this.clock.now()
     const answer = answerOf(await this.clock.wait(ms) ? SEEN.WAIT : SEEN.NOTHING)
-    // With bitWillDetach it leaves by itself; until the event comes, each transfer would fail.
+    // A device with bitWillDetach leaves by itself; transfers fail before the disconnect event.
     if (this.isLeaving) await this.hasLeft(DETACH_MS)
     this.trace.wait(ms, answer, this.clock.now() - began)
     return answer
@@ -181,7 +179,7 @@ export class Wire {
     return answerOf(SEEN.RESET)
   }
 
-  // Null if the bus was reset, else the error, or PULLED. A device that left is no longer open.
+  // Returns null if the bus was reset, else the name of an error or PULLED. A device that left is no longer open.
   async resetBus(device) {
     const { board } = this
     try {
@@ -196,13 +194,13 @@ export class Wire {
     }
   }
 
-  // A reset that isn't answered is over once the device is closed; whether it was made isn't known.
+  // Closing the device ends an unanswered reset, which may or may not have been made.
   async lateReset() {
     const how = await this.board.renew()
     return how === 'left' ? null : 'TIMEOUT'
   }
 
-  // Waits for the device to leave, and returns whether it did so within so many milliseconds.
+  // Waits up to `ms` milliseconds for the device to leave. Returns true if it left.
   async hasLeft(ms) {
     const end = this.clock.now() + ms
     while (this.board.isOpen() && !this.clock.isStopped && this.clock.now() < end) await this.clock.wait(LOOK_MS)

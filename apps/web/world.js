@@ -1,6 +1,6 @@
 // SPDX-License-Identifier: MIT OR Apache-2.0
-// A proved device and a proved host, and the link between them: what each line of a script makes of them, and what `dfu run` prints of
-// that (docs/SCRIPT.md).
+// A proved device, a proved host, and the link between them: plays each line of a script, and prints what `dfu run` prints
+// (docs/SCRIPT.md).
 import { Device, Refused } from './device.js'
 import { Host, REPORT, SEEN, WHAT } from './host.js'
 import { harm } from './harm.js'
@@ -12,11 +12,11 @@ const NONE = new Uint8Array(0)
 const SETTINGS = ['ids', 'device', 'unit', 'erase', 'pace', 'capacity', 'image', 'check']
 const textOf = bytes => (bytes.length === 0 ? '-' : hexOf(bytes))
 
-// A script ends here: what is printed last.
+// Ends a script; its message is printed last.
 export class ScriptEnd extends Error {}
 
 export class World {
-  // onAction gets each action of the host: what it was, what became of it, and what it was answered.
+  // onAction gets each action of the host, with its fate and its answer.
   constructor(modules, onAction = () => {}) {
     Object.assign(this, { modules, onAction, device: null, host: null, number: 0, actions: 0, printed: [] })
     const functional = { attributes: 7, detach_ms: 255, transfer: 8 }
@@ -29,7 +29,7 @@ export class World {
     this.printed.push(line)
   }
 
-  // The device is set up by the first line that does something.
+  // The first line that isn't a setting creates the device.
   start() {
     if (this.device !== null) return
     try {
@@ -40,7 +40,7 @@ export class World {
     }
   }
 
-  // Plays a line. If it is refused the script is over, and a ScriptEnd says what is printed.
+  // Plays a line. A refused line throws a ScriptEnd with the text to print.
   play(text) {
     this.number++
     const line = lineOf(text)
@@ -89,14 +89,14 @@ export class World {
     else this.host.abort()
   }
 
-  // Reports an event from outside, a reset of the bus or a cut of the power, to the host.
+  // Reports an external event, a bus reset or a power cut, to the host.
   outside(call) {
     call()
     this.host?.take(SEEN.RESTART)
     this.end()
   }
 
-  // The host's report, if it is done.
+  // Prints the host's report if the session is done.
   end() {
     const action = this.host?.next() ?? null
     if (action === null || action.what !== WHAT.DONE) return
@@ -106,7 +106,7 @@ export class World {
     this.host = null
   }
 
-  // One action of the host, with its fate.
+  // Carries out one action of the host, with its fate.
   go(line) {
     if (this.host === null) return this.print('refused NoHost')
     const action = this.host.next()
@@ -117,13 +117,13 @@ export class World {
     return this.end()
   }
 
-  // Actions that pass, until one prints its session's report or its refusal.
+  // Carries out actions without faults until one prints a report or a refusal.
   passOn() {
     const count = this.printed.length
     while (this.printed.length === count) this.go({ what: 'go', fate: 'pass', times: 1 })
   }
 
-  // Makes calls of the device, of which a write may be harmed, and the power cut.
+  // Makes calls to the device, in which a write may be harmed or the power cut.
   call(line, calls) {
     const { device } = this
     if (line.writes === undefined) calls()
@@ -131,7 +131,7 @@ export class World {
     if (line.fate === 'cut') device.power()
   }
 
-  // A wait, or a reset of the bus.
+  // Carries out a wait or a bus reset.
   local(action, line) {
     const { device } = this
     const isWait = action.what === WHAT.WAIT
@@ -154,14 +154,14 @@ export class World {
     return setup[0] === KIND.OUT ? { seen: SEEN.ACK } : { seen: SEEN.BYTES, bytes }
   }
 
-  // Returns the action that the host wants next; null if there is none.
+  // Returns the host's next action, or null.
   wanted() {
     const action = this.host?.next() ?? null
     return action === null || action.what === WHAT.DONE ? null : action
   }
 }
 
-// A whole script: what `dfu run` prints of it.
+// Plays a whole script. Returns the lines that `dfu run` prints.
 export function runScript(modules, lines) {
   const world = new World(modules)
   try {

@@ -1,5 +1,5 @@
 /* SPDX-License-Identifier: MIT OR Apache-2.0 */
-/* The chosen setting answers the requests of the class; SET_INTERFACE chooses. */
+/* Passes requests of the DFU class to the chosen setting, and serves SET_INTERFACE, which chooses a setting. */
 #include "alternates.h"
 
 #include <string.h>
@@ -18,8 +18,8 @@ static int32_t begin(unsigned number) {
     return 0;
 }
 
-/* The work comes first, as before a reset, because an image whose dfuMANIFEST was answered has to be put in place. If the setting is
- * refused the one that was chosen stays. */
+/* Chooses a setting. The pending work of the old setting is done first, because an image whose dfuMANIFEST was answered must become active.
+ * If the new setting refuses to begin, the old one stays chosen. */
 static int32_t choose(unsigned number) {
     alternates_answered();
     const int32_t n = begin(number);
@@ -37,14 +37,14 @@ int32_t alternates_power_on(void) {
     return begin(chosen);
 }
 
-/* A device that is configured stands in setting 0 (USB 2.0, 9.6.5). */
+/* After SET_CONFIGURATION setting 0 is chosen (USB 2.0, 9.6.5). */
 void alternates_configured(uint8_t value) {
     is_configured = value != 0;
     (void)choose(0);
     chosen = 0;
 }
 
-/* The two requests of USB 2.0, 9.4.4 and 9.4.10; before the device is configured both are errors. */
+/* Serves SET_INTERFACE and GET_INTERFACE (USB 2.0, 9.4.10 and 9.4.4). Both are errors before the device is configured. */
 static int32_t standard(const uint8_t setup[8], uint8_t *data) {
     const unsigned value = setup[2] | (unsigned)setup[3] << 8;
     if (!is_configured || setup[4] != INTERFACE || setup[5] != 0 || setup[7] != 0)

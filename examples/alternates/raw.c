@@ -1,5 +1,5 @@
 /* SPDX-License-Identifier: MIT OR Apache-2.0 */
-/* The raw area. Its states are those of the device table (docs/PROFILE.md) for a tolerant device without times. */
+/* The raw area. Its states are those of the device table (docs/PROFILE.md), for a tolerant device that sends no poll times. */
 #include "raw.h"
 
 #include <string.h>
@@ -15,7 +15,6 @@ void raw_reset(struct raw *r) {
     r->state = DFU_STATE_APP_IDLE;
 }
 
-/* The request is stalled; dfuERROR keeps its first code, and appIDLE stays. */
 static int32_t fault(struct raw *r, uint8_t status) {
     if (r->state == DFU_STATE_ERROR || r->state == DFU_STATE_APP_IDLE)
         return DFU_STALL;
@@ -33,7 +32,7 @@ static uint8_t erase_sector(const struct raw *r, uint32_t at) {
     return DFU_STATUS_OK;
 }
 
-/* Writes the block that waits, after the erase of the sector that begins in it, and reads it back. */
+/* Erases the sector that begins in the received block, if there is one, writes the block, and reads it back. */
 static uint8_t write_block(struct raw *r) {
     void *own = (void *)r->place;
     const uint32_t whole = (r->held + UNIT - 1u) / UNIT * UNIT, sector = (r->at + SECTOR - 1) / SECTOR * SECTOR;
@@ -61,7 +60,8 @@ static int32_t get_status(struct raw *r, uint32_t length, uint8_t *out) {
     return (int32_t)length;
 }
 
-/* A block that follows one of no whole units is refused: the rest of that unit has been programmed. */
+/* Handles a DNLOAD. A DNLOAD after a block that did not fill whole units is an error, because the rest of that block's last unit was
+ * already programmed. */
 static int32_t download(struct raw *r, uint16_t number, uint32_t length, const uint8_t *body) {
     if (r->state == DFU_STATE_DNLOAD_IDLE && length == 0) {
         r->state = DFU_STATE_MANIFEST_SYNC;
@@ -80,7 +80,7 @@ static int32_t download(struct raw *r, uint16_t number, uint32_t length, const u
     return 0;
 }
 
-/* The whole area, since nothing on the part says how much of it a host wrote. */
+/* Sends the whole area, because nothing on the part records how much of it a host wrote. */
 static int32_t upload(struct raw *r, uint16_t number, uint32_t length, uint8_t *out) {
     if ((r->state != DFU_STATE_IDLE && r->state != DFU_STATE_UPLOAD_IDLE) || length == 0 || length > BLOCK)
         return fault(r, DFU_STATUS_ERR_STALLED_PKT);

@@ -1,5 +1,5 @@
 /* SPDX-License-Identifier: MIT OR Apache-2.0 */
-/* The table of the settings. Who has other images changes this file, and board.h. */
+/* The table of the settings. To use other images, change this file and board.h. */
 #include <assert.h>
 
 #include "raw.h"
@@ -7,7 +7,7 @@
 
 #define KIB 1024
 
-/* The bootloader has the first 24 KiB. A store takes DFU_MEDIUM_SIZE for images of 32 KiB and of 8 KiB. */
+/* The bootloader uses the first 24 KiB. The stores use DFU_MEDIUM_SIZE bytes for images of 32 KiB and of 8 KiB. */
 enum { FIRMWARE_AT = 24 * KIB, FIRMWARE_LENGTH = DFU_MEDIUM_SIZE(UNIT, SECTOR, 32 * KIB) };
 enum { RADIO_AT = 96 * KIB, RADIO_LENGTH = DFU_MEDIUM_SIZE(UNIT, SECTOR, 8 * KIB) };
 enum { SCRATCH_AT = 120 * KIB, SCRATCH_LENGTH = 8 * KIB };

@@ -1,5 +1,5 @@
 /* SPDX-License-Identifier: MIT OR Apache-2.0 */
-/* The alternate settings: each has a name, a place of its own on the part, and a store or a raw area. */
+/* The alternate settings. Each has a name, a range of the part, and a store or a raw area. */
 #ifndef TABLE_H
 #define TABLE_H
 
@@ -9,16 +9,16 @@
 
 enum { SETTINGS = 3, INTERFACE = 0 };
 
-/* A range of the part that belongs to one setting. Offsets below are from its first byte on. */
+/* A range of the part that belongs to one setting. The offsets of operations count from its first byte. */
 struct place {
     uint32_t at, length;
 };
 
 struct raw;
 
-/* One of device and raw is NULL. */
+/* A setting. Either device or raw is NULL. */
 struct setting {
-    const char *name; /* its string descriptor */
+    const char *name; /* text of its string descriptor */
     const struct place *place;
     struct dfu_device *device;
     struct raw *raw;
@@ -26,10 +26,10 @@ struct setting {
 
 extern const struct setting setting_table[SETTINGS];
 
-/* All settings share it, because they share the functional descriptor. */
+/* Configuration of all stores. They share it because they share the functional descriptor. */
 extern const struct dfu_config shared_config;
 
-/* The driver of the part, for stores and raw area alike. `own` is the place; what is not inside is refused. */
+/* The driver of the part, for stores and the raw area. `own` is the place; a range that is not inside it is refused. */
 int place_erase(void *own, uint32_t at, uint32_t length);
 int place_program(void *own, uint32_t at, const uint8_t *bytes, uint32_t length);
 

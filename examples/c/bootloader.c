@@ -1,5 +1,5 @@
 /* SPDX-License-Identifier: MIT OR Apache-2.0 */
-/* The smallest bootloader: a device whose flash is plain memory, and a host that stands in for the USB stack and installs an image of
+/* The smallest bootloader: a device whose flash is plain memory. In place of a USB stack the program plays a host that installs an image of
  * four bytes. Each transfer prints its request, the answer and the state. nor_bootloader.c has a driver for flash with sectors. */
 #include <stdio.h>
 #include <string.h>
@@ -22,14 +22,14 @@ static const struct dfu_config config = {
     .sector = 0,
 };
 
-/* The flash lasts through a loss of power; two buffers and the device need not. */
+/* Only the flash must keep its contents through a loss of power; the two buffers and the device need not. */
 static uint8_t flash[DFU_MEDIUM_SIZE(1, 0, 1024)];
 static uint8_t block[DFU_BLOCK_SIZE(64, 1)], data[64];
 static const struct dfu_driver driver = DFU_MEMORY_DRIVER(flash);
 static struct dfu_device dfu = {
     .config = &config, .flash = flash, .size = sizeof flash, .block = block, .most = sizeof block, .driver = &driver};
 
-/* Program that runs now: the upgrade, or the application at its place in the flash. */
+/* Prints an answer and the state. If the application runs, prints its length and its first byte. */
 static void show(const char *what, int32_t answer) {
     struct dfu_place place;
     printf("%-10s %2d state %d\n", what, (int)answer, (int)dfu_device_state(&dfu));
@@ -37,14 +37,14 @@ static void show(const char *what, int32_t answer) {
         printf("application of %u bytes, the first %02x\n", (unsigned)place.length, flash[place.at]);
 }
 
-/* The work, once an answer is out. */
+/* Does the pending work after an answer was sent. */
 static void work(void) {
     const int32_t refused = dfu_device_work(&dfu);
     if (refused != 0)
         show("work", refused);
 }
 
-/* A control transfer, as a USB stack hands it in: the whole data stage is in data; the answer goes out; then comes the work. */
+/* A control transfer as a USB stack delivers it: data holds the whole data stage. After the answer the device does the work. */
 static void transfer(const char *what, const uint8_t setup[8]) {
     show(what, dfu_device_serve(&dfu, setup, data, data, sizeof data));
     work();
@@ -67,10 +67,11 @@ static void get_status(void) {
 }
 
 int main(void) {
-    /* Memory such as FRAM comes with any bytes, and never shows that it is new: the factory puts the first image in place. */
+    /* New memory such as FRAM may hold any bytes, so a program can't recognize it as new: the factory writes the first image. */
     if (dfu_device_format(&dfu, (const uint8_t *)"\x11\x22", 2) != 0)
         return 1;
-    /* From here on as at each power-on. A byte that was misread reads well the next time; a damaged board stays as it is. */
+    /* From here on the program runs as at each power-on. It tries twice, because a byte that was misread once may read correctly the second
+     * time. If the flash is damaged, it stays unchanged. */
     if (dfu_device_power_on(&dfu) != 0 && dfu_device_power_on(&dfu) != 0) {
         puts("no image: nothing is written until somebody asks for a format");
         return 1;

@@ -1,6 +1,7 @@
 /* SPDX-License-Identifier: MIT OR Apache-2.0 */
-/* A device under a USB stack that takes the data stage and acknowledges it in one, so that it has to know before it whether the request
- * will be stalled. The board has no application yet, and begins in dfuIDLE; its interface has the number 2. The host is in this program. */
+/* A device under a USB stack that receives and acknowledges the data stage in one step. The device must therefore decide before that step
+ * if it will stall the request. The board has no application yet, and begins in dfuIDLE; its DFU interface is interface 2. The program
+ * itself plays the host. */
 #include <stdio.h>
 #include <string.h>
 
@@ -24,7 +25,7 @@ static const struct dfu_config config = {
 static uint8_t flash[DFU_MEDIUM_SIZE(1, 0, 1024)];
 static const struct dfu_driver driver = DFU_MEMORY_DRIVER(flash);
 
-/* The block, and the one buffer of endpoint 0. */
+/* The block's memory, and the single buffer of endpoint 0. */
 static uint8_t block[DFU_BLOCK_SIZE(64, 1)], endpoint[64];
 static struct dfu_device dfu = {
     .config = &config, .flash = flash, .size = sizeof flash, .block = block, .most = sizeof block, .driver = &driver};
@@ -33,7 +34,7 @@ static void show(const char *what, int32_t answer) {
     printf("%-10s %2d state %d\n", what, (int)answer, (int)dfu_device_state(&dfu));
 }
 
-/* DNLOAD: the stack asks first. It stalls the setup, or takes the data stage, which comes to the buffer. */
+/* A DNLOAD. The stack first calls dfu_device_would_stall; then it stalls the setup, or receives the data stage in the buffer. */
 static void download(uint8_t number, const char *bytes, uint8_t length) {
     const uint8_t setup[8] = {0x21, DFU_DNLOAD, number, 0, 2, 0, length, 0};
     const int32_t worked = dfu_device_work(&dfu), will_stall = dfu_device_would_stall(&dfu, setup);
@@ -49,7 +50,7 @@ static void ask(const char *what, uint8_t kind, uint8_t request, uint8_t length)
     show(what, dfu_device_serve(&dfu, setup, endpoint, endpoint, sizeof endpoint));
 }
 
-/* Program that runs: the application at its place, if there is one. */
+/* Prints the length and the first byte of the application, or that there is none. */
 static void application(void) {
     struct dfu_place place;
     if (dfu_device_image(&dfu, &place) == 0 && place.length > 0)

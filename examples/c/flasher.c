@@ -1,6 +1,6 @@
 /* SPDX-License-Identifier: MIT OR Apache-2.0 */
-/* The smallest flasher: it installs a file on a device, verifies it, and prints the report. `act` is in place of a USB stack: here
- * it hands each action to the device library, in the same program. */
+/* The smallest flasher: it installs a file on a device, verifies it, and prints the report. `act` replaces a USB stack: it passes each
+ * action to the device library in the same program. */
 #include <stdio.h>
 #include <string.h>
 
@@ -29,7 +29,8 @@ static const struct dfu_driver driver = DFU_MEMORY_DRIVER(flash);
 static struct dfu_device device = {
     .config = &config, .flash = flash, .size = sizeof flash, .block = block, .most = sizeof block, .driver = &driver};
 
-/* Does one action: 0, and what was seen of it, with how many bytes came; or a refusal of the device library. */
+/* Carries out one action. Returns 0, with the outcome in `seen` and the number of received bytes in `count`; or a refusal of the device
+ * library. */
 static int32_t act(const struct dfu_action *a, uint32_t *seen, size_t *count) {
     *count = 0;
     if (a->what == DFU_WAIT) {

@@ -1,9 +1,9 @@
 /* SPDX-License-Identifier: MIT OR Apache-2.0 */
-/* A bootloader on NOR flash, as an external QSPI part that is mapped for reading, or a microcontroller's own: it is programmed in pages of
- * 256 bytes, and erased before, in sectors of 4,096. The part is a model here: a program only clears bits, and refuses a page that was
- * programmed since its sector was erased. A part that was never written is formatted; one that is damaged stays as it is. Then a host that
- * stands in for the USB stack installs an image of 5,000 bytes; each transfer prints its request, the answer and the state, each erase and
- * each program its place. */
+/* A bootloader on NOR flash, such as an external QSPI part that is mapped for reading, or a microcontroller's own flash. The flash is
+ * programmed in pages of 256 bytes, after an erase of its sectors of 4,096. The part is a model here: programming only clears bits, and
+ * fails for a page that was programmed after the last erase of its sector. A part that was never written is formatted; a damaged one stays
+ * unchanged. Then the example plays a host that installs an image of 5,000 bytes. Each transfer prints its request, the answer and the
+ * state; each erase and each program operation prints its offset. */
 #include <stdio.h>
 #include <string.h>
 
@@ -11,7 +11,7 @@
 
 enum { PAGE = 256, SECTOR = 4096, CAPACITY = 2 * SECTOR, BLOCK = 1024, IMAGE = 5000 };
 
-/* Longest times of the part, in milliseconds. */
+/* Maximum times of the part for an erase and a program, in milliseconds. */
 enum { ERASE_MS = 45, PROGRAM_MS = 3 };
 
 static const struct dfu_config config = {
@@ -30,11 +30,11 @@ static const struct dfu_config config = {
     .sector = SECTOR,
 };
 
-/* The part: the gate and the header of each of two slots have a sector for themselves. The library gets it to read. */
+/* The part. The gate and the header of each of the two slots have a sector of their own. The library only reads it here. */
 static uint8_t part[DFU_MEDIUM_SIZE(PAGE, SECTOR, CAPACITY)];
 static uint8_t is_programmed[sizeof part / PAGE];
 
-/* The driver: each returns 0, or 1 if the part did not do it. */
+/* The driver. Both functions return 0 on success, or 1 if the part failed. */
 static int erase(void *own, uint32_t at, uint32_t length) {
     uint8_t *bytes = own;
     printf("    erase   %5u\n", (unsigned)at);
@@ -51,13 +51,13 @@ static int program(void *own, uint32_t at, const uint8_t *from, uint32_t length)
     return is_programmed[at / PAGE]++ != 0;
 }
 
-/* Memory that need not last through a loss of power. */
+/* RAM, whose contents may be lost with the power. */
 static uint8_t block[DFU_BLOCK_SIZE(BLOCK, PAGE)], data[BLOCK], image[IMAGE];
 static const struct dfu_driver driver = {part, erase, program};
 static struct dfu_device dfu = {
     .config = &config, .flash = part, .size = sizeof part, .block = block, .most = sizeof block, .driver = &driver};
 
-/* Program that runs now: the upgrade, or the application at its place in the part. */
+/* Prints an answer and the state. If the application runs, prints its length and its offset in the part. */
 static void show(const char *what, int32_t answer) {
     struct dfu_place place;
     printf("%-10s %2d state %d\n", what, (int)answer, (int)dfu_device_state(&dfu));
@@ -65,21 +65,21 @@ static void show(const char *what, int32_t answer) {
         printf("application of %u bytes at %u\n", (unsigned)place.length, (unsigned)place.at);
 }
 
-/* The work, once an answer is out. */
+/* Does the pending work after an answer was sent. */
 static void work(void) {
     const int32_t refused = dfu_device_work(&dfu);
     if (refused != 0)
         show("work", refused);
 }
 
-/* A control transfer, as a USB stack hands it in: the whole data stage is in data; the answer goes out; then comes the work. */
+/* A control transfer as a USB stack delivers it: data holds the whole data stage. After the answer the device does the work. */
 static void transfer(const char *what, uint8_t kind, uint8_t request, uint16_t value, uint16_t length) {
     const uint8_t setup[8] = {kind, request, (uint8_t)value, (uint8_t)(value >> 8), 0, 0, (uint8_t)length, (uint8_t)(length >> 8)};
     show(what, dfu_device_serve(&dfu, setup, data, data, sizeof data));
     work();
 }
 
-/* A request for the state, and the next one, after the time that the first was answered with. */
+/* Sends GETSTATUS twice, as a host does that polls once more after the poll time of the first answer. */
 static void poll(void) {
     transfer("GETSTATUS", 0xa1, DFU_GETSTATUS, 0, 6);
     transfer("GETSTATUS", 0xa1, DFU_GETSTATUS, 0, 6);
@@ -101,7 +101,7 @@ int main(void) {
     int32_t n;
     for (size_t i = 0; i < sizeof image; i++)
         image[i] = (uint8_t)(i * 7);
-    /* A part as it comes from its maker. */
+    /* A new part is erased. */
     memset(part, 0xff, sizeof part);
     n = dfu_device_power_on_or_format(&dfu, image, 2);
     if (n == DFU_NO_MEDIUM)

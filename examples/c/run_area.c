@@ -1,7 +1,7 @@
 /* SPDX-License-Identifier: MIT OR Apache-2.0 */
 /* A bootloader whose images are linked for one address. A NOR part, a model here, has two slots and after them a run area, in sectors of
- * 4,096 bytes; the application runs in the run area, and keeps data of its own after it. At each power-on the run area is brought to the
- * active image, and then it is started. The power goes once on the way, in the middle of a program. Each operation prints its place. */
+ * 4,096 bytes. The application runs in the run area, and keeps its own data after it. At each power-on the active image is copied to the
+ * run area, and started. The example loses power once, in the middle of a program. Each operation prints its offset. */
 #include <stdio.h>
 #include <string.h>
 
@@ -23,12 +23,13 @@ static const struct dfu_config config = {
     .sector = SECTOR,
 };
 
-/* The part: the slots, the run area as large as a slot's data, and a sector of the application's. */
+/* The part: the slots, a run area as large as a slot's data, and a sector for the application's data. */
 enum { SLOTS = DFU_MEDIUM_SIZE(PAGE, SECTOR, CAPACITY), RUN = SLOTS, OWN = RUN + CAPACITY };
 static uint8_t part[OWN + SECTOR];
 static int programs_left = 1000, is_on = 1;
 
-/* The driver of the slots, and that of the run area, whose offsets begin at its first byte. Each feeds the watchdog, if there is one. */
+/* Drivers of the slots and of the run area. Offsets of the run area count from its first byte. On a board with a watchdog, erase and
+ * program must feed the watchdog. */
 static int erase(void *own, uint32_t at, uint32_t length) {
     uint8_t *bytes = own;
     if (bytes != part)
@@ -52,7 +53,7 @@ static const struct dfu_driver slots_driver = {part, erase, program}, run_driver
 static struct dfu_device dfu = {.config = &config, .flash = part, .size = SLOTS, .driver = &slots_driver};
 static struct dfu_install install = {.run = part + RUN, .size = CAPACITY, .area = {SECTOR, DFU_NOWHERE}, .driver = &run_driver};
 
-/* Runs the bootloader once the power comes: the application is started if the run area holds all of it. */
+/* Runs the bootloader after power-on: it starts the application if the run area holds the whole image. */
 static void power_on(void) {
     struct dfu_place place;
     struct dfu_ask ask;
@@ -63,7 +64,7 @@ static void power_on(void) {
         puts("no image: the bootloader waits for one");
         return;
     }
-    /* (dfu_install_settle does the same, as long as the power stays) */
+    /* dfu_install_settle does the same without the stop at a loss of power */
     n = dfu_install_next(&install, part + place.at, place.length, &ask);
     while (n == DFU_WRITE_PENDING) {
         const uint32_t failed = dfu_device_carry_out(install.driver, &ask);
@@ -82,7 +83,7 @@ static void power_on(void) {
 
 static uint8_t image[CAPACITY];
 
-/* An image is put in place; here by a format, else by a download. */
+/* Makes an image active; a product does this by a download, the example by a format. */
 static void put_in_place(uint8_t first, size_t length) {
     for (size_t i = 0; i < length; i++)
         image[i] = (uint8_t)(first + i * 7);

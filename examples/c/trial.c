@@ -1,7 +1,7 @@
 /* SPDX-License-Identifier: MIT OR Apache-2.0 */
 /* A bootloader whose new images run on trial, with three tries. A NOR part, a model here, has two slots in sectors of 4,096 bytes. The
- * first image is made as a confirmed one; the second never confirms itself, so that the first comes back; the third does. Each mark and
- * each gate that is erased prints its place. */
+ * first image is written as a confirmed one. The second never confirms itself, so the first runs again; the third confirms itself. Each
+ * mark and each erase of a gate prints its offset. */
 #include <stdio.h>
 #include <string.h>
 
@@ -52,7 +52,7 @@ static struct dfu_device dfu = {
 };
 static const struct dfu_trial trial = {.flash = part, .size = sizeof part, .driver = &driver, .tries = {PAGE, SECTOR, 3}};
 
-/* Runs the bootloader once the power comes, and returns the place of the image that it starts. */
+/* Runs the bootloader after power-on, and returns the offset of the image that it starts. */
 static uint32_t power_on(void) {
     struct dfu_place place = {0, 0};
     is_shown = 1;
@@ -64,7 +64,7 @@ static uint32_t power_on(void) {
     return place.at;
 }
 
-/* Confirms the application at this place, as it does itself once it knows that it works. */
+/* Confirms the application at this offset, as the application itself does when it works. */
 static void confirm(uint32_t at) {
     is_shown = 1;
     printf("%c confirms itself: %d\n", part[at], (int)dfu_trial_accept(&trial, at));
@@ -78,7 +78,7 @@ static int32_t request(uint8_t kind, uint8_t what, const uint8_t *body, uint8_t 
     return dfu_device_serve(&dfu, setup, body, out, sizeof out);
 }
 
-/* A host brings an image of one letter. */
+/* Downloads an image of one letter. */
 static void download(char letter) {
     const uint8_t image[1] = {(uint8_t)letter};
     dfu_device_begin(&dfu);
@@ -93,7 +93,7 @@ static void download(char letter) {
 int main(void) {
     memset(part, 0xff, sizeof part);
     power_on();
-    /* The first image: without its confirmation the second one would have nothing to give way to. */
+    /* The first image must be confirmed, because else the second one would not run on trial. */
     if (dfu_trial_format(&trial, &dfu, (const uint8_t *)"A", 1) != 0)
         return 1;
     power_on();

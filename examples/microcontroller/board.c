@@ -1,7 +1,7 @@
 /* SPDX-License-Identifier: MIT OR Apache-2.0 */
 #include "board.h"
 
-/* An erase of a page takes up to 23 ms on this part, and a program of 64 words 3 ms. */
+/* Maximum times on this part: 23 ms for an erase of a page, 3 ms for a program of 64 words. */
 enum { ERASE_MS = 23, PROGRAM_MS = 3 };
 
 const struct dfu_config board_config = {

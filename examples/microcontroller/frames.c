@@ -3,7 +3,7 @@
 
 enum { END = 0xc0, ESCAPE = 0xdb, ESCAPED_END = 0xdc, ESCAPED_ESCAPE = 0xdd };
 
-/* CRC-16 with the polynomial 1021h from FFFFh, the high bit first: over a frame with its check sum it is 0. */
+/* CRC-16 with the polynomial 1021h and the initial value FFFFh, high bit first. Over a frame with its check sum it is 0. */
 static uint16_t check_of(uint16_t check, uint8_t byte) {
     check = (uint16_t)(check ^ byte << 8);
     for (int bit = 0; bit < 8; bit++)
@@ -21,7 +21,7 @@ static void keep(struct frame *frame, uint8_t byte) {
     frame->check = check_of(frame->check, byte);
 }
 
-/* A frame ends here, or a stretch of noise; the next one begins. */
+/* Ends a frame, or a run of noise, and begins the next one. Returns 1 if the frame is whole. */
 static int end(struct frame *frame) {
     int is_whole = frame->is_open && !frame->is_bad && !frame->is_escaped && frame->count >= FRAME_HEAD + 2 && frame->check == 0;
     frame->length = is_whole ? frame->count - 2 : 0;

@@ -1,6 +1,6 @@
 /* SPDX-License-Identifier: MIT OR Apache-2.0 */
-/* A bootloader that takes signed images alone, and runs a new one on trial. It is that of ../microcontroller with signed_serve in place of
- * dfu_device_serve, and with a check before each start. The clock, the flash, the serial port and the start are those there. */
+/* A bootloader that accepts only signed images, and runs a new one on trial. It is the bootloader of ../microcontroller with signed_serve
+ * instead of dfu_device_serve, and with a check before each start. It uses the clock, flash, serial port and start of that example. */
 #include "dfu_install.h"
 
 #include <string.h>
@@ -23,22 +23,22 @@ static struct dfu_trial trial;
 static struct signed_board board;
 static uint8_t block[DFU_BLOCK_SIZE(TRANSFER, UNIT)], answer[TRANSFER];
 static struct frame request;
-static uint32_t running; /* where the image that runs begins in the medium */
+static uint32_t running; /* offset of the running image in the medium */
 
 /* 1 while the upgrade runs, 0 while the image runs. */
 static int is_upgrading;
 
 enum { NO_ANSWER = -100 };
 
-/* Returns the result of a call. If it is a refusal, because the record or the flash is not as it was left, the device restarts as after a
- * loss of power. */
+/* Returns the result of a call. A refusal means that the record or the flash has changed, and then the processor restarts as after a loss
+ * of power. */
 static int32_t checked(int32_t result) {
     if (result < 0 && result != DFU_STALL)
         restart(NOTE_NONE);
     return result;
 }
 
-/* A control transfer, but for its answer. A frame has the data stage that its setup says, or it is none. */
+/* Handles a setup frame without sending the answer. A frame with a data stage of another length than the setup's wLength is ignored. */
 static int32_t setup_came(void) {
     const uint8_t *setup = request.bytes + FRAME_HEAD, *body = setup + 8;
     size_t stage = setup[0] & 0x80 ? 0 : (size_t)(setup[6] | setup[7] << 8);
@@ -65,7 +65,7 @@ static int32_t frame_came(void) {
     }
 }
 
-/* The work, once an answer is out. Then what runs is as the state says: each change of it is a reset of the processor. */
+/* Does the pending work after an answer was sent. Then the state decides which program runs: each change resets the processor. */
 static void go_on(void) {
     checked(dfu_device_work(&device));
     int32_t state = dfu_device_state(&device);
@@ -100,7 +100,7 @@ static void say(const char *text) {
     frame_send(serial_put, FRAME_TEXT, 0, (const uint8_t *)text, strlen(text));
 }
 
-/* The image says something, or that it is well. */
+/* Handles the image's SVC: a text to send, or the image's confirmation. */
 void on_text(const uint8_t *text, uint32_t length) {
     if (length == 7 && memcmp(text, "confirm", 7) == 0)
         say(dfu_trial_accept(&trial, running) == 0 ? "confirmed" : "not confirmed");
@@ -108,14 +108,14 @@ void on_text(const uint8_t *text, uint32_t length) {
         frame_send(serial_put, FRAME_TEXT, 0, text, length < 64 ? length : 64);
 }
 
-/* Returns whether the image at this place may start, and is in the run area. */
+/* Returns 1 if the image at this place may start, and the run area holds it. */
 static int is_ready(const struct dfu_place *place, struct signed_image *image) {
     struct dfu_install install = {.run = flash_run, .size = CAPACITY, .area = {PAGE, DFU_NOWHERE}, .driver = &run_driver};
     return signed_may_start(&board, place, image) && image->program % 4 == 0
            && dfu_install_settle(&install, flash_medium + place->at, place->length) == 0;
 }
 
-/* The image that is to run: one that may not start ends its trial, and a start on trial is marked once it is ready. */
+/* Finds the image to run. Ends the trial of an image that may not start. Marks a start on trial once the image is ready. */
 static int find_image(struct dfu_place *place, struct signed_image *image) {
     struct dfu_standing standing;
     if (dfu_trial_look(&trial, &standing) != 0)
@@ -123,7 +123,7 @@ static int find_image(struct dfu_place *place, struct signed_image *image) {
     int is_active_ready = is_ready(&standing.active, image);
     if (!is_active_ready && (!standing.on_trial || dfu_trial_give_up(&trial) != 0))
         return 0;
-    /* If the trial has just ended, this looks anew. */
+    /* If the trial has just ended, this call reads the images again. */
     if (dfu_trial_boot_from(&trial, &standing, place) != 0)
         return 0;
     return (is_active_ready && place->at == standing.active.at) || is_ready(place, image);
@@ -146,7 +146,8 @@ int main(void) {
     serial_begin();
     clock_begin();
     set_up();
-    /* Without an active image this board was never made: it does nothing. One that may not start leaves the upgrade in dfuIDLE. */
+    /* Without an active image the board was never written by the factory, and does nothing. If the image may not start, the upgrade begins
+     * in dfuIDLE. */
     int is_to_run = note == NOTE_NONE && find_image(&place, &image);
     while ((is_to_run ? dfu_device_power_on(&device) : dfu_device_begin(&device)) != 0)
         __asm__ volatile("wfi");

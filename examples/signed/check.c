@@ -10,9 +10,10 @@ enum { KEY_HASH_TYPE = 0x01, DIGEST_TYPE = 0x10, SIGNATURE_TYPE = 0x24, COUNTER_
 enum { PROTECTED = 0x6908, UNPROTECTED = 0x6907 };
 #define MAGIC 0x96f3b83du
 
-/* Places in an image: each is within its length. The places of values are 0 if there is none: at 0 is the header. */
+/* Offsets in an image, each at most its length. The offset of a value is 0 if the image has no such value, because offset 0 is the header.
+ */
 struct layout {
-    size_t header, body, protect, end; /* bytes of the header; where the program, the protected and the unprotected TLVs end */
+    size_t header, body, protect, end; /* bytes of the header; ends of the program, of the protected TLVs and of the unprotected ones */
     size_t digest, key_hash, signature, counter, hardware;
 };
 
@@ -20,7 +21,7 @@ static size_t length_of(const struct signed_bytes *bytes) {
     return bytes->front_length + bytes->tail_length;
 }
 
-/* These bytes of the image, which are within its length. */
+/* Copies `count` bytes of the image from offset `at`; the range must lie within the image. */
 static void take(const struct signed_bytes *bytes, size_t at, uint8_t *to, size_t count) {
     for (size_t i = 0; i < count; i++)
         to[i] = at + i < bytes->front_length ? bytes->front[at + i] : bytes->tail[at + i - bytes->front_length];
@@ -34,7 +35,7 @@ static uint32_t number(const uint8_t *at) {
     return word(at) | (uint32_t)word(at + 2) << 16;
 }
 
-/* So many more bytes are within the image: `at` goes past them, 1; else 0. */
+/* Advances `at` by `count` bytes and returns 1, if these lie within the image; else returns 0. */
 static int go_on(size_t *at, size_t count, size_t length) {
     if (*at > length || count > length - *at)
         return 0;
@@ -42,7 +43,7 @@ static int go_on(size_t *at, size_t count, size_t length) {
     return 1;
 }
 
-/* Returns whether TLVs of this kind begin here that have so many bytes in all. */
+/* Returns 1 if a TLV area of this kind begins here with `count` bytes in all. */
 static int begins(const struct signed_bytes *bytes, size_t at, size_t count, uint16_t kind) {
     uint8_t head[HEAD];
     if (count < HEAD)
@@ -51,7 +52,7 @@ static int begins(const struct signed_bytes *bytes, size_t at, size_t count, uin
     return word(head) == kind && word(head + 2) == count;
 }
 
-/* The four parts are as long together as the image, and no number goes round. */
+/* Finds the four parts: header, program, protected and unprotected TLVs. Their sizes must add up to the image's, without an overflow. */
 static enum signed_verdict find_parts(const struct signed_bytes *bytes, struct layout *found) {
     uint8_t header[HEADER];
     const size_t length = length_of(bytes);
@@ -74,7 +75,8 @@ static enum signed_verdict find_parts(const struct signed_bytes *bytes, struct l
     return number(header + 16) == 0 ? SIGNED_TAKEN : SIGNED_WRONG_FLAGS;
 }
 
-/* Returns where the place of a type's value is kept, and its length in `length`; NULL for a type that is not looked at. */
+/* Returns a pointer to the offset of a type's value in `found`, with the value's length in `length`; NULL for a type that isn't read in
+ * this area. */
 static size_t *place_of(struct layout *found, int is_protected, uint16_t type, size_t *length) {
     switch (type) {
     case COUNTER_TYPE: return *length = COUNTER_LENGTH, is_protected ? &found->counter : NULL;
@@ -86,7 +88,7 @@ static size_t *place_of(struct layout *found, int is_protected, uint16_t type, s
     }
 }
 
-/* The TLVs from one place to another: each has its length, and the last ends there. */
+/* Reads the TLVs from offset `from` to `to`: each has the length that it states, and the last one ends at `to`. */
 static int find_values(const struct signed_bytes *bytes, size_t from, size_t to, int is_protected, struct layout *found) {
     size_t at = from + HEAD;
     while (at < to) {
@@ -120,7 +122,7 @@ static enum signed_verdict find(const struct signed_bytes *bytes, struct layout 
                : SIGNED_WRONG_TLVS;
 }
 
-/* Which key of the board has this hash: NULL if none has. */
+/* Returns the key of the board that has this hash, or NULL. */
 static const uint8_t *key_of(const struct signed_rules *rules, const uint8_t hash[DIGEST]) {
     for (size_t i = 0; i < rules->key_count; i++) {
         uint8_t its[DIGEST];
@@ -131,7 +133,7 @@ static const uint8_t *key_of(const struct signed_rules *rules, const uint8_t has
     return NULL;
 }
 
-/* The digest is that of the bytes, and a key of the board signed it. */
+/* Checks that the digest is that of the image, and that a key of the board signed it. */
 static enum signed_verdict is_signed(const struct signed_rules *rules, const struct signed_bytes *bytes, const struct layout *found) {
     uint8_t digest[DIGEST], value[DIGEST], signature[SIGNATURE];
     const size_t front = found->protect < bytes->front_length ? found->protect : bytes->front_length;
@@ -154,7 +156,7 @@ static enum signed_verdict is_signed(const struct signed_rules *rules, const str
     return signed_ed25519(signature, digest, DIGEST, key) ? SIGNED_TAKEN : SIGNED_WRONG_SIGNATURE;
 }
 
-/* All that is read here is signed. */
+/* Checks board and security counter. The signature covers all fields that are read here. */
 static enum signed_verdict fits(const struct signed_rules *rules, const struct signed_bytes *bytes, const struct layout *found) {
     uint8_t value[COUNTER_LENGTH];
     if (found->hardware == 0)

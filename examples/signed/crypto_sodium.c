@@ -1,6 +1,7 @@
 /* SPDX-License-Identifier: MIT OR Apache-2.0 */
-/* By libsodium. On Linux a program calls sodium_init() before. Without an OS these two need no more of it than SOURCES in `build` names:
- * they take no random numbers, no memory, and have one implementation, so there is nothing to begin. */
+/* Implements the two functions of crypto.h with libsodium. On Linux a program must call sodium_init() first. Without an OS the two
+ * functions need only the files that SOURCES in `build` names. These files use no random numbers, allocate no memory and have a single
+ * implementation, so sodium_init() isn't needed. */
 #include "crypto.h"
 
 #include <sodium/crypto_hash_sha256.h>

@@ -1,6 +1,6 @@
 /* SPDX-License-Identifier: MIT OR Apache-2.0 */
-/* Writes what a programmer puts into the flash of a new board: the bootloader, and the medium with a first image, which is confirmed. The
- * bootloader brings the run area to it. */
+/* Builds the contents for the flash of a new board, which a device programmer writes: the bootloader, and the medium with a first image,
+ * which is confirmed. The bootloader copies that image to the run area. */
 #include <stdio.h>
 #include <string.h>
 
@@ -29,7 +29,7 @@ int main(int count, char **words) {
         fprintf(stderr, "factory: a file can't be read, or is too large\n");
         return 1;
     }
-    /* Nothing runs on trial before an image was confirmed once. */
+    /* The first image is confirmed here, because no image runs on trial before one was confirmed. */
     int32_t refusal = dfu_trial_format_memory(&board_config, board_tries.tries, flash + MEDIUM, MEDIUM_SIZE, image, length);
     if (refusal != 0) {
         fprintf(stderr, "factory: refused %d\n", (int)refusal);

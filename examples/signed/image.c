@@ -1,5 +1,5 @@
 /* SPDX-License-Identifier: MIT OR Apache-2.0 */
-/* A program: it says its name, NAME, and confirms itself if CONFIRMS is set; else it stays on trial. */
+/* A program that prints its name, NAME, and confirms itself if CONFIRMS is set; else it stays on trial. */
 #include "image.h"
 
 void begin(void);

@@ -1,7 +1,7 @@
 /* SPDX-License-Identifier: MIT OR Apache-2.0 */
 #include "serve.h"
 
-/* The place of the image with which counters are compared. */
+/* Finds the image whose security counter is compared with that of a download. */
 static int32_t confirmed(const struct signed_board *board, struct dfu_place *place) {
     struct dfu_standing standing;
     int32_t refusal;
@@ -17,7 +17,7 @@ static struct signed_bytes bytes_at(const struct dfu_device *device, const struc
     return (struct signed_bytes){device->flash + place->at, place->length, NULL, 0};
 }
 
-/* Checks what was taken: 0, and `verdict` says what came of it; or a refusal of the library. */
+/* Checks the received image. Returns 0, with the result in board->verdict; or a refusal of the library. */
 static int32_t check(struct signed_board *board) {
     const struct dfu_device *device = board->device;
     struct dfu_place place;
@@ -38,7 +38,8 @@ static int32_t check(struct signed_board *board) {
     return 0;
 }
 
-/* The work comes before all else, as in dfu_device_serve: a host may be early. An image that can't be checked is not closed. */
+/* Does the pending work first, as dfu_device_serve does, because a host may be early. If an image can't be checked, its download is not
+ * closed. */
 int32_t signed_serve(struct signed_board *board, const uint8_t setup[8], const uint8_t *body, uint8_t *out, size_t room) {
     struct dfu_device *device = board->device;
     int32_t n = dfu_device_work(device);

@@ -7,18 +7,19 @@
 
 static struct dfu_device *dfu;
 static int32_t refusal;
-/* is_awaited: a data stage of the host. is_refused: no stall has told the host of a refusal yet. is_upgrade: the device was in DFU mode
- * when a call was last not refused. */
+/* is_awaited: a data stage of the host is expected. is_refused: the device has refused a call, and the host has not received the stall for
+ * that yet. is_upgrade: the device was in DFU mode after the last call that was not refused. */
 static bool is_awaited, is_refused, is_upgrade;
-static uint8_t data[DFU_TINYUSB_TRANSFER < 6 ? 6 : DFU_TINYUSB_TRANSFER]; /* of a data stage, of either side */
+static uint8_t data[DFU_TINYUSB_TRANSFER < 6 ? 6 : DFU_TINYUSB_TRANSFER]; /* data stage of the host or of the device */
 
 static int32_t state(void)
 {
     return dfu == NULL ? DFU_NO_DEVICE : dfu_device_state(dfu);
 }
 
-/* noted: an answer. After a refusal the device begins again, once, in the mode in which it was. Then a host whose image was not put in
- * place must not find dfuIDLE, as if it were: one request is stalled first. */
+/* Handles the result `n` of a call of the device library. After a refusal the device begins again, once, in the mode in which it was, and
+ * one request is stalled. Without that stall a host whose image did not become active would find the device in dfuIDLE, as after a success.
+ */
 static int32_t noted(int32_t n)
 {
     if (n < DFU_STALL) {
@@ -37,7 +38,7 @@ static void reset(uint8_t rhport)
     is_awaited = false;
     if (!counts())
         return;
-    is_upgrade = false; /* it leads to run-time mode, also if it is refused */
+    is_upgrade = false; /* a reset leads to run-time mode, even if it is refused */
     (void)noted(dfu_device_reset(dfu));
 }
 
@@ -47,8 +48,9 @@ static uint16_t open_interface(uint8_t rhport, tusb_desc_interface_t const *inte
     return dfu == NULL ? 0 : open_number(interface, most, dfu->config->interface_number);
 }
 
-/* The host sends a data stage. A request that will be stalled is stalled before it; any other is served once the whole data stage is
- * there. TinyUSB does not say how much came: if a data stage ends early, the rest reads 0, and not what an earlier one left. */
+/* Handles a setup for which the host sends a data stage. A request that will be stalled is stalled before that stage; any other is served
+ * after the whole data stage. TinyUSB does not report the received length: if a data stage ends early, the rest must read 0 instead of the
+ * bytes of an earlier one. */
 static bool await(uint8_t rhport, tusb_control_request_t const *request, const uint8_t setup[8])
 {
     int32_t stalls = 1;
@@ -65,8 +67,8 @@ static bool await(uint8_t rhport, tusb_control_request_t const *request, const u
     return is_awaited;
 }
 
-/* Whether a setup may be served. A program that runs from the first slot of two areas (DFU_TINYUSB_HOME) takes no download that would be
- * written over it: that is stalled, and nothing changes. */
+/* Returns true if a setup may be served. A program that runs from the first slot of two areas (DFU_TINYUSB_HOME) stalls a download that
+ * would overwrite it; such a setup changes nothing. */
 static bool may_come(const uint8_t setup[8])
 {
 #ifdef DFU_TINYUSB_HOME
@@ -114,7 +116,7 @@ static bool control(uint8_t rhport, uint8_t stage, tusb_control_request_t const 
     default: return false;
     }
     if (!is_taken)
-        is_refused = false; /* the stall */
+        is_refused = false; /* returning false stalls the request */
     return is_taken;
 }
 
@@ -133,7 +135,7 @@ int32_t dfu_tinyusb_start(struct dfu_device *device)
     return 0;
 }
 
-/* When a device with bitWillDetach that left comes back, the reset of that does not count. */
+/* When a device with bitWillDetach leaves the bus and returns, the bus reset that follows does not count. */
 void dfu_tinyusb_task(uint32_t now_ms)
 {
     const uint32_t ms = passed(now_ms, !is_refused && state() == DFU_STATE_APP_DETACH);

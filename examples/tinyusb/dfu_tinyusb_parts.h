@@ -1,6 +1,6 @@
 /* SPDX-License-Identifier: MIT OR Apache-2.0 */
-/* Parts that dfu_tinyusb.c and dfu_tinyusb_runtime.c share, and nothing else includes: which reset counts, the interface, time in
-   appDETACH. */
+/* Parts that dfu_tinyusb.c and dfu_tinyusb_runtime.c share; no other file includes this one. They cover the reset that counts, the
+ * interface, and the time of appDETACH. */
 #ifndef DFU_TINYUSB_PARTS_H
 #define DFU_TINYUSB_PARTS_H
 
@@ -13,7 +13,7 @@
 #error "the class drivers of this folder are for TinyUSB 0.18 or later"
 #endif
 
-/* A device leaves only once its DETACH is acknowledged; if TinyUSB does not say so, after so many milliseconds. */
+/* A device leaves after its DETACH was acknowledged. If TinyUSB does not report the acknowledgement, the device leaves after this time. */
 enum { ACKNOWLEDGED_MS = 20 };
 
 static uint32_t last_ms, ahead_ms;
@@ -54,8 +54,9 @@ static bool deinit(void)
     return true;
 }
 
-/* Tells whether a reset counts: the first one after a SET_CONFIGURATION does. TinyUSB calls reset at each reset of the bus (an enumeration
- * has two), when the cable is pulled, and at a SET_CONFIGURATION of another value, which is no reset; the hook tells that apart. */
+/* Returns true if a reset counts, which is the first one after a SET_CONFIGURATION. TinyUSB calls reset at each bus reset (an enumeration
+ * has two), when the cable is pulled, and at a SET_CONFIGURATION of another value, which is no bus reset; tud_event_hook_cb tells these
+ * apart. */
 static bool counts(void)
 {
     const bool was_configured = is_configured;
@@ -66,7 +67,8 @@ static bool counts(void)
     return was_configured;
 }
 
-/* The interface of this number, with one setting, no endpoint and a functional descriptor: its length, or 0 if it is another one. */
+/* Opens the interface with this number, which has one setting, no endpoint and a functional descriptor. Returns its length, or 0 for
+ * another interface. */
 static uint16_t open_number(tusb_desc_interface_t const *interface, uint16_t most, uint8_t number)
 {
     const uint8_t *functional = (const uint8_t *)interface + sizeof *interface;
@@ -78,20 +80,21 @@ static uint16_t open_number(tusb_desc_interface_t const *interface, uint16_t mos
     return DFU_TINYUSB_INTERFACE_LENGTH;
 }
 
-/* A request of the class to the interface is the device's. All others, as SET_INTERFACE, are left to TinyUSB. */
+/* Returns true for a request of the class to the interface, which the device handles. All others, such as SET_INTERFACE, are left to
+ * TinyUSB. */
 static bool is_ours(tusb_control_request_t const *request)
 {
     return request->bmRequestType_bit.type == TUSB_REQ_TYPE_CLASS && request->bmRequestType_bit.recipient == TUSB_REQ_RCPT_INTERFACE;
 }
 
-/* A DETACH was taken: time begins once it is acknowledged. */
+/* Begins the time of appDETACH once the DETACH was acknowledged. */
 static void detach(void)
 {
     is_timing = false;
     ahead_ms = ACKNOWLEDGED_MS;
 }
 
-/* Returns how many milliseconds of appDETACH have passed since the last call. */
+/* Returns the milliseconds of appDETACH since the last call. */
 static uint32_t passed(uint32_t now_ms, bool is_detaching)
 {
     const uint32_t all = is_timing && is_detaching ? now_ms - last_ms : 0, ahead = all < ahead_ms ? all : ahead_ms;

@@ -18,7 +18,7 @@ static uint16_t open_interface(uint8_t rhport, tusb_desc_interface_t const *inte
     return dfu == NULL ? 0 : open_number(interface, most, dfu->interface_number);
 }
 
-/* No request is taken with which the host sends a data stage: each is stalled before that. */
+/* No request with a data stage of the host is accepted: each is stalled before that stage. */
 static bool control(uint8_t rhport, uint8_t stage, tusb_control_request_t const *request)
 {
     uint8_t setup[8];

@@ -1,10 +1,10 @@
 /* SPDX-License-Identifier: MIT OR Apache-2.0 */
 /**
  * @file dfu_tinyusb_runtime.h
- * @brief A class driver of TinyUSB (0.18 or later) over dfu_runtime.h: run-time mode of an application, whose bootloader is another
- *        program. No library is linked. Compile dfu_tinyusb_runtime.c beside TinyUSB, and not dfu_tinyusb.c.
+ * @brief A class driver of TinyUSB (0.18 or later) for dfu_runtime.h: run-time mode of an application whose bootloader is another program.
+ *        It links no library. Compile dfu_tinyusb_runtime.c with TinyUSB, instead of dfu_tinyusb.c.
  *
- *     void to_bootloader(void);                   // sets its flag, and resets the processor; it begins with dfu_device_begin
+ *     void to_bootloader(void);                   // sets the bootloader's flag and resets; the bootloader calls dfu_device_begin
  *     void wait_ms(uint32_t ms);
  *     uint32_t milliseconds(void);
  *
@@ -23,7 +23,7 @@
  *         }
  *     }
  *
- * Its descriptors are those of dfu_tinyusb_descriptors.h, with protocol 1.
+ * Use the descriptors of dfu_tinyusb_descriptors.h, with protocol 1.
  */
 #ifndef DFU_TINYUSB_RUNTIME_H
 #define DFU_TINYUSB_RUNTIME_H
@@ -36,17 +36,17 @@
 extern "C" {
 #endif
 
-/* DFU_TINYUSB_OWN_HOOK and DFU_TINYUSB_OWN_DRIVERS, and what belongs to them, as in dfu_tinyusb.h. */
+/* DFU_TINYUSB_OWN_HOOK, DFU_TINYUSB_OWN_DRIVERS, dfu_tinyusb_driver and dfu_tinyusb_event are those of dfu_tinyusb.h. */
 extern usbd_class_driver_t const dfu_tinyusb_driver;
 void dfu_tinyusb_event(uint32_t event);
 
-/** @brief Serves this run-time mode. */
+/** @brief Starts to serve this run-time mode. */
 void dfu_tinyusb_runtime_start(struct dfu_runtime *runtime);
 
-/** @brief Time passes: now_ms counts milliseconds, and begins again after 2^32. Call it at least each 10 ms. */
+/** @brief Reports the time in milliseconds; now_ms wraps around after 2^32. Call it at least every 10 ms. */
 void dfu_tinyusb_task(uint32_t now_ms);
 
-/** @brief Returns whether the application is to leave for its bootloader now. */
+/** @brief Returns true if the application must enter its bootloader now. */
 bool dfu_tinyusb_leaves(void);
 
 #ifdef __cplusplus

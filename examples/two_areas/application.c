@@ -1,12 +1,12 @@
 /* SPDX-License-Identifier: MIT OR Apache-2.0 */
-/* An image, linked for the first slot: the old one takes the new one from its host, while it runs, and keeps to the rule of the first
- * slot; the new one does nothing. The host is played here: it calls what a USB stack would call. */
+/* An image that is linked for the first slot. The old image downloads the new one while it runs, and stalls a download that would overwrite
+ * the old image (dfu_home_transfer). The new image does nothing. The program itself plays the host: it makes the calls of a USB stack. */
 #include <string.h>
 
 #include "board.h"
 
 #if NUMBER == OLD_NUMBER
-/* The program runs from the first slot, so its driver writes none of that. */
+/* The program runs from the first slot, so its driver refuses operations there. */
 static int guarded_erase(void *own, uint32_t at, uint32_t length) {
     return at < SIZE / 2 ? 1 : flash_erase(own, at, length);
 }
@@ -20,7 +20,7 @@ static uint8_t block[DFU_BLOCK_SIZE(BLOCK, UNIT)], data[BLOCK];
 static struct dfu_device device = {
     .config = &board_config, .flash = (const uint8_t *)FLASH, .size = SIZE, .block = block, .most = sizeof block, .driver = &driver};
 
-/* A request of the class, as the stack hands it in. Negative: endpoint 0 is stalled. */
+/* Handles a request of the class, as the stack passes it in. Returns a negative number to stall endpoint 0. */
 static int32_t on_request(const uint8_t setup[8]) {
     const int32_t n = dfu_home_transfer(&device, setup);
     return n != 0 ? n : dfu_device_serve(&device, setup, data, data, sizeof data);
@@ -50,7 +50,7 @@ static void take(const uint8_t *file, uint32_t length) {
     if (request(0x21, DFU_DNLOAD, number, 0) != 0)
         board_stop("the close of the download", 1);
     status(DFU_STATE_IDLE);
-    /* The new image is in the second slot now. A host that would install another one would have this program erased. */
+    /* The new image is in the second slot now, so another download would erase this program. */
     if (request(0x21, DFU_DNLOAD, 0, 16) != DFU_NOT_HOME)
         board_stop("a second download is taken", 1);
     world.refusals = world.refusals + 1;

@@ -1,6 +1,6 @@
 /* SPDX-License-Identifier: MIT OR Apache-2.0 */
-/* The flash, as a part that is mapped into memory: here memory of QEMU's machine. The power goes in the middle of an operation, and what
- * such a one leaves is any bytes in its range: nothing was done, half of it, all of it, or every byte reads as an open gate. */
+/* The flash of a part that is mapped into memory; here it is memory of QEMU's machine. Power is lost in the middle of an operation, whose
+ * range then has one of four contents: unchanged, half done, all done, or every byte reads like an open gate. */
 #include "board.h"
 
 const struct dfu_config board_config = {
@@ -18,13 +18,13 @@ const struct dfu_config board_config = {
 
 static uint8_t *const part = (uint8_t *)FLASH;
 
-/* In which way this operation is cut off; TEARS if it is not. */
+/* Returns the way in which this operation is cut off, or TEARS if it is not cut off. */
 static uint32_t tear_of(void) {
     world.operations = world.operations + 1;
     return world.operations == world.cut[0] ? world.tear[0] : world.operations == world.cut[1] ? world.tear[1] : TEARS;
 }
 
-/* What a byte of an operation becomes. */
+/* Returns byte `i` of the operation's range after the operation, which may be cut off. */
 static uint8_t torn(uint32_t tear, uint32_t i, uint32_t length, uint8_t before, uint8_t after) {
     switch (tear) {
     case 0: return before;

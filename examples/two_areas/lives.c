@@ -1,6 +1,6 @@
 /* SPDX-License-Identifier: MIT OR Apache-2.0 */
-/* The lives of the board, one after another. Each begins with the old image, takes the new one, and ends when an image runs again: each
- * operation of the update and of its copy is cut off, in each way; and of each of these lives each later operation too. */
+/* The lives of the board, one after another. Each begins with the old image, receives the new one, and ends when an image runs again. The
+ * lives cut off each operation of the update and of its copy, in each of four ways, and after each such cut also each later operation. */
 #include <string.h>
 
 #include "board.h"
@@ -11,7 +11,7 @@ static int is_whole(const uint8_t *file, uint32_t length, const struct dfu_place
     return place->length == length && memcmp((const uint8_t *)FLASH + place->at, file, length) == 0;
 }
 
-/* The number at the end of a text, which ends in spaces for it. */
+/* Writes a number in decimal over the spaces of a text, so that its last digit is just before `end`. */
 static void write_number(char *end, uint32_t number) {
     do
         *--end = (char)('0' + number % 10);
@@ -34,7 +34,7 @@ static void all_done(void) {
     board_stop(text, 0);
 }
 
-/* The cuts of the next life. */
+/* Selects the cuts of the next life. */
 static void choose(void) {
     if (world.cut[0] == 0) {
         world.all = world.operations;
@@ -87,7 +87,7 @@ void lives_begin(struct dfu_device *device) {
         end_life();
     if (world.phase != PHASE_NEW)
         return;
-    /* A new board, with the old image. */
+    /* A new life begins with a formatted flash that holds the old image. */
     const uint32_t first = world.cut[0], second = world.cut[1];
     world.cut[0] = world.cut[1] = 0;
     memset((uint8_t *)FLASH, 0xff, SIZE);
@@ -99,7 +99,7 @@ void lives_begin(struct dfu_device *device) {
     world.phase = PHASE_RUNS;
 }
 
-/* What starts is the old image or the new one, whole, and stands in the first slot. */
+/* Checks the image to start: it is the whole old image or the whole new one, in the first slot. */
 void lives_start(uint32_t before, const struct dfu_place *place) {
     const uint32_t count = world.operations - before;
     if (place->at != PLACE - FLASH || (!is_whole(OLD_FILE, world.old_length, place) && !is_whole(NEW_FILE, world.new_length, place)))

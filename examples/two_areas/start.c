@@ -1,5 +1,5 @@
 /* SPDX-License-Identifier: MIT OR Apache-2.0 */
-/* The vectors of the bootloader and of an image, and what comes before main. */
+/* The vectors of the bootloader and of an image, and the code that runs before main. */
 #include "board.h"
 
 extern uint32_t data_begin[], data_end[], bss[], bss_end[], stack_end[];

@@ -1,5 +1,5 @@
 /* SPDX-License-Identifier: MIT OR Apache-2.0 */
-/* The C library of musl has no renameat2, so that the kernel is asked. */
+/* Older versions of musl have no renameat2, so the system call is used directly. */
 #define _GNU_SOURCE
 #include "../posix/own.h"
 

@@ -1,5 +1,5 @@
 /* SPDX-License-Identifier: MIT OR Apache-2.0 */
-/* The kernel resets the port, and libusb reads the descriptors again. */
+/* Properties of USB on Linux, which resets the port of a device. libusb then reads the descriptors again. */
 #define _POSIX_C_SOURCE 200809L
 #include "../properties.h"
 

@@ -1,9 +1,10 @@
 /* SPDX-License-Identifier: MIT OR Apache-2.0 */
-/* O_APPEND has the system put each write at the end, whoever else writes; a line is one write, so that lines don't mix. */
+/* With O_APPEND the system writes at the end of the file, even if several processes write. Each line is one write, so lines of different
+ * processes don't mix. */
 #define _POSIX_C_SOURCE 200809L
 #include "../append.h"
 #include "../clock.h"
-#include "../say.h"
+#include "../messages.h"
 
 #include <errno.h>
 #include <fcntl.h>
@@ -13,8 +14,8 @@
 #include <unistd.h>
 
 #define TAIL_ROOM 65536
-#define SETTLE_MS 50   /* for the write of another program */
-#define LOCK_TRIES 200 /* a millisecond each */
+#define SETTLE_MS 50   /* time in which another program completes its write */
+#define LOCK_TRIES 200 /* number of tries to lock the file, one per millisecond */
 
 void append_lock(int file, bool is_on)
 {
@@ -25,17 +26,17 @@ void append_lock(int file, bool is_on)
     errno = before;
 }
 
-/* A line that a loss of power has broken off is ended, so that the next one begins anew. */
+/* Ends a line that a power cut has broken off, so that the next line is separate. */
 static bool end_last(int file, off_t size)
 {
     char last = '\n';
     return size == 0 || (pread(file, &last, 1, size - 1) == 1 && (last == '\n' || write(file, "\n", 1) == 1));
 }
 
-/* The file that was opened last. */
+/* Name of the last opened file. */
 static const char *opened;
 
-/* Returns whether it is still what its name means: in one that was removed or replaced nobody would find a line. */
+/* Returns true if the name still refers to the open file. A line in a file that was removed or replaced would be lost. */
 static bool is_in_place(int file)
 {
     struct stat here, there;
@@ -66,7 +67,7 @@ int append_open(const char *name, char *front, size_t room, const char **why)
     return file;
 }
 
-/* Returns where the last line begins, if it was broken off; else the size. */
+/* Returns the offset of a broken last line, or the size of the file if the last line is whole. */
 static off_t torn_at(int file, off_t size, bool (*is_whole)(const char *line, size_t length))
 {
     static char tail[TAIL_ROOM];
@@ -78,7 +79,7 @@ static off_t torn_at(int file, off_t size, bool (*is_whole)(const char *line, si
     return (at == 0 && size > TAIL_ROOM) || is_whole(tail + at, room - at) ? size : size - (off_t)(room - at);
 }
 
-/* What another program is about to write is no line that was broken off. */
+/* Another program may be writing the last line, so it is removed only if the size of the file doesn't change for a moment. */
 void append_mend(int file, const char *name, bool (*is_whole)(const char *line, size_t length))
 {
     struct stat found, now;
@@ -101,18 +102,18 @@ const char *append_why(void)
                               : strerror(errno);
 }
 
-/* Takes back the part of a line that a full disk has left behind the file's `size` bytes, unless another program has added to it since. */
+/* Removes the part of a line that was written before the disk was full, unless another program has appended to it since. */
 static void take_back(int file, off_t size, ssize_t count)
 {
     struct stat now;
     int error = errno;
     bool is_ours = count > 0 && fstat(file, &now) == 0 && now.st_size == size + count;
     if (is_ours && ftruncate(file, size) != 0)
-        is_ours = false; /* the next line ends it */
+        is_ours = false; /* the next append ends the partial line */
     errno = error;
 }
 
-/* Returns whether the line was added, whole, after the last one was ended. */
+/* Ends the last line if it is broken, and appends a line. Returns true if all of it was written. */
 static bool add_line(int file, const char *line, size_t length)
 {
     struct stat found;
@@ -126,7 +127,7 @@ static bool add_line(int file, const char *line, size_t length)
     return false;
 }
 
-/* The line is on the disk before true is returned, so that a loss of power leaves each board that was reported. */
+/* Returns true only after the line is on the disk, so that a power cut can't remove the line of a board that was reported. */
 bool append_line(int file, const char *line, size_t length)
 {
     bool is_added;

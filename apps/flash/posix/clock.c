@@ -1,5 +1,5 @@
 /* SPDX-License-Identifier: MIT OR Apache-2.0 */
-/* Time that passes, by the clock that nobody sets. */
+/* Uses the monotonic clock. */
 #define _POSIX_C_SOURCE 200809L
 #include "../clock.h"
 #include "../stop.h"

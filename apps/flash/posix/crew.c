@@ -1,10 +1,10 @@
 /* SPDX-License-Identifier: MIT OR Apache-2.0 */
-/* Reads the lines of all processes in one place, and prints them, a whole line at a time. */
+/* Reads the output of all processes, and prints it in whole lines. */
 #define _POSIX_C_SOURCE 200809L
 #include "../crew.h"
 #include "../clock.h"
 #include "../record.h"
-#include "../rows.h"
+#include "../terminal_rows.h"
 #include "../same_serial.h"
 #include "../stamp.h"
 #include "../station.h"
@@ -18,7 +18,7 @@
 #include <string.h>
 
 #define ENDING_MS 5
-#define GIVE_UP_MS 10000 /* for a session to end after a signal */
+#define GIVE_UP_MS 10000 /* time for a session to end after a signal */
 
 static struct rows rows;
 
@@ -31,7 +31,7 @@ void crew_make(struct crew *crew, const struct words *words)
     rows_begin(&rows, words->quiet);
 }
 
-/* Prints the lines that were kept of a process, since its device is another one than before. */
+/* Prints the kept lines of a process, because its device isn't the previous one. */
 static void say_kept(struct worker *worker)
 {
     for (char *line = worker->kept, *end; line != NULL && (end = strchr(line, '\n')) != NULL; line = end + 1) {
@@ -42,7 +42,7 @@ static void say_kept(struct worker *worker)
     worker->kept = NULL;
 }
 
-/* Prints a line of a worker behind its path. While the worker only looks whether the device is a new one, its lines are kept. */
+/* Prints a line of a worker after its path. While the worker checks if the device is a new one, its lines are kept. */
 static void print_worker_line(void *with, const char *line)
 {
     struct worker *worker = with;
@@ -55,8 +55,7 @@ static void print_worker_line(void *with, const char *line)
     fprintf(stderr, "%s: %s\n", worker->bay->path, line);
 }
 
-/* Returns whether a status is worse than another. A failure counts as worse than an image that isn't proved to be in place, so that it
-   isn't hidden. */
+/* Returns true if `status` is worse than `than`. STATUS_UNCONFIRMED is less bad than any failure, so that it doesn't hide one. */
 static bool is_worse(int status, int than)
 {
     if (status == STATUS_DONE || than == STATUS_DONE)
@@ -66,7 +65,7 @@ static bool is_worse(int status, int than)
     return status > than;
 }
 
-/* One that has the image, and lacks only its line in the log or the report, is flashed. */
+/* A device also counts as flashed if only its line in the log or the report is missing. */
 static void count_end(struct crew *crew, int status, bool has_image, bool is_proved)
 {
     bool is_unwritten = status == STATUS_FILE && is_proved, is_flashed = status == STATUS_DONE || is_unwritten;
@@ -79,7 +78,7 @@ static void count_end(struct crew *crew, int status, bool has_image, bool is_pro
     crew->came_ms = clock_ms();
 }
 
-/* Begins a process in this place of the list, for a board that had so many sessions. Returns whether it is there. */
+/* Starts a process at index `at` of the list, for a board that already had `tries` sessions. Returns true on success. */
 static bool begin_at(struct crew *crew, int at, struct bay *bay, uint32_t tries)
 {
     struct words words = *crew->words;
@@ -99,7 +98,7 @@ void crew_begin(struct crew *crew, const struct words *words, struct image *imag
     crew->count += begin_at(crew, crew->count, bay, 0);
 }
 
-/* The record of one that could print none. */
+/* Prints the record for a process that printed none. */
 static void print_lost(const struct crew *crew, const struct worker *worker, int status, const char *why)
 {
     static struct found unread;
@@ -113,7 +112,7 @@ static void print_lost(const struct crew *crew, const struct worker *worker, int
     record_short(status, status == STATUS_GONE ? "silent" : status == STATUS_ABORTED ? "aborted" : "broken", why, crew->is_json);
 }
 
-/* A device is passed over. One that may be another than the one of before must not go unnoticed. */
+/* Reports a skipped device if it may be a different one. */
 static void say_same(const struct worker *worker, int status)
 {
     const char *what = bay_words(worker->bay, status);
@@ -121,7 +120,7 @@ static void say_same(const struct worker *worker, int status)
         fprintf(stderr, "%s: %s\n", worker->bay->path, what);
 }
 
-/* Releases the entry of a process that has ended, if its device didn't take it; else the next record has that entry. */
+/* Releases the stamp entry of a process that has ended, if its device didn't take it. Else the next record contains the entry. */
 static void leave_stamp(struct worker *worker)
 {
     if (worker->stamp != NULL && !worker->has_stamp)
@@ -129,7 +128,7 @@ static void leave_stamp(struct worker *worker)
     stamp_is(worker->has_stamp ? worker->stamp : NULL, worker->has_stamp ? worker->bay->path : NULL);
 }
 
-/* The device was worked with, or can't be: it is counted, and the next one at this bay is compared with it. */
+/* Counts the result for a device that isn't the previous one, and stores it for the comparison with the next device in its bay. */
 static void end_other(struct crew *crew, struct worker *worker, int status)
 {
     bool has_image = worker->has_image || status == STATUS_DONE || status == STATUS_UNCONFIRMED;
@@ -169,7 +168,7 @@ static void end(struct crew *crew, struct worker *worker, int status, const char
     worker_drop(worker);
 }
 
-/* With --retry and --stamp: what came back at the port may be another board, so another process has another entry for it. */
+/* With --retry and --stamp: the board that returned may be a different one, so a new process starts with another entry. */
 static bool begin_next(struct crew *crew, struct worker *worker, int at)
 {
     struct bay *bay = worker->bay;
@@ -183,7 +182,7 @@ static bool begin_next(struct crew *crew, struct worker *worker, int at)
     return begin_at(crew, at, bay, tries);
 }
 
-/* Those that have ended are taken out; one that is over its time is killed. */
+/* Removes the processes that have ended, and kills those that exceed their deadline. */
 static void reap(struct crew *crew)
 {
     int left = 0;

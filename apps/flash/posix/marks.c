@@ -1,5 +1,6 @@
 /* SPDX-License-Identifier: MIT OR Apache-2.0 */
-/* Lines of a worker's standard output that are for the first process alone, by their first character; any other one is its record. */
+/* Lines on a worker's standard output that are messages to the first process, marked by their first character. Any other line is the
+ * record. */
 #define _POSIX_C_SOURCE 200809L
 #include "../worker.h"
 #include "../../common/text.h"
@@ -32,7 +33,7 @@ void worker_print_taken(bool is_proved)
     printf("%c%d\n", TAKEN_MARK, is_proved);
 }
 
-/* The serial number in a line, by its bytes. */
+/* Decodes a serial number from the hexadecimal digits of a line. */
 static void read_serial(const char *line, char serial[TEXT_ROOM])
 {
     size_t length = 0;
@@ -42,7 +43,7 @@ static void read_serial(const char *line, char serial[TEXT_ROOM])
     serial[length] = '\0';
 }
 
-/* Takes how the device was seen. The first such line is in place of all that is known of the device of before. */
+/* Stores the serial number of a device in one mode. The first such line replaces the data about the previous device. */
 static void take_serial(struct worker *worker, const char *line)
 {
     struct bay *bay = worker->bay;
@@ -56,7 +57,7 @@ static void take_serial(struct worker *worker, const char *line)
     }
     memcpy(bay->serial[mode], serial, sizeof serial);
     bay->has_serial[mode] = worker->has_serial = true;
-    /* It is another one than before, so that what is said of it is printed. */
+    /* The device isn't the previous one, so its messages are printed. */
     worker->is_early = false;
 }
 

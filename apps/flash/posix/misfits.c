@@ -1,14 +1,14 @@
 /* SPDX-License-Identifier: MIT OR Apache-2.0 */
 #include "../misfits.h"
 #include "../station.h"
-#include "../say.h"
+#include "../messages.h"
 
 #include <stdio.h>
 #include <string.h>
 
-#define NAMED_ROOM 64 /* beyond that a board is named again at each look that finds it, so none is named any more */
+#define NAMED_ROOM 64 /* when the list is full no more boards are printed, because they would be printed again at each poll */
 
-/* Paths of the boards that were named, or needn't be, and are still there. */
+/* Paths of misfits that were printed or skipped, and are still connected. */
 static char named[NAMED_ROOM][PATH_ROOM];
 static int named_count;
 static bool has_looked;

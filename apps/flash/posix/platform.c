@@ -10,7 +10,7 @@ bool platform_words(int *count, char ***texts)
     return true;
 }
 
-const char *platform_gone(void)
+const char *platform_gone_reason(void)
 {
     return "it left, or there is no file for it below /dev/bus/usb, as in a container";
 }

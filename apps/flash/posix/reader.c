@@ -1,5 +1,5 @@
 /* SPDX-License-Identifier: MIT OR Apache-2.0 */
-/* A pipe that is read line by line. */
+/* Reads a pipe line by line. */
 #include "../reader.h"
 
 #include <errno.h>
@@ -24,7 +24,7 @@ static void close_it(struct reader *reader)
     reader->from = -1;
 }
 
-/* For one byte more, and the zero at the end. */
+/* Makes room for one more byte and the terminating NUL. */
 static bool has_room(struct reader *reader)
 {
     size_t room = reader->room == 0 ? 256 : 2 * reader->room;
@@ -39,7 +39,7 @@ static bool has_room(struct reader *reader)
     return true;
 }
 
-/* Takes one byte more. Returns whether the line is whole. */
+/* Adds one byte. Returns true if the line is complete. */
 static bool add(struct reader *reader, char byte)
 {
     bool has = has_room(reader);

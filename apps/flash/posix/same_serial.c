@@ -1,13 +1,13 @@
 /* SPDX-License-Identifier: MIT OR Apache-2.0 */
 #include "../same_serial.h"
-#include "../say.h"
+#include "../messages.h"
 #include "../station.h"
 
 #include <stdio.h>
 #include <stdlib.h>
 #include <string.h>
 
-/* A board that was flashed. */
+/* A board that was flashed in this run. */
 struct flashed {
     struct flashed *next;
     char path[PATH_ROOM], serial[];
@@ -31,7 +31,7 @@ static void say_same(const struct bay *bay, const struct flashed *before, const 
     say_text(stderr, "", port != NULL ? port : before->path, ": two boards share it, or one was flashed twice\n");
 }
 
-/* Without memory the board isn't noted, and no later one is named for it. */
+/* If there is no memory the board isn't stored, and a later board with the same number isn't reported. */
 void same_serial_note(const struct bay *bay, const char *serial)
 {
     const struct flashed *before = *serial == '\0' ? NULL : find(serial);

@@ -1,6 +1,6 @@
 /* SPDX-License-Identifier: MIT OR Apache-2.0 */
-/* Signals and the time limit of a session. A handler notes the cause, and writes to a pipe that each wait looks at: so a signal
-   that comes just before a wait ends it too, whichever thread of libusb got it. */
+/* Handles signals and the time limit of a session. The handler stores the cause and writes to a pipe that each wait polls. Therefore a
+ * signal that arrives just before a wait ends that wait too, whichever thread of libusb receives it. */
 #define _POSIX_C_SOURCE 200809L
 #include "../stop.h"
 #include "../clock.h"
@@ -12,11 +12,11 @@
 #include <stddef.h>
 #include <unistd.h>
 
-#define SAME_MS 100 /* within which a second signal of a kind is the first one again */
+#define SAME_MS 100 /* time within which a repeated signal counts as the first one */
 
 volatile sig_atomic_t stop_cause;
 static const int kinds[] = {SIGINT, SIGTERM, SIGHUP, SIGALRM};
-static int64_t came_ms[sizeof kinds / sizeof kinds[0]]; /* when the first of each came; 0 before */
+static int64_t came_ms[sizeof kinds / sizeof kinds[0]]; /* arrival of the first signal of each kind; 0 if none arrived */
 static int wake[2] = {-1, -1};
 static bool is_timed;
 
@@ -25,7 +25,8 @@ int stop_descriptor(void)
     return wake[0];
 }
 
-/* A second signal of a kind ends the program; but timeout(1) sends each twice, to its child and to the group that this is in. */
+/* A second signal of a kind ends the program. But timeout(1) sends each signal twice, to its child and to the process group, so one within
+ * SAME_MS of the first doesn't count. */
 static void end_at_second(int number)
 {
     int64_t now_ms = clock_ms() + 1;
@@ -53,7 +54,7 @@ static void on_stop(int number)
     errno = before;
 }
 
-/* If there is no pipe, a wait is ended all the same, but for a signal that comes just before it. */
+/* Without a pipe a signal still ends a wait, unless it arrives just before the wait. */
 static void make_pipe(void)
 {
     if (wake[0] >= 0 || pipe(wake) != 0)
@@ -77,8 +78,8 @@ static bool is_ignored(int number)
     return sigaction(number, NULL, &now) == 0 && now.sa_handler == SIG_IGN;
 }
 
-/* A terminal that is closed is no reason to stop if the program was started to ignore that (nohup); nor is a reader that is gone,
-   as `head` in a pipe. */
+/* SIGTERM and SIGHUP stay ignored if they were ignored when the program started, for example by nohup. SIGPIPE is ignored, because a closed
+ * reader, such as `head`, must not stop a session. */
 void stop_catch(uint32_t seconds)
 {
     sigset_t alarms;

@@ -1,5 +1,5 @@
 /* SPDX-License-Identifier: MIT OR Apache-2.0 */
-/* A system gives the lowest number that is free to what is opened next: without this, a report might be written into a USB device. */
+/* A newly opened file gets the lowest free descriptor. If a standard stream were closed, a report might be written into a USB device. */
 #define _POSIX_C_SOURCE 200809L
 #include "../streams.h"
 

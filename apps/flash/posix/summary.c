@@ -1,5 +1,5 @@
 /* SPDX-License-Identifier: MIT OR Apache-2.0 */
-/* A batch that ended before --count boards were flashed is no success, though each board that was begun is one. */
+/* A batch that flashes fewer boards than --count fails, even if every session succeeded. */
 #include "../summary.h"
 #include "../json.h"
 #include "../next.h"
@@ -18,7 +18,7 @@ static unsigned count_missing(struct crew *crew, const struct words *words)
     return missing;
 }
 
-/* Returns the next step for the user if fewer boards were flashed than --count asks for, else NULL. */
+/* Returns the next step for the user if fewer boards were flashed than --count requests, else NULL. */
 static const char *step_of(unsigned missing, const struct words *words)
 {
     static char step[120];

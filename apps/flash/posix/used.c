@@ -1,5 +1,6 @@
 /* SPDX-License-Identifier: MIT OR Apache-2.0 */
-/* The lock is the open file's: processes that were forked have it too, and it is gone once the last of them has ended, however it did. */
+/* The lock on LIST.used belongs to the open file. Forked processes share the lock, and it is released when the last of them has ended in
+ * any way. */
 #define _DEFAULT_SOURCE
 #include "../used.h"
 #include "../advice.h"
@@ -19,7 +20,7 @@
 static int used = -1;
 static char *used_name;
 
-/* The name beside the list itself, also where the list is named by a link; to be freed. */
+/* Returns the name of LIST.used, the record beside the list, with symbolic links resolved. The caller frees it. */
 static char *name_of(const char *list)
 {
     char *real = realpath(list, NULL), *name = real == NULL ? NULL : malloc(strlen(real) + sizeof ENDING);
@@ -29,7 +30,7 @@ static char *name_of(const char *list)
     return name;
 }
 
-/* The folder has a file that was made once its own entry is on the disk. */
+/* Syncs the folder, because a new file survives a power cut only if its directory entry is on the disk. */
 static bool keep_name(char *name)
 {
     int folder;
@@ -60,7 +61,8 @@ static bool read_all(int file, char **text, const char **why)
     return strlen(*text) == (size_t)count;
 }
 
-/* A board is flashed only behind a line that is whole; one that lacks only its end gets it from end_torn. */
+/* Removes a broken last line. Its board wasn't flashed, because a session begins only after its line is on the disk. A line that lacks only
+ * its newline is kept, and end_torn adds it. */
 static bool drop_torn(int file, char *text, bool only_looks, const char **why)
 {
     size_t whole = used_whole(text);
@@ -72,7 +74,7 @@ static bool drop_torn(int file, char *text, bool only_looks, const char **why)
     return false;
 }
 
-/* Returns whether the file is still the one of that name: an editor, for example, puts a new file in its place. */
+/* Returns true if the name still refers to the open file. An editor, for example, replaces the file by a new one. */
 static bool is_in_place(int file, const char *name)
 {
     struct stat here, there;
@@ -92,7 +94,7 @@ static bool take(int file, const char *name, const char **why)
     return false;
 }
 
-/* By a hard link a list would have a record beside each of its names. */
+/* Returns true if the list has no other hard link, because each name would have a record of its own. */
 static bool has_one_name(const char *list, const char **why)
 {
     struct stat found;
@@ -132,8 +134,8 @@ bool used_open(const char *list, bool only_looks, char **text, const char **why)
     return is_open;
 }
 
-/* If the disk is full a part of a line may stay, because another process may have added a line behind it. Nothing was sent behind such a
-   part: used_open takes it away at the end, and refuses it elsewhere. The next line begins on a line of its own. */
+/* Ends a broken last line, so that the next line is separate. A partial line may remain after the disk was full, because another process
+ * may have appended to it. No board was flashed for such a line: used_open removes it at the end of the file, and refuses it elsewhere. */
 static bool end_torn(void)
 {
     struct stat found;

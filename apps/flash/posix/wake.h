@@ -1,12 +1,12 @@
 /* SPDX-License-Identifier: MIT OR Apache-2.0 */
-/* Wakes a wait when a stop comes; a process that was forked begins without one. */
+/* Wakes a wait when a stop is requested. A forked process begins with no stop requested. */
 #ifndef DFU_FLASH_WAKE_H
 #define DFU_FLASH_WAKE_H
 
-/* A file descriptor that can be read once a stop came, for poll; -1 if there is none. */
+/* Returns a file descriptor for poll that becomes readable after a stop, or -1 if there is none. */
 int stop_descriptor(void);
 
-/* A process that was forked has no stop of the first one, and none of its pipe. */
+/* Clears the stop state and the pipe that a forked process inherits. */
 void stop_anew(void);
 
 #endif

@@ -1,10 +1,10 @@
 /* SPDX-License-Identifier: MIT OR Apache-2.0 */
-/* A process for each device: what is done there is what the program does for one (one.c), and a device that hangs, or a mistake, ends no
-   other. It has a group of its own, so that Ctrl-C comes to the first process alone, which passes it on once. */
+/* Each device has its own process that runs a session for one device (one_device.c), so that a hanging device or a crash doesn't affect the
+ * others. The process has its own process group, so that Ctrl-C reaches only the first process, which passes the signal on once. */
 #define _POSIX_C_SOURCE 200809L
 #include "../worker.h"
 #include "../clock.h"
-#include "../one.h"
+#include "../one_device.h"
 #include "../record.h"
 #include "../stamp.h"
 #include "../status.h"
@@ -21,11 +21,11 @@
 #include <sys/wait.h>
 #include <unistd.h>
 
-#define CHOOSE_S 5     /* for the rights of a device that came */
-#define GRACE_MS 10000 /* after --timeout or a signal; a session needs at most 8 seconds to give up */
+#define CHOOSE_S 5     /* time for udev to set the access rights of a new device */
+#define GRACE_MS 10000 /* time to give up after --timeout or a signal; a session needs up to 8 s */
 #define NAME_ROOM 4096
 
-/* A name in FOLDER that is free: the path of the bay, and a number. To be freed; NULL if there is none. */
+/* Returns a free file name in FOLDER, made of the bay's path and a number. The caller frees it. Returns NULL if there is none. */
 static char *log_name(const char *folder, const char *path)
 {
     char *name = malloc(NAME_ROOM);
@@ -40,7 +40,7 @@ static char *log_name(const char *folder, const char *path)
     return NULL;
 }
 
-/* There is no name for a log. */
+/* Reports that no name for a log is free, or that the name is too long. */
 static int say_unnamed(const struct words *words)
 {
     static const struct found unread;
@@ -51,7 +51,7 @@ static int say_unnamed(const struct words *words)
     return STATUS_FILE;
 }
 
-/* Flashes the device of its bay, in the new process. */
+/* Flashes the device of the bay, in the new process. */
 static void work(const struct words *all, struct image *image, const struct bay *bay, bool has_rows)
 {
     struct words words = *all;
@@ -69,7 +69,7 @@ static void work(const struct words *all, struct image *image, const struct bay 
     exit(one_run(&words, image, has_rows ? PROGRESS_ROWS : PROGRESS_SILENT));
 }
 
-/* The pipes of the first process, which are marked to be closed, aren't open here; and if it ends this one gives up. */
+/* Sets up the new process: closes the pipes of the first process, and makes the new process give up when the first one ends. */
 static void leave_first(int out, int err, pid_t first)
 {
     stop_anew();
@@ -84,7 +84,7 @@ static void leave_first(int out, int err, pid_t first)
             close(at);
 }
 
-/* A pipe that no program that is started here gets. */
+/* Makes a pipe that programs started later don't inherit. */
 static bool make_pipe(int ends[2])
 {
     if (pipe(ends) != 0)
@@ -174,7 +174,7 @@ bool worker_has_ended(struct worker *worker, int *status, const char **why)
 
 void worker_stop(struct worker *worker, int64_t deadline_ms)
 {
-    /* SIGTERM comes when this process ends: a second signal of one kind would end that one at once. */
+    /* SIGINT is sent, because the worker gets SIGTERM when this process ends, and a second signal of one kind would kill it at once. */
     kill(worker->process, SIGINT);
     if (worker->deadline_ms == 0 || worker->deadline_ms > deadline_ms)
         worker->deadline_ms = deadline_ms;

@@ -1,11 +1,10 @@
 /* SPDX-License-Identifier: MIT OR Apache-2.0 */
-/* Makes the file of an upload: the bytes go to a new file beside OUT, which gets the name OUT once they are on the disk. So there
-   is the old OUT or the whole new one. Without --force OUT is never replaced, whatever it is; with it only a regular file that
-   the user may write is, and no link is followed: to put a file in place of a device, or of what a link of someone else names,
-   is harm. */
+/* Creates the file of an upload. The bytes are written to a new file in the folder of OUT, which is renamed to OUT after they are on the
+ * disk, so OUT is either the old file or the complete new one. Without --force OUT is never replaced. With --force only a regular file that
+ * the user may write is replaced, and no link is followed, because replacing a device, or the target of another user's link, does harm. */
 #define _POSIX_C_SOURCE 200809L
 #include "../files.h"
-#include "../say.h"
+#include "../messages.h"
 #include "own.h"
 
 #include <errno.h>
@@ -21,8 +20,7 @@ static bool fail(const char *name, const char *why)
     return say_failed(name, " can't be made", why);
 }
 
-/* Looks at the name OUT. Returns 0 if nothing has it, 1 if a file that may be replaced has it, and -1, after printing why, if something
-   has it that must stay. */
+/* Checks the name OUT. Returns 0 if it doesn't exist, 1 if it may be replaced, and -1, after printing why, if it must be kept. */
 static int look(const char *name, bool is_forced, struct stat *there)
 {
     bool is_there = lstat(name, there) == 0;
@@ -41,7 +39,7 @@ static int look(const char *name, bool is_forced, struct stat *there)
     return -1;
 }
 
-/* The name of the new file: a hidden one in the folder of OUT. To be freed. */
+/* Returns the template for the new file's name: a hidden file in the folder of OUT. The caller frees it. */
 static char *name_beside(const char *name)
 {
     const char *slash = strrchr(name, '/');
@@ -80,8 +78,8 @@ static bool write_all(int out, const uint8_t *bytes, size_t length)
     return fsync(out) == 0;
 }
 
-/* The owner and the rights of the old file. If its owner or its group can't be kept, the new group gets what all others had,
-   of whom it was one. A new file has the rights that any new file of the user has. */
+/* Copies the owner and the permissions of the old file. If its owner and group can't be kept, the group's permissions become those of all
+ * others. A new file gets the user's default permissions. */
 static bool set_rights(int out, const struct stat *there)
 {
     mode_t mask, mode;
@@ -96,7 +94,7 @@ static bool set_rights(int out, const struct stat *there)
     return fchmod(out, mode) == 0;
 }
 
-/* For a file system that can neither rename without replacing nor link: an empty file of our own takes the name, and is replaced. */
+/* For a file system without an exclusive rename and without links: creates an empty file with the name, and replaces it. */
 static bool take_name(const char *beside, const char *name)
 {
     int error, empty = open(name, O_WRONLY | O_CREAT | O_EXCL | O_NOFOLLOW | O_CLOEXEC, 0600);
@@ -111,7 +109,7 @@ static bool take_name(const char *beside, const char *name)
     return false;
 }
 
-/* Gives the new file its name, and doesn't replace a file that came meanwhile. */
+/* Renames the new file without replacing a file that was created in the meantime. */
 static bool give_name(const char *beside, const char *name, bool is_there)
 {
     if (is_there)

@@ -1,5 +1,5 @@
 /* SPDX-License-Identifier: MIT OR Apache-2.0 */
-/* A new file gets its name by a link. A process that was begun by one that is killed goes on. */
+/* Without an exclusive rename, a new file gets its name by a hard link. A process whose parent is killed continues. */
 #include "../posix/own.h"
 
 #include <errno.h>

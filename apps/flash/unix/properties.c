@@ -1,5 +1,6 @@
 /* SPDX-License-Identifier: MIT OR Apache-2.0 */
-/* On macOS libusb has the device enumerated again, and compares no more than the front of its configurations. */
+/* On macOS libusb enumerates the device again after a reset, but compares only the beginning of its configurations. A changed descriptor
+ * may therefore stay unnoticed. */
 #include "../properties.h"
 
 bool platform_resets(void)

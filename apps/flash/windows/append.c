@@ -1,7 +1,7 @@
 /* SPDX-License-Identifier: MIT OR Apache-2.0 */
-/* Windows has one process here (there is no --all), so that no other's lines come between. */
+/* On Windows only one process appends, because there is no --all, so no other process can write between two lines. */
 #include "../append.h"
-#include "../say.h"
+#include "../messages.h"
 #include "utf16.h"
 
 #include <errno.h>
@@ -32,7 +32,7 @@ bool append_line(int file, const char *line, size_t length)
     return _write(file, line, (unsigned)length) == (int)length;
 }
 
-/* One process has the file. */
+/* No other process appends, so a broken last line can be removed at once. */
 void append_mend(int file, const char *name, bool (*is_whole)(const char *line, size_t length))
 {
     static char tail[65536];
@@ -49,7 +49,7 @@ void append_mend(int file, const char *name, bool (*is_whole)(const char *line, 
         say_text(stderr, "dfu-flash: ", name, ": its last line was broken off, and is taken away\n");
 }
 
-/* A file that is open can't be removed there. */
+/* Always false, because an open file can't be removed on Windows. */
 bool append_has_moved(void)
 {
     return false;

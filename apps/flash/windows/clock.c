@@ -1,12 +1,12 @@
 /* SPDX-License-Identifier: MIT OR Apache-2.0 */
-/* Time that passes, by the counter that nobody sets. A wait ends at the event of a stop. */
+/* Uses the performance counter, which can't be set. A wait ends when the event of a stop is set. */
 #include "../clock.h"
 #include "../stop.h"
 #include "wake.h"
 
 #include <windows.h>
 
-#define SHORT_MS 50 /* between two looks at the stop, if there is no event */
+#define SHORT_MS 50 /* time between two checks for a stop if there is no event */
 
 static int64_t counts_a_second(void)
 {

@@ -1,6 +1,6 @@
 /* SPDX-License-Identifier: MIT OR Apache-2.0 */
-/* CREATE_NEW takes no name that is there; by FILE_FLAG_OPEN_REPARSE_POINT that of a link to nothing neither. The C library writes
-   no line by itself: log.c has it write. */
+/* CREATE_NEW never opens an existing name, and with FILE_FLAG_OPEN_REPARSE_POINT not even a dangling link. The C library has no line
+ * buffering, so log.c flushes each line. */
 #include "../../common/fresh.h"
 #include "utf16.h"
 

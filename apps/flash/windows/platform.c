@@ -1,5 +1,5 @@
 /* SPDX-License-Identifier: MIT OR Apache-2.0 */
-/* The words of the command line are UTF-16 here, and a console shows UTF-8 if it is asked to. */
+/* The arguments are UTF-16 on Windows, and a console shows UTF-8 only after SetConsoleOutputCP. */
 #include "../platform.h"
 #include "utf16.h"
 
@@ -36,7 +36,7 @@ bool platform_words(int *count, char ***texts)
     return true;
 }
 
-const char *platform_gone(void)
+const char *platform_gone_reason(void)
 {
     return "it left";
 }

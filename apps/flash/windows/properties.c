@@ -1,6 +1,6 @@
 /* SPDX-License-Identifier: MIT OR Apache-2.0 */
-/* WinUSB has no call for a reset: libusb's winusbx_reset_device answers 0 and resets nothing. ERROR_GEN_FAILURE is a stall to libusb,
-   whatever it came of, and what can't be submitted is LIBUSB_ERROR_IO. */
+/* WinUSB has no call for a reset: libusb's winusbx_reset_device returns 0 and resets nothing. libusb reports every ERROR_GEN_FAILURE as a
+ * stall, even if it has another cause, and a transfer that can't be submitted as LIBUSB_ERROR_IO. */
 #include "../properties.h"
 
 bool platform_resets(void)

@@ -1,6 +1,6 @@
 /* SPDX-License-Identifier: MIT OR Apache-2.0 */
-/* Events that end a session: Ctrl-C and Ctrl-Break, a window that is closed, a user who signs out, and the time limit. Each comes on a
-   thread of its own. */
+/* Handles the events that end a session: Ctrl-C, Ctrl-Break, a closed window, a user who signs out, and the time limit. Each arrives on its
+ * own thread. */
 #include "../stop.h"
 #include "../clock.h"
 #include "wake.h"
@@ -9,11 +9,11 @@
 #include <stdlib.h>
 #include <windows.h>
 
-#define SAME_MS 100 /* within which a second Ctrl-C is the first one again */
+#define SAME_MS 100 /* time within which a second Ctrl-C counts as the first one */
 
 volatile sig_atomic_t stop_cause;
 static volatile LONG cause;
-static volatile LONG64 came_ms[2]; /* when the first Ctrl-C and the first Ctrl-Break came; 0 before */
+static volatile LONG64 came_ms[2]; /* time of the first Ctrl-C and the first Ctrl-Break; 0 if there was none */
 static HANDLE event, timer;
 
 void *stop_event(void)
@@ -29,7 +29,7 @@ static void note(LONG which)
         SetEvent(event);
 }
 
-/* A second one ends the program, as if nobody listened. */
+/* Returns true for a second event of the same kind, which ends the program as if it had no handler. */
 static bool is_second(DWORD kind)
 {
     int64_t now_ms = clock_ms() + 1;
@@ -37,8 +37,8 @@ static bool is_second(DWORD kind)
     return first != 0 && now_ms - first >= SAME_MS;
 }
 
-/* After CTRL_CLOSE_EVENT, and what is like it, Windows ends the program once this returns, or after some five seconds: these the session
-   has. */
+/* After CTRL_CLOSE_EVENT and similar events Windows ends the program when the handler returns, or after about five seconds. The handler
+ * sleeps, so that the session has this time. */
 static BOOL WINAPI on_stop(DWORD kind)
 {
     bool is_key = kind == CTRL_C_EVENT || kind == CTRL_BREAK_EVENT;

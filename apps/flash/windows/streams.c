@@ -1,6 +1,6 @@
 /* SPDX-License-Identifier: MIT OR Apache-2.0 */
-/* The streams have bytes: a line ends in only a line feed, and an image may come in by standard input. A stream that was closed by who
-   started the program has no number here that a file could get. */
+/* Sets the streams to binary mode, so that lines end in only a line feed, and standard input can contain an image. If a stream is closed
+ * when the program starts, no file gets its number. */
 #include "../streams.h"
 
 #include <fcntl.h>

@@ -1,5 +1,5 @@
 /* SPDX-License-Identifier: MIT OR Apache-2.0 */
-/* A console. NUL is a device with characters too, but nobody sees it. */
+/* Only a console counts as a terminal. NUL is a character device too, but no person reads it. */
 #include "../terminal.h"
 
 #include <io.h>

@@ -1,5 +1,5 @@
 /* SPDX-License-Identifier: MIT OR Apache-2.0 */
-/* A file that is open here is opened by no other process: that is the lock. */
+/* The record is opened without sharing, which locks it, because no other process can open it. */
 #include "../used.h"
 #include "utf16.h"
 
@@ -33,7 +33,7 @@ static int open_it(const char *list, bool only_looks)
     return file;
 }
 
-/* Reads the whole list. Refuses one with a NUL, because the text would seem to end there. */
+/* Reads the whole record. Refuses one with a NUL, because its text would seem to end there. */
 static bool read_all(int file, char **text, const char **why)
 {
     long size = _lseek(file, 0, SEEK_END);
@@ -53,8 +53,8 @@ static bool end_last(int file, const char *text, size_t length)
     return length == 0 || text[length - 1] == '\n' || _write(file, "\n", 1) == 1;
 }
 
-/* Cuts off a last line that isn't whole, because a board is flashed only behind one that is, or ends one that lacks only its end. A run that
-   only looks leaves the file. */
+/* Removes an incomplete last line. Its board wasn't flashed, because a session begins only after its line is on the disk. If only the
+ * newline is missing, adds it. With `only_looks` the file stays unchanged. */
 static bool drop_torn(int file, char *text, bool only_looks, const char **why)
 {
     size_t whole = used_whole(text);
@@ -89,7 +89,7 @@ bool used_add(const char *line, size_t length)
     return used >= 0 && _write(used, line, (unsigned)length) == (int)length && _commit(used) == 0;
 }
 
-/* No other program can move a file that is open here. */
+/* Always true, because no other program can move an open file on Windows. */
 bool used_is_there(void)
 {
     return true;

@@ -1,9 +1,10 @@
 /* SPDX-License-Identifier: MIT OR Apache-2.0 */
-/* Makes the file of an upload: the bytes go to a new file beside OUT, which gets the name OUT once they are on the disk. So there is the
-   old OUT or the whole new one. Without --force OUT is never replaced, whatever it is; with it only a file that the user may write is,
-   and no link. MoveFileExW renames; ReplaceFileW would keep more of the old file, and may leave neither. */
+/* Creates the file of an upload. The bytes are written to a new file in the folder of OUT, which is renamed to OUT after they are on the
+ * disk, so OUT is either the old file or the complete new one. Without --force OUT is never replaced. With --force only a regular file that
+ * the user may write is replaced, and no link. The rename uses MoveFileExW, because ReplaceFileW, which keeps more of the old file's
+ * attributes, can leave neither file. */
 #include "../files.h"
-#include "../say.h"
+#include "../messages.h"
 #include "utf16.h"
 
 #include <errno.h>
@@ -13,7 +14,7 @@
 #include <windows.h>
 
 #define SHARED (FILE_SHARE_READ | FILE_SHARE_WRITE | FILE_SHARE_DELETE)
-#define MAX_BESIDE 100 /* names that are tried */
+#define MAX_BESIDE 100 /* number of names to try */
 #define MAX_WRITE 1048576
 
 static bool fail(const char *name, const char *why)
@@ -27,7 +28,7 @@ static bool fail_by_windows(const char *name)
     return fail(name, strerror(errno));
 }
 
-/* A file on a disk, and neither a folder, nor a link, nor a device as NUL. */
+/* Returns true if the handle is a file on a disk, and not a folder, a link, or a device such as NUL. */
 static bool is_regular(HANDLE file)
 {
     static const DWORD others = FILE_ATTRIBUTE_DIRECTORY | FILE_ATTRIBUTE_REPARSE_POINT | FILE_ATTRIBUTE_DEVICE;
@@ -36,7 +37,7 @@ static bool is_regular(HANDLE file)
            && (information.dwFileAttributes & others) == 0;
 }
 
-/* Returns whether the user may write the file, and take its name away. */
+/* Returns true if the user may write the file and delete it. */
 static bool may_replace(const wchar_t *wide)
 {
     HANDLE file = CreateFileW(wide, GENERIC_WRITE | DELETE, SHARED, NULL, OPEN_EXISTING, FILE_FLAG_OPEN_REPARSE_POINT, NULL);
@@ -46,8 +47,7 @@ static bool may_replace(const wchar_t *wide)
     return true;
 }
 
-/* Looks at the name OUT. Returns 0 if nothing has it, 1 if a file that may be replaced has it, and -1, after printing why, if something
-   has it that must stay. */
+/* Checks the name OUT. Returns 0 if it doesn't exist, 1 if it may be replaced, and -1, after printing why, if it must be kept. */
 static int look(const char *name, const wchar_t *wide, bool is_forced)
 {
     HANDLE file = CreateFileW(wide, 0, SHARED, NULL, OPEN_EXISTING, FILE_FLAG_OPEN_REPARSE_POINT | FILE_FLAG_BACKUP_SEMANTICS, NULL);
@@ -71,7 +71,7 @@ static int look(const char *name, const wchar_t *wide, bool is_forced)
     return -1;
 }
 
-/* Counts the UTF-16 units of the path of its folder, with the separator at its end. */
+/* Returns the length of the path of the file's folder in UTF-16 units, including the separator at its end. */
 static int folder_of(const wchar_t *wide)
 {
     int folder = 0;
@@ -81,7 +81,7 @@ static int folder_of(const wchar_t *wide)
     return folder;
 }
 
-/* Opens a new file in the folder of OUT; its name is to be freed. */
+/* Opens a new file in the folder of OUT. The caller frees its name. */
 static HANDLE open_beside(const wchar_t *wide, wchar_t **beside, DWORD flags)
 {
     size_t room = wcslen(wide) + 32;
@@ -97,7 +97,7 @@ static HANDLE open_beside(const wchar_t *wide, wchar_t **beside, DWORD flags)
     return file;
 }
 
-/* One that is made, and gone as soon as it is closed, shows that another may be. */
+/* Creates a file that is deleted when it is closed, to test if files can be created in the folder. */
 bool file_may_make(const char *name, bool is_forced)
 {
     wchar_t *wide = utf16(name), *beside = NULL;
@@ -127,7 +127,7 @@ static bool write_all(HANDLE out, const uint8_t *bytes, size_t length)
     return FlushFileBuffers(out) != 0;
 }
 
-/* Who may do what with the old file, as far as the user may set it; a new file has what its folder gives it. */
+/* Copies the old file's access rights as far as the user may set them. A new file inherits those of its folder. */
 static void keep_rights(const wchar_t *from, const wchar_t *to)
 {
     static union {
@@ -139,7 +139,7 @@ static void keep_rights(const wchar_t *from, const wchar_t *to)
         SetFileSecurityW(to, DACL_SECURITY_INFORMATION, &rights.descriptor);
 }
 
-/* Writes the new file, and gives it the name. */
+/* Writes the new file and renames it. */
 static bool replace(HANDLE out, const wchar_t *beside, const wchar_t *wide, bool is_there, const uint8_t *bytes, size_t length)
 {
     bool is_written = write_all(out, bytes, length);

@@ -1,4 +1,5 @@
--- The command with one subcommand parses words whose second is the subcommand's name as the whole command does.
+-- If the first argument is the name of a subcommand, the command with this subcommand alone parses the command line as the whole command
+-- does.
 use Rattle.std.proofs.Common.{◌≡◌, ◌∙◌, ◌≤◌, ap, arith, codes, get_or, length, map, refl, subst, sym, true, IfOk, List, [], ◌∷◌, Bool, Option, Some, Result, Ok, Err, false}
 use Rattle.std.specs.Option.{option_map}
 use Rattle.std.specs.Str.{bytes_eq}
@@ -12,16 +13,16 @@ use Rattle.dfu_args.specs.Tables.{with_listed_command}
 use Rattle.dfu_args.specs.declared.commands.ListedCommand.{ListedCommand}
 use Rattle.dfu_args.proofs.FirstWord.{CommandMeetsName, fault_is_of_met, kinds_of_met_subcommand, rows_are_of_met, subcommand_named, own_rows_are_of_no_words}
 
--- The whole command parses words as itself.
+-- The whole command satisfies ParsesAsWhole for every command line.
 pub whole_parses_as_whole : (words : List Text) → ParsesAsWhole words dfu_app
 unfolding dfu_app parse_fault_kinds
 whole_parses_as_whole words = record { simple = refl; free = refl; required = refl; top = refl; rows = refl; faults = refl }
 
--- The command `dfu` with the subcommand `sub` alone.
+-- The command `dfu` with `sub` as its only subcommand.
 abbrev app_of_subcommand_alone : App → App
 app_of_subcommand_alone sub = with_subcommand top_app sub.top
 
--- Facts of a command that decide how it parses words that begin with the name of a subcommand other than `help`.
+-- Facts of a command that decide how it parses a command line that begins with the name of a subcommand other than `help`.
 record CommandFacts : Type 0 where
   simple : Bool
   free : Bool
@@ -42,7 +43,7 @@ facts_of_command app name = record {
   found = subcommand_named (built app) name;
 }
 
--- Facts of a simple command whose subcommand with this name is that of the whole command.
+-- Facts of a simple command whose subcommand with this name equals that of the whole command.
 facts_of_subcommand : Text → CommandFacts
 facts_of_subcommand name = record {
   simple = true;
@@ -125,8 +126,8 @@ module _ (program : Text) (words : List Text) where
   unfolding dfu_app facts_of_command facts_of_subcommand
   plan_alone_parses_as_whole = alone_app_parses_as_whole plan_app (codes "plan") refl refl refl program words
 
--- If ParsesAsWhole holds of all words after a program's name and the subcommand's name, it holds of words whose second is the subcommand's
--- name.
+-- If ParsesAsWhole holds for every program's name followed by the subcommand's name, it holds for a list whose second word is the
+-- subcommand's name.
 pub second_word_parses_as_whole : {X : Type 0} (text : X → Text) (app : App) (name : Text)
     → ((program : Text) (words : List Text) → ParsesAsWhole (program ∷ name ∷ words) app) → (xs : List X) (y : X) → 2 ≤ length xs
     → y ≡ get_or xs 1 y → name ≡ text y → ParsesAsWhole (map text xs) app
@@ -135,7 +136,7 @@ second_word_parses_as_whole text app name says (x ∷ []) y le is same = absurd 
 second_word_parses_as_whole text app name says (x ∷ z ∷ xs) y le is same =
     subst (λ (n : Text). ParsesAsWhole (text x ∷ n ∷ map text xs) app) (same ∙ ap text is) (says (text x) (map text xs))
 
--- ParsesAsWhole holds of a command that was built as one of which it holds.
+-- A command that was built successfully satisfies ParsesAsWhole if the command that it equals does.
 pub made_command_parses_as_whole : {T E : Type 0} (app : T → App) (made : Result T E) (words : List Text) (l : ListedCommand) (top : App)
     → IfOk made (λ c. app c ≡ with_listed_command top l) → top ≡ top_app → ParsesAsWhole words (with_listed_command top_app l)
     → IfOk made (λ c. ParsesAsWhole words (app c))

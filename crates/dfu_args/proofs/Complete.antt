@@ -1,4 +1,4 @@
--- The subcommand of words without a fault is complete: each of its sure arguments has a text.
+-- The subcommand of a command line without a fault is complete: each of its sure arguments has a text.
 use Rattle.std.proofs.Common.{◌≡◌, ◌∙◌, ◌&&◌, ◌||◌, Bool, codes, true, false, not, refl, sym, ap, subst, List, [], ◌∷◌, Option, Some, None, IfSome, is_some, inl, inr, true≢false}
 use Rattle.std.specs.List.{find, list_all, list_any}
 use Rattle.std.specs.Option.{option_map, option_map_or}
@@ -19,7 +19,7 @@ use Rattle.dfu_args.proofs.Rows.{EachRowHasValue, default_argument_has_row, defa
 use Rattle.dfu_args.proofs.Uses.{first_is_faultless, found_element_passes, sets_value, settled_rows_are_full, second_is_faultless}
 use Rattle.dfu_args.proofs.Walks.{IsNotStoppedAtHelp, walk_keeps_rows_full}
 
--- The argument is required, or has a default.
+-- True if the argument is required or has a default.
 abbrev is_required_or_defaulted : Shape → Text → Bool
 is_required_or_defaulted s id = is_required_argument id s.rules || has_default id s.rules
 
@@ -67,7 +67,7 @@ module _ (s : Shape) (all : list_all sets_value s.rules ≡ true) (words : List 
   sure_arguments_have_texts [] e = tt
   sure_arguments_have_texts (id ∷ ids) e = let each = both _ _ e in (sure_argument_has_text id each.0, sure_arguments_have_texts ids each.1)
 
--- The subcommand has no aliases; and it is `help`, or its arguments all set values, and it has sure arguments, each of which is required or
+-- The subcommand has no aliases. Unless it is `help`, all its arguments set values, and it has sure arguments, each of which is required or
 -- has a default.
 has_sure_arguments : Shape → Bool
 has_sure_arguments s = is_empty s.aliases && (bytes_eq s.name (codes "help") || (list_all sets_value s.rules
@@ -144,7 +144,7 @@ module _ (a : App) (fit : list_all has_sure_arguments a.subs ≡ true) (sets : l
       (names_of a)
       (walk_from nothing_held) words) _ e)) is
 
--- If words without a fault have a subcommand, this has a text for each of its sure arguments.
+-- If a command line has no fault, its subcommand has a text for each of its sure arguments.
 pub faultless_words_are_complete : (words : List Text) (o : Option (Text × List Row)) → fault_of dfu_app words ≡ [] → o
     ≡ subcommand_of dfu_app words
     → IfSome o (λ p. IsComplete p.0 p.1)

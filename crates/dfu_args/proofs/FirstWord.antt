@@ -1,4 +1,4 @@
--- Words that begin with the name of a subcommand: the walk stops there, and the result depends on that subcommand alone.
+-- If a command line begins with the name of a subcommand, the walk stops there, and the result depends only on this subcommand.
 use Rattle.std.proofs.Common.{◌≡◌, ◌∙◌, ◌&&◌, ap, codes, cond, false, not, refl, sym, append-nil, append_assoc, Bool, List, [], ◌∷◌, ◌++◌, Option, Some, is_some}
 use Rattle.std.specs.List.{find, fold}
 use Rattle.std.specs.Option.{option_map, option_map_or}
@@ -10,7 +10,7 @@ use Rattle.clap.specs.Simple.{Shape, argument_words, built, entered, label_of, n
 use Rattle.clap.specs.Walk.{Names, Walk, after_step, answers_to, finished, idle, nothing_held, settled, subcommand_met, subcommand_or_other, walk, walk_from, walked}
 use Rattle.clap.specs.declared.error.kind.ErrorKind.TheVariants as kind
 
--- The walk that stopped at the subcommand of this name, and took these words after it.
+-- Walk that has stopped at the subcommand with this name and has taken these words after it.
 abbrev walk_stopped_at : Text → List Text → Walk
 walk_stopped_at name words = record (walk_from nothing_held) { stopped = Some (name, words) }
 
@@ -50,14 +50,14 @@ module _ (s : Shape) (names : Names) (name : Text) (words : List Text) (is : sub
       (kind.DisplayHelp ∷ kind.InvalidSubcommand ∷ []) []) [])
       (walk_fault s names (walked s.rules names (walk_from nothing_held) name) words)) other ∙ later)
 
--- Kinds of error of words that begin with the name of a subcommand, by the shapes of the command and of the subcommand.
+-- Kinds of error for words that begin with the name of a subcommand, from the shapes of the command and of the subcommand.
 abbrev pub kinds_of_met_subcommand : Shape → Option Shape → List Text → Kinds
 kinds_of_met_subcommand top sub words = or_else (option_map_or (λ s. level_fault s [] nothing_held words false []) sub [])
     (or_else (settle_fault top.rules top.args_override_self nothing_held)
     (or_else (defaults_fault (settled top.rules nothing_held).rows top.rules)
     (check_fault top (finished top.rules nothing_held) (is_some (option_map (λ s. rows_at s words) sub)))))
 
--- The subcommand of a built command that answers to this name.
+-- Subcommand of a built command that has this name or alias.
 abbrev pub subcommand_named : App → Text → Option Shape
 subcommand_named b name = find (λ s. answers_to name (label_of s)) b.subs
 
@@ -81,7 +81,7 @@ module _ (b : App) (name : Text) (words : List Text) (is : subcommand_met (names
       ≡ finished b.top.rules nothing_held
   finished_rows_are_of_no_words = ap (λ (w : Walk). finished b.top.rules w.held) (walk_meets_first_word b.top (names_of b) name words is)
 
--- The command expects the program's name before its words, and finds a subcommand of this name, which isn't `help`.
+-- The command expects the program's name before its words, and has a subcommand with this name, which isn't `help`.
 pub record CommandMeetsName (a : App) (name : Text) : Type 0 where
   pub named : a.top.no_binary_name ≡ false
   pub met : subcommand_met (names_of (built a)) idle name ≡ Some name

@@ -1,4 +1,4 @@
--- Rows of arguments: each has a value after a walk without a fault.
+-- After a walk without a fault, each row of an argument has a value.
 use Rattle.std.proofs.Common.{◌≡◌, ◌<◌, ◌&&◌, ◌||◌, Bool, cond, true, false, not, refl, sym, ap, subst, arith, List, [], ◌∷◌, ◌++◌, length, Some, None, is_some, true≢false}
 use Rattle.std.specs.Prelude.{slice_get}
 use Rattle.std.specs.List.{find, fold, list_any}
@@ -12,7 +12,7 @@ use Rattle.clap.specs.declared.parser.matches.ValueSource.{ValueSource}
 use Rattle.clap.specs.declared.parser.matches.ValueSource.TheVariants.{DefaultValue}
 use Rattle.std.proofs.lemmas.Slice.Eq.{bytes_eq-Decides}
 
--- Each row has a value.
+-- Each row has at least one value.
 abbrev pub EachRowHasValue : List Row → Type 0
 EachRowHasValue [] = Unit {0}
 EachRowHasValue (r ∷ rs) = (0 < length r.values) × EachRowHasValue rs
@@ -38,7 +38,7 @@ added_values_make_some : (xs ys : List Text) → 0 < length ys → 0 < length (x
 added_values_make_some [] ys lt = lt
 added_values_make_some (x ∷ xs) ys lt = omega arith
 
--- If each row has a value, each has one after at least one value is added to the row of an argument, which is made if it is missing.
+-- If each row has a value, this remains true after values are added to the row of an argument. A missing row is created.
 pub given_values_keep_rows_full : (id : Text) (how : Reading) (s : ValueSource) (values : List Text) (rows : List Row) →
     0 < length values → EachRowHasValue rows
     → EachRowHasValue (with_values id how s values rows)
@@ -48,7 +48,7 @@ given_values_keep_rows_full id how s values rows lt f = changed_row_keeps_values
   tt,
 )) (lt, tt) f
 
--- If each row has a value, each has one after the first row of an argument, if it has one, is removed.
+-- If each row has a value, this remains true after the first row of an argument is removed.
 pub removal_keeps_rows_full : (id : Text) (rows : List Row) → EachRowHasValue rows → EachRowHasValue (without id rows)
 removal_keeps_rows_full id rows f = changed_row_keeps_values id (λ _. []) [] rows (λ _ _. tt) tt f
 
@@ -63,7 +63,7 @@ default_keeps_rows_full rows a f = go (has_row a.id rows)
     go true = f
     go false = given a.defaults
 
--- If each row has a value, each has one after the defaults are added.
+-- If each row has a value, this remains true after the defaults are added.
 pub defaults_keep_rows_full : (rules : List Rule) (rows : List Row) → EachRowHasValue rows → EachRowHasValue (fold with_default rows rules)
 defaults_keep_rows_full [] rows f = f
 defaults_keep_rows_full (a ∷ rest) rows f = defaults_keep_rows_full rest (with_default rows a) (default_keeps_rows_full rows a f)
@@ -117,7 +117,7 @@ added id how s values (r ∷ rs) = go (bytes_eq r.id id) refl (added id how s va
     go true is rest = ap (λ b. b || has_row id rs) is
     go false is rest = rw is rest
 
--- Some argument has this id, and a default.
+-- True if an argument with this id has a default.
 abbrev pub has_default : Text → List Rule → Bool
 has_default id rules = list_any (λ a. bytes_eq a.id id && not (is_empty a.defaults)) rules
 
@@ -132,7 +132,7 @@ default_adds_row rows a some = go (has_row a.id rows) refl
     go true is = is
     go false is = given a.defaults some
 
--- An argument with a default has a row after the defaults are added.
+-- After the defaults are added, each argument with a default has a row.
 pub default_argument_has_row : (id : Text) (rules : List Rule) (rows : List Row) → has_default id rules ≡ true
     → has_row id (fold with_default rows rules) ≡ true
 default_argument_has_row id [] rows e = absurd (true≢false (sym e))
@@ -148,7 +148,7 @@ default_argument_has_row id (a ∷ rest) rows e = go (bytes_eq a.id id) (is_empt
     go true true is some e later = later e
     go false none is some e later = later e
 
--- Some argument has this id, and is required.
+-- True if an argument with this id is required.
 abbrev pub is_required_argument : Text → List Rule → Bool
 is_required_argument id rules = list_any (λ a. bytes_eq a.id id && a.required) rules
 
@@ -162,7 +162,7 @@ given_argument_has_row id (r ∷ rs) g = go (bytes_eq r.id id) g (given_argument
     go true g later = refl
     go false g later = later g
 
--- If no required argument is missing, the required argument with this id has a row.
+-- If no required argument is missing, each required argument has a row.
 pub required_argument_has_row : (id : Text) (rules : List Rule) (rows : List Row)
     → list_any (λ a. a.required && not (is_given a.id rows)) rules ≡ false → is_required_argument id rules ≡ true
     → has_row id rows ≡ true
@@ -184,7 +184,7 @@ required_argument_has_row id (a ∷ rest) rows none e = go (bytes_eq a.id id) a.
     go false true false is g none e later = absurd (true≢false none)
     go false false given is g none e later = later none e
 
--- If each row has a value, an argument that has a row has a text.
+-- If each row has a value, an argument with a row has a text.
 pub argument_with_row_has_text : (id : Text) (rows : List Row) → EachRowHasValue rows → has_row id rows ≡ true →
     is_some (first_of id rows) ≡ true
 argument_with_row_has_text id [] f e = absurd (true≢false (sym e))

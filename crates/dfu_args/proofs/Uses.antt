@@ -1,4 +1,4 @@
--- Rows of arguments: each has a value after a word without a fault.
+-- After a word without a fault, each row of an argument has a value.
 use Rattle.std.proofs.Common.{◌≡◌, ◌<◌, ◌&&◌, ℕ, Bool, cond, true, false, not, zero, suc, refl, sym, arith, List, [], ◌∷◌, length, drop, Option, Some, None, is_some, nat_lt, true≢false}
 use Rattle.std.specs.Prelude.{encode_utf8, slice_get}
 use Rattle.std.specs.List.{find, list_all}
@@ -15,17 +15,17 @@ use Rattle.clap.specs.declared.parser.matches.ValueSource.TheVariants.{CommandLi
 use Rattle.clap.specs.declared.error.kind.ErrorKind.TheVariants as kind
 use Rattle.dfu_args.proofs.Rows.{EachRowHasValue, given_values_keep_rows_full, removal_keeps_rows_full}
 
--- If two parts together have no fault, the first part has none.
+-- If `or_else` of two lists of faults is empty, the first list is empty.
 pub first_is_faultless : (a b : Kinds) → or_else a b ≡ [] → a ≡ []
 first_is_faultless [] b e = refl
 first_is_faultless (k ∷ ks) b e = e
 
--- If two parts together have no fault, the second part has none.
+-- If `or_else` of two lists of faults is empty, the second list is empty.
 pub second_is_faultless : (a b : Kinds) → or_else a b ≡ [] → b ≡ []
 second_is_faultless [] b e = e
 second_is_faultless (k ∷ ks) b e = cc
 
--- If all elements pass a first test, the element that is found by a second one passes both.
+-- If all elements pass the test `p`, the element that is found with the test `q` passes both.
 pub found_element_passes : {X : Type 0} (p q : X → Bool) (xs : List X) (x : X) → list_all p xs ≡ true → find q xs ≡ Some x
     → (p x ≡ true) × (q x ≡ true)
 found_element_passes p q [] x all is = (cc, cc)
@@ -45,7 +45,7 @@ action_sets_value Help least missing = true
 action_sets_value Version least missing = true
 action_sets_value _ least missing = false
 
--- Each faultless use of the argument gives a value, or asks for help or the version.
+-- True if each faultless use of the argument sets a value, or requests the help text or the version.
 abbrev pub sets_value : Rule → Bool
 sets_value a = action_sets_value (action_of a) (unwrap_or_range a.range).start_inclusive a.missing
 
@@ -87,7 +87,7 @@ use_keeps_rows_full again a values rows ok e f = go (action_of a) ok
     go HelpLong ok = absurd (true≢false (sym ok))
 
 module _ (c : List Rule) (all : list_all sets_value c ≡ true) (again : Bool) where
-  -- If each row has a value, each has one after the pending values are settled without a fault.
+  -- If each row has a value, this remains true after the pending values are settled without a fault.
   pub settled_rows_are_full : (h : Held) → settle_fault c again h ≡ [] → EachRowHasValue h.rows → EachRowHasValue (settled c h).rows
   settled_rows_are_full h e f = go h.pending e
     where
@@ -186,7 +186,7 @@ module _ (c : List Rule) (all : list_all sets_value c ≡ true) (again : Bool) w
   word_after_flag_keeps_rows_full waiting word h plain f = plain_word_keeps_rows_full waiting word h f
   word_after_flag_keeps_rows_full waiting word h refused f = plain_word_keeps_rows_full waiting word h f
 
-  -- If each row has a value, each has one after a word that is no subcommand and has no fault.
+  -- If each row has a value, this remains true after a word without a fault that isn't a subcommand.
   pub flag_word_keeps_rows_full : (waiting : Waiting) (word : Text) (h : Held) → flag_word_fault c again (long_of word) word h ≡ [] →
       EachRowHasValue h.rows
       → EachRowHasValue (long_or_other c waiting word (long_of word) h).0.rows

@@ -1,4 +1,4 @@
--- Rows of arguments after a walk without a fault: each has a value, and the walk hasn't stopped at `help`.
+-- After a walk without a fault, each row of an argument has a value, and the walk hasn't stopped at `help`.
 use Rattle.std.proofs.Common.{◌≡◌, ◌&&◌, Bool, codes, cond, true, false, refl, List, [], ◌∷◌, Option, Some, None, is_some, ◌⊎◌, ⊎_elim}
 use Rattle.std.specs.List.{fold, list_all}
 use Rattle.std.specs.Option.{option_map_or}
@@ -17,7 +17,7 @@ abbrev pub StepAvoidsHelp : Step → Type 0
 StepAvoidsHelp (subcommand name) = bytes_eq name (codes "help") ≡ false
 StepAvoidsHelp _ = Unit {0}
 
--- The walk has not stopped at the subcommand `help`.
+-- The walk hasn't stopped at the subcommand `help`.
 abbrev pub IsNotStoppedAtHelp : Option (Text × List Text) → Type 0
 IsNotStoppedAtHelp None = Unit {0}
 IsNotStoppedAtHelp (Some p) = bytes_eq p.0 (codes "help") ≡ false
@@ -52,7 +52,7 @@ no_word_meets_empty_names idle word name e = cc
 no_word_meets_empty_names positional word name e = cc
 no_word_meets_empty_names (option id) word name e = cc
 
--- The walk knows the subcommand `help`, or no subcommand.
+-- The command has the subcommand `help`, or the walk has no names of subcommands.
 abbrev pub KnowsHelpOrNoSubcommand : Shape → Names → Type 0
 KnowsHelpOrNoSubcommand s names = (s.disable_help_subcommand ≡ false) ⊎ (names ≡ [])
 
@@ -134,7 +134,7 @@ module _ (s : Shape) (all : list_all sets_value s.rules ≡ true) (names : Names
           let m = word_keeps_rows_full w word (first_is_faultless _ _ e) f in
           step_keeps_rows_full w word met.0 met.1 (second_is_faultless _ _ e) m.0 m.1 n
 
-  -- If each row has a value, and the walk hasn't stopped at `help`, both hold after the walk takes more words without a fault.
+  -- If each row has a value and the walk hasn't stopped at `help`, both remain true after the walk takes more words without a fault.
   pub walk_keeps_rows_full : (w : Walk) (words : List Text) → walk_fault s names w words ≡ [] → EachRowHasValue w.held.rows →
       IsNotStoppedAtHelp w.stopped
       → (EachRowHasValue (fold (walked s.rules names) w words).held.rows) × IsNotStoppedAtHelp (fold (walked s.rules names) w words).stopped

@@ -1,4 +1,4 @@
-//! The clap command of `dfu`, built from the tables of the commands, and its matches of words.
+//! The clap command of `dfu`, which is built from the tables of the commands, and its matches for a command line.
 
 ghost use Rattle.std.specs.Prelude.{◌≡◌, ℕ, IfOk, IfSome, List, false, map, true};
 ghost use Rattle.std.specs.List.{All, fold};
@@ -42,7 +42,7 @@ fn arg_of<'a>(alloc: Global, row: &Row<'a>) -> Arg<'a>
     }
 }
 
-/// Returns `command` with one more argument for each of `rows`.
+/// Returns `command` with an additional argument for each of `rows`.
 fn with_rows<'a>(
     alloc: Global,
     command: Command<'a>,
@@ -70,7 +70,7 @@ fn made<'a>(alloc: Global, listed: &ListedCommand<'a>) -> Result<Command<'a>, Al
     with_rows(alloc, command, listed.rows)
 }
 
-/// Returns `command` with one more subcommand, that of `listed`.
+/// Returns `command` with the additional subcommand `listed`.
 fn with_command<'a>(
     alloc: Global,
     command: Command<'a>,
@@ -84,7 +84,7 @@ fn with_command<'a>(
     command.subcommand(listed)
 }
 
-/// Returns `command` with one more subcommand for each of `listed`.
+/// Returns `command` with an additional subcommand for each of `listed`.
 fn with_commands<'a>(
     alloc: Global,
     command: Command<'a>,
@@ -101,7 +101,7 @@ fn with_commands<'a>(
     Ok(command)
 }
 
-/// Returns the command `dfu` without subcommands, with the flag `--explain`. It requires a subcommand, and has a version.
+/// Returns the command `dfu` without its subcommands, but with the flag `--explain`. It requires a subcommand and has a version.
 fn top_command<'a>(alloc: Global) -> Result<Command<'a>, AllocError>
     ensures app { IfOk result (λ c. app_of c ≡ top_app) }
     ensures local { IfOk result (λ c. (out-Command c).has_globals ≡ false) }
@@ -113,8 +113,8 @@ fn top_command<'a>(alloc: Global) -> Result<Command<'a>, AllocError>
         .bin_name("dfu")
 }
 
-/// Returns the subcommands. With all of them, the command parses as the whole command does; with one alone, it does so if the name of this
-/// subcommand follows the program's.
+/// Returns the subcommands. A command with all of them parses as the whole command `dfu` does. A command with one of them does so too if
+/// the name of this subcommand follows the program's name.
 fn commands() -> &'static [ListedCommand<'static>]
     ensures whole { (words : List (List ℕ)) → ParsesAsWhole words (fold with_listed_command top_app result.now) }
     ensures alone { All AloneParsesAsWhole result.now }
@@ -122,7 +122,7 @@ fn commands() -> &'static [ListedCommand<'static>]
     &COMMANDS
 }
 
-/// Returns the subcommand with name `name`; None if there is none.
+/// Returns the subcommand with this name, or None if there is none.
 fn listed_of(name: &str) -> Option<&'static ListedCommand<'static>>
     ensures alone { IfSome result (λ l. AloneParsesAsWhole l.now) }
     ensures named { IfSome result (λ l. l.now.name.now ≡ name.now) }
@@ -135,7 +135,7 @@ fn listed_of(name: &str) -> Option<&'static ListedCommand<'static>>
     None
 }
 
-/// Returns the command with only the subcommand that the second of `words` names; or with all of them, if that word names none.
+/// Returns the command with the subcommand that the second of `words` names, or with all subcommands if it names none.
 fn dfu_command<'a>(alloc: Global, words: &[String]) -> Result<Command<'a>, AllocError>
     ensures app { IfOk result (λ c. ParsesAsWhole (map string_bytes words.now) (app_of c)) }
     ensures local { IfOk result (λ c. (out-Command c).has_globals ≡ false) }
@@ -149,7 +149,7 @@ fn dfu_command<'a>(alloc: Global, words: &[String]) -> Result<Command<'a>, Alloc
     with_commands(alloc, command, commands())
 }
 
-/// Returns clap's matches of `words`; or Words with the parser's error, or NoMemory if an allocation was refused.
+/// Returns clap's matches of `words`. The error is Words with the parser's error, or NoMemory if an allocation failed.
 pub(crate) fn matches_of<'a>(
     alloc: Global,
     words: &'a [String],
@@ -170,7 +170,7 @@ pub(crate) fn matches_of<'a>(
     }
 }
 
-/// Returns the fault for `error`, an error of the parser: NoMemory if its kind is OutOfMemory, else Words.
+/// Returns the fault for an error of the parser: NoMemory if its kind is OutOfMemory, and Words otherwise.
 fn fault_of(error: clap::Error) -> ArgsFault
     ensures { (kinds : Kinds) → HasKind kinds error → IsFaultOfKinds kinds result }
 {

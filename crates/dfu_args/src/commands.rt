@@ -2,30 +2,30 @@
 
 use crate::help;
 
-/// An argument of a command: its id, which is also the name of an option; its kind; and its text in `--help`.
+/// Argument of a command: its id, which is also the name of an option, its kind, and its text in `--help`.
 #[derive(Clone, Copy)]
 pub(crate) struct Row<'a>(pub(crate) &'a str, pub(crate) Kind<'a>, pub(crate) &'a str);
 
-/// Kind of an argument.
+/// Kind of an argument: positional, option or flag.
 #[derive(Clone, Copy)]
 pub(crate) enum Kind<'a> {
     /// A required positional argument, with its name in `--help`.
     Needed(&'a str),
     /// A required positional argument that may be repeated, with its name in `--help`.
     Repeated(&'a str),
-    /// An optional positional argument that may be repeated, with its name in `--help`, and its default.
+    /// An optional positional argument that may be repeated, with its name in `--help` and its default.
     Optional(&'a str, &'a str),
-    /// An option with a value, with its default.
+    /// An option with a value and a default.
     Option(&'a str),
-    /// An option with a value, without a default.
+    /// An option with a value and without a default.
     Unset,
     /// A required option with a value.
     Wanted,
-    /// A flag, which is off if it isn't given.
+    /// A flag, which is off unless it is given.
     Flag,
 }
 
-/// A command: its name, the texts that `--help` prints before and after its arguments, and the arguments.
+/// A command: its name, the texts that `--help` prints before and after its arguments, and its arguments.
 #[derive(Clone, Copy)]
 pub(crate) struct ListedCommand<'a> {
     pub(crate) name: &'a str,
@@ -34,7 +34,7 @@ pub(crate) struct ListedCommand<'a> {
     pub(crate) rows: &'a [Row<'a>],
 }
 
-/// Row of the flag `--explain`, which each command takes.
+/// Row of the flag `--explain`, which all commands accept.
 const EXPLAIN: Row<'static> = Row("explain", Kind::Flag, help::EXPLAIN);
 
 /// The command `dfu` without its subcommands.

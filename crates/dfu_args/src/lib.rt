@@ -1,6 +1,6 @@
-//! Parser of the command line of `dfu`: returns the subcommand of the words, or their fault.
+//! Parser of the command line of `dfu`, which returns a subcommand or a fault.
 //!
-//! `parse_subcommand` parses the words. The crate opens no file and prints nothing.
+//! `parse_subcommand` parses the command line. The crate opens no file and prints nothing.
 #![tactic(auto)]
 
 mod command_line;

@@ -1,79 +1,79 @@
 //! Parsed command lines.
 
-/// Subcommand, with the texts of its arguments, given or by default.
+/// Subcommand with the texts of its arguments from the command line, or their defaults.
 #[derive(Drop)]
 pub enum Subcommand {
     /// Check each file, or standard input for the name `-`.
     Check {
-        /// Each FILE, at least one.
+        /// Names of the FILEs, at least one.
         files: Vec<String>,
-        /// True if each line is to be a JSON object: `--json` was given.
+        /// True if each line is printed as a JSON object (`--json`).
         json: bool,
     },
-    /// Write a file with a suffix.
+    /// Write FILE with a suffix to OUT.
     Add {
         /// Name of FILE.
         file: String,
         /// Name of OUT.
         to: String,
-        /// idVendor, four hexadecimal digits.
+        /// idVendor as four hexadecimal digits.
         vid: String,
-        /// idProduct, four hexadecimal digits.
+        /// idProduct as four hexadecimal digits.
         pid: String,
-        /// bcdDevice, four hexadecimal digits.
+        /// bcdDevice as four hexadecimal digits.
         did: String,
-        /// The format of FILE; none without `--format`.
+        /// Format of FILE, or None without `--format`.
         format: Option<String>,
-        /// The byte for gaps, two hexadecimal digits; none without `--fill`.
+        /// Byte that fills gaps, as two hexadecimal digits, or None without `--fill`.
         fill: Option<String>,
     },
-    /// Write the payload of a file.
+    /// Write the payload of FILE to OUT.
     Extract {
         /// Name of FILE.
         file: String,
         /// Name of OUT.
         to: String,
     },
-    /// Change the identifiers of a file; those without an option stay.
+    /// Change the identifiers of a file. An identifier without an option stays unchanged.
     Change {
         /// Name of FILE.
         file: String,
-        /// idVendor, four hexadecimal digits.
+        /// idVendor as four hexadecimal digits, or None to keep it.
         vid: Option<String>,
-        /// idProduct, four hexadecimal digits.
+        /// idProduct as four hexadecimal digits, or None to keep it.
         pid: Option<String>,
-        /// bcdDevice, four hexadecimal digits.
+        /// bcdDevice as four hexadecimal digits, or None to keep it.
         did: Option<String>,
     },
-    /// Show the fields of bytes.
+    /// Decode bytes and print their fields.
     Show {
         /// KIND: `functional`, `status`, `state`, `setup` or `configuration`.
         kind: String,
-        /// Each HEX, at least one: the bytes, two hexadecimal digits each.
+        /// The HEX arguments, at least one, which contain two hexadecimal digits for each byte.
         hex: Vec<String>,
-        /// True if each line is to be a JSON object: `--json` was given.
+        /// True if each line is printed as a JSON object (`--json`).
         json: bool,
     },
     /// Run the script in a file, or on standard input if `script` is `-`.
     Run {
         /// Name of SCRIPT.
         script: String,
-        /// True if each action is to be printed: `--trace` was given.
+        /// True if each action is printed (`--trace`).
         trace: bool,
-        /// The file that FILE stands for, or standard input if it is `-`; none without `--file`.
+        /// File whose bytes the script uses as FILE, or standard input if it is `-`; None without `--file`.
         file: Option<String>,
     },
     /// Judge the log or capture in each file, or on standard input for the name `-`.
     Judge {
-        /// Each FILE, at least one.
+        /// Names of the FILEs, at least one.
         files: Vec<String>,
-        /// The number of the DFU interface, in decimal digits.
+        /// Number of the DFU interface, in decimal digits.
         interface: String,
-        /// Device of a capture: BUS.DEVICE, or `only`.
+        /// Device to judge in a capture: BUS.DEVICE, or `only`.
         device: String,
-        /// True if the device is to be judged as one that speaks DfuSe: `--dfuse` was given.
+        /// True if the device is judged by the rules of DfuSe (`--dfuse`).
         dfuse: bool,
-        /// True if each line is to be a JSON object: `--json` was given.
+        /// True if each line is printed as a JSON object (`--json`).
         json: bool,
     },
     /// Place gates, headers and data on the flash of a part.
@@ -84,27 +84,28 @@ pub enum Subcommand {
         boot: String,
         /// Number of areas of data, 2 or 3.
         areas: String,
-        /// File of parts, or standard input if it is `-`; none without `--parts`.
+        /// File with a table of parts, or standard input if it is `-`; None without `--parts`.
         parts: Option<String>,
-        /// True if each line is to be a JSON object: `--json` was given.
+        /// True if each line is printed as a JSON object (`--json`).
         json: bool,
     },
 }
 
-/// A subcommand, and the options that every subcommand has.
+/// A subcommand with the options that every subcommand has.
 #[derive(Drop)]
 pub struct ParsedArgs {
     /// Subcommand to perform.
     pub subcommand: Subcommand,
-    /// True if the reason of a refusal is wanted: `--explain` was given.
+    /// True if the reason of a refusal must be printed (`--explain`).
     pub explain: bool,
 }
 
-/// Fault for which the words give no subcommand.
+/// Reason why a command line has no subcommand that can be performed.
 #[derive(Drop)]
 pub enum ArgsFault {
-    /// The parser refused the words, or they ask for help or the version: the error has the parser's text and its exit status.
+    /// The parser refused the command line, or the command line requests the help text or the version. The error contains the parser's text
+    /// and its exit status.
     Words(clap::Error),
-    /// An allocation was refused.
+    /// An allocation failed.
     NoMemory,
 }

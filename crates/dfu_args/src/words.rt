@@ -1,4 +1,4 @@
-//! Conversion of the words of a command line to a subcommand.
+//! Conversion of a command line to a subcommand.
 
 ghost use Rattle.std.specs.Prelude.{◌≡◌, ◌||◌, IfOk, IfSome, Some, codes, is_some, map, true};
 ghost use Rattle.std.specs.Option.{option_map};
@@ -14,7 +14,7 @@ use clap::ArgMatches;
 use std::alloc::{AllocError, Global};
 
 /// Returns the first text of argument `id` in `found`, which must have one.
-// Not inlined, so that the program has it once: many calls use it.
+// Many calls use this, and a single copy keeps the program small.
 #[inline(never)]
 fn text_of(alloc: Global, found: &ArgMatches<'_>, id: &str) -> Result<String, AllocError>
     requires there { is_some (first_of id.now (rows_of (found_of found.now))) ≡ true }
@@ -47,7 +47,7 @@ fn texts_of(alloc: Global, found: &ArgMatches<'_>, id: &str) -> Result<Vec<Strin
     Ok(texts)
 }
 
-/// Returns the first text of option `id` in `found`; None if it has none, because it was not given.
+/// Returns the first text of option `id` in `found`, or None if the option wasn't given.
 fn text_if(alloc: Global, found: &ArgMatches<'_>, id: &str) -> Result<Option<String>, AllocError>
     ensures { IfOk result (λ t. first_of id.now (rows_of (found_of found.now)) ≡ option_map string_bytes t) }
 {
@@ -164,7 +164,7 @@ fn parse_plan(alloc: Global, found: &ArgMatches<'_>) -> Result<Subcommand, Alloc
     })
 }
 
-/// Returns the subcommand of `matches`, with the texts of its arguments.
+/// Returns the subcommand of `matches` with the texts of its arguments.
 fn chosen_subcommand(alloc: Global, matches: &ArgMatches<'_>) -> Result<Subcommand, AllocError>
     requires named { has_subcommand matches.now ≡ true }
     requires complete { IfSome (subcommand_rows_of matches.now) (λ p. IsComplete p.0 p.1) }
@@ -186,7 +186,7 @@ fn chosen_subcommand(alloc: Global, matches: &ArgMatches<'_>) -> Result<Subcomma
     }
 }
 
-/// Returns true if flag `id` is on after the subcommand of `matches`; false if there is no subcommand.
+/// Returns true if flag `id` is on after the subcommand of `matches`. Returns false if there is no subcommand.
 fn is_on_in_subcommand(matches: &ArgMatches<'_>, id: &str) -> bool
     ensures { result ≡ is_on (first_of id.now (rows_of_subcommand (subcommand_rows_of matches.now))) }
 {
@@ -196,7 +196,7 @@ fn is_on_in_subcommand(matches: &ArgMatches<'_>, id: &str) -> bool
     }
 }
 
-/// Returns the subcommand of `matches`, with `explain` true if the flag `--explain` is on before the subcommand or after it.
+/// Returns the subcommand of `matches`. `explain` is true if the flag `--explain` is on before or after the subcommand.
 fn args_of_matches(alloc: Global, matches: &ArgMatches<'_>) -> Result<ParsedArgs, AllocError>
     requires named { has_subcommand matches.now ≡ true }
     requires complete { IfSome (subcommand_rows_of matches.now) (λ p. IsComplete p.0 p.1) }
@@ -210,18 +210,18 @@ fn args_of_matches(alloc: Global, matches: &ArgMatches<'_>) -> Result<ParsedArgs
     })
 }
 
-/// Returns the subcommand and the options of `words`; the first word is the program's name.
+/// Parses `words`, the first of which is the program's name. Returns the subcommand, and true for `explain` if `--explain` is given.
 ///
 /// # Errors
 ///
-/// Words if the parser refuses the words, for example because they have no subcommand, and if they ask for help or the version; NoMemory
-/// if an allocation was refused.
+/// Words if the parser refuses the command line, for example because it has no subcommand, or if the command line requests the help text or
+/// the version; NoMemory if an allocation failed.
 pub fn parse_args(alloc: Global, words: &[String]) -> Result<ParsedArgs, ArgsFault>
-    // The subcommand and its texts are those that clap states for these words and this command.
+    // The subcommand and its texts are those that clap's specification gives for these words.
     ensures subcommand { IfOk result (λ a. IsStatedSubcommand (subcommand_of dfu_app (map string_bytes words.now)) a.subcommand) }
-    // The reason is wanted exactly if clap states the flag for these words.
+    // `explain` is true exactly if clap's specification gives the flag for these words.
     ensures explain { IfOk result (λ a. a.explain ≡ wants_reason (map string_bytes words.now)) }
-    // A subcommand is returned only if clap states no fault for the words, and Words only with a kind that it states.
+    // A subcommand is returned only if clap's specification allows no fault for these words, and an error only with a kind that it allows.
     ensures faults { IsResultOfKinds (parse_fault_kinds (map string_bytes words.now)) result }
 {
     let matches = matches_of(alloc, words)?;
@@ -231,16 +231,16 @@ pub fn parse_args(alloc: Global, words: &[String]) -> Result<ParsedArgs, ArgsFau
     }
 }
 
-/// Returns the subcommand of `words`; the first word is the program's name.
+/// Returns the subcommand of `words`, the first of which is the program's name.
 ///
 /// # Errors
 ///
-/// Words if the parser refuses the words, for example because they have no subcommand, and if they ask for help or the version; NoMemory
-/// if an allocation was refused.
+/// Words if the parser refuses the command line, for example because it has no subcommand, or if the command line requests the help text or
+/// the version; NoMemory if an allocation failed.
 pub fn parse_subcommand(alloc: Global, words: &[String]) -> Result<Subcommand, ArgsFault>
-    // The subcommand and its texts are those that clap states for these words and this command.
+    // The subcommand and its texts are those that clap's specification gives for these words.
     ensures subcommand { IfOk result (λ j. IsStatedSubcommand (subcommand_of dfu_app (map string_bytes words.now)) j) }
-    // A subcommand is returned only if clap states no fault for the words, and Words only with a kind that it states.
+    // A subcommand is returned only if clap's specification allows no fault for these words, and an error only with a kind that it allows.
     ensures faults { IsResultOfKinds (parse_fault_kinds (map string_bytes words.now)) result }
 {
     let parsed = parse_args(alloc, words)?;

@@ -1,17 +1,17 @@
--- Parts of writes, of any size. Every piece of a step is such a part.
+-- A part of a write is a range of its bytes, of any length. Each piece of a step is a part of that step's write.
 use Rattle.std.proofs.Common.{◌≡◌, ◌⊎◌, inl, inr, ℕ, ◌+◌, ◌-◌, ◌≤◌, ◌<◌, List, [], ◌∷◌, length, slice_range}
 use Rattle.dfu_slots.specs.Medium.{Write}
 use Rattle.dfu_asks.specs.Steps.{Step, step_writes}
 use Rattle.dfu_asks.specs.Carried.{IsStepPiece}
 
--- A part of a write: one or more of its bytes, from byte number n on.
+-- `p` is a part of the write `w`: one or more of its bytes, beginning with byte n.
 pub record IsPartOfWrite (w : Write) (n : ℕ) (p : Write) : Type 0 where
   pub some : 0 < length p.bytes
   pub within : n + length p.bytes ≤ length w.bytes
   pub place : p.at ≡ w.at + n
   pub bytes_are : p.bytes ≡ slice_range w.bytes n (n + length p.bytes)
 
--- A part of one of the writes of a series, after the first n bytes of the series.
+-- `p` is a part of one of the writes, and n bytes of the series precede it.
 abbrev pub IsPartOfWrites : List Write → ℕ → Write → Type 0
 IsPartOfWrites [] n p = ⊥
 IsPartOfWrites (w ∷ ws) n p = IsPartOfWrite w n p ⊎ ((length w.bytes ≤ n) × IsPartOfWrites ws (n - length w.bytes) p)

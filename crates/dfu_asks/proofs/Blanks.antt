@@ -11,7 +11,7 @@ use Rattle.dfu_asks.specs.Mapped.{mapped_medium}
 use Rattle.dfu_asks.specs.Blank.{is_erased_byte, gate_and_header_of, AreSlotFrontsErased}
 
 module _ (grain : Grain) (flash : List ℕ) where
-  -- If a gate is open, the gate and the header of its slot are not all FFh.
+  -- The gate and the header of a slot can't all be FFh if the gate is open.
   open_gate_front_is_not_erased : (at : ℕ) → at + 2 * gate_room grain ≤ length flash → 0 < gate_room grain → slice_index flash at ≡ OPEN
       → list_all is_erased_byte (gate_and_header_of grain flash at) ≡ false
   open_gate_front_is_not_erased at fits some gate =
@@ -22,11 +22,10 @@ module _ (grain : Grain) (flash : List ℕ) where
       (omega (arith, some, fits, length-drop at flash, length-take-le n (drop at flash) (omega (arith, fits, length-drop at flash))))
       (ap is_erased_byte (first ∙ gate))
 
-  -- A gate takes up at least one byte.
+  -- A gate occupies at least one byte.
   gate_lies_in_front : 0 < gate_room grain
   gate_lies_in_front = omega arith
 
-  -- Blank flash has no active image, because both of its gates read FFh.
   pub blank_flash_has_no_image : AreSlotFrontsErased grain flash → ¬ HasImage (mapped_medium grain flash)
   blank_flash_has_no_image blank has =
       let a = has.active in

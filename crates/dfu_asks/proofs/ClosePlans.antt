@@ -1,4 +1,4 @@
--- Rows of the device table that close a download.
+-- Only a DNLOAD without data, in a stage whose download may be closed, leaves an image pending.
 use Rattle.std.proofs.Common.{◌≡◌, ◌==◌, nat_lt, nat_le, not, Bool, true, false, ℕ, ◌+◌, List, [], ◌∷◌, length, take, drop, Some, if◌then◌else◌, refl}
 use Rattle.dfu_wire.specs.declared.codes.Code.TheVariants.{NotDone as ErrNotDone}
 use Rattle.dfu_device.specs.Candidate.{candidate_in}
@@ -6,7 +6,7 @@ use Rattle.dfu_device.specs.Cases.{holds_in_both_branches}
 use Rattle.dfu_device.specs.Stage.{Request, Dnload, Upload, GetStatus, GetState, Ack, Profile, Stage, InDfuIdle, InDownloadSync, InDownloadIdle, InManifestSync, InUploadIdle}
 use Rattle.dfu_device.specs.Table.{Plan, Sure, Writes, Commits, has_no_bytes, ack_plan, error_plan, block_plan, next_dnload_plan, upload_plan, plan, may_close}
 
--- The request closes a download: it is a DNLOAD of no bytes, and the stage has a download of the bytes `taken` that may be closed.
+-- `r` is a DNLOAD of 0 bytes in a stage that has downloaded `taken` and may close that download.
 pub record IsClosingRequest (c : Profile) (st : Stage) (r : Request) (taken : List ℕ) : Type 0 where
   pub may : may_close c.least st ≡ true
   pub had : candidate_in st ≡ Some taken
@@ -19,7 +19,7 @@ NeedsClosingRequest c st r (Sure reply next) = (taken : List ℕ) → reply ≡ 
 NeedsClosingRequest c st r (Writes before block reply next bad) = (taken : List ℕ) → next ≡ InManifestSync taken → ⊥
 NeedsClosingRequest c st r (Commits taken reply next bad) = (t : List ℕ) → next ≡ InManifestSync t → ⊥
 
--- The plan of a block leaves no image pending, so no closing request is needed.
+-- The plan of a DNLOAD with data leaves no image pending.
 block_needs_closing : (c : Profile) (st : Stage) (before : List ℕ) (expected number : ℕ) (body : List ℕ)
     → NeedsClosingRequest c st (Dnload number body) (block_plan c before expected number body)
 block_needs_closing c st before expected number body =
@@ -28,7 +28,7 @@ block_needs_closing c st before expected number body =
     (holds_in_both_branches P (not (number == expected)) _ _ (λ t a m. absurd (cc))
     (holds_in_both_branches P (nat_lt c.capacity (length before + length body)) _ _ (λ t a m. absurd (cc)) (λ t a m. absurd (cc))))
 
--- The plan of a DNLOAD of no bytes leaves an image pending only if it closes the download.
+-- The plan of a DNLOAD of 0 bytes leaves an image pending only if the DNLOAD closes the download.
 close_needs_closing : (c : Profile) (taken : List ℕ) (expected number : ℕ) (may : Bool) → nat_le c.least (length taken) ≡ may
     → NeedsClosingRequest c (InDownloadIdle taken expected) (Dnload number []) (if may then ack_plan (InManifestSync taken) else error_plan
     ErrNotDone)
@@ -40,14 +40,14 @@ close_needs_closing c taken expected number true is = λ t a m. record {
 }
 close_needs_closing c taken expected number false is = λ t a m. absurd (cc)
 
--- The plan of a DNLOAD in dfuDNLOAD-IDLE leaves an image pending only if it closes the download.
+-- In dfuDNLOAD-IDLE, the plan of a DNLOAD leaves an image pending only if the DNLOAD closes the download.
 further_block_needs_closing : (c : Profile) (taken : List ℕ) (expected number : ℕ) (body : List ℕ)
     → NeedsClosingRequest c (InDownloadIdle taken expected) (Dnload number body) (next_dnload_plan c taken expected number body)
 further_block_needs_closing c taken expected number [] = close_needs_closing c taken expected number (nat_le c.least (length taken)) refl
 further_block_needs_closing c taken expected number (b ∷ bs) = block_needs_closing c (InDownloadIdle taken expected) taken expected number
     (b ∷ bs)
 
--- The plan of an UPLOAD leaves no image pending, so no closing request is needed.
+-- The plan of an UPLOAD leaves no image pending.
 upload_needs_closing : (c : Profile) (image : List ℕ) (st : Stage) (place expected number size : ℕ)
     → NeedsClosingRequest c st (Upload number size) (upload_plan c image place expected number size)
 upload_needs_closing c image st place expected number size =
@@ -57,7 +57,7 @@ upload_needs_closing c image st place expected number size =
     (holds_in_both_branches P (not (number == expected)) _ _ (λ t a m. absurd (cc))
     (holds_in_both_branches P (nat_lt (length (take size (drop place image))) size) _ _ (λ t a m. absurd (cc)) (λ t a m. absurd (cc)))))
 
--- The plan of each row leaves an image pending only for a request that closes the download.
+-- In every stage, a plan leaves an image pending only for a request that closes the download.
 pub row_needs_closing : (c : Profile) (image : List ℕ) (st : Stage) (r : Request) → NeedsClosingRequest c st r (plan c image st r)
 row_needs_closing c image InDfuIdle (Dnload number body) =
     let P : Plan → Type 0 = NeedsClosingRequest c InDfuIdle (Dnload number body) in

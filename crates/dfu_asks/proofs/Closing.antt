@@ -1,4 +1,4 @@
--- A row closes the download of a device exactly if its setup does.
+-- Handling a setup closes the download of a device exactly if `ClosesDownload` holds for the setup.
 use Rattle.std.proofs.Common.{◌≡◌, ◌↔◌, arith, ◌==◌, inl, inr, Bool, true, IsTrue, ℕ, List, [], ◌∷◌, length, Some, if◌then◌else◌, refl, sym, ap, ◌∙◌, subst}
 use Rattle.std.proofs.lemmas.Bool.{eq-eqb, eqb-true, false≢true}
 use Rattle.dfu_wire.specs.declared.setups.Setup.{Setup}
@@ -20,7 +20,7 @@ use Rattle.dfu_asks.specs.Verdict.{IsBodyOf}
 use Rattle.dfu_asks.specs.Close.{DownloadWasClosed, IsCloseVerdict}
 use Rattle.dfu_asks.proofs.ClosePlans.{IsClosingRequest, NeedsClosingRequest, row_needs_closing}
 
--- A reply whose answer is an acknowledgement is an acknowledgement.
+-- If a row's answer is an acknowledgement, the reply is an acknowledgement.
 acknowledging_reply : (len : ℕ) (reply : Reply) (x : Answer) (out : List ℕ) → ReplyAnswer len reply x out → x ≡ answer.Ack → reply ≡ Ack
 acknowledging_reply len Ack x out says is = refl
 acknowledging_reply len Stall x out says is = absurd (cc)
@@ -28,7 +28,7 @@ acknowledging_reply len (Data bytes) x out says is = absurd (cc)
 acknowledging_reply len (StateOf state) x out says is = absurd (cc)
 acknowledging_reply len (StatusOf code poll state) x out says is = absurd (cc)
 
--- A plan that was carried out, acknowledged the request and left an image pending had a request that closes the download.
+-- If a plan acknowledged its request and left an image pending, that request closes the download.
 done_plan_needs_closing : (p : Plan) (c : Profile) (r : Request) (len : ℕ) (w : DeviceView) (x : Answer) (out : List ℕ) (w' : DeviceView)
     (taken : List ℕ) → NeedsClosingRequest c w.stage r p → Done p len w x out w' → x ≡ answer.Ack → w'.stage ≡ InManifestSync taken
     → IsClosingRequest c w.stage r taken
@@ -43,7 +43,7 @@ done_plan_needs_closing (Commits t reply stage bad) c r len w x out w' taken nee
 done_plan_needs_closing (Commits t reply stage bad) c r len w x out w' taken needs (inr (fault, says, h)) acks waits =
     let is = sym h.stage_is ∙ waits in absurd (cc)
 
--- A request that the table reads as a DNLOAD of no bytes is a DNLOAD without a body.
+-- If a request is a DNLOAD of 0 bytes in the table, its setup is a DNLOAD with an empty body.
 close_request_is_empty_dnload : (q : Asked) (body : List ℕ) (number : ℕ) → request_for_table q body ≡ Dnload number []
     → (block len : ℕ) × (q ≡ asked.Dnload block len) × (body ≡ [])
 close_request_is_empty_dnload (asked.Dnload block len) body number e = (block, len, refl, cc)
@@ -56,7 +56,7 @@ setup_needs_closing w p q body =
     holds_in_both_branches (NeedsClosingRequest (profile w) w.stage (request_for_table q body)) (is_served p q body) _ _
     (row_needs_closing (profile w) (image_of w.slots) w.stage (request_for_table q body)) (λ t a m. absurd (cc))
 
--- A body that belongs to the setup of a DNLOAD has wLength bytes.
+-- The body of a DNLOAD has wLength bytes.
 dnload_body_has_size : (p : Setup) (block len : ℕ) (body : List ℕ) → SetupAsksFor p (asked.Dnload block len) → length body ≡ body_length p
     → length body ≡ len
 dnload_body_has_size p block len body asks fits =
@@ -66,7 +66,7 @@ no_length_no_elements : (l : List ℕ) → length l ≡ 0 → l ≡ []
 no_length_no_elements [] none = refl
 no_length_no_elements (x ∷ xs) none = absurd (omega (arith, none))
 
--- The table serves a setup that closes a download, as a DNLOAD of no bytes.
+-- In the table, a setup that closes a download is a DNLOAD of 0 bytes.
 close_setup_is_empty_dnload : (p : Setup) (q : Asked) (body : List ℕ) → SetupAsksFor p q → is_close q ≡ true → length body ≡ body_length p
     → (number : ℕ) × (request_for_table q body ≡ Dnload number []) × (is_served p q body ≡ true)
 close_setup_is_empty_dnload p (asked.Dnload block len) body asks close fits = (
@@ -76,7 +76,7 @@ close_setup_is_empty_dnload p (asked.Dnload block len) body asks close fits = (
 )
 close_setup_is_empty_dnload p q body asks close fits = absurd (false≢true close)
 
--- The row of a DNLOAD of no bytes closes the download if the download may be closed.
+-- A DNLOAD of 0 bytes closes the download if the download may be closed.
 empty_dnload_closes_download : (c : Profile) (image : List ℕ) (st : Stage) (number : ℕ) → may_close c.least st ≡ true
     → (taken : List ℕ) × (candidate_in st ≡ Some taken) × (plan c image st (Dnload number []) ≡ Sure Ack (InManifestSync taken))
 empty_dnload_closes_download c image (InDownloadIdle taken due) number may =
@@ -84,7 +84,7 @@ empty_dnload_closes_download c image (InDownloadIdle taken due) number may =
 empty_dnload_closes_download c image st number may = absurd (false≢true may)
 
 module _ (setup body : List ℕ) (d : DeviceView) (x : Answer) (sent : List ℕ) (d' : DeviceView) (body_is : IsBodyOf setup body) where
-  -- If a handled setup left the download closed, the setup closes the download.
+  -- If handling a setup closed the download, `ClosesDownload` holds for that setup.
   closed_download_had_setup : Handles setup body d x sent d' → DownloadWasClosed d x d' → ClosesDownload setup d
   closed_download_had_setup (handled_by_reading p q reads asks done) was =
       let n = done_plan_needs_closing (setup_plan d p q body) (profile d) (request_for_table q body) (asked_length q) d x sent d' was.taken
@@ -94,7 +94,7 @@ module _ (setup body : List ℕ) (d : DeviceView) (x : Answer) (sent : List ℕ)
       let none : e.1 ≡ 0 = sym (dnload_body_has_size p e.0 e.1 body asks_dnload (body_is p reads)) ∙ ap (λ (l : List ℕ). length l) e.3 in
       ((p, q, reads, asks, ap is_close e.2 ∙ eq-eqb e.1 0 none), n.may)
 
-  -- A handled setup that closes the download left the download closed.
+  -- If `ClosesDownload` holds for a setup, handling it closes the download.
   closing_setup_closes : Handles setup body d x sent d' → ClosesDownload setup d → DownloadWasClosed d x d'
   closing_setup_closes (handled_by_reading p q reads asks done) (close, may) =
       let m = close_setup_is_empty_dnload p q body asks (close_setup_asks_for_close setup p q reads asks close) (body_is p reads) in
@@ -106,7 +106,7 @@ module _ (setup body : List ℕ) (d : DeviceView) (x : Answer) (sent : List ℕ)
       subst (λ (w : Plan). Done w (asked_length q) d x sent d') the_plan done in
       record { close_acknowledged = went.0.0; taken = row.0; had = row.1; waits = ap (λ (v : DeviceView). v.stage) went.1 }
 
--- A verdict that says whether a setup closes the download says the same of the row of that setup.
+-- A verdict that is true exactly if `ClosesDownload` holds also predicts the result of handling the setup.
 pub close_verdict_holds_of_row : (said : Bool) (setup : List ℕ) (d : DeviceView) → IsTrue said ↔ ClosesDownload setup d →
     IsCloseVerdict said setup d
 close_verdict_holds_of_row said setup d is = record {

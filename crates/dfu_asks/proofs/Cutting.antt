@@ -21,46 +21,46 @@ use Rattle.dfu_asks.specs.Carried.{total, IsPieceOfStep, IsStepPiece}
 use Rattle.dfu_asks.proofs.Pieces.{prefix_range_is_list_range, rest_range_is_shifted_range}
 use Rattle.dfu_asks.proofs.JobPieces.{close_programs_if_no_sectors}
 
--- The step of a piece of n bytes has n bytes.
+-- A step made from a piece of n bytes has n bytes.
 step_has_piece_length : (b : Bool) (n : ℕ) (ys : List ℕ) → (b ≡ false → n ≤ length ys) →
     length (if b then replicate n 255 else take n ys) ≡ n
 step_has_piece_length true n ys within = length-replicate n 255
 step_has_piece_length false n ys within = length-take-le n ys (within refl)
 
--- A cut that programs has all its bytes in its padded source.
+-- The source of a cut, padded with zeros, holds all bytes that the piece programs.
 cut_lies_in_source : (sector : ℕ) (c : Cut) → IsFoundPiece sector c → c.piece.erases ≡ false
-    → c.piece.len ≤ length (drop c.from (zero_padded_source c.source c.stock c.front))
+    → c.piece.len ≤ length (drop c.from (zero_padded_source c.source c.inputs c.front))
 cut_lies_in_source sector c is e = omega (
   arith,
-  length-drop c.from (zero_padded_source c.source c.stock c.front),
-  length-append (source_bytes c.source c.stock c.front) (replicate 256 0),
+  length-drop c.from (zero_padded_source c.source c.inputs c.front),
+  length-append (source_bytes c.source c.inputs c.front) (replicate 256 0),
   length-replicate {A = ℕ} 256 0,
   is.within e,
 )
 
--- The step of a cut has as many bytes as its piece.
+-- The step of a cut has as many bytes as the cut's piece.
 pub cut_step_has_piece_size : (sector : ℕ) (c : Cut) → IsFoundPiece sector c → length (step_of_cut c).write.bytes ≡ c.piece.len
 cut_step_has_piece_size sector c is =
-    step_has_piece_length c.piece.erases c.piece.len (drop c.from (zero_padded_source c.source c.stock c.front)) (cut_lies_in_source sector
+    step_has_piece_length c.piece.erases c.piece.len (drop c.from (zero_padded_source c.source c.inputs c.front)) (cut_lies_in_source sector
     c is)
 
--- A step has the same bytes when they are read from a buffer, if the bytes of a program are at the front of that buffer.
+-- The bytes of a step can be taken from a buffer whose front contains the bytes that the step programs. An erase needs no buffer.
 buffer_gives_step_bytes : (b : Bool) (n : ℕ) (out ys all : List ℕ) → all ≡ (if b then replicate n 255 else take n ys) → (b ≡ false →
     take n out ≡ all)
     → (if b then replicate n 255 else take n out) ≡ (if b then replicate n 255 else take n ys)
 buffer_gives_step_bytes true n out ys all is h = refl
 buffer_gives_step_bytes false n out ys all is h = h refl ∙ is
 
--- A cut and a buffer give the step of the cut, if the front of the buffer has the bytes of a program.
+-- A piece, and a buffer whose front contains the bytes that the piece programs, determine the step of the cut.
 pub filled_buffer_is_step : (c : Cut) (out all : List ℕ) → all ≡ (step_of_cut c).write.bytes → (c.piece.erases ≡ false →
     take c.piece.len out ≡ all)
     → step_of_piece c.piece out ≡ step_of_cut c
 filled_buffer_is_step c out all is h =
-    let bytes = buffer_gives_step_bytes c.piece.erases c.piece.len out (drop c.from (zero_padded_source c.source c.stock c.front)) all is h
+    let bytes = buffer_gives_step_bytes c.piece.erases c.piece.len out (drop c.from (zero_padded_source c.source c.inputs c.front)) all is h
     in
     λ i. record { erases = c.piece.erases; write = record { at = c.piece.at; bytes = bytes i } }
 
--- A cut whose bytes are in a buffer is within the bounds of a piece.
+-- A found piece whose bytes are in a buffer has at most 256 bytes to program, or at most a sector to erase.
 pub found_cut_has_piece_bounds : (sector : ℕ) (c : Cut) (out : List ℕ) → IsFoundPiece sector c → step_of_piece c.piece out ≡ step_of_cut c
     → PieceBounds sector c.piece out
 found_cut_has_piece_bounds sector c out is same = record {
@@ -71,7 +71,7 @@ found_cut_has_piece_bounds sector c out is same = record {
   count = ap (λ (s : Step). length s.write.bytes) same ∙ cut_step_has_piece_size sector c is;
 }
 
--- The next piece of a write is cut out of the bytes that the write is a range of.
+-- If a write is a range of a source, its next piece is cut out of that source.
 pub next_piece_is_cut_of_source : (all : List ℕ) (at skip len from n : ℕ) → from < len → n ≡ min (len - from) 256 → skip + len ≤ length all
     → IsPieceOfStep (program_step at (slice_range all skip (skip + len))) from (program_step (at + from) (take n (drop (skip + from) all)))
 next_piece_is_cut_of_source all at skip len from n lt size within =
@@ -95,7 +95,7 @@ next_piece_is_cut_of_source all at skip len from n lt size within =
           ∙ ap (λ (l : List ℕ). slice_range l from (from + length mine)) (sym is);
     }
 
--- Without sectors the step that closes a gate is a write of a gate unit.
+-- On flash without sectors, closing a gate programs one gate unit.
 pub gate_is_written_without_sectors : (w : Grain) (at : ℕ) → w.sector ≡ 0
     → write_anew_steps w.sector at (gate_unit (gate_size w.unit) 0) ≡ close_step w at ∷ []
 gate_is_written_without_sectors w at none =
@@ -104,47 +104,47 @@ gate_is_written_without_sectors w at none =
     (λ i. steps_of_writes true (if e i then [] else sector_erases w.sector at (length unit)) ++ program_step at unit ∷ [])
     ∙ ap (λ (s : Step). s ∷ []) (sym (close_programs_if_no_sectors w at none))
 
--- Facts of a search in these steps.
+-- Consequences of a search in the steps `ss`.
 module _ (job : SlotWrite) (s : WriteInputs) (ss : List Step) (steps : steps_of_job job s ≡ ss) (done : ℕ) (first : Cut)
-    (stock : first.stock ≡ s) (rest : first.rest ≡ done) where
-  -- The steps with the inputs of the search are the steps of the job.
-  search_steps_are_job_steps : steps_of_job job first.stock ≡ ss
-  search_steps_are_job_steps = ap (λ (x : WriteInputs). steps_of_job job x) stock ∙ steps
+    (inputs : first.inputs ≡ s) (rest : first.rest ≡ done) where
+  -- The inputs of the search give the steps of the job.
+  search_steps_are_job_steps : steps_of_job job first.inputs ≡ ss
+  search_steps_are_job_steps = ap (λ (x : WriteInputs). steps_of_job job x) inputs ∙ steps
 
-  -- A piece that the search found is a piece of these steps.
-  found_piece_is_in_steps : (p : Step) → IsStepPiece (steps_of_job job first.stock) first.rest p → IsStepPiece ss done p
+  -- A piece that the search found is a piece of `ss`.
+  found_piece_is_in_steps : (p : Step) → IsStepPiece (steps_of_job job first.inputs) first.rest p → IsStepPiece ss done p
   found_piece_is_in_steps p piece =
       subst (λ (n : ℕ). IsStepPiece ss n p) rest (subst (λ (xs : List Step). IsStepPiece xs first.rest p) search_steps_are_job_steps piece)
 
-  -- No bytes of these steps are left if the search found none left.
-  pub none_left_in_steps : total (step_writes (steps_of_job job first.stock)) ≤ first.rest → total (step_writes ss) ≤ done
+  -- `ss` has no bytes left if the search found no piece.
+  pub none_left_in_steps : total (step_writes (steps_of_job job first.inputs)) ≤ first.rest → total (step_writes ss) ≤ done
   none_left_in_steps le = omega (arith, le, rest, ap (λ (xs : List Step). total (step_writes xs)) search_steps_are_job_steps)
 
--- A piece that a search for a work found is a piece of the work.
+-- A piece that the search found is a piece of the device's pending writes.
 pub found_piece_is_in_work : (a : LentDevice) (v : PendingWrites) (s : WriteInputs) → ((w : PendingWrites) → steps_of_job w.job s
     ≡ steps_in a w)
-    → (first : Cut) → first.stock ≡ s → first.rest ≡ v.done → (p : Step) → IsStepPiece (steps_of_job v.job first.stock) first.rest p
+    → (first : Cut) → first.inputs ≡ s → first.rest ≡ v.done → (p : Step) → IsStepPiece (steps_of_job v.job first.inputs) first.rest p
     → IsStepPiece (steps_in a v) v.done p
-found_piece_is_in_work a v s steps first stock rest p found = found_piece_is_in_steps v.job s (steps_in a v) (steps v) v.done first stock
+found_piece_is_in_work a v s steps first inputs rest p found = found_piece_is_in_steps v.job s (steps_in a v) (steps v) v.done first inputs
     rest p found
 
--- A piece that a search in a part of a format found is a piece of that part.
+-- Consequences of a search in one part of a format.
 module _ (f : Formatting) (now size : ℕ) (same : now ≡ size) (image : List ℕ) (s : WriteInputs) (block : s.block.now ≡ image) (first : Cut)
-    (stock : first.stock ≡ s) (rest : first.rest ≡ f.done) where
-  searched_image_is_image : first.stock.block.now ≡ image
-  searched_image_is_image = ap (λ (x : WriteInputs). x.block.now) stock ∙ block
+    (inputs : first.inputs ≡ s) (rest : first.rest ≡ f.done) where
+  searched_image_is_image : first.inputs.block.now ≡ image
+  searched_image_is_image = ap (λ (x : WriteInputs). x.block.now) inputs ∙ block
 
-  -- A piece that the search found in the current part is a piece of that part, on flash of `size` bytes.
-  pub found_piece_is_in_part : (p : Step) → IsStepPiece (steps_of_part f now first.stock.block.now) first.rest p
+  -- A piece that the search found with its own inputs is the next piece of the format's current part.
+  pub found_piece_is_in_part : (p : Step) → IsStepPiece (steps_of_part f now first.inputs.block.now) first.rest p
       → IsStepPiece (steps_of_part f size image) f.done p
   found_piece_is_in_part p piece =
       subst (λ (n : ℕ). IsStepPiece (steps_of_part f n image) f.done p) same
       (subst (λ (n : ℕ). IsStepPiece (steps_of_part f now image) n p) rest
       (subst (λ (l : List ℕ). IsStepPiece (steps_of_part f now l) first.rest p) searched_image_is_image piece))
 
-  -- No bytes of the part are left if the search found none left.
+  -- The current part has no bytes left if the search found no piece.
   pub none_left_in_part : length image ≤ 2 ^ 24
-      → (length first.stock.block.now ≤ 2 ^ 24 → total (step_writes (steps_of_part f now first.stock.block.now)) ≤ first.rest)
+      → (length first.inputs.block.now ≤ 2 ^ 24 → total (step_writes (steps_of_part f now first.inputs.block.now)) ≤ first.rest)
       → total (step_writes (steps_of_part f size image)) ≤ f.done
   none_left_in_part small none = omega (
     arith,

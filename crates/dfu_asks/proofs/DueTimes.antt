@@ -1,4 +1,4 @@
--- The state of a device changes exactly when the change is due.
+-- The state of a device changes exactly when the time of its mode has elapsed.
 use Rattle.std.proofs.Common.{◌≡◌, ◌≢◌, ◌+◌, ◌-◌, ◌<◌, ◌≤◌, ◌==◌, ◌++◌, max, length, take, nat_le, Bool, true, false, ℕ, List, [], inl, inr, refl, sym, ap, subst, ◌∙◌, arith, if◌then◌else◌}
 use Rattle.std.proofs.lemmas.Bool.{eqb-true, eqb-false, leb-true, leb-false}
 use Rattle.dfu_device.specs.declared.answer.Answer.TheVariants as answer
@@ -13,16 +13,16 @@ use Rattle.dfu_device.specs.Decision.{HasTimeInputs}
 use Rattle.dfu_device.specs.Rows.{Done}
 use Rattle.dfu_asks.specs.Times.{due_of, ChangesOnceDue}
 
--- A time that is not 0 is at least one millisecond.
+-- A time other than 0 is at least one millisecond.
 time_is_at_least_1 : (ms : ℕ) → (ms == 0) ≡ false → 1 ≤ ms
 time_is_at_least_1 ms some = grind (arith, eqb-false ms 0 some)
 
 module _ (ms : ℕ) (d d' : DeviceView) where
-  -- The plan was carried out, led from the device d to d', and had an acknowledgement as its answer.
+  -- The executed plan answers with an acknowledgement, and leads from the device d to d'.
   abbrev pub PlanLedToDevice : Plan → Type 0
   PlanLedToDevice p = Done p 0 d answer.Ack [] d'
 
-  -- An unchanged device fits `ChangesOnceDue` if no change was due.
+  -- A device that stays unchanged satisfies `ChangesOnceDue` if no change was due.
   unchanged_device_fits : (due : ℕ) → d' ≡ d → (0 < due → due ≤ ms → ⊥) → ChangesOnceDue due ms d d'
   unchanged_device_fits due is never = record {
     none = λ _. is;
@@ -30,7 +30,7 @@ module _ (ms : ℕ) (d d' : DeviceView) where
     from = λ some past. absurd (never some past);
   }
 
-  -- A device whose state stays fits `ChangesOnceDue` before a change is due.
+  -- A device whose state stays the same satisfies `ChangesOnceDue` before a change is due.
   unchanged_state_before_due : (due : ℕ) → ms < due → state_of d'.stage ≡ state_of d.stage → ChangesOnceDue due ms d d'
   unchanged_state_before_due due soon is = record {
     none = λ none. absurd (omega (arith, none, soon));
@@ -38,7 +38,7 @@ module _ (ms : ℕ) (d d' : DeviceView) where
     from = λ some past. absurd (omega (arith, past, soon));
   }
 
-  -- A device whose state changes fits `ChangesOnceDue` once a change is due.
+  -- A device whose state changes satisfies `ChangesOnceDue` once a change is due.
   changed : (due : ℕ) → 0 < due → due ≤ ms → state_of d'.stage ≢ state_of d.stage → ChangesOnceDue due ms d d'
   changed due some past is = record {
     none = λ none. absurd (omega (arith, none, some));
@@ -46,16 +46,16 @@ module _ (ms : ℕ) (d d' : DeviceView) where
     from = λ _ _. is;
   }
 
-  -- A device that enters a stage with another state changes its state.
+  -- A device that enters a stage of another state changes its state.
   other_stage_changes_state : (old new : Stage) → d.stage ≡ old → d'.stage ≡ new → state_of new ≢ state_of old →
       state_of d'.stage ≢ state_of d.stage
   other_stage_changes_state old new is is' differ = λ e. differ (sym (ap state_of is') ∙ e ∙ ap state_of is)
 
-  -- A plan that only acknowledges and keeps the stage leaves the device unchanged.
+  -- A plan that acknowledges and keeps the stage leaves the device unchanged.
   ack_plan_keeps_device : (stage : Stage) → d.stage ≡ stage → PlanLedToDevice (ack_plan stage) → d' ≡ d
   ack_plan_keeps_device stage is done = done.1 ∙ (λ i. record d { stage = sym is i })
 
-  -- In appDETACH the plan of elapsed time changes the state once a change is due.
+  -- In appDETACH, elapsed time changes the state exactly when a change is due.
   app_detach_changes_when_due : (timer passed : ℕ) → d.stage ≡ InAppDetach timer passed → (z w o : Bool) → (ms == 0) ≡ z
       → nat_le (max 1 timer) (passed + ms) ≡ o
       → PlanLedToDevice (if z then ack_plan (InAppDetach timer passed) else if w then ack_plan InDfuIdle else if o then ack_plan InAppIdle
@@ -85,7 +85,7 @@ module _ (ms : ℕ) (d d' : DeviceView) where
       ))
       (ap (λ (w : DeviceView). state_of w.stage) done.1 ∙ sym (ap state_of is))
 
-  -- In dfuDNBUSY the plan of elapsed time changes the state once a change is due.
+  -- In dfuDNBUSY, elapsed time changes the state exactly when a change is due.
   dnbusy_changes_when_due : (limit : ℕ) (before block : List ℕ) (number passed : ℕ) → d.stage ≡ InDownloadBusy before block number passed
       → (z o : Bool) → (ms == 0) ≡ z → nat_le limit (passed + ms) ≡ o
       → PlanLedToDevice (if z then ack_plan (InDownloadBusy before block number passed)
@@ -105,7 +105,7 @@ module _ (ms : ℕ) (d d' : DeviceView) where
       unchanged_state_before_due (max 1 (limit - passed)) (omega (arith, time_is_at_least_1 ms zero, leb-false limit (passed + ms) over))
       (ap (λ (w : DeviceView). state_of w.stage) done.1 ∙ sym (ap state_of is))
 
-  -- In dfuMANIFEST the plan of elapsed time changes the state once a change is due.
+  -- In dfuMANIFEST, elapsed time changes the state exactly when a change is due.
   manifest_changes_when_due : (limit : ℕ) (taken : List ℕ) (passed : ℕ) → d.stage ≡ InManifest taken passed
       → (z o t : Bool) → (ms == 0) ≡ z → nat_le limit (passed + ms) ≡ o
       → PlanLedToDevice (if z then ack_plan (InManifest taken passed)
@@ -131,7 +131,7 @@ module _ (ms : ℕ) (d d' : DeviceView) where
       unchanged_state_before_due (max 1 (limit - passed)) (omega (arith, time_is_at_least_1 ms zero, leb-false limit (passed + ms) over))
       (ap (λ (w : DeviceView). state_of w.stage) done.1 ∙ sym (ap state_of is))
 
-  -- In each mode the plan of elapsed time changes the state once a change is due.
+  -- In every mode, elapsed time changes the state exactly when a change is due.
   pub each_mode_changes_when_due : (m : DeviceState) (n : ℕ) (spare block : List ℕ) → HasTimeInputs m n spare block → d.stage
       ≡ stage_of m spare block
       → PlanLedToDevice (time_plan (profile d) (stage_of m spare block) ms) → ChangesOnceDue (due_of d.config m n) ms d d'

@@ -1,4 +1,4 @@
--- Jobs whose writes have no bytes. Such a job has no writes.
+-- A job whose writes contain no bytes has no writes.
 use Rattle.std.proofs.Common.{◌≡◌, ◌==◌, inl, inr, Bool, true, false, if◌then◌else◌, ℕ, ◌+◌, ◌≤◌, ◌<◌, List, [], ◌∷◌, ◌++◌, length, take, drop, replicate, refl, arith}
 use Rattle.std.proofs.lemmas.Bool.{cases_eq, eqb-false}
 use Rattle.std.proofs.lemmas.List.{length-replicate}
@@ -14,14 +14,14 @@ use Rattle.dfu_asks.specs.Carried.{total}
 use Rattle.dfu_asks.specs.Jobs.{held_bytes_place, job_writes}
 use Rattle.dfu_asks.proofs.Pieces.{list_totals_add_up}
 
--- A write with its erases has at least as many bytes as the write alone.
+-- A write preceded by its erases has at least as many bytes as the write alone.
 write_anew_has_its_bytes : (sector at : ℕ) (bytes : List ℕ) → length bytes ≤ total (erasing_write sector at bytes)
 write_anew_has_its_bytes sector at bytes = omega (
   arith,
   list_totals_add_up (if sector == 0 then [] else sector_erases sector at (length bytes)) (record { at = at; bytes = bytes } ∷ []),
 )
 
--- A `write_some` whose writes have no bytes makes no write.
+-- `write_some` makes no write if its writes contain no bytes.
 empty_write_some_has_no_write : (sector at : ℕ) (bytes : List ℕ) → total (write_some sector at bytes) ≤ 0 → write_some sector at bytes ≡ []
 empty_write_some_has_no_write sector at bytes = by_test (length bytes == 0) refl
   where
@@ -30,7 +30,7 @@ empty_write_some_has_no_write sector at bytes = by_test (length bytes == 0) refl
     by_test true e le = refl
     by_test false e le = absurd (eqb-false (length bytes) 0 e (omega (arith, le, write_anew_has_its_bytes sector at bytes)))
 
--- Two joined lists without bytes have no writes, if each of the two lists has no writes whenever it has no bytes.
+-- Suppose that each of two lists is empty if its writes have 0 bytes. Then the joined list is empty if its writes have 0 bytes.
 empty_lists_join_empty : (xs ys : List Write) → (total xs ≤ 0 → xs ≡ []) → (total ys ≤ 0 → ys ≡ []) → total (xs ++ ys) ≤ 0 → xs ++ ys ≡ []
 empty_lists_join_empty xs ys first second le =
     let count = list_totals_add_up xs ys in
@@ -50,13 +50,13 @@ closed_gate_has_bytes w = by_test (w.sector == 0) refl
     by_test true e = omega (arith, gate_unit_has_size (gate_size w.unit) 0 (gate_unit_at_least_16 w.unit), gate_unit_at_least_16 w.unit)
     by_test false e = some w.sector (eqb-false w.sector 0 e) (length-replicate {A = ℕ} w.sector 255)
 
--- If the write that may close a gate has no bytes, there is none.
+-- If the optional write that closes a gate has 0 bytes, there is no such write.
 empty_close_has_no_write : (w : Grain) (at : ℕ) (close : Bool) →
     let shut : List Write = if close then record { at = at; bytes = closed_gate w } ∷ [] else [] in total shut ≤ 0 → shut ≡ []
 empty_close_has_no_write w at true le = absurd (omega (arith, le, closed_gate_has_bytes w))
 empty_close_has_no_write w at false le = refl
 
--- The writes that open a slot have bytes.
+-- Opening a slot writes at least one byte.
 open_writes_have_bytes : (w : Grain) (at gen len crc : ℕ) → 0 < total (open_writes w at gen len crc)
 open_writes_have_bytes w at gen len crc =
     let header = header_unit (gate_size w.unit) gen len crc in
@@ -68,7 +68,6 @@ open_writes_have_bytes w at gen len crc =
       gate_unit_at_least_16 w.unit,
     )
 
--- A job whose writes have no bytes has no write.
 pub empty_job_has_no_writes : (j : SlotWrite) (w : Grain) (end : ℕ) (held block : List ℕ) → total (job_writes j w end held block) ≤ 0
     → job_writes j w end held block ≡ []
 empty_job_has_no_writes (Block spare close) w end held block le =

@@ -1,4 +1,4 @@
--- Rows that are complete, in terms of the kept parts of the device.
+-- A row is complete if the kept fields of the device are those that the row left.
 use Rattle.std.proofs.Common.{◌≡◌, inl, inr, refl, ℕ, ◌≤◌, IsTrue, List, length, Option, None, sym, ap, subst, arith}
 use Rattle.dfu_slots.specs.declared.fault.WriteFault.{WriteFault}
 use Rattle.dfu_slots.specs.Medium.{MediumState, Write, AllWrites, BrokenWrites}
@@ -16,14 +16,14 @@ use Rattle.dfu_asks.specs.Carried.{total, bytes_after_writes}
 use Rattle.dfu_asks.specs.Due.{DueRowWorks, DueRowFails}
 use Rattle.dfu_asks.specs.Asks.{grain_in, flash_store, device_in, store_with_unseen, device_with, device_of, IsWorkingForRow, writes_in, IsKeptAfterWrites, IsKeptAfterFault, NoteAfterRow, IsRowEndAnswer, AnswerInBuffer, done_mode, failed_mode}
 use Rattle.dfu_asks.specs.Calls.{CallCompleted}
-use Rattle.dfu_asks.proofs.Carrying.{carried_series_is_all_writes}
+use Rattle.dfu_asks.proofs.SeriesBytes.{carried_series_is_all_writes}
 use Rattle.dfu_asks.proofs.Empty.{empty_job_has_no_writes}
-use Rattle.dfu_asks.proofs.Unseen.{store_stays_with_unseen, parts_stay_with_unseen, due_job_with_unseen}
+use Rattle.dfu_asks.proofs.UnseenState.{store_stays_with_unseen, parts_stay_with_unseen, due_job_with_unseen}
 use Rattle.dfu_asks.specs.Noted.{IsNoteOfMedium}
 use Rattle.dfu_asks.proofs.Working.{RowEnds, Stays, held_after_row, put_end_after_row, due_row_works, due_row_fails}
-use Rattle.dfu_asks.proofs.Renoted.{notes_after_row}
+use Rattle.dfu_asks.proofs.NotesAfterRow.{notes_after_row}
 
--- A call is complete if its row left a store and a mode that are those of the kept parts.
+-- A call is complete if the kept fields are the store and the mode that its row left.
 row_ends_in_kept_parts : (a now : LentDevice) (asked : Option ℕ) (flash : List ℕ) (x : Answer) (count : ℕ) (out out' : List ℕ) (S :
     SlotsState)
     (M : DeviceState)
@@ -52,7 +52,7 @@ row_ends_in_kept_parts a now asked flash x count out out' S M Stay Row store mod
       };
     }
 
--- A row ends on one of two equal devices as it ends on the other.
+-- A row ends in the same way on two equal devices.
 row_ends_same_on_equal_devices : (c : Setting) (s : SlotsState) (m : DeviceState) (b : List ℕ) (Stays : Type 0) (Row : DeviceView →
     Type 0) (d d' : DeviceView)
     → d ≡ d' → RowEnds c s m b Stays (Row d) → RowEnds c s m b Stays (Row d')
@@ -61,21 +61,21 @@ row_ends_same_on_equal_devices c s m b Stays Row d d' same e =
 
 module _ (a now : LentDevice) (w : PendingWrites) (len : ℕ) (s : SlotsState) (was flash : List ℕ) (working : IsWorkingForRow a w len s was)
     (notes : NoteAfterRow a.mode flash a now) (x : Answer) (count : ℕ) (out out' : List ℕ) where
-  -- The store writes its medium in the device's grain.
+  -- The store writes its medium with the device's unit and sector.
   store_has_device_grain : s.medium.grain ≡ grain_in a
   store_has_device_grain = ap (λ (m : MediumState). m.grain) working.medium
 
-  -- Store after all writes, on a medium with these bytes and this unseen state.
+  -- Slot store after all writes, on a medium with these bytes and this unseen state.
   abbrev store_left_with_unseen : UnseenState → SlotsState
   store_left_with_unseen u = store_of (mapped_medium_with u (grain_in a) flash) (held_after_row (grain_in a) a.mode a.held a.block)
       (put_end_after_row a.mode a.put_end a.block)
 
-  -- Store after all writes, on a mapped medium with these bytes.
+  -- Slot store after all writes, on a mapped medium with these bytes.
   abbrev left : SlotsState
   left = store_of (mapped_medium (grain_in a) flash) (held_after_row (grain_in a) a.mode a.held a.block) (put_end_after_row a.mode
       a.put_end a.block)
 
-  -- The parts kept after all writes are the device after the row, with any unseen state.
+  -- The fields kept after all writes form the device that the row left, for any unseen state of the medium.
   kept_parts_are_row_device : IsKeptAfterWrites a now → (u : UnseenState)
       → view_of_parts a.config (store_left_with_unseen u) (done_mode a.config a.mode (length a.block)) a.block
       ≡ device_with u now flash
@@ -84,14 +84,14 @@ module _ (a now : LentDevice) (w : PendingWrites) (len : ℕ) (s : SlotsState) (
       fin.end i))
       (sym fin.mode i) (sym fin.block i)
 
-  -- The parts kept after all writes are the device on the flash after the row.
+  -- After the due row, the fields that `IsKeptAfterWrites` lists are those of the device on the flash.
   kept_parts_are_flash_device : IsKeptAfterWrites a now → view_of_parts a.config left (done_mode a.config a.mode (length a.block)) a.block
       ≡ device_in now flash
   kept_parts_are_flash_device fin = λ i. view_of_parts (sym fin.config i)
       (store_of (mapped_medium (record { unit = sym fin.unit i; sector = (sym fin.sector i).size }) flash) (sym fin.held i) (sym fin.end i))
       (sym fin.mode i) (sym fin.block i)
 
-  -- A call whose writes all worked is complete with `Row`, if the end of the row satisfies `Row`.
+  -- A call whose writes all succeeded is complete with `Row`, if the end of the row satisfies `Row`.
   row_ends_after_writes : (Row : Answer → List ℕ → Type 0) → AllWrites (mapped_medium (grain_in a) was) (writes_in a w)
       (mapped_medium (grain_in a) flash)
       → IsKeptAfterWrites a now → AnswerInBuffer (λ y sent. IsRowEndAnswer a.config now.mode w.asked y sent) x count out out'
@@ -106,7 +106,7 @@ module _ (a now : LentDevice) (w : PendingWrites) (len : ℕ) (s : SlotsState) (
       (λ store stays. notes_after_row a now w len s was flash working notes fin.unit fin.sector (inl all) left refl store.has_image stays)
       comes
 
-  -- The due row worked if all its writes worked.
+  -- The due row succeeded if all its writes did.
   due_row_worked : AllWrites (mapped_medium (grain_in a) was) (writes_in a w) (mapped_medium (grain_in a) flash) → (sent : List ℕ)
       → IsRowEndAnswer a.config (done_mode a.config a.mode (length a.block)) w.asked x sent
       → RowEnds a.config left (done_mode a.config a.mode (length a.block)) a.block (Stays a.mode s left)
@@ -117,7 +117,7 @@ module _ (a now : LentDevice) (w : PendingWrites) (len : ℕ) (s : SlotsState) (
       a.mode w.asked working.sound working.due
       (subst (λ (m : MediumState). AllWrites m (writes_in a w) (mapped_medium (grain_in a) flash)) (sym working.medium) all) x sent says
 
-  -- The call is complete with the due row if all its writes worked.
+  -- If all writes of the due row succeeded, the call is complete with the result of this row.
   pub worked_writes_end_row : AllWrites (mapped_medium (grain_in a) was) (writes_in a w) (mapped_medium (grain_in a) flash) →
       IsKeptAfterWrites a now
       → AnswerInBuffer (λ y sent. IsRowEndAnswer a.config now.mode w.asked y sent) x count out out'
@@ -127,7 +127,7 @@ module _ (a now : LentDevice) (w : PendingWrites) (len : ℕ) (s : SlotsState) (
       (λ sent says. row_ends_same_on_equal_devices a.config left (done_mode a.config a.mode (length a.block)) a.block (Stays a.mode s left)
       (λ d. DueRowWorks len (device_of a s) x sent d) _ _ (kept_parts_are_flash_device fin) (due_row_worked all sent says))
 
-  -- The call is complete with the failed due row if a write had a fault.
+  -- If a write of the due row had a fault, the call is complete with the result of the failed row.
   pub broken_writes_end_row : (fault : WriteFault) → BrokenWrites fault (mapped_medium (grain_in a) was) (writes_in a w)
       (mapped_medium (grain_in a) flash)
       → IsKeptAfterFault fault a now → AnswerInBuffer (λ y sent. IsRowEndAnswer a.config now.mode w.asked y sent) x count out out'
@@ -152,7 +152,7 @@ module _ (a now : LentDevice) (w : PendingWrites) (len : ℕ) (s : SlotsState) (
       (subst (λ (m : MediumState). BrokenWrites fault m (writes_in a w) (mapped_medium (grain_in a) flash)) (sym working.medium) broken)
       x sent says))
 
-  -- The call is complete with the due row if all bytes of its writes are carried out.
+  -- If all bytes of the due row's writes are on the flash, the call is complete with the result of this row.
   pub carried_writes_end_row : flash ≡ bytes_after_writes was (writes_in a w) w.done → total (writes_in a w) ≤ w.done →
       IsKeptAfterWrites a now
       → AnswerInBuffer (λ y sent. IsRowEndAnswer a.config now.mode w.asked y sent) x count out out'
@@ -164,12 +164,12 @@ module _ (a now : LentDevice) (w : PendingWrites) (len : ℕ) (s : SlotsState) (
 -- A due row without writes is complete at once, on every medium with these bytes.
 module _ (a now : LentDevice) (w : PendingWrites) (len : ℕ) (s : SlotsState) (flash : List ℕ) (working : IsWorkingForRow a w len s flash)
     (notes : NoteAfterRow a.mode flash a now) (x : Answer) (count : ℕ) (out out' : List ℕ) (nothing : total (writes_in a w) ≤ 0) where
-  -- A work without bytes makes no write.
+  -- Pending writes without bytes leave the medium unchanged.
   empty_work_writes_nothing : (m : MediumState) → AllWrites m (writes_in a w) m
   empty_work_writes_nothing m = subst (λ (ws : List Write). AllWrites m ws m) (sym (empty_job_has_no_writes w.job (grain_in a) a.put_end
       a.held a.block nothing)) refl
 
-  -- A due row without writes worked, with any unseen state of the medium.
+  -- A due row without writes succeeds for any unseen state of the medium.
   due_row_worked_with_unseen : (u : UnseenState) (sent : List ℕ) →
       IsRowEndAnswer a.config (done_mode a.config a.mode (length a.block)) w.asked x sent
       → DueRowWorks len (device_of a (store_with_unseen u s)) x sent
@@ -186,7 +186,7 @@ module _ (a now : LentDevice) (w : PendingWrites) (len : ℕ) (s : SlotsState) (
       (subst (λ (m : MediumState). AllWrites m (writes_in a w) (mapped_medium_with u (grain_in a) flash)) (sym there)
       (empty_work_writes_nothing (mapped_medium_with u (grain_in a) flash))) x sent says).comes
 
-  -- A call whose due row has no writes is complete with that row, with any unseen state of the medium.
+  -- A call whose due row has no writes is complete with that row, for any unseen state of the medium.
   pub empty_work_ends_row : IsKeptAfterWrites a now → AnswerInBuffer (λ y sent. IsRowEndAnswer a.config now.mode w.asked y sent) x count
       out out'
       → CallCompleted flash x count out out' now

@@ -25,17 +25,17 @@ use Rattle.dfu_asks.specs.Formats.{medium_of_format, FormatUnderWay, FormatCompl
 use Rattle.dfu_asks.proofs.Bits.{IsPartOfWrites, piece_is_part_of_writes}
 use Rattle.dfu_asks.proofs.Pieces.{first_piece_is_in_joined, later_piece_is_in_joined, zero_bytes_end_at_piece, next_piece_ends_at_piece}
 use Rattle.dfu_asks.proofs.JobPieces.{step_list_totals_add_up}
-use Rattle.dfu_asks.proofs.Carrying.{carried_series_is_all_writes, written_piece_carries_series, torn_piece_breaks_series}
-use Rattle.dfu_asks.proofs.Partly.{series_keeps_length, piece_lies_in_range}
+use Rattle.dfu_asks.proofs.SeriesBytes.{carried_series_is_all_writes, written_piece_carries_series, torn_piece_breaks_series}
+use Rattle.dfu_asks.proofs.PartialSeries.{series_keeps_length, piece_lies_in_range}
 use Rattle.dfu_asks.proofs.Inside.{writes_inside_are_within}
-use Rattle.dfu_asks.proofs.Sound.{StepsEraseSectors, steps_erase_sectors_append, write_anew_erases_sectors, close_step_erases_sector, next_piece_erases_sector}
+use Rattle.dfu_asks.proofs.RowErases.{StepsEraseSectors, steps_erase_sectors_append, write_anew_erases_sectors, close_step_erases_sector, next_piece_erases_sector}
 use Rattle.dfu_asks.proofs.FormatParts.{image_next, format_steps_are_writes}
 use Rattle.dfu_asks.proofs.FormatInside.{format_writes_inside_medium, format_makes_its_image_active}
 use Rattle.dfu_asks.proofs.Cutting.{found_piece_is_in_part}
 use Rattle.dfu_asks.specs.declared.cut.Cut.{Cut}
 use Rattle.dfu_asks.specs.declared.pending_writes.WriteInputs.{WriteInputs}
 
--- The steps of a format from a part on begin with the steps of the part.
+-- The remaining steps of a format begin with the steps of the current part.
 part_steps_come_first : (w : Grain) (size : ℕ) (image : List ℕ) (crc : ℕ) (this : FormatStep) → (next : List Step)
     × (format_steps_from w size image crc this ≡ part_steps w size image crc this ++ next)
 part_steps_come_first w size image crc format_step.CloseSecond = (format_steps_from w size image crc format_step.CloseFirst, refl)
@@ -53,7 +53,7 @@ part_piece_remains f size image n p piece =
     let parts = part_steps_come_first (format_grain f) (size / 2) image f.register f.phase in
     subst (λ (ss : List Step). IsStepPiece ss n p) (sym parts.1) (first_piece_is_in_joined (steps_of_part f size image) parts.0 n p piece)
 
--- The step that closes a gate has bytes.
+-- Closing a gate writes at least one byte.
 pub close_step_has_bytes : (w : Grain) (at : ℕ) → 0 < length (close_step w at).write.bytes
 close_step_has_bytes w at = elim (cases_eq w.sector 0) [
   | inl none ↦ by_test (w.sector == 0) (eq-eqb w.sector 0 none)
@@ -69,7 +69,7 @@ close_step_has_bytes w at = elim (cases_eq w.sector 0) [
     sector_erase_has_bytes true e some = cc
     sector_erase_has_bytes false e some = omega (arith, some, length-replicate {A = ℕ} w.sector 255)
 
--- Each step of an image erases a whole sector, or programs.
+-- Each step that writes an image erases a whole sector or programs bytes.
 image_steps_erase_sectors : (sector n at : ℕ) (bytes : List ℕ) → StepsEraseSectors sector (piece_steps sector n at bytes)
 image_steps_erase_sectors sector zero at bytes = tt
 image_steps_erase_sectors sector (suc n) at [] = tt
@@ -78,7 +78,7 @@ image_steps_erase_sectors sector (suc n) at (x ∷ xs) =
     xs)))
     (write_anew_erases_sectors sector at (take 4096 (x ∷ xs))) (image_steps_erase_sectors sector n (at + 4096) (drop 4096 (x ∷ xs)))
 
--- Each step of a format erases a whole sector, or programs.
+-- Each step of a format erases a whole sector or programs bytes.
 format_steps_erase_sectors : (m : MediumState) (image : List ℕ) → IsSizedMedium m → StepsEraseSectors m.grain.sector (format_steps m image)
 format_steps_erase_sectors m image sized =
     let w = m.grain in
@@ -95,7 +95,7 @@ format_steps_erase_sectors m image sized =
       ),
     )
 
--- Each step of the second of two lists erases a whole sector, or programs, if each step of both lists does.
+-- If each step of two joined lists erases a whole sector or programs bytes, so does each step of the second list.
 later_steps_erase_sectors : (sector : ℕ) (xs ys : List Step) → StepsEraseSectors sector (xs ++ ys) → StepsEraseSectors sector ys
 later_steps_erase_sectors sector [] ys all = all
 later_steps_erase_sectors sector (x ∷ xs) ys all = later_steps_erase_sectors sector xs ys all.1
@@ -105,7 +105,7 @@ pub two_slot_medium_is_small : (m : MediumState) → IsSizedMedium m → length 
 two_slot_medium_is_small m sized = omega (arith, sized.even, sized.bound, sized.whole.bound, gate_unit_at_most_256 m.grain.unit)
 
 module _ (f : Formatting) (image was flash : List ℕ) (way : FormatUnderWay f image was flash) where
-  -- Medium of the format before its first write.
+  -- Medium before the first write of the format.
   abbrev m : MediumState
   m = medium_of_format f was
 
@@ -118,21 +118,19 @@ module _ (f : Formatting) (image was flash : List ℕ) (way : FormatUnderWay f i
   abbrev left : List Step
   left = remaining_steps f (length was) image
 
-  -- Steps of the current part.
   abbrev part : List Step
   part = steps_of_part f (length was) image
 
-  -- Number of carried-out bytes of all steps.
+  -- Number of bytes of the format that are written so far, over all parts.
   abbrev before : ℕ
   before = total (step_writes way.front) + f.done
 
-  -- The writes of a format lie within its flash.
   format_writes_within_flash : WritesWithin writes (length was)
   format_writes_within_flash = subst (λ (ws : List Write). WritesWithin ws (length was)) (sym (format_steps_are_writes m image))
       (writes_inside_are_within (format_series m image) 0 (length was) (length was) (format_writes_inside_medium m image way.can) (omega
       arith))
 
-  -- The flash has as many bytes as before the format.
+  -- A format doesn't change the size of the flash.
   pub format_keeps_flash_size : length flash ≡ length was
   format_keeps_flash_size = ap length way.flash_is ∙ series_keeps_length writes was before format_writes_within_flash
 
@@ -147,15 +145,15 @@ module _ (f : Formatting) (image was flash : List ℕ) (way : FormatUnderWay f i
     ),
   )
 
-  -- The piece that a search in the current part found is a piece of the remaining steps.
-  pub found_piece_remains : (s : WriteInputs) → s.block.now ≡ image → (first : Cut) → first.stock ≡ s → first.rest ≡ f.done → (p : Step)
-      → IsStepPiece (steps_of_part f (length flash) first.stock.block.now) first.rest p → IsStepPiece left f.done p
-  found_piece_remains s block first stock rest p found =
+  -- A piece that the search found in the current part is the next piece of the remaining steps.
+  pub found_piece_remains : (s : WriteInputs) → s.block.now ≡ image → (first : Cut) → first.inputs ≡ s → first.rest ≡ f.done → (p : Step)
+      → IsStepPiece (steps_of_part f (length flash) first.inputs.block.now) first.rest p → IsStepPiece left f.done p
+  found_piece_remains s block first inputs rest p found =
       part_piece_remains f (length was) image f.done p
-      (found_piece_is_in_part f (length flash) (length was) format_keeps_flash_size image s block first stock rest p found)
+      (found_piece_is_in_part f (length flash) (length was) format_keeps_flash_size image s block first inputs rest p found)
 
   module _ (p : Step) (piece : IsStepPiece left f.done p) where
-    -- The next piece of the remaining steps is the next piece of all steps of the format.
+    -- The next piece of the remaining steps is the next piece of the whole format.
     left_piece_is_in_format : IsStepPiece steps before p
     left_piece_is_in_format = subst (λ (ss : List Step). IsStepPiece ss before p) (sym way.series)
         (later_piece_is_in_joined way.front left before f.done p refl piece)
@@ -164,7 +162,6 @@ module _ (f : Formatting) (image was flash : List ℕ) (way : FormatUnderWay f i
     piece_is_format_part : IsPartOfWrites writes before p.write
     piece_is_format_part = piece_is_part_of_writes steps before p left_piece_is_in_format
 
-    -- The piece of a format lies within the flash.
     pub format_piece_lies_within_flash : p.write.at + length p.write.bytes ≤ length flash
     format_piece_lies_within_flash = omega (
       arith,
@@ -173,7 +170,7 @@ module _ (f : Formatting) (image was flash : List ℕ) (way : FormatUnderWay f i
           (subst (λ (ws : List Write). IsPartOfWrites ws before p.write) (format_steps_are_writes m image) piece_is_format_part)).1,
     )
 
-    -- The piece of a format erases a whole sector, or programs.
+    -- The next piece of a format erases a whole sector or programs bytes.
     pub format_piece_erases_sector : ErasesSectorOrPrograms f.sector.size p
     format_piece_erases_sector = next_piece_erases_sector f.sector.size left f.done p
         (later_steps_erase_sectors f.sector.size way.front left
@@ -183,14 +180,14 @@ module _ (f : Formatting) (image was flash : List ℕ) (way : FormatUnderWay f i
       piece_tears_format_flash : Torn (bytes_after_writes was writes before) p.write.at p.write.bytes now
       piece_tears_format_flash = subst (λ (l : List ℕ). Torn l p.write.at p.write.bytes now) way.flash_is torn
 
-      -- The fault of a piece breaks the format off, whichever bytes the piece left in its range.
+      -- A fault in the write of a piece breaks the format off, whichever bytes the piece left in its range.
       pub broken_piece_breaks_format : (fault : WriteFault) → BrokenWrites fault m (format_series m image) (medium_of_format f now)
       broken_piece_breaks_format fault = subst (λ (ws : List Write). BrokenWrites fault m ws (medium_of_format f now))
           (format_steps_are_writes m image)
           (torn_piece_breaks_series (format_grain f) fault writes was now before p.write format_writes_within_flash piece_is_format_part
           piece_tears_format_flash)
 
-      -- If the bytes of the piece are on the flash, the format is under way, one piece further.
+      -- If the flash contains the bytes of the piece, the format has advanced by this piece.
       pub format_one_piece_further : p.write.at + length p.write.bytes ≤ length now
           → slice_range now p.write.at (p.write.at + length p.write.bytes) ≡ p.write.bytes → (n : ℕ) → n ≡ f.done + length p.write.bytes
           → FormatUnderWay (record f { done = n }) image was now
@@ -213,7 +210,7 @@ module _ (f : Formatting) (image was flash : List ℕ) (way : FormatUnderWay f i
           }
 
   module _ (ended : f.done ≡ total (step_writes part)) where
-    -- After a complete part the format is under way with the part that follows.
+    -- When a part is complete, the format continues with the next part.
     pub next_part_under_way : (next : FormatStep) → left ≡ part ++ format_steps_from (format_grain f) (length was / 2) image f.register next
         → FormatUnderWay (record f { phase = next; done = 0 }) image was flash
     next_part_under_way next follows =
@@ -228,7 +225,7 @@ module _ (f : Formatting) (image was flash : List ℕ) (way : FormatUnderWay f i
           flash_is = way.flash_is ∙ ap (λ (k : ℕ). bytes_after_writes was writes k) count;
         }
 
-    -- After the last part the format is complete, and its image is the active one.
+    -- When the last part is complete, the format is complete and its image is active.
     pub format_ends_with_last_part : left ≡ part ++ [] → FormatCompleted m image (medium_of_format f flash)
     format_ends_with_last_part follows =
         let all : steps ≡ way.front ++ part = way.series ∙ ap (λ (ss : List Step). way.front ++ ss) (follows ∙ append-nil part) in

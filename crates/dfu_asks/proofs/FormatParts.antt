@@ -1,4 +1,4 @@
--- The order of the parts of a format, and their steps.
+-- Order of the parts of a format, and the steps of each part.
 use Rattle.std.proofs.Common.{◌≡◌, ℕ, zero, suc, ◌+◌, ◌*◌, ◌≤◌, ◌<◌, List, [], ◌∷◌, ◌++◌, length, take, drop, refl, sym, ◌∙◌, ap, arith}
 use Rattle.std.proofs.lemmas.List.{take_all, drop_all, drop-drop, length-drop, append-nil, append_assoc}
 use Rattle.dfu_suffix.specs.Register.{register}
@@ -13,12 +13,12 @@ use Rattle.dfu_asks.specs.Phases.{piece_steps, image_steps, format_steps_from, p
 use Rattle.dfu_asks.proofs.Steps.{step_writes_append, anew_steps_are_writes, open_steps_are_writes}
 use Rattle.dfu_asks.proofs.Locating.{write_some_steps_are_anew}
 
--- An empty list of bytes has no steps.
+-- An empty list of bytes needs no steps.
 empty_list_has_no_piece_steps : (sector n at : ℕ) → piece_steps sector n at [] ≡ []
 empty_list_has_no_piece_steps sector zero at = refl
 empty_list_has_no_piece_steps sector (suc n) at = refl
 
--- Two counts that are at least the length of the bytes give the same steps.
+-- Any two counts that are at least the number of bytes give the same steps.
 piece_steps_ignore_count : (sector n m at : ℕ) (bytes : List ℕ) → length bytes ≤ n → length bytes ≤ m
     → piece_steps sector n at bytes ≡ piece_steps sector m at bytes
 piece_steps_ignore_count sector n m at [] a b = empty_list_has_no_piece_steps sector n at ∙ sym (empty_list_has_no_piece_steps sector m at)
@@ -29,11 +29,11 @@ piece_steps_ignore_count sector (suc n) (suc m) at (x ∷ xs) a b =
     ap (λ (ss : List Step). write_anew_steps sector at (take 4096 (x ∷ xs)) ++ ss)
     (piece_steps_ignore_count sector n m (at + 4096) (drop 4096 (x ∷ xs)) (omega (arith, back, a)) (omega (arith, back, b)))
 
--- The first 4096 bytes of a list that is not empty are not empty.
+-- The first 4096 bytes of a nonempty list are a nonempty list.
 piece_front_has_bytes : (x : ℕ) (xs : List ℕ) → 0 < length (take 4096 (x ∷ xs))
 piece_front_has_bytes x xs = omega arith
 
--- The steps of a list of bytes are those of its first 4096 bytes, followed by those of the rest.
+-- Writing a list of bytes writes its first 4096 bytes, then the rest.
 piece_steps_split_at_first : (sector n at : ℕ) (bytes : List ℕ) → length bytes ≤ n
     → piece_steps sector n at bytes ≡ write_some_steps sector at (take 4096 bytes) ++ piece_steps sector n (at + 4096) (drop 4096 bytes)
 piece_steps_split_at_first sector n at [] le =
@@ -47,7 +47,7 @@ piece_steps_split_at_first sector (suc n) at (x ∷ xs) le =
     (λ i. sym (write_some_steps_are_anew sector at (take 4096 (x ∷ xs)) (piece_front_has_bytes x xs)) i
     ++ piece_steps_ignore_count sector n (suc n) (at + 4096) (drop 4096 (x ∷ xs)) (omega (arith, back, le)) (omega (arith, back, le)) i)
 
--- The steps of an image are those of its next 4096 bytes, followed by those of the rest.
+-- Writing an image from `from` on writes its next 4096 bytes, then the rest.
 pub image_steps_split_at_piece : (w : Grain) (image : List ℕ) (from : ℕ) → image_steps w image from
     ≡ write_some_steps w.sector (2 * gate_room w + from) (take 4096 (drop from (filled_units w.unit image))) ++ image_steps w image
     (from + 4096)
@@ -63,7 +63,7 @@ image_steps_split_at_piece w image from =
     (omega (arith, length-drop 4096 rest)) (omega arith)
     ∙ (λ i. piece_steps w.sector (length (on i)) (place i) (on i)))
 
--- An image has no steps behind its last byte.
+-- No steps remain after the last byte of an image.
 pub image_steps_end_with_image : (w : Grain) (image : List ℕ) (from : ℕ) → length (filled_units w.unit image) ≤ from →
     image_steps w image from ≡ []
 image_steps_end_with_image w image from le =
@@ -72,7 +72,7 @@ image_steps_end_with_image w image from le =
     (λ i. piece_steps w.sector (length (none i)) (2 * gate_room w + from) (none i))
     ∙ empty_list_has_no_piece_steps w.sector 0 (2 * gate_room w + from)
 
--- The steps of a list of bytes have the writes of those bytes.
+-- The steps of a list of bytes contain exactly the writes of those bytes.
 piece_steps_are_writes : (sector n at : ℕ) (bytes : List ℕ) → step_writes (piece_steps sector n at bytes) ≡ piece_writes sector n at bytes
 piece_steps_are_writes sector zero at bytes = refl
 piece_steps_are_writes sector (suc n) at [] = refl
@@ -87,7 +87,7 @@ image_steps_are_writes w image =
     piece_steps_are_writes w.sector (length units) (2 * gate_room w + 0) units
     ∙ ap (λ (at : ℕ). piece_writes w.sector (length units) at units) place
 
--- The steps of a format have the writes of the format.
+-- The steps of a format contain exactly the writes of the format.
 pub format_steps_are_writes : (m : MediumState) (image : List ℕ) → step_writes (format_steps m image) ≡ format_series m image
 format_steps_are_writes m image =
     let w = m.grain in
@@ -96,7 +96,7 @@ format_steps_are_writes m image =
     (step_writes_append (image_steps w image 0) (open_steps w 0 0 (length image) (register image))
     ∙ (λ i. image_steps_are_writes w image i ++ open_steps_are_writes w 0 0 (length image) (register image) i))
 
--- The steps of a format from one part on are the steps of the part, followed by the steps from the next part on.
+-- The remaining steps from one part on are that part's steps, followed by the remaining steps from the next part on.
 abbrev pub IsPartFollowedBy : Grain → ℕ → List ℕ → ℕ → FormatStep → FormatStep → Type 0
 IsPartFollowedBy w size image crc this next =
     format_steps_from w size image crc this ≡ part_steps w size image crc this ++ format_steps_from w size image crc next
@@ -105,7 +105,7 @@ module _ (w : Grain) (size : ℕ) (image : List ℕ) (crc : ℕ) where
   abbrev steps_after_image : List Step
   steps_after_image = open_steps w 0 0 (length image) crc
 
-  -- The header follows the last piece of an image.
+  -- After the last piece of an image, the next part is the header.
   pub header_follows_last_image_piece : (from : ℕ) → length (filled_units w.unit image) ≤ from + 4096
       → IsPartFollowedBy w size image crc (format_step.Image from) format_step.Header
   header_follows_last_image_piece from le =
@@ -114,14 +114,14 @@ module _ (w : Grain) (size : ℕ) (image : List ℕ) (crc : ℕ) where
       (image_steps_split_at_piece w image from ∙ ap (λ (ss : List Step). first ++ ss) (image_steps_end_with_image w image (from + 4096) le)
       ∙ append-nil first)
 
-  -- The next piece of an image follows a piece that is not the last.
+  -- After any other piece of an image, the next part is the image's next 4096 bytes.
   pub image_next : (from : ℕ) → IsPartFollowedBy w size image crc (format_step.Image from) (format_step.Image (from + 4096))
   image_next from =
       let first = write_some_steps w.sector (2 * gate_room w + from) (take 4096 (drop from (filled_units w.unit image))) in
       ap (λ (ss : List Step). ss ++ steps_after_image) (image_steps_split_at_piece w image from)
       ∙ append_assoc first (image_steps w image (from + 4096)) steps_after_image
 
-  -- The header follows the closed gates if the image is empty.
+  -- For an empty image, the header is written right after the gates are closed.
   pub header_follows_empty_image : length (filled_units w.unit image) ≡ 0 →
       IsPartFollowedBy w size image crc format_step.CloseFirst format_step.Header
   header_follows_empty_image none = ap (λ (ss : List Step). close_step w 0 ∷ ss

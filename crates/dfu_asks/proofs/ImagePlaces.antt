@@ -1,4 +1,4 @@
--- Place of an active image.
+-- Offset and length of the active image.
 use Rattle.std.proofs.Common.{◌≡◌, ◌+◌, ◌-◌, ◌*◌, ◌^◌, ◌≤◌, ◌<◌, ⊎_elim, ℕ, List, length, take, drop, slice_range, sym, ◌∙◌, ap, subst, arith}
 use Rattle.std.specs.Int.{w32, from_le_bytes}
 use Rattle.std.proofs.lemmas.Nat.{from_le_bytes-to_le_bytes_4}
@@ -15,7 +15,7 @@ use Rattle.dfu_asks.specs.Mapped.{mapped_medium}
 use Rattle.dfu_asks.specs.declared.image.ImagePlace.{ImagePlace}
 use Rattle.dfu_asks.specs.ActiveImage.{ImageIsAt}
 
--- The length in a well-formed header is the length of its image.
+-- A well-formed header contains the length of its image.
 header_length_is_image_length : (s : Slot) (len : ℕ) → HasHeader s len → len < 2 ^ 32 → header_length s ≡ len
 header_length_is_image_length s len has fits = ⊎_elim
     (λ e. ap (λ (h : List ℕ). from_le_bytes w32 (take 4 (drop 4 h))) e ∙ from_le_bytes-to_le_bytes_4 len fits)
@@ -36,19 +36,18 @@ module _ (grain : Grain) (flash : List ℕ) (p : ℕ) (has : HasImage (mapped_me
   abbrev a : Active m image
   a = has.active
 
-  -- The flash has two slots.
   sized : HasTwoSlots g flash
   sized = sized_medium_has_two_slots m a.sized
 
-  -- The active slot begins at p.
+  -- The active slot begins at offset p.
   place : a.at ≡ p
   place = (test_finds_active_image g flash a.at a.spare image (active_image_at_its_place a)).0 ∙ sym here
 
-  -- The header of the active slot is well formed, with the length of the image.
+  -- The header of the active slot is well formed and contains the length of the image.
   head : HasHeader (slot_of m p) (length image)
   head = subst (λ (q : ℕ). HasHeader (slot_of m q) (length image)) place a.header_is
 
-  -- The data of the active slot is as long as the room for an image.
+  -- The active slot has as many data bytes as the capacity of the medium.
   room : length (slot_of m p).data_bytes ≡ capacity_of m
   room = data_length g flash p (omega (arith, here, active_place_ends_within g flash sized)) (omega (arith, sized.room))
 
@@ -56,11 +55,10 @@ module _ (grain : Grain) (flash : List ℕ) (p : ℕ) (has : HasImage (mapped_me
   fits : length image ≤ capacity_of m
   fits = omega (arith, head.fits, room)
 
-  -- The active slot ends within the flash.
   pub active_slot_ends_within : p + slot_size flash ≤ length flash
   active_slot_ends_within = omega (arith, here, active_place_ends_within g flash sized)
 
-  -- The image follows the gate and the header of its slot, and is as long as the header says.
+  -- The image lies after the gate and the header of its slot, and has the length that the header contains.
   pub image_lies_at_place : (place : ImagePlace) → place.at ≡ p + 2 * g → place.len ≡ header_length (slot_of m p) →
       ImageIsAt grain flash place
   image_lies_at_place at at_is length_is =

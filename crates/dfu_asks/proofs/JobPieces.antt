@@ -8,11 +8,11 @@ use Rattle.dfu_asks.specs.Carried.{total}
 use Rattle.dfu_asks.proofs.Steps.{step_writes_append}
 use Rattle.dfu_asks.proofs.Pieces.{list_totals_add_up}
 
--- Two lists of steps have as many bytes together as the sum of both.
+-- Joining two lists of steps adds up their numbers of bytes.
 pub step_list_totals_add_up : (xs ys : List Step) → total (step_writes (xs ++ ys)) ≡ total (step_writes xs) + total (step_writes ys)
 step_list_totals_add_up xs ys = ap total (step_writes_append xs ys) ∙ list_totals_add_up (step_writes xs) (step_writes ys)
 
--- Without sectors a gate is closed by a program.
+-- On flash without sectors, closing a gate programs bytes and erases nothing.
 pub close_programs_if_no_sectors : (w : Grain) (at : ℕ) → w.sector ≡ 0 → close_step w at ≡ program_step at (gate_unit (gate_size w.unit) 0)
 close_programs_if_no_sectors w at none =
     let e : (w.sector == 0) ≡ true = eq-eqb w.sector 0 none in

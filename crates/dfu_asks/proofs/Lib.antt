@@ -1,9 +1,9 @@
 mod Steps
 mod Bits
-mod Noting
-pub mod Unseen
+mod ImageNotes
+pub mod UnseenState
 pub mod Room
-mod Carrying
+mod SeriesBytes
 mod StoreCallResults
 mod Rows
 pub mod Pieces
@@ -14,17 +14,17 @@ mod OpPieces
 mod SequenceSteps
 mod Cutting
 pub mod Working
-mod Quiet
+mod WritingRows
 mod Sending
-mod Renoted
+mod NotesAfterRow
 mod Ended
 pub mod Inside
-mod Sound
-mod Calling
+mod RowErases
+mod CallResults
 pub mod Refuses
-mod Spared
-mod Partly
-mod Shut
+mod SpareRanges
+mod PartialSeries
+mod SpareGate
 mod FormatParts
 mod FormatInside
 pub mod FormatGoing
@@ -39,4 +39,4 @@ pub mod DueTimes
 mod ImagePlaces
 mod Blanks
 mod Running
-mod Clear
+mod BytesBeforeSector

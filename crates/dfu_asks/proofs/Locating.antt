@@ -1,4 +1,4 @@
--- Search among the erases of a range, sector by sector.
+-- Search for the current position among the erases of a range, sector by sector.
 use Rattle.std.proofs.Common.{◌≡◌, ◌≢◌, inl, inr, ◌==◌, Bool, true, false, if◌then◌else◌, ℕ, ◌+◌, ◌-◌, ◌%◌, ◌≤◌, ◌<◌, List, [], ◌∷◌, ◌++◌, length, take, drop, replicate, refl, sym, ◌∙◌, ap, subst, arith}
 use Rattle.std.proofs.lemmas.Bool.{cases_eq, cond-true, cond-false, ne_eqb, eq-eqb}
 use Rattle.std.proofs.lemmas.List.{append_assoc, append-nil, length-replicate, take-replicate, drop-replicate}
@@ -15,7 +15,7 @@ use Rattle.dfu_asks.specs.Position.{IsPositionInErases, IsPositionInWrite, IsPos
 use Rattle.dfu_asks.proofs.Steps.{erases_before_write, step_writes_append, marking_keeps_writes, marking_joins_over_lists}
 use Rattle.dfu_asks.proofs.Pieces.{list_totals_add_up, first_piece_is_in_joined, later_piece_is_in_joined}
 
--- A search has passed all sectors of the range that begin before `place`, and `rest` of the carried-out bytes lie behind them.
+-- The sectors of the range that begin before `place` are erased; `rest` of the `done` bytes remain after their erases.
 pub record SectorsPassed (sector at n done place rest : ℕ) : Type 0 where
   pub front : List Write
   pub pieces : sector_erases sector at n ≡ front ++ sector_erases sector place (at + n - place)
@@ -25,7 +25,7 @@ pub record SectorsPassed (sector at n done place rest : ℕ) : Type 0 where
   pub high : place ≤ at + n + sector
 
 module _ (sector at n done : ℕ) (large : 1 < sector) where
-  -- A search begins at the place itself, with no sector passed, if a sector begins there.
+  -- If the range begins at a sector edge, the search begins there, with no sector passed.
   search_begins_at_edge : at % sector ≡ 0 → SectorsPassed sector at n done at done
   search_begins_at_edge begins =
       let all : n ≡ at + n - at = omega arith in
@@ -38,7 +38,7 @@ module _ (sector at n done : ℕ) (large : 1 < sector) where
         high = omega arith;
       }
 
-  -- A search begins at the next sector, with no sector passed, if the place lies within a sector.
+  -- If the range begins within a sector, the search begins at the next sector, with no sector passed.
   search_begins_at_next_sector : at % sector ≢ 0 → SectorsPassed sector at n done (at + (sector - at % sector)) done
   search_begins_at_next_sector inner =
       let d = sector - at % sector in
@@ -57,7 +57,7 @@ module _ (sector at n done : ℕ) (large : 1 < sector) where
         high = omega (arith, is);
       }
 
-  -- A search begins with no sector passed, in both cases that the code distinguishes.
+  -- The search begins with no sector passed, whether or not the range begins at a sector edge.
   pub search_begins_at_first_sector : (size behind : ℕ) → size ≡ sector → behind ≡ at % sector → (place : ℕ)
       → (behind ≡ 0 → place ≡ at → SectorsPassed sector at n done place done)
       × (behind ≢ 0 → place ≡ at + (size - behind) → SectorsPassed sector at n done place done)
@@ -77,7 +77,7 @@ module _ (sector at n done : ℕ) (large : 1 < sector) where
           (at + n - place - sector)
       erases_split_at_place = to.pieces ∙ ap (λ (ws : List Write). to.front ++ ws) next_passed_sector
 
-      -- A search passes one more sector if all bytes of that sector are carried out.
+      -- A search passes another sector if all bytes of that sector are erased.
       pub passed_one_sector_more : sector ≤ rest → SectorsPassed sector at n done (place + sector) (rest - sector)
       passed_one_sector_more le =
           let first : List Write = erase_write sector place ∷ [] in
@@ -95,7 +95,7 @@ module _ (sector at n done : ℕ) (large : 1 < sector) where
             high = omega (arith, more);
           }
 
-      -- The next piece within a sector erases the rest of the sector.
+      -- Within a sector, the next piece erases the rest of that sector.
       part : rest < sector
           → IsPieceOfStep (record { erases = true; write = erase_write sector place }) rest (erase_step (place + rest) (sector - rest))
       part lt =
@@ -126,7 +126,7 @@ module _ (sector at n done : ℕ) (large : 1 < sector) where
           (erase_step (place + rest) (sector - rest)) (omega (arith, ap total (marking_keeps_writes true to.front), to.count)) (inl (part
           lt)))
 
-    -- A search whose place is behind the range has passed all erases.
+    -- A search has passed all erases once it has reached the end of the range.
     pub search_passed_all_erases : at + n ≤ place → (total (sector_erases sector at n) + rest ≡ done) × (done ≤ rest + n + sector)
     search_passed_all_erases past =
         let none : at + n - place ≡ 0 = omega (arith, past) in
@@ -134,7 +134,7 @@ module _ (sector at n done : ℕ) (large : 1 < sector) where
         to.pieces ∙ ap (λ (k : ℕ). to.front ++ sector_erases sector place k) none ∙ append-nil to.front in
         (omega (arith, ap total all, to.count), omega (arith, to.count, to.span, to.high))
 
--- The steps of `write_some` for bytes that are not empty are those of `erasing_write`.
+-- For a nonempty list of bytes, `write_some` has the same steps as `erasing_write`.
 some_bytes_written_anew : (sector at : ℕ) (bytes : List ℕ) → length bytes ≢ 0 → write_some_steps sector at bytes
     ≡ write_anew_steps sector at bytes
 some_bytes_written_anew sector at bytes some = cond-false (length bytes == 0) [] (write_anew_steps sector at bytes) (ne_eqb (length bytes)
@@ -143,7 +143,7 @@ some_bytes_written_anew sector at bytes some = cond-false (length bytes == 0) []
 no_bytes_no_steps : (sector at : ℕ) (bytes : List ℕ) → length bytes ≡ 0 → write_some_steps sector at bytes ≡ []
 no_bytes_no_steps sector at bytes none = cond-true (length bytes == 0) [] (write_anew_steps sector at bytes) (eq-eqb (length bytes) 0 none)
 
--- The steps of `write_some` for at least one byte are those of `erasing_write`.
+-- For at least one byte, `write_some` has the same steps as `erasing_write`.
 pub write_some_steps_are_anew : (sector at : ℕ) (bytes : List ℕ) → 0 < length bytes → write_some_steps sector at bytes
     ≡ write_anew_steps sector at bytes
 write_some_steps_are_anew sector at bytes some = some_bytes_written_anew sector at bytes (λ e. omega (arith, some, e))
@@ -166,7 +166,7 @@ module _ (sector at n done rest : ℕ) (count : total (if sector == 0 then [] el
     count,
   )
 
-  -- A position in the plain write, after the erases, is the position in the whole write.
+  -- A position in the program after the erases is the same position in the whole write.
   pub plain_position_is_in_write : (r : Position) → IsPositionInPlainWrite n rest r → IsPositionInWrite sector at n done r
   plain_position_is_in_write (position.Erase place len) none = absurd none
   plain_position_is_in_write (position.Program from) (same, lt) = (
@@ -211,7 +211,7 @@ module _ (sector at n done rest : ℕ) (count : total (if sector == 0 then [] el
     omega (arith, low, sum),
   )
 
--- A position in an erase of a range is the position in the write with its erases.
+-- A position in an erase of the range is the same position in the whole write.
 pub erase_is_in_write : (sector at n done place len : ℕ) → 0 < sector
     → IsPositionInErases sector at n done (position.Erase place len) → IsPositionInWrite sector at n done (position.Erase place len)
 erase_is_in_write sector at n done place len some (piece, least, end, small, most) = (
@@ -234,14 +234,14 @@ erase_is_in_write sector at n done place len some (piece, least, end, small, mos
   most,
 )
 
--- A position among the erases of a range is the position in the write with its erases, unless all erases are passed.
+-- A position among the erases of a range is the same position in the whole write, unless all erases are done.
 pub position_is_in_write : (sector at n done : ℕ) (r : Position) → 0 < sector → IsPositionInErases sector at n done r
     → ((rest : ℕ) → r ≡ position.Behind rest → ⊥) → IsPositionInWrite sector at n done r
 position_is_in_write sector at n done (position.Erase place len) some leads other = erase_is_in_write sector at n done place len some leads
 position_is_in_write sector at n done (position.Program from) some leads other = absurd leads
 position_is_in_write sector at n done (position.Behind rest) some leads other = absurd (other rest refl)
 
--- The bytes left behind all erases of a range are the bytes left behind the erases of a write.
+-- On flash with sectors, as many bytes remain after the erases of a range as after the erases of a write to that range.
 pub rest_behind_erases_is_same : (sector at n done rest : ℕ) → 0 < sector → total (sector_erases sector at n) + rest ≡ done
     → total (if sector == 0 then [] else sector_erases sector at n) + rest ≡ done
 rest_behind_erases_is_same sector at n done rest some count =

@@ -1,4 +1,4 @@
--- Plans for bodies longer than the transfer size: each leads to the stage to which an unknown request leads.
+-- The plan of a DNLOAD whose body is longer than the transfer size leads to the same stage as the plan of an unknown request.
 use Rattle.std.proofs.Common.{◌≡◌, nat_lt, Bool, true, false, not, ℕ, List, [], ◌∷◌, length, refl, arith, if◌then◌else◌}
 use Rattle.std.proofs.lemmas.Bool.{leb-true}
 use Rattle.dfu_wire.specs.declared.codes.Code.TheVariants.{StalledPkt}
@@ -9,7 +9,7 @@ use Rattle.dfu_device.specs.Table.{Sure, plan, error_plan, block_plan}
 use Rattle.dfu_device.specs.Parts.{stage_of}
 use Rattle.dfu_asks.specs.AfterLong.{after_long}
 
--- The plan of an unknown request is a stall that enters the mode `after_long`.
+-- The plan of an unknown request stalls the request and enters the mode `after_long`.
 pub other_request_plan_is_stall : (c : Profile) (image : List ℕ) (m : DeviceState) (spare block : List ℕ)
     → plan c image (stage_of m spare block) OtherRequest ≡ Sure Stall (stage_of (after_long m) spare block)
 other_request_plan_is_stall c image device_state.AppIdle spare block = refl
@@ -26,16 +26,16 @@ other_request_plan_is_stall c image device_state.ManifestWaitReset spare block =
 other_request_plan_is_stall c image (device_state.UploadIdle place number) spare block = refl
 other_request_plan_is_stall c image (device_state.Error code) spare block = refl
 
--- The plan of a block that is too long is a stall that enters dfuERROR with errSTALLEDPKT.
+-- The plan of a DNLOAD block that is too long stalls the request and enters dfuERROR with errSTALLEDPKT.
 long_block_is_stalled : (c : Profile) (before : List ℕ) (expected number : ℕ) (body : List ℕ) → nat_lt c.transfer (length body) ≡ true
     → block_plan c before expected number body ≡ error_plan StalledPkt
 long_block_is_stalled c before expected number body long = rw long refl
 
--- Zero bytes are not too long.
+-- A body of 0 bytes is not too long.
 no_bytes_are_not_long : (n : ℕ) → nat_lt n 0 ≡ true → ⊥
 no_bytes_are_not_long n long = omega (arith, leb-true _ 0 long)
 
--- The plan of a DNLOAD with a body that is too long is a stall that enters the mode `after_long`.
+-- The plan of a DNLOAD whose body is too long stalls the request and enters the mode `after_long`.
 pub long_dnload_stalls : (c : Profile) (image : List ℕ) (m : DeviceState) (spare block : List ℕ) (number : ℕ) (body : List ℕ)
     → nat_lt c.transfer (length body) ≡ true
     → plan c image (stage_of m spare block) (Dnload number body) ≡ Sure Stall (stage_of (after_long m) spare block)

@@ -1,4 +1,4 @@
--- Devices that enter another mode without a write.
+-- A device can enter another mode without a write.
 use Rattle.std.specs.Prelude.{◌≡◌, ℕ, Bool, IsTrue, List, length}
 use Rattle.std.proofs.Common.{refl, sym, ap, ◌∙◌, subst}
 use Rattle.dfu_slots.specs.StoreView.{spare_of}
@@ -7,20 +7,20 @@ use Rattle.dfu_device.specs.Decision.{HasWrittenBytes}
 use Rattle.dfu_device.specs.Parts.{stage_of, is_filled, are_device_parts}
 use Rattle.dfu_device.specs.Setting.{Setting}
 use Rattle.dfu_device.specs.Table.{may_close}
-use Rattle.dfu_device.proofs.Carried.{spare_holds_written}
+use Rattle.dfu_device.proofs.PlanRows.{spare_holds_written}
 use Rattle.dfu_asks.specs.Lent.{LentDevice}
 use Rattle.dfu_asks.specs.Asks.{flash_store, device_in, IsDevice}
 use Rattle.dfu_asks.specs.InMode.{IsDeviceIn}
-use Rattle.dfu_asks.proofs.Calling.{kept_parts_are_device}
+use Rattle.dfu_asks.proofs.CallResults.{kept_parts_are_device}
 
--- A device may enter a mode if its slot store has the bytes that the mode needs.
+-- A device may enter a mode if its slot store holds the bytes that the mode needs.
 pub filled_mode_may_be_entered : (l : LentDevice) (m : DeviceState) (flash : List ℕ) → IsDevice l flash
     → IsTrue (is_filled m (length l.block) (flash_store l flash))
     → IsDevice (record l { mode = m }) flash
 filled_mode_may_be_entered l m flash is filled = kept_parts_are_device l (record l { mode = m }) flash
     (record { config = refl; unit = refl; sector = refl; held = refl; end = refl; noted = refl; work = refl }) is filled
 
--- A test of the mode and of the fewest bytes of an image tells whether the download of a device may be closed.
+-- The mode and the length of the shortest allowed image determine whether the download of a device may be closed.
 pub mode_may_close : (config : Setting) (m : DeviceState) (l : LentDevice) (flash : List ℕ) (least : ℕ) (result : Bool)
     → IsDeviceIn config m l flash → least ≡ config.least → ((spare block : List ℕ) → HasWrittenBytes m spare
     → result ≡ may_close least (stage_of m spare block))

@@ -1,4 +1,4 @@
--- Series of writes of a row: making them makes the calls of the row.
+-- The series of writes of a row has the same effect as the slot store calls of that row.
 use Rattle.std.proofs.Common.{◌≡◌, ◌⊎◌, inl, inr, ⊎_elim, ◌==◌, Bool, true, false, if◌then◌else◌, ℕ, zero, suc, ◌+◌, ◌*◌, ◌≤◌, ◌<◌, List, [], ◌∷◌, ◌++◌, length, take, OnErr, refl, sym, ◌∙◌, ap, subst, arith}
 use Rattle.std.proofs.lemmas.Bool.{cases_eq, ne_eqb, eqb-true, and_parts}
 use Rattle.std.proofs.lemmas.List.{length-take-le}
@@ -10,19 +10,19 @@ use Rattle.dfu_slots.specs.Writes.{put_writes, put_rest}
 use Rattle.dfu_slots.specs.StoreView.{SlotsState, store_of, store_on, data_place, image_of, spare_of, is_begun, room_of, is_shaped, Begin, Put, Commit, writes_of, AllWorked, BrokenBy, CallWorked, CallFailed, CallEnding, Ending, CallsEnd}
 use Rattle.dfu_slots.specs.Store.{IsStore}
 use Rattle.dfu_slots.proofs.Series.{list_has_two_parts, either_part_was_broken, writes_keep_grain}
-use Rattle.dfu_slots.proofs.Stays.{SamePlaces}
+use Rattle.dfu_slots.proofs.UnchangedSlots.{SamePlaces}
 use Rattle.dfu_device.specs.Parts.{is_put}
 use Rattle.dfu_device.proofs.Calls.{one_call_is_series, first_block_ends_as_put, failed_begin_ends_calls, later_block_ends_as_put, room_fits_spare_slot, put_bytes_count_as_put}
 use Rattle.dfu_asks.specs.Series.{block_series, block_store, BlockWritten, BlockBroken, CommitCompleted, CommitBroken}
 use Rattle.dfu_asks.proofs.StoreCallResults.{worked_call, broken_call, ending_of_broken_call, begun, begin_keeps_slot_places, broken_begin_keeps_places, broken_begin_result, worked_put_result, broken_put_result, worked_commit_result, broken_commit_result}
 
--- Calls of the first block.
+-- The slot store calls of the first block: `begin`, which closes the gate, and `put`.
 
 module _ (s : SlotsState) (store : IsStore s) (block : List ℕ) (fits : length block ≤ room_of s) (m : MediumState) where
   abbrev first_block_writes : List Write
   first_block_writes = put_writes s.medium.grain (data_place s 0) [] block
 
-  -- Facts after the writes of `begin` worked.
+  -- Facts that hold if all writes of `begin` succeeded.
   module _ (mid : MediumState) (first : AllWrites s.medium (writes_of s Begin) mid) where
     abbrev b : SlotsState
     b = store_on mid
@@ -114,7 +114,7 @@ module _ (s : SlotsState) (store : IsStore s) (block : List ℕ) (fits : length 
     | inr late ↦ first_put_broken late.0 late.1.first fault late.1.second
   ]
 
--- Calls of a block after the first.
+-- The slot store call of a block after n bytes: `put`, because the store is begun already.
 
 module _ (s : SlotsState) (store : IsStore s) (shape : is_shaped s ≡ true) (n : ℕ) (block : List ℕ) (some : 0 < n) (put : is_put n s ≡ true)
     (fits : n + length block ≤ room_of s) (m : MediumState) where
@@ -168,7 +168,7 @@ module _ (s : SlotsState) (store : IsStore s) (shape : is_shaped s ≡ true) (n 
         room = lp.common.room;
       }
 
--- Calls of a block, the first one or a later one.
+-- The slot store calls of a block, which is the first one if n is 0.
 
 module _ (s : SlotsState) (store : IsStore s) (shape : is_shaped s ≡ true) (n : ℕ) (block : List ℕ)
     (before : (n ≡ 0) ⊎ (is_put n s ≡ true)) (fits : n + length block ≤ room_of s) (m : MediumState) where
@@ -182,7 +182,7 @@ module _ (s : SlotsState) (store : IsStore s) (shape : is_shaped s ≡ true) (n 
       some_or_none zero = inr refl
       some_or_none (suc k) = inl (omega arith)
 
-  -- If all writes of a block are made, the block is written.
+  -- If all writes of a block succeed, the spare slot contains the block, and the active image is unchanged.
   pub made_series_writes_block : AllWrites s.medium (block_series s n block) m → BlockWritten s n block (block_store s n block m)
   made_series_writes_block all = elim (cases_eq n 0) [
     | inl none ↦
@@ -202,7 +202,7 @@ module _ (s : SlotsState) (store : IsStore s) (shape : is_shaped s ≡ true) (n 
         else writes_of s (Put n block)) m) e all))
   ]
 
-  -- A write of a block that had a fault broke the block off.
+  -- If a write of a block has a fault, the fault breaks off the calls of the block, and the active image is unchanged.
   pub fault_breaks_off_block : (fault : WriteFault) → BrokenWrites fault s.medium (block_series s n block) m
       → BlockBroken fault s n block (store_on m)
   fault_breaks_off_block fault all = elim (cases_eq n 0) [
@@ -221,7 +221,7 @@ module _ (s : SlotsState) (store : IsStore s) (shape : is_shaped s ≡ true) (n 
         else writes_of s (Put n block)) m) e all)
   ]
 
--- Calls of a commit.
+-- The slot store call of a commit of all n bytes that were put into the slot.
 
 module _ (s : SlotsState) (store : IsStore s) (shape : is_shaped s ≡ true) (n : ℕ) (put : is_put n s ≡ true) (fits : n ≤ room_of s)
     (m : MediumState) where
@@ -239,7 +239,7 @@ module _ (s : SlotsState) (store : IsStore s) (shape : is_shaped s ≡ true) (n 
   commit_front_is_one_call now ending d =
       subst (λ (k : ℕ). CallsEnd s (Commit k ∷ []) ending now) (sym committed_front_length) (one_call_is_series s now (Commit n) ending d)
 
-  -- If all writes of a commit are made, the commit is complete.
+  -- If all writes of a commit succeed, the first n bytes of the spare slot become the active image.
   pub commit_series_completes : AllWrites s.medium (writes_of s (Commit n)) m → CommitCompleted s n (store_on m)
   commit_series_completes all =
       let l = worked_commit_result s (store_on m) store n commit_has_at_most_puts commit_is_begun (record {
@@ -255,7 +255,7 @@ module _ (s : SlotsState) (store : IsStore s) (shape : is_shaped s ≡ true) (n 
         room = l.common.room;
       }
 
-  -- A write of a commit that had a fault broke the commit off.
+  -- If a write of a commit has a fault, the old image is still active, or the n bytes are the active image.
   pub fault_breaks_off_commit : (fault : WriteFault) → BrokenWrites fault s.medium (writes_of s (Commit n)) m →
       CommitBroken fault s n (store_on m)
   fault_breaks_off_commit fault all =

@@ -5,7 +5,7 @@ use Rattle.std.proofs.lemmas.Slice.{take-put_mid}
 use borrow.Rule.Slice.PartMut.{put_mid, mid_of, post_of}
 use Rattle.std.proofs.Math.Seq.{drop-drop}
 
--- The first n elements of two joined lists are the first n of the first list, followed by as many of the second as are missing from n.
+-- The first n elements of two joined lists are taken from the first list, and the rest from the second if the first is shorter.
 pub take_splits_over_lists : {X : Type 0} (n : ℕ) (xs ys : List X) → take n (xs ++ ys) ≡ take n xs ++ take (n - length (take n xs)) ys
 take_splits_over_lists zero xs ys = refl
 take_splits_over_lists (suc n) [] ys = let e : suc n - 0 ≡ suc n = omega arith in ap (λ k. take k ys) (sym e)
@@ -13,7 +13,7 @@ take_splits_over_lists (suc n) (x ∷ xs) ys =
     let e : suc n - suc (length (take n xs)) ≡ n - length (take n xs) = omega arith in
     ap (λ l. x ∷ l) (take_splits_over_lists n xs ys) ∙ ap (λ k. x ∷ take n xs ++ take k ys) (sym e)
 
--- Two joined lists without their first n elements are the rest of the first list, followed by the rest of the second.
+-- Dropping n elements of two joined lists drops them from the first list, and the rest from the second if the first is shorter.
 pub drop_splits_over_lists : {X : Type 0} (n : ℕ) (xs ys : List X) → drop n (xs ++ ys) ≡ drop n xs ++ drop (n - length xs) ys
 drop_splits_over_lists zero xs ys = let e : 0 - length xs ≡ 0 = omega arith in ap (λ k. xs ++ drop k ys) (sym e)
 drop_splits_over_lists (suc n) [] ys = let e : suc n - 0 ≡ suc n = omega arith in ap (λ k. drop k ys) (sym e)
@@ -21,7 +21,7 @@ drop_splits_over_lists (suc n) (x ∷ xs) ys =
     let e : suc n - suc (length xs) ≡ n - length xs = omega arith in
     drop_splits_over_lists n xs ys ∙ ap (λ k. drop n xs ++ drop k ys) (sym e)
 
--- A range of two lists with zeros after them lies in three runs: one of each list, and one of zeros.
+-- A range of two lists and zeros after them consists of three runs: one of each list, and one of zeros.
 pub range_is_three_runs : (front back : List ℕ) (skip len : ℕ) → skip + len ≤ length front + length back + 256
     → let first = take len (drop skip front) in
     let second = take (len - length first) (drop (skip - length front) back) in
@@ -54,7 +54,8 @@ range_is_three_runs front back skip len within =
     ∙ (λ i. a i ++ take (e i) (drop m zeros))
     ∙ ap (λ l. (first ++ second) ++ l) d)
 
--- A list of bytes equals three runs exactly if its front, its middle and its rest equal them.
+-- If the front and the middle of some bytes equal two runs, all the bytes equal the three joined runs exactly if the rest of the bytes
+-- equals the third run.
 pub bytes_are_three_runs : (b : Bool) (bytes front back : List ℕ) (rest pad : ℕ) → length bytes ≡ length front + length back + rest
     → take (length front) bytes ≡ front → take (length back) (drop (length front) bytes) ≡ back
     → (b ≡ true) ↔ (drop (length front + length back) bytes ≡ replicate rest pad)
@@ -75,7 +76,7 @@ bytes_are_three_runs b bytes front back rest pad size one other iff = (yes, no)
     no : bytes ≡ (front ++ back) ++ replicate rest pad → b ≡ true
     no is = iff.1 (append_cancel_left (front ++ back) _ _ (sym whole ∙ is))
 
--- Copying three runs into a buffer, one after the other, fills its front with them.
+-- After three runs are copied into a buffer one after the other, the front of the buffer contains them.
 pub runs_fill_buffer_front : (out front back rest : List ℕ) (middle end len : ℕ) → middle ≡ length front → end ≡ middle + length back
     → len ≡ end + length rest
     → take len (put_mid end (len - end) (put_mid middle (end - middle) (front ++ post_of 0 middle out) back) rest) ≡ (front ++ back) ++ rest
@@ -94,7 +95,7 @@ runs_fill_buffer_front out front back rest middle end len m e l =
     ∙ ap (λ z. z ++ rest) (take-put_mid middle (end - middle) one back end e large
     ∙ ap (λ z. z ++ back) (take_at front (post_of 0 middle out) middle (sym m)))
 
--- The part of a buffer behind two copied runs, up to `len`, has the length that is left.
+-- After two runs are copied, the next `len - end` bytes of the buffer are left for the third run.
 pub rest_has_left_length : (out front back : List ℕ) (middle end len : ℕ) → middle ≡ length front → end ≡ middle + length back
     → end ≤ len → len ≤ length out
     → length (mid_of end (len - end) (put_mid middle (end - middle) (front ++ post_of 0 middle out) back)) ≡ len - end

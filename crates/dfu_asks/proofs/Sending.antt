@@ -1,4 +1,4 @@
--- Bytes of the active image with which an UPLOAD is answered.
+-- An UPLOAD is answered with the next bytes of the active image.
 use Rattle.std.proofs.Common.{◌≡◌, inl, inr, ◌==◌, not, nat_lt, nat_le, Bool, true, false, IsTrue, if◌then◌else◌, ℕ, ◌+◌, ◌-◌, ◌≤◌, ◌<◌, min, List, [], length, take, drop, refl, sym, ◌∙◌, ap, subst, arith}
 use Rattle.std.proofs.lemmas.Bool.{cases_eq, cases_lt, ltb-true, ltb-false}
 use Rattle.std.proofs.lemmas.List.{drop-take, take-take, take_min, length-take, length-drop}
@@ -26,7 +26,7 @@ use Rattle.dfu_slots.proofs.Newest.{active_place_ends_within}
 use Rattle.dfu_slots.proofs.Parts.{data_length}
 use Rattle.dfu_asks.specs.Due.{SendsWithin}
 
--- The image is the front of the active slot's data.
+-- The image is at the front of the active slot's data.
 pub image_is_active_data_front : (s : SlotsState) (at len : ℕ) → at ≡ active_at (gate_of s.medium) s.medium.bytes
     → len ≡ header_length (slot_of s.medium at) → image_of s ≡ take len (slot_of s.medium at).data_bytes
 unfolding image_of
@@ -34,7 +34,7 @@ image_is_active_data_front s at len here is =
     (λ i. take (header_length (slot_of s.medium (sym here i))) (slot_of s.medium (sym here i)).data_bytes)
     ∙ ap (λ (n : ℕ). take n (slot_of s.medium at).data_bytes) (sym is)
 
--- The next `count` bytes of a prefix of a list equal those of the list, if they lie within the prefix.
+-- The next `count` bytes of a prefix are those of the whole list, if they lie within the prefix.
 pub prefix_bytes_are_list_bytes : (bytes : List ℕ) (place len count : ℕ) → count ≤ len - place
     → take count (drop place (take len bytes)) ≡ take count (drop place bytes)
 prefix_bytes_are_list_bytes bytes place len count fits = elim (cases_eq count 0) [
@@ -47,24 +47,24 @@ prefix_bytes_are_list_bytes bytes place len count fits = elim (cases_eq count 0)
       ∙ take-take count (len - place) (drop place bytes) fits
 ]
 
--- The next `count` bytes of an image are its next `size` bytes, if `count` is `size` or the number of bytes left, whichever is less.
+-- If `count` is the smaller of `size` and the number of bytes left, the next `count` bytes are the next `size` bytes of the image.
 pub counted_bytes_are_image_bytes : (image : List ℕ) (place size count : ℕ) → count ≡ min size (length image - place)
     → take count (drop place image) ≡ take size (drop place image)
 counted_bytes_are_image_bytes image place size count is =
     ap (λ (k : ℕ). take k (drop place image)) (is ∙ ap (λ (k : ℕ). min size k) (sym (length-drop place image)))
     ∙ take_min size (drop place image)
 
--- The number of the bytes of an image from a place on, at most `size`, is the length of these bytes.
+-- The smaller of `size` and the number of bytes left is the number of bytes that are sent.
 pub count_is_sent_length : (image : List ℕ) (place size count : ℕ) → count ≡ min size (length image - place)
     → count ≡ length (take size (drop place image))
 count_is_sent_length image place size count is = omega (arith, is, length-drop place image, length-take size (drop place image))
 
--- Mode of a device after an upload: dfuIDLE after a short block, and dfuUPLOAD-IDLE after a full one.
+-- After an upload, the mode is dfuIDLE if the block was short, and dfuUPLOAD-IDLE if it was full.
 pub record IsModeAfterUpload (count size place number : ℕ) (m : DeviceState) : Type 0 where
   pub last : count < size → m ≡ device_state.DfuIdle
   pub more : size ≤ count → m ≡ device_state.UploadIdle (place + size) number
 
--- Sending a part of the image and entering the mode after it is the row of an upload.
+-- The row of an UPLOAD sends a part of the image, and enters the mode that follows the upload of this part.
 pub sent_bytes_are_upload_row : (w : DeviceView) (len : ℕ) (part block : List ℕ) (size place number : ℕ) (m : DeviceState) (count : ℕ) →
     count ≡ length part
     → IsModeAfterUpload count size place number m
@@ -86,7 +86,6 @@ sent_bytes_are_upload_row w len part block size place number m count is after = 
           (after.more (omega (arith, is, ltb-false _ _ more))),
     )
 
--- The plan sends at most as many bytes as the transfer size.
 abbrev pub SendsAtMostBlock : ℕ → Plan → Type 0
 SendsAtMostBlock n (Sure (Data bytes) stage) = length bytes ≤ n
 SendsAtMostBlock n p = Unit {0}
@@ -113,7 +112,7 @@ upload_plan_sends_at_most c image place expected number size =
         holds_in_both_branches (SendsAtMostBlock c.transfer) (not (number == expected)) _ _ tt
         (holds_in_both_branches (SendsAtMostBlock c.transfer) (nat_lt (length part) size) _ _ fits fits)
 
--- The plan of a block sends at most as many bytes as the transfer size, because it sends none.
+-- The plan of a block sends no bytes, so at most as many as the transfer size.
 block_plan_sends_at_most : (c : Profile) (before : List ℕ) (expected number : ℕ) (body : List ℕ)
     → SendsAtMostBlock c.transfer (block_plan c before expected number body)
 block_plan_sends_at_most c before expected number body =
@@ -121,7 +120,7 @@ block_plan_sends_at_most c before expected number body =
     (holds_in_both_branches (SendsAtMostBlock c.transfer) (not (number == expected)) _ _ tt
     (holds_in_both_branches (SendsAtMostBlock c.transfer) (nat_lt c.capacity (length before + length body)) _ _ tt tt))
 
--- The plan of each request sends at most as many bytes as the transfer size.
+-- The plan of every request sends at most as many bytes as the transfer size.
 plan_sends_at_most_block : (c : Profile) (image : List ℕ) (st : Stage) (r : Request) → SendsAtMostBlock c.transfer (plan c image st r)
 plan_sends_at_most_block c image InDfuIdle (Dnload number body) =
     holds_in_both_branches (SendsAtMostBlock c.transfer) (not c.can_download) _ _ tt
@@ -142,7 +141,8 @@ plan_sends_at_most_block c image (InUploadIdle place number) (Upload k size) = u
 plan_sends_at_most_block c image st GetState = tt
 plan_sends_at_most_block c image st r = tt
 
--- A decision sends at most as many bytes as fit in the room, if its plan sends at most a block and a block fits.
+-- If a buffer has room for the transfer size, and a plan sends at most as many bytes, its decision sends no more bytes than the buffer
+-- holds.
 decision_sends_within : (c : Profile) (image spare block body : List ℕ) (d : Decision) (room : ℕ) → c.transfer ≤ room
     → SendsAtMostBlock c.transfer (plan_of c image spare block body d) → SendsWithin d image room
 decision_sends_within c image spare block body (decision.Sends place size number) room fits small =
@@ -154,7 +154,7 @@ decision_sends_within c image spare block body (decision.Sends place size number
     by_test false le = omega (arith, le, fits)
 decision_sends_within c image spare block body d room fits small = tt
 
--- The decision on a setup sends at most as many bytes as the buffer has room for, if that has room for the transfer size.
+-- The decision on a setup sends no more bytes than fit in a buffer that has room for the transfer size.
 pub setup_decision_sends_within : (w : DeviceView) (spare block body : List ℕ) (d : Decision) (p : Setup) (q : Asked) (room : ℕ)
     → plan_of (profile w) (image_of w.slots) spare block body d ≡ setup_plan w p q body → (profile w).transfer ≤ room
     → SendsWithin d (image_of w.slots) room
@@ -169,7 +169,7 @@ pub time_decision_sends_nothing : (d : Decision) (image : List ℕ) (room : ℕ)
 time_decision_sends_nothing (decision.Sends place size number) image room silent = absurd silent
 time_decision_sends_nothing d image room silent = tt
 
--- The mode after an upload needs no bytes of the store.
+-- The mode after an upload needs no bytes in the store.
 pub mode_after_upload_needs_no_bytes : (count size place number : ℕ) (m : DeviceState) (block : ℕ) (s : SlotsState)
     → IsModeAfterUpload count size place number m
     → IsTrue (is_filled m block s)

@@ -1,4 +1,4 @@
--- Operations of each sequence, and their steps.
+-- The operations of each sequence have the steps of the writes that they make.
 use Rattle.std.proofs.Common.{◌≡◌, ◌≢◌, ◌⊎◌, inl, inr, ◌==◌, Bool, true, false, if◌then◌else◌, ℕ, ◌+◌, ◌-◌, ◌*◌, ◌/◌, ◌≤◌, min, List, [], ◌∷◌, ◌++◌, length, take, drop, replicate, sym, ◌∙◌, ap, arith, length-append}
 use Rattle.std.proofs.lemmas.Bool.{cases_eq, cond-true, cond-false, ne_eqb, eq-eqb}
 use Rattle.std.proofs.lemmas.List.{append-nil}
@@ -15,7 +15,7 @@ use Rattle.dfu_slots.specs.Operations.{operations}
 use Rattle.dfu_slots.proofs.Sectors.{gate_unit_at_least_16, gate_unit_at_most_256}
 use Rattle.dfu_slots.proofs.Parts.{gate_unit_has_size, header_unit_has_size}
 use Rattle.dfu_slots.proofs.Multiples.{filled_length_sums}
-use Rattle.dfu_slots.proofs.Put.{head_at_most_whole_units}
+use Rattle.dfu_slots.proofs.PutWrites.{head_at_most_whole_units}
 use Rattle.dfu_slots.proofs.Sequences.{range_is_closed_gate_unit, range_is_gate_unit, range_is_header_unit, range_is_filled_held_bytes, range_is_head_write, range_is_further_units, range_is_image_piece}
 use Rattle.dfu_asks.specs.declared.pending_writes.WriteInputs.{WriteInputs}
 use Rattle.dfu_asks.specs.Steps.{Step, write_anew_steps, write_some_steps, put_steps, open_steps, close_step}
@@ -36,7 +36,7 @@ module _ (s : WriteInputs) (front : List ℕ) where
   abbrev g : ℕ
   g = gate_size w.unit
 
-  -- The operations that close a gate have the one step that closes it.
+  -- The operations of `Close` consist of the single step that closes the gate.
   pub close_ops_are_step : (slot : ℕ) → ops_steps s front (operations w (Close slot)) ≡ close_step w slot ∷ []
   close_ops_are_step slot = by_sector (cases_eq w.sector 0)
     where
@@ -62,7 +62,7 @@ module _ (s : WriteInputs) (front : List ℕ) where
             write = record { at = slot; bytes = if e i then gate_unit g 0 else replicate w.sector 255 };
           }))
 
-  -- The operations of a put have the steps of a `put`.
+  -- The operations of the sequence `Put` have the steps that `put_steps` lists.
   pub put_ops_are_steps : (slot end : ℕ) → let h = s.held.now in let b = s.block.now in
       ops_steps s front (operations w (Put slot end (length h) (length b))) ≡ put_steps w (held_bytes_place w slot end h) h b
   put_ops_are_steps slot end =
@@ -79,7 +79,7 @@ module _ (s : WriteInputs) (front : List ℕ) where
       ++ (write_some_steps w.sector (at + first i) (range_is_further_units w h b mine left first back i) ++ []))
       ∙ ap (λ (ss : List Step). write_some_steps w.sector at (take (head_write_size w.unit h b) (h ++ b)) ++ ss) (append-nil _)
 
-  -- The operation that writes a header has the steps of the header.
+  -- The operation that writes a header has the steps of that header.
   header_op_has_header_steps : (slot gen len crc : ℕ) → front ≡ header 2 gen len crc
       → write_some_steps w.sector (slot + gate_room w) (range_of_source Header s front 0 g)
       ≡ write_anew_steps w.sector (slot + gate_room w) (header_unit g gen len crc)
@@ -89,7 +89,7 @@ module _ (s : WriteInputs) (front : List ℕ) where
       ∙ write_some_steps_are_anew w.sector (slot + gate_room w) (header_unit g gen len crc)
       (omega (arith, header_unit_has_size g gen len crc (gate_unit_at_least_16 w.unit), gate_unit_at_least_16 w.unit))
 
-  -- The operation that opens a gate has the steps of the gate.
+  -- The operation that opens a gate has the steps of that gate.
   gate_op_has_gate_steps : (slot : ℕ) → write_some_steps w.sector slot (range_of_source Opened s front 0 g)
       ≡ write_anew_steps w.sector slot (gate_unit g OPEN)
   gate_op_has_gate_steps slot =
@@ -109,12 +109,12 @@ module _ (s : WriteInputs) (front : List ℕ) where
       λ i. write_some_steps w.sector (held_bytes_place w slot end s.held.now) (range_is_filled_held_bytes w.unit s.held.now few i)
       ++ (header_op_has_header_steps slot gen end crc is i ++ append-nil (gate_op_has_gate_steps slot i) i)
 
-  -- Operation number 1 of a commit of no bytes has the steps of the header of a format.
+  -- Operation number 1 of a commit of 0 bytes has the steps with which a format writes the first slot's header.
   pub format_op_1_has_header_steps : (len crc : ℕ) → front ≡ header 2 0 len crc → op_steps_at s front (operations w (Commit 0 0 0)) 1
       ≡ write_anew_steps w.sector (0 + gate_room w) (header_unit g 0 len crc)
   format_op_1_has_header_steps len crc is = header_op_has_header_steps 0 0 len crc is
 
-  -- Operation number 2 of a commit of no bytes has the steps of the gate of a format.
+  -- Operation number 2 of a commit of 0 bytes has the steps with which a format opens the first slot's gate.
   pub format_op_2_has_gate_steps : op_steps_at s front (operations w (Commit 0 0 0)) 2 ≡ write_anew_steps w.sector 0 (gate_unit g OPEN)
   format_op_2_has_gate_steps = gate_op_has_gate_steps 0
 
@@ -134,12 +134,12 @@ module _ (s : WriteInputs) (front : List ℕ) where
       ∙ ap (λ (l : List ℕ). write_some_steps w.sector (2 * gate_room w + from) l)
       (range_is_image_piece w.unit image from skip n (ap (λ (k : ℕ). min from k) long) (ap (λ (k : ℕ). min (k - skip) 4096) long))
 
-  -- At most 255 zeros fill a unit.
+  -- A unit is filled with at most 255 zeros.
   fill_at_most_255 : (u : WriteUnit) (n : ℕ) → fill_size u n ≤ 255
   fill_at_most_255 Byte n = omega arith
   fill_at_most_255 _ n = omega arith
 
-  -- The operations of a put have few bytes, if at most 256 bytes are held back and the block has at most 4096.
+  -- The operations of a put satisfy `OpsHaveFewBytes` if at most 256 bytes are held back and the block has at most 4096.
   pub put_ops_have_few_bytes : (slot end : ℕ) → length s.held.now ≤ 256 → length s.block.now ≤ 4096
       → OpsHaveFewBytes s front (operations w (Put slot end (length s.held.now) (length s.block.now)))
   put_ops_have_few_bytes slot end few most =
@@ -157,13 +157,13 @@ module _ (s : WriteInputs) (front : List ℕ) where
       by_test true = omega arith
       by_test false = omega arith
 
-  -- The operations that write a part of an image have few bytes.
+  -- The operations that write a part of an image satisfy `OpsHaveFewBytes`.
   pub image_ops_have_few_bytes : (from : ℕ) → OpsHaveFewBytes s front (operations w (Image from (length s.block.now)))
   image_ops_have_few_bytes from =
       let most = fill_at_most_255 w.unit (length s.block.now) in
       ((omega arith, omega (arith, most, length-append s.held.now s.block.now)), tt)
 
--- The steps of the current part of a format are those of its phase, computed from the inputs of its writes.
+-- The steps of a format's current part follow from its phase and the inputs of its writes.
 pub part_in : (f : Formatting) (size : ℕ) (s : WriteInputs) → s.unit ≡ f.unit → s.sector ≡ f.sector → (x : FormatStep) → f.phase ≡ x
     → part_steps (input_grain s) (size / 2) s.block.now f.register x ≡ steps_of_part f size s.block.now
 part_in f size s unit sector x is = λ i. part_steps (grain_of (unit i) (sector i)) (size / 2) s.block.now f.register (sym is i)

@@ -1,4 +1,4 @@
--- Verdicts on a setup before its body arrives: they hold for every body and every outcome of the setup.
+-- A verdict on a setup is given before its body arrives, and holds for every body and every outcome.
 use Rattle.std.proofs.Common.{◌≡◌, ◌↔◌, ◌-◌, ◌*◌, ◌/◌, ◌==◌, Bool, true, false, IsTrue, Some, ℕ, List, length, refl, sym, ap, ◌∙◌, subst}
 use Rattle.std.proofs.lemmas.Bool.{eq-eqb, true≢false}
 use Rattle.dfu_wire.specs.declared.setups.Setup.{Setup}
@@ -18,8 +18,8 @@ use Rattle.dfu_device.specs.Setting.{Setting}
 use Rattle.dfu_device.specs.DeviceView.{DeviceView, profile, profile_of}
 use Rattle.dfu_device.specs.Parts.{stage_of, are_device_parts}
 use Rattle.dfu_device.specs.Rows.{Done, handled_by_reading, request_for_table, asked_length, body_length, setup_plan}
-use Rattle.dfu_device.proofs.Before.{body_length_fits_request}
-use Rattle.dfu_device.proofs.Carried.{spare_holds_written}
+use Rattle.dfu_device.proofs.BodyLengths.{body_length_fits_request}
+use Rattle.dfu_device.proofs.PlanRows.{spare_holds_written}
 use Rattle.dfu_asks.specs.Lent.{LentDevice}
 use Rattle.dfu_asks.specs.Asks.{grain_in, flash_store, device_in}
 use Rattle.dfu_asks.specs.InMode.{IsDeviceIn}
@@ -27,7 +27,7 @@ use Rattle.dfu_asks.specs.Verdict.{stall_verdict, IsStallVerdict}
 use Rattle.dfu_asks.proofs.StallPlans.{stalling_plan_stalls, other_plan_does_not_stall}
 use Rattle.dfu_asks.proofs.LongPlans.{other_request_plan_is_stall}
 
--- The verdict on the plan of a setup with a fitting body is the verdict on the plan of its request.
+-- For a body of the right length, the verdict on a setup's plan is the verdict on its request's plan.
 pub setup_verdict_is_request_verdict : (d : DeviceView) (m : DeviceState) (spare unwritten : List ℕ) (p : Setup) (q : Asked) (body : List ℕ)
     → d.stage ≡ stage_of m spare unwritten
     → (length body == body_length p) ≡ true
@@ -44,10 +44,10 @@ setup_verdict_is_request_verdict d m spare unwritten p asked.NotDfu body stage_i
     sym (ap (λ s. stall_verdict (plan (profile d) (image_of d.slots) s OtherRequest)) stage_is
     ∙ ap stall_verdict (other_request_plan_is_stall (profile d) (image_of d.slots) m spare unwritten))
 
--- Verdicts on the request of a setup are verdicts on the setup.
+-- A verdict on the request of a setup is a verdict on the setup.
 module _ (setup : List ℕ) (p : Setup) (q : Asked) (b : Bool) (the_setup : (x : Setup) → IsSetup x setup → p ≡ x)
     (the_request : (x : Asked) → SetupAsksFor p x → q ≡ x) where
-  -- A verdict on a plan is true exactly if the answer of the plan, once it is carried out, is a stall.
+  -- A verdict on a plan is true exactly if the executed plan answers with a stall.
   stall_verdict_holds_of_answer : (d : DeviceView) (w : Plan) (len : ℕ) (x : Answer) (sent : List ℕ) (d' : DeviceView) →
       Done w len d x sent d' → (e : Bool)
       → b ≡ e → Some b ≡ stall_verdict w → IsTrue b ↔ (x ≡ answer.Stall)
@@ -60,7 +60,7 @@ module _ (setup : List ℕ) (p : Setup) (q : Asked) (b : Bool) (the_setup : (x :
     λ stall. absurd (other_plan_does_not_stall len d x sent d' w done (sym is ∙ ap Some e) stall),
   )
 
-  -- A verdict on the plan of a setup with each fitting body is a verdict on the setup.
+  -- A verdict on the plans of a setup with every body of the right length is a verdict on the setup.
   pub plan_verdict_is_setup_verdict : (d : DeviceView)
       → ((body : List ℕ) → length body ≡ body_length p → SetupAsksFor p q → Some b ≡ stall_verdict (setup_plan d p q body))
       → IsStallVerdict b setup d
@@ -74,18 +74,19 @@ module _ (setup : List ℕ) (p : Setup) (q : Asked) (b : Bool) (the_setup : (x :
       (subst (λ k. Done (setup_plan d k z body) (asked_length z) d x sent d') (sym p_is) done)) b refl
       (said body fits (subst (λ k. SetupAsksFor p k) (sym q_is) asks_p))
 
--- The room of a store on this flash is half the flash without a gate and a header.
+-- The room of a store on this flash is half the flash, less a gate and a header.
 room_in : (a : LentDevice) (flash : List ℕ) → room_of (flash_store a flash) ≡ length flash / 2 - 2 * gate_room (grain_in a)
 unfolding room_of
 room_in a flash = refl
 
--- A verdict for a profile and a mode holds of every device with that setting, in that mode, on flash of that size.
+-- A verdict for a profile and a mode holds for every device with that setting, in that mode, on flash of that size.
 module _ (config : Setting) (grain : Grain) (size : ℕ) (c : Profile) (profile_is : c ≡ profile_of config (size / 2 - 2 * gate_room grain))
     (setup : List ℕ) (p : Setup) (q : Asked) (m : DeviceState) (b : Bool) (the_setup : (x : Setup) → IsSetup x setup → p ≡ x)
     (the_request : (x : Asked) → SetupAsksFor p x → q ≡ x)
     (said : (image spare unwritten body : List ℕ) → HasWrittenBytes m spare → HasBodyLength q body
     → Some b ≡ stall_verdict (plan c image (stage_of m spare unwritten) (request_for_table q body))) where
-  -- A verdict for each plan of a request is a verdict on the setup, for each device with that setting, in that mode, on flash of that size.
+  -- A verdict for each plan of a request is a verdict on the setup, for every device with that setting, in that mode, on flash of that
+  -- size.
   pub stall_verdict_in_mode : (a : LentDevice) (flash : List ℕ) → IsDeviceIn config m a flash → grain_in a ≡ grain → length flash ≡ size
       → IsStallVerdict b setup (device_in a flash)
   stall_verdict_in_mode a flash in_mode grain_is size_is =

@@ -1,4 +1,4 @@
--- Results of a row after its writes.
+-- Result of a row after its writes succeeded or had a fault.
 use Rattle.std.proofs.Common.{◌≡◌, ◌⊎◌, inl, inr, ◌==◌, ◌&&◌, ◌||◌, not, nat_lt, nat_le, Bool, true, false, IsTrue, if◌then◌else◌, ℕ, ◌+◌, ◌-◌, ◌^◌, ◌≤◌, ◌<◌, List, [], ◌++◌, length, take, Option, refl, sym, ◌∙◌, ap, subst, arith}
 use Rattle.std.proofs.lemmas.Grind.{common_steps}
 use Rattle.std.proofs.lemmas.Bool.{cases_eq, ne_eqb, and_parts, eqb-true, false≢true}
@@ -11,7 +11,7 @@ use Rattle.dfu_slots.specs.Image.{gate_of, spare_at, active_at}
 use Rattle.dfu_slots.specs.Writes.{put_writes, put_rest, held_writes, open_writes}
 use Rattle.dfu_slots.specs.StoreView.{SlotsState, store_of, store_on, data_place, spare_slot, active_slot, spare_of, is_begun, room_of, is_shaped, Begin, Put, Commit, writes_of}
 use Rattle.dfu_slots.specs.Store.{IsStore}
-use Rattle.dfu_slots.proofs.Seeing.{store_has_shape, room_is_capacity}
+use Rattle.dfu_slots.proofs.VisibleStores.{store_has_shape, room_is_capacity}
 use Rattle.dfu_device.specs.declared.answer.Answer.{Answer}
 use Rattle.dfu_device.specs.declared.answer.Answer.TheVariants as answer
 use Rattle.dfu_device.specs.declared.device_state.DeviceState.{DeviceState}
@@ -31,7 +31,8 @@ use Rattle.dfu_asks.specs.Asks.{IsBlockJob, IsCommitJob, IsDueJobOfMode, capped_
 use Rattle.dfu_asks.proofs.Rows.{made_series_writes_block, fault_breaks_off_block, commit_series_completes, fault_breaks_off_commit}
 use Rattle.dfu_device.specs.Decision.{HasTimeInputs}
 
--- A block of b bytes may be written after n bytes: it is not empty, and fits in the room after the bytes that were put.
+-- A block of b bytes may be written after n bytes: it isn't empty, the n bytes and the block fit in the room, and n is 0 or exactly n bytes
+-- were put into the slot.
 pub record NextBlockFits (s : SlotsState) (n b : ℕ) : Type 0 where
   pub shape : is_shaped s ≡ true
   pub some : 0 < b
@@ -42,7 +43,7 @@ first_or_put_before : (n : ℕ) (p : Bool) → ((n == 0) || p) ≡ true → (n �
 first_or_put_before n true e = inr refl
 first_or_put_before n false e = inl (eqb-true _ _ (grind (arith, common_steps, e)))
 
--- The unwritten block of a device may be written after the written bytes.
+-- If a device with n written bytes and an unwritten block of b bytes is valid, the block may be written after these n bytes.
 pub unwritten_block_may_be_written : (n b : ℕ) (s : SlotsState) → IsTrue
     (is_shaped s && (nat_lt 0 b && (nat_le (n + b) (room_of s) && ((n == 0) || is_put n s))))
     → NextBlockFits s n b
@@ -53,19 +54,19 @@ unwritten_block_may_be_written n b s sound = record {
   before = first_or_put_before n (is_put n s) (grind (arith, common_steps));
 }
 
--- A commit of n bytes commits all bytes that were put, and they fit in the room.
+-- Exactly n bytes were put into the slot, and they fit in the room, so a commit of n bytes commits all of them.
 pub record IsAll (s : SlotsState) (n : ℕ) : Type 0 where
   pub shape : is_shaped s ≡ true
   pub room : n ≤ room_of s
   pub put : is_put n s ≡ true
 
--- The due commit of a device commits all bytes that were put.
+-- If a device with a due commit of n bytes is valid, these n bytes are all bytes that were put into the slot.
 pub due_commit_commits_all_puts : (n : ℕ) (s : SlotsState) → IsTrue (is_shaped s && (nat_lt 0 n && (nat_le n (room_of s) && is_put n s)))
     → IsAll s n
 due_commit_commits_all_puts n s sound =
     record { shape = grind (arith, common_steps); room = grind (arith, common_steps); put = grind (arith, common_steps) }
 
--- The gate of the spare slot is open exactly if the store was not begun.
+-- The gate of the spare slot is open exactly if the store is not begun.
 not_begun_is_open_gate : (s : SlotsState) → not (is_begun s) ≡ ((spare_slot s).gate == OPEN)
 unfolding is_begun
 not_begun_is_open_gate s = not_not ((spare_slot s).gate == OPEN)
@@ -74,7 +75,7 @@ not_begun_is_open_gate s = not_not ((spare_slot s).gate == OPEN)
     not_not true = refl
     not_not false = refl
 
--- The writes of the job of a block are the series of the block.
+-- The writes of a block job are those that `block_series` lists.
 pub block_job_is_series : (s : SlotsState) (n : ℕ) (j : SlotWrite) (u : Grain) (end : ℕ) (held block : List ℕ) → s.medium.grain ≡ u
     → IsBlockJob n s j end held → job_writes j u end held block ≡ block_series s n block
 block_job_is_series s n j u end held block unit is =
@@ -106,7 +107,7 @@ block_job_is_series s n j u end held block unit is =
     further : (n == 0) ≡ false → close_writes_by_tests (n == 0) (not (is_begun s)) ≡ chosen (n == 0)
     further e = (λ i. close_writes_by_tests (e i) (not (is_begun s))) ∙ (λ i. chosen (sym e i))
 
--- The writes of the job of a commit are those of the commit.
+-- The writes of a commit job are those of the slot store's `Commit`.
 pub commit_job_is_series : (s : SlotsState) (n : ℕ) (j : SlotWrite) (u : Grain) (end : ℕ) (held block : List ℕ) → s.medium.grain ≡ u
     → is_put n s ≡ true → IsCommitJob n s j end held → job_writes j u end held block ≡ writes_of s (Commit n)
 commit_job_is_series s n j u end held block unit put is =
@@ -116,26 +117,26 @@ commit_job_is_series s n j u end held block unit put is =
     ++ open_writes s.medium.grain (spare_at (gate_of s.medium) s.medium.bytes) (next_generation (generation (active_slot s))) n
     (register (take n (spare_of s))))
 
--- Bytes that are held back after a row in this mode: those of its block that fill no whole unit, or none after a commit.
+-- Bytes held back after a row in this mode: the last ones, which don't fill a unit, or none after a commit.
 abbrev pub held_after_row : Grain → DeviceState → List ℕ → List ℕ → List ℕ
 held_after_row w m held b = if is_block m then put_rest w.unit held b else []
 
--- Place at which the puts end after a row in this mode: after its block, or at 0 after a commit.
+-- Number of bytes put into the spare slot after a row in this mode, including the row's block; 0 after a commit.
 abbrev pub put_end_after_row : DeviceState → ℕ → List ℕ → ℕ
 put_end_after_row m end b = if is_block m then capped_sum end (length b) else 0
 
--- End of a row: `Comes` and `Stays` hold, the store is a slot store, and the mode, the block and the store are parts of a device.
+-- A row has ended: its result `Comes` and the invariant `Stays` hold, and the store is valid and has the bytes that the mode needs.
 pub record RowEnds (c : Setting) (s : SlotsState) (m : DeviceState) (b : List ℕ) (Stays Comes : Type 0) : Type 0 where
   pub comes : Comes
   pub store : IsStore s
   pub sound : IsTrue (are_device_parts m (length b) s)
   pub stays : Stays
 
--- A row in this mode leaves the active slot at its place, unless it commits.
+-- The row of this mode leaves the active slot at its offset, unless it commits.
 abbrev pub Stays : DeviceState → SlotsState → SlotsState → Type 0
 Stays m s now = is_block m ≡ true → active_at (gate_of now.medium) now.medium.bytes ≡ active_at (gate_of s.medium) s.medium.bytes
 
--- A mode that needs no bytes and any slot store are parts of a device.
+-- Every valid slot store satisfies the check of a mode that needs no bytes.
 pub idle_store_is_sound : (s : SlotsState) → IsStore s → IsTrue (is_shaped s && true)
 idle_store_is_sound s store = both (is_shaped s) (store_has_shape store)
   where
@@ -150,14 +151,14 @@ module _ (c : Setting) (w : Grain) (b held : List ℕ) (end : ℕ) (j : SlotWrit
   length_in_room_is_small : (n : ℕ) → n ≤ room_of s → n ≤ 2 ^ 24
   length_in_room_is_small n le = omega (arith, le, room_is_capacity s, store.has_image.active.sized.bound)
 
-  -- Store on the medium after the row, with no bytes put.
+  -- Slot store on the medium after the row, with no bytes put or held back.
   abbrev store_without_puts : SlotsState
   store_without_puts = store_on now
 
   abbrev left : SlotsState
   left = store_of now (put_rest w.unit held b) (capped_sum end (length b))
 
-  -- The job of a block whose writes all worked has written the block.
+  -- If all writes of a block job succeeded, `BlockWritten` holds, and n bytes and the block are put into the spare slot.
   worked_job_writes_block : (n : ℕ) → NextBlockFits s n (length b) → IsBlockJob n s j end held
       → AllWrites s.medium (job_writes j w end held b) now
       → (capped_sum end (length b) ≡ n + length b) × BlockWritten s n b left
@@ -171,28 +172,28 @@ module _ (c : Setting) (w : Grain) (b held : List ℕ) (end : ℕ) (j : SlotWrit
             (subst (λ (ws : List Write). AllWrites s.medium ws now) (block_job_is_series s n j w end held b unit_is job) all)),
       )
 
-  -- The job of a block with a fault in a write has broken the block off.
+  -- If a write of a block job had a fault, `BlockBroken` holds.
   broken_job_breaks_block : (fault : WriteFault) (n : ℕ) → NextBlockFits s n (length b) → IsBlockJob n s j end held
       → BrokenWrites fault s.medium (job_writes j w end held b) now → BlockBroken fault s n b store_without_puts
   broken_job_breaks_block fault n next job all =
       fault_breaks_off_block s store shape n b next.before next.room now fault
       (subst (λ (ws : List Write). BrokenWrites fault s.medium ws now) (block_job_is_series s n j w end held b unit_is job) all)
 
-  -- The job of a commit whose writes all worked has completed the commit.
+  -- If all writes of a commit job succeeded, `CommitCompleted` holds.
   worked_job_completes_commit : (n : ℕ) → IsAll s n → IsCommitJob n s j end held
       → AllWrites s.medium (job_writes j w end held b) now → CommitCompleted s n store_without_puts
   worked_job_completes_commit n whole job all =
       commit_series_completes s store shape n whole.put whole.room now
       (subst (λ (ws : List Write). AllWrites s.medium ws now) (commit_job_is_series s n j w end held b unit_is whole.put job) all)
 
-  -- The job of a commit with a fault in a write has broken the commit off.
+  -- If a write of a commit job had a fault, `CommitBroken` holds.
   broken_job_breaks_commit : (fault : WriteFault) (n : ℕ) → IsAll s n → IsCommitJob n s j end held
       → BrokenWrites fault s.medium (job_writes j w end held b) now → CommitBroken fault s n store_without_puts
   broken_job_breaks_commit fault n whole job all =
       fault_breaks_off_commit s store shape n whole.put whole.room now fault
       (subst (λ (ws : List Write). BrokenWrites fault s.medium ws now) (commit_job_is_series s n j w end held b unit_is whole.put job) all)
 
-  -- The row of a written block ends in dfuDNLOAD-SYNC or dfuDNLOAD-IDLE, with the block among the written bytes.
+  -- The row of a written block ends in dfuDNLOAD-SYNC or dfuDNLOAD-IDLE, with the block added to the written bytes.
   block_ends_in_mode : (d to : DeviceState) (n number : ℕ) (stage : List ℕ → Stage) (Says : Type 0)
       → (to ≡ device_state.DownloadSyncWritten (capped_sum n (length b)) number)
       ⊎ (to ≡ device_state.DownloadIdle (capped_sum n (length b)) number)
@@ -222,7 +223,6 @@ module _ (c : Setting) (w : Grain) (b held : List ℕ) (end : ℕ) (j : SlotWrit
         stays = λ e. got.1.place;
       }
 
-  -- The row of a complete commit ends in the mode `to`.
   commit_ends_in_mode : (d to : DeviceState) (n : ℕ) (stage : Stage) (Says : Type 0) → is_block d ≡ false
       → stage_of to (spare_of store_without_puts) b ≡ stage
       → (IsStore store_without_puts → IsTrue (are_device_parts to (length b) store_without_puts))
@@ -236,7 +236,7 @@ module _ (c : Setting) (w : Grain) (b held : List ℕ) (end : ℕ) (j : SlotWrit
     stays = λ e. absurd (false≢true (sym commits ∙ e));
   }
 
-  -- The due row ends as a row that works if all its writes worked.
+  -- The due row ends as a successful row if all its writes succeeded.
   pub due_row_works : (d : DeviceState) (asked : Option ℕ) → IsTrue (are_device_parts d (length b) s) →
       IsDueJobOfMode d asked len s j end held
       → AllWrites s.medium (job_writes j w end held b) now → (a : Answer) (out : List ℕ)
@@ -289,7 +289,7 @@ module _ (c : Setting) (w : Grain) (b held : List ℕ) (end : ℕ) (j : SlotWrit
           (idle_store_is_sound store_without_puts) got says
   due_row_works d asked sound due all a out says = absurd due
 
-  -- The row of a broken-off block ends in dfuERROR with the fault's code.
+  -- After a fault in a write of a block, the row ends in dfuERROR with the code of the fault.
   block_fault_ends_in_error : (fault : WriteFault) (d : DeviceState) (n : ℕ) (Says : Type 0) → CountRose s.medium.failures now.failures →
       Says
       → BlockBroken fault s n b store_without_puts
@@ -302,7 +302,7 @@ module _ (c : Setting) (w : Grain) (b held : List ℕ) (end : ℕ) (j : SlotWrit
     stays = λ e. got.place;
   }
 
-  -- The row of a broken-off commit ends in dfuERROR with the fault's code.
+  -- After a fault in a write of a commit, the row ends in dfuERROR with the code of the fault.
   commit_fault_ends_in_error : (fault : WriteFault) (d : DeviceState) (n : ℕ) (Says : Type 0) → CountRose s.medium.failures now.failures
       → is_block d ≡ false
       → Says
@@ -316,7 +316,7 @@ module _ (c : Setting) (w : Grain) (b held : List ℕ) (end : ℕ) (j : SlotWrit
     stays = λ e. absurd (false≢true (sym commits ∙ e));
   }
 
-  -- The due row ends as a row that fails if one of its writes had a fault.
+  -- The due row ends as a failed row if one of its writes had a fault.
   pub due_row_fails : (fault : WriteFault) (d : DeviceState) (asked : Option ℕ) → CountRose s.medium.failures now.failures
       → IsTrue (are_device_parts d (length b) s) → IsDueJobOfMode d asked len s j end held
       → BrokenWrites fault s.medium (job_writes j w end held b) now → (a : Answer) (out : List ℕ)

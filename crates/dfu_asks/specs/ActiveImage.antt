@@ -1,4 +1,4 @@
--- Place of the active image, which a program runs.
+-- Offset and length of the active image, which a program runs.
 use Rattle.std.specs.Prelude.{◌≡◌, ◌+◌, ◌*◌, ◌≤◌, ℕ, List, length, slice_range}
 use Rattle.dfu_slots.specs.Units.{Grain}
 use Rattle.dfu_slots.specs.Image.{Active, active_at, gate_of}

@@ -8,7 +8,7 @@ use Rattle.dfu_device.specs.declared.device_state.DeviceState.TheVariants as dev
 use Rattle.dfu_device.specs.Rows.{body_length}
 use Rattle.dfu_device.specs.Setting.{Setting}
 
--- Mode of a device after a setup whose body is too long: the mode after an unknown request.
+-- Mode of a device after a setup whose body is too long. It equals the mode after an unknown request.
 abbrev pub after_long : DeviceState → DeviceState
 after_long device_state.AppIdle = device_state.AppIdle
 after_long (device_state.AppDetach timer passed) = device_state.AppIdle

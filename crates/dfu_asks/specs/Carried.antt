@@ -1,4 +1,4 @@
--- Series of writes that are carried out piece by piece.
+-- Series of writes that are made piece by piece.
 use Rattle.std.specs.Prelude.{◌≡◌, ◌⊎◌, ℕ, ◌+◌, ◌-◌, ◌%◌, ◌≤◌, ◌<◌, min, true, if◌then◌else◌, List, [], ◌∷◌, length, take, slice_range}
 use Rattle.dfu_slots.specs.Medium.{Write, written}
 use Rattle.dfu_asks.specs.Steps.{Step}
@@ -27,18 +27,18 @@ abbrev pub IsStepPiece : List Step → ℕ → Step → Type 0
 IsStepPiece [] n p = ⊥
 IsStepPiece (s ∷ ss) n p = IsPieceOfStep s n p ⊎ ((length s.write.bytes ≤ n) × IsStepPiece ss (n - length s.write.bytes) p)
 
--- The first n bytes of a series end where a piece ends: after a multiple of 256 bytes of a program, or between two steps, and never within
+-- The first n bytes of a series end at a piece boundary: after a multiple of 256 bytes of a program, or between two steps, and never within
 -- an erase.
 abbrev pub EndsAtPiece : List Step → ℕ → Type 0
 EndsAtPiece [] n = n ≡ 0
 EndsAtPiece (s ∷ ss) n = ((n < length s.write.bytes) × (n % 256 ≡ 0) × (s.erases ≡ true → n ≡ 0))
     ⊎ ((length s.write.bytes ≤ n) × EndsAtPiece ss (n - length s.write.bytes))
 
--- The step erases one whole sector, or programs.
+-- The step erases one whole sector or programs bytes.
 abbrev pub ErasesSectorOrPrograms : ℕ → Step → Type 0
 ErasesSectorOrPrograms sector p = p.erases ≡ true → (length p.write.bytes ≡ sector) × (p.write.at % sector ≡ 0)
 
--- All writes of a series end within the first n bytes of a medium.
+-- All writes of a series lie within a medium of this size.
 abbrev pub WritesWithin : List Write → ℕ → Type 0
 WritesWithin [] size = Unit {0}
 WritesWithin (w ∷ ws) size = (w.at + length w.bytes ≤ size) × WritesWithin ws size

@@ -1,4 +1,4 @@
--- Rows that write, and their results after the writes are carried out.
+-- Rows that write, and their results once the writes are made.
 use Rattle.std.specs.Prelude.{◌≡◌, ◌⊎◌, ℕ, ◌≤◌, ◌==◌, Bool, false, List, ◌++◌, length, take, drop, Option, Some, None, if◌then◌else◌}
 use Rattle.dfu_slots.specs.declared.fault.WriteFault.{WriteFault}
 use Rattle.dfu_device.specs.declared.answer.Answer.{Answer}
@@ -11,8 +11,8 @@ use Rattle.dfu_device.specs.declared.decision.Decision.{Decision}
 use Rattle.dfu_device.specs.declared.decision.Decision.TheVariants as decision
 use Rattle.dfu_device.specs.Rows.{ReplyAnswer, WroteBlock, FailedBlock, Committed, FailedCommit, Done}
 
--- Plan of the due row of a stage, the row that writes: GETSTATUS in dfuDNLOAD-SYNC and dfuMANIFEST-SYNC if their time is 0, and the end of
--- the time in dfuDNBUSY and dfuMANIFEST. Any other stage has no due row; its plan here writes nothing.
+-- Plan of the due row of a stage, the row that writes. It is due at a GETSTATUS in dfuDNLOAD-SYNC and dfuMANIFEST-SYNC if the time of the
+-- stage is 0, and at the end of the time in dfuDNBUSY and dfuMANIFEST. For any other stage, the plan writes nothing.
 abbrev pub due_plan : Profile → Stage → Plan
 due_plan c (InDownloadSync before block number) = write_and_report c before block (InDownloadIdle (before ++ block) number)
 due_plan c (InDownloadBusy before block number passed) =
@@ -22,11 +22,11 @@ due_plan c (InManifest taken passed) =
     Commits taken Ack (if c.tolerant then InManifestSyncComplete else InManifestWaitReset) (λ fault. Ack)
 due_plan c stage = Sure Stall stage
 
--- Due row of a device: the row that writes.
+-- The device executed the plan of its due row, with this answer, whether its writes succeeded or not.
 abbrev pub DueRow : ℕ → DeviceView → Answer → List ℕ → DeviceView → Type 0
 DueRow len w a out w' = Done (due_plan (profile w) w.stage) len w a out w'
 
--- A plan that writes was carried out, and all its writes worked.
+-- A plan that writes was executed, and all its writes succeeded.
 abbrev pub PlanWorks : Plan → ℕ → DeviceView → Answer → List ℕ → DeviceView → Type 0
 PlanWorks (Sure reply stage) len w a out w' = ⊥
 PlanWorks (Writes before block reply stage bad) len w a out w' =
@@ -41,15 +41,15 @@ PlanFails fault (Writes before block reply stage bad) len w a out w' =
 PlanFails fault (Commits taken reply stage bad) len w a out w' =
     ReplyAnswer len (bad fault) a out × FailedCommit fault taken w.config w.slots w'
 
--- Result of the due row of a device, if all its writes work.
+-- The due row of the device `w` was executed, and all its writes succeeded. The row left the device `w'`.
 abbrev pub DueRowWorks : ℕ → DeviceView → Answer → List ℕ → DeviceView → Type 0
 DueRowWorks len w a out w' = PlanWorks (due_plan (profile w) w.stage) len w a out w'
 
--- Result of the due row of a device, if one of its writes has this fault.
+-- The due row of the device `w` was broken off by a write with this fault. The row left the device `w'`.
 abbrev pub DueRowFails : WriteFault → ℕ → DeviceView → Answer → List ℕ → DeviceView → Type 0
 DueRowFails fault len w a out w' = PlanFails fault (due_plan (profile w) w.stage) len w a out w'
 
--- `Row` holds of each result of the due row: if all its writes work, and if one of them has a fault.
+-- `Row` holds of each result of the due row, whether all its writes succeed or one of them has a fault.
 pub record HoldsOfDueRow (len : ℕ) (w : DeviceView) (Row : Answer → List ℕ → DeviceView → Type 0) : Type 0 where
   pub works : (a : Answer) (out : List ℕ) (w' : DeviceView) → DueRowWorks len w a out w' → Row a out w'
   pub fails : (fault : WriteFault) (a : Answer) (out : List ℕ) (w' : DeviceView) → DueRowFails fault len w a out w' → Row a out w'
@@ -61,13 +61,13 @@ writes_on_request c (InDownloadSync before block number) GetStatus = c.busy == 0
 writes_on_request c (InManifestSync taken) GetStatus = c.manifest == 0
 writes_on_request c stage request = false
 
--- A plan calls nothing of the slot store.
+-- The plan makes no call of the slot store.
 abbrev pub IsStorelessPlan : Plan → Type 0
 IsStorelessPlan (Sure reply stage) = Unit {0}
 IsStorelessPlan (Writes before block reply stage bad) = ⊥
 IsStorelessPlan (Commits taken reply stage bad) = ⊥
 
--- A row that writes may be due in this stage, caused by a GETSTATUS of `len` bytes or, without a request, by the end of a time.
+-- This stage can have a due row, caused by a GETSTATUS of `len` bytes or, without a request, by the end of a time.
 abbrev pub IsDueStage : Stage → Option ℕ → ℕ → Type 0
 IsDueStage (InDownloadSync before block number) asked len = asked ≡ Some len
 IsDueStage (InDownloadBusy before block number passed) asked len = asked ≡ None
@@ -75,16 +75,16 @@ IsDueStage (InManifestSync taken) asked len = asked ≡ Some len
 IsDueStage (InManifest taken passed) asked len = asked ≡ None
 IsDueStage stage asked len = ⊥
 
--- The plan calls nothing of the slot store, or is the plan of the due row.
+-- The plan makes no call of the slot store, or is the plan of the due row.
 abbrev pub IsStorelessOrDue : Plan → Profile → Stage → Option ℕ → ℕ → Type 0
 IsStorelessOrDue p c stage asked len = IsStorelessPlan p ⊎ ((p ≡ due_plan c stage) × IsDueStage stage asked len)
 
--- Number of bytes of a status that are asked for: wLength of the GETSTATUS, or 0 without a GETSTATUS.
+-- Number of bytes of an answer that the host requests, or 0 without a request.
 abbrev pub wanted_status_length : Option ℕ → ℕ
 wanted_status_length None = 0
 wanted_status_length (Some len) = len
 
--- Plan that a decision means for a device with this unwritten block and a request with this body.
+-- Plan of a decision for a device with this unwritten block and a request with this body.
 abbrev pub plan_of_decision : (block body : List ℕ) → Decision → DeviceView → Plan
 plan_of_decision block body decision d = plan_of (profile d) (image_of d.slots) (spare_of d.slots) block body decision
 

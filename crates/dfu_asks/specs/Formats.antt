@@ -1,4 +1,4 @@
--- Meaning of a format that asks for its writes: the flash that it has reached, and the outcomes of a piece.
+-- State of a format that requests its writes from the caller: the flash after the pieces so far, and the outcomes of a piece.
 use Rattle.std.specs.Prelude.{◌≡◌, ℕ, ◌+◌, ◌<◌, Bool, true, false, List, ◌++◌, length, slice_range}
 use Rattle.dfu_suffix.specs.Register.{register}
 use Rattle.dfu_slots.specs.declared.fault.WriteFault.TheVariants.{Failed, NotVerified}
@@ -15,11 +15,12 @@ use Rattle.dfu_asks.specs.Steps.{Step, step_writes}
 use Rattle.dfu_asks.specs.Carried.{total, bytes_after_writes, EndsAtPiece}
 use Rattle.dfu_asks.specs.Phases.{format_steps, format_grain, remaining_steps, steps_of_part}
 
--- Medium of a format, with these bytes.
+-- Medium with these bytes, which is written in the unit and erased in the sector of this format.
 abbrev pub medium_of_format : Formatting → List ℕ → MediumState
 medium_of_format f bytes = mapped_medium (format_grain f) bytes
 
--- A format of this image is under way, and some of its pieces are carried out on `flash`; `was` is the flash before the first of them.
+-- A format of this image is under way. `was` is the flash before its first write, and `flash` the flash after the pieces that are written
+-- so far.
 pub record FormatUnderWay (f : Formatting) (image was flash : List ℕ) : Type 0 where
   pub can : CanFormat (medium_of_format f was) image
   pub sum : f.register ≡ register image
@@ -30,7 +31,7 @@ pub record FormatUnderWay (f : Formatting) (image was flash : List ℕ) : Type 0
   pub flash_is : flash ≡ bytes_after_writes was (step_writes (format_steps (medium_of_format f was) image)) (total (step_writes front) +
       f.done)
 
--- A format asks for its next piece, which belongs to the current part.
+-- A format requests its next piece, which belongs to the current part.
 pub record FormatPending (f : Formatting) (image was flash : List ℕ) : Type 0 where
   pub way : FormatUnderWay f image was flash
   pub left : f.done < total (step_writes (steps_of_part f (length was) image))
@@ -40,28 +41,28 @@ pub record FormatCompleted (m : MediumState) (image : List ℕ) (now : MediumSta
   pub writes : AllWrites m (format_series m image) now
   pub active : Active now image
 
--- Result of a format after a piece: it asks for the next piece, or it is complete.
+-- After a successful piece, a format requests the next piece, or is complete.
 abbrev pub FormatOutcome : Grain → Formatting → (image was flash : List ℕ) → FormatProgress → Type 0
 FormatOutcome grain f image was flash Asks = FormatPending f image was flash
 FormatOutcome grain f image was flash Formatted = FormatCompleted (mapped_medium grain was) image (mapped_medium grain flash)
 FormatOutcome grain f image was flash (Broken fault) = ⊥
 
--- Outcome of a format whose program reported the piece `p`, by the report and the bytes that are now on the flash.
+-- The program reported the piece `p` of a format. The outcome depends on the report and on the bytes that are now on the flash.
 pub data FormatPieceReported (f f' : Formatting) (image was flash : List ℕ) (p : Write) (failed : Bool) : FormatProgress → Type 0 where
-  -- The bytes of the piece are on the flash: the format asks for the next piece, or it is complete.
+  -- The flash contains the bytes of the piece. The format requests the next piece, or is complete.
   format_piece_on_flash : (r : FormatProgress) → failed ≡ false → slice_range flash p.at (p.at + length p.bytes) ≡ p.bytes
       → FormatOutcome (format_grain f) f' image was flash r
       → FormatPieceReported f f' image was flash p failed r
-  -- The write of the piece failed: the format is broken off by Failed.
+  -- The write of the piece failed, and the format ends with Failed.
   format_piece_failed : failed ≡ true → BrokenWrites Failed (medium_of_format f was) (format_series (medium_of_format f was) image)
       (medium_of_format f flash)
       → FormatPieceReported f f' image was flash p failed (Broken Failed)
-  -- Other bytes are on the flash: the format is broken off by NotVerified.
+  -- The flash contains other bytes, and the format ends with NotVerified.
   format_piece_not_on_flash : failed ≡ false → ¬ (slice_range flash p.at (p.at + length p.bytes) ≡ p.bytes)
       → BrokenWrites NotVerified (medium_of_format f was) (format_series (medium_of_format f was) image) (medium_of_format f flash)
       → FormatPieceReported f f' image was flash p failed (Broken NotVerified)
 
--- Two records are of the same format, at any progress: their unit, sectors and register are equal.
+-- The two records belong to the same format: their units, sectors and registers are equal. Their progress may differ.
 pub record IsSameFormat (f f' : Formatting) : Type 0 where
   pub unit : f'.unit ≡ f.unit
   pub sector : f'.sector ≡ f.sector

@@ -1,4 +1,4 @@
--- A device that asks for its writes, with the bytes in the memory that its caller lends.
+-- A device that requests its flash writes from the caller, with the bytes in the memory that the caller lends.
 use Rattle.std.specs.Prelude.{◌≡◌, ℕ, ◌≤◌, List, length, take, Option}
 use Rattle.dfu_slots.specs.declared.layout.Unit.{Unit as WriteUnit}
 use Rattle.dfu_slots.specs.Units.{unit_size}
@@ -9,7 +9,7 @@ use Rattle.dfu_asks.specs.declared.noted.Noted.{Noted}
 use Rattle.dfu_asks.specs.declared.pending_writes.PendingWrites.{PendingWrites}
 use Rattle.dfu_asks.specs.declared.asking.Asking.{Asking}
 
--- Parts of a device that asks for its writes: its kept fields, the block that is not written, and the bytes that are held back.
+-- Parts of a device: its kept fields, the block that is not written yet, and the bytes that are held back.
 pub record LentDevice : Type 0 where
   pub config : Setting
   pub unit : WriteUnit
@@ -21,7 +21,7 @@ pub record LentDevice : Type 0 where
   pub noted : Noted
   pub work : Option PendingWrites
 
--- Device whose block and held bytes are at the front of the memory that is lent.
+-- Device whose block and held bytes are at the front of the lent memory.
 abbrev pub lent : Asking → (block held : List ℕ) → LentDevice
 lent a block held = record {
   config = a.config;
@@ -35,7 +35,7 @@ lent a block held = record {
   work = a.work;
 }
 
--- The memory for the held bytes has room for a unit.
+-- The memory for the held bytes has room for a write unit.
 abbrev pub HasRoom : WriteUnit → List ℕ → Type 0
 HasRoom unit held = unit_size unit ≤ length held
 

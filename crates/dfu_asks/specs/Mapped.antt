@@ -1,4 +1,4 @@
--- Flash that is mapped into memory, where it is read. Only its owner writes it.
+-- Flash that is mapped into memory, where the library reads it. Only its owner writes it.
 use Rattle.std.specs.Prelude.{◌≡◌, ◌≢◌, ◌⊎◌, ◌+◌, ◌-◌, ◌^◌, ◌≤◌, ◌<◌, ℕ, List, [], slice_index}
 use Rattle.dfu_slots.specs.declared.layout.Unit.{Unit as WriteUnit}
 use Rattle.dfu_slots.specs.Units.{Grain}
@@ -8,7 +8,7 @@ use Rattle.dfu_slots.specs.Layout.{slot_size, OPEN}
 use Rattle.dfu_slots.specs.Image.{gate_of, spare_at, HasImage}
 use Rattle.dfu_asks.specs.declared.sector.Sector.{Sector}
 
--- Grain of flash that is written in units of this size, and erased in sectors of this size.
+-- Grain of flash that is written in units of this size and erased in sectors of this size.
 abbrev pub grain_of : WriteUnit → Sector → Grain
 grain_of unit sector = record { unit = unit; sector = sector.size }
 
@@ -16,7 +16,7 @@ grain_of unit sector = record { unit = unit; sector = sector.size }
 abbrev pub mapped_medium : Grain → List ℕ → MediumState
 mapped_medium grain bytes = record { bytes = bytes; failures = 2 ^ 64 - 1; fuse = Unknown; grain = grain; tag = [] }
 
--- State of a medium that its bytes do not show: how often a write has failed, its fuse, and its owner's tag.
+-- State of a medium that its bytes don't show: the number of failed writes, the fuse, and the owner's tag.
 pub record UnseenState : Type 0 where
   pub failures : ℕ
   pub fuse : Fuse
@@ -31,11 +31,11 @@ pub record RangeIsInSpare (m : MediumState) (at len : ℕ) : Type 0 where
   pub from : spare_at (gate_of m) m.bytes ≤ at
   pub to : at + len ≤ spare_at (gate_of m) m.bytes + slot_size m.bytes
 
--- The place `at` lies in the slot that begins at `slot`, of two slots of this size.
+-- `slot` is the offset of the slot that contains `at`: 0 if `at` is less than the size of a slot, else that size.
 abbrev pub IsSlotOf : ℕ → ℕ → ℕ → Type 0
 IsSlotOf at size slot = ((at < size) × (slot ≡ 0)) ⊎ ((size ≤ at) × (slot ≡ size))
 
--- A range that a device never asks for: if it lies in a slot, the slot has an open gate, and is not the spare slot of an active image.
+-- The device never writes the range: if a slot contains the range, that slot is open, and isn't the spare slot of an active image.
 abbrev pub IsProtectedRange : MediumState → ℕ → ℕ → Type 0
 IsProtectedRange m at len = (slot : ℕ) → (slot ≡ 0) ⊎ (slot ≡ slot_size m.bytes) → slot ≤ at → at + len ≤ slot + slot_size m.bytes
     → (slice_index m.bytes slot ≡ OPEN) × (HasImage m → spare_at (gate_of m) m.bytes ≢ slot)

@@ -10,20 +10,21 @@ use Rattle.dfu_asks.specs.declared.formatting.Formatting.{Formatting}
 use Rattle.dfu_asks.specs.Mapped.{grain_of}
 use Rattle.dfu_asks.specs.Steps.{Step, write_anew_steps, write_some_steps, open_steps, close_step}
 
--- Steps that write `bytes` from a place on, 4096 at a time. The count of writes limits them: the length of `bytes` is always enough.
+-- Steps that write `bytes` from an offset on, 4096 at a time. The count limits the number of writes; the length of `bytes` is always
+-- enough.
 abbrev pub piece_steps : ℕ → ℕ → ℕ → List ℕ → List Step
 piece_steps sector zero at bytes = []
 piece_steps sector (suc n) at [] = []
 piece_steps sector (suc n) at (b ∷ bs) =
     write_anew_steps sector at (take 4096 (b ∷ bs)) ++ piece_steps sector n (at + 4096) (drop 4096 (b ∷ bs))
 
--- Steps that write an image into the first slot, from byte number `from` of the image on.
+-- Steps that write an image into the first slot, from its byte `from` on.
 abbrev pub image_steps : Grain → List ℕ → ℕ → List Step
 image_steps grain image from =
     let rest = drop from (filled_units grain.unit image) in
     piece_steps grain.sector (length rest) (2 * gate_room grain + from) rest
 
--- Steps of a format from one of its parts on. `size` is the size of a slot, `crc` the register over the image.
+-- Steps of a format from one of its parts on. `size` is the size of a slot, and `crc` the CRC register over the image.
 abbrev pub format_steps_from : Grain → ℕ → List ℕ → ℕ → FormatStep → List Step
 format_steps_from grain size image crc CloseSecond =
     close_step grain size ∷ close_step grain 0 ∷ image_steps grain image 0 ++ open_steps grain 0 0 (length image) crc
@@ -34,11 +35,11 @@ format_steps_from grain size image crc Header = open_steps grain 0 0 (length ima
 format_steps_from grain size image crc Gate = write_anew_steps grain.sector 0 (gate_unit (gate_size grain.unit) OPEN)
 format_steps_from grain size image crc Ended = []
 
--- All steps of a format.
+-- All steps of a format: closing both gates, writing the image and its header into the first slot, and opening the gate of this slot.
 abbrev pub format_steps : MediumState → List ℕ → List Step
 format_steps m image = format_steps_from m.grain (slot_size m.bytes) image (register image) CloseSecond
 
--- Steps of one part of a format alone.
+-- Steps of a single part of a format.
 abbrev pub part_steps : Grain → ℕ → List ℕ → ℕ → FormatStep → List Step
 part_steps grain size image crc CloseSecond = close_step grain size ∷ []
 part_steps grain size image crc CloseFirst = close_step grain 0 ∷ []
@@ -49,7 +50,7 @@ part_steps grain size image crc Header =
 part_steps grain size image crc Gate = write_anew_steps grain.sector 0 (gate_unit (gate_size grain.unit) OPEN)
 part_steps grain size image crc Ended = []
 
--- Grain in which the flash of a format is written.
+-- Unit and sector in which the flash of a format is written.
 abbrev pub format_grain : Formatting → Grain
 format_grain f = grain_of f.unit f.sector
 

@@ -13,7 +13,7 @@ use Rattle.dfu_device.specs.Rows.{block_calls}
 abbrev pub held_before_block : SlotsState → ℕ → List ℕ
 held_before_block s n = if n == 0 then [] else s.held
 
--- Writes of a block that follows n bytes. The writes of the first block begin with those that close the spare slot.
+-- Writes of a block that follows n bytes. If n is 0, they begin with those that close the spare slot.
 abbrev pub block_series : SlotsState → ℕ → List ℕ → List Write
 block_series s n block =
     if n == 0 then writes_of s Begin ++ put_writes s.medium.grain (data_place s 0) [] block else writes_of s (Put n block)
@@ -22,8 +22,8 @@ block_series s n block =
 abbrev pub block_store : SlotsState → ℕ → List ℕ → MediumState → SlotsState
 block_store s n block m = store_of m (put_rest s.medium.grain.unit (held_before_block s n) block) (n + length block)
 
--- A block was written after n bytes: the calls of its row worked, the spare slot has the n bytes followed by the block, all of them count
--- as put, and the image, its place and the room stay.
+-- A block was written after n bytes: all calls of its row succeeded, and the n bytes and the block are put into the spare slot. The active
+-- image, its offset and the room of a slot are unchanged.
 pub record BlockWritten (s : SlotsState) (n : ℕ) (block : List ℕ) (now : SlotsState) : Type 0 where
   pub calls : CallsEnd s (block_calls (take n (spare_of s)) block) AllWorked now
   pub store : IsStore now
@@ -33,7 +33,7 @@ pub record BlockWritten (s : SlotsState) (n : ℕ) (block : List ℕ) (now : Slo
   pub put : is_put (n + length block) now ≡ true
   pub spare : take (n + length block) (spare_of now) ≡ take n (spare_of s) ++ block
 
--- A write of a block had this fault, which broke off the calls of the row. The image, its place and the room stay.
+-- A write of a block had this fault, which broke off the calls of the row. The active image, its offset and the room are unchanged.
 pub record BlockBroken (fault : WriteFault) (s : SlotsState) (n : ℕ) (block : List ℕ) (now : SlotsState) : Type 0 where
   pub calls : CallsEnd s (block_calls (take n (spare_of s)) block) (BrokenBy fault) now
   pub store : IsStore now
@@ -41,14 +41,15 @@ pub record BlockBroken (fault : WriteFault) (s : SlotsState) (n : ℕ) (block : 
   pub place : active_at (gate_of now.medium) now.medium.bytes ≡ active_at (gate_of s.medium) s.medium.bytes
   pub room : room_of now ≡ room_of s
 
--- The first n bytes of the spare became the active image, and the room stays.
+-- The first n bytes of the spare slot became the active image; the room is unchanged.
 pub record CommitCompleted (s : SlotsState) (n : ℕ) (now : SlotsState) : Type 0 where
   pub calls : CallsEnd s (Commit (length (take n (spare_of s))) ∷ []) AllWorked now
   pub store : IsStore now
   pub image : image_of now ≡ take n (spare_of s)
   pub room : room_of now ≡ room_of s
 
--- A write of the commit of the first n bytes had this fault: the old image is active, or all n bytes are the image. The room stays.
+-- A write of the commit of the first n bytes had this fault. The old image is still active, or the n bytes are the active image. The room
+-- is unchanged.
 pub record CommitBroken (fault : WriteFault) (s : SlotsState) (n : ℕ) (now : SlotsState) : Type 0 where
   pub calls : CallsEnd s (Commit (length (take n (spare_of s))) ∷ []) (BrokenBy fault) now
   pub store : IsStore now

@@ -21,18 +21,18 @@ equal_bool_of_three true true true = Some true
 equal_bool_of_three false false false = Some false
 equal_bool_of_three x y z = None
 
--- True if the plan answers with a stall for every outcome of its writes, false if it never does; None if the outcome decides.
+-- True if the plan stalls the request for every outcome of its writes, false if it never does; None if the outcome decides.
 abbrev pub stall_verdict : Plan → Option Bool
 stall_verdict (Sure reply stage) = Some (is_stall reply)
 stall_verdict (Writes before block reply stage bad) =
     equal_bool_of_three (is_stall reply) (is_stall (bad Failed)) (is_stall (bad NotVerified))
 stall_verdict (Commits taken reply stage bad) = equal_bool_of_three (is_stall reply) (is_stall (bad Failed)) (is_stall (bad NotVerified))
 
--- A body belongs to a setup: it has wLength bytes if bmRequestType is 21h, so that the host sends, else none.
+-- A body has wLength bytes if bmRequestType is 21h, because the host sends it then; else it is empty.
 abbrev pub IsBodyOf : List ℕ → List ℕ → Type 0
 IsBodyOf setup body = (p : Setup) → IsSetup p setup → length body ≡ body_length p
 
--- With every body that belongs to the setup, the verdict is true exactly if this device answers the setup with a stall.
+-- For every body that the setup announces, the verdict is true exactly if this device stalls the setup.
 abbrev pub IsStallVerdict : Bool → List ℕ → DeviceView → Type 0
 IsStallVerdict said setup d = (body : List ℕ) → IsBodyOf setup body → (x : Answer) (sent : List ℕ) (d' : DeviceView)
     → Handles setup body d x sent d' → IsTrue said ↔ (x ≡ answer.Stall)

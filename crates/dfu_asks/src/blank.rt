@@ -9,7 +9,7 @@ use crate::Mapped;
 use crate::gates::gate_room;
 use dfu_slots::{flash_byte_at, is_sized};
 
-// Returns whether the `len` bytes from `at` on are FFh.
+// Returns true if the `len` bytes from `at` on are FFh.
 fn is_erased(flash: &[u8], at: usize, len: usize) -> bool
     requires { at + len ≤ length flash.now }
     ensures { result ≡ list_all is_erased_byte (slice_range flash.now at (at + len)) }
@@ -25,8 +25,8 @@ fn is_erased(flash: &[u8], at: usize, len: usize) -> bool
 }
 
 impl<'m> Mapped<'m> {
-    /// Returns whether the flash reads as if it was never written: true if every byte that the gates and the headers of both slots take up
-    /// is FFh, in which case there is no active image; false if another byte is found. The data of the slots does not matter.
+    /// Returns true if the flash reads as if it was never written, which means that every byte of the gates and the headers of both slots
+    /// is FFh; there is no active image then. The data of the slots is not checked.
     ///
     /// None exactly if the size of the flash cannot be divided into two slots.
     pub fn is_blank(&self) -> Option<bool>

@@ -1,4 +1,4 @@
-//! The calls for a device that asks for its writes.
+//! The calls of a device that requests its flash writes from the caller.
 ghost use Rattle.std.specs.Prelude.{◌≡◌, ◌≢◌, ◌≤◌, ℕ, List, [], length, replicate, IfOk, IfErr, OnOk, OnErr, IsErrOf, IfSome, IfNone, IsSome, Some, None};
 ghost use Rattle.dfu_device.specs.Rows.{Handles, Elapses};
 ghost use Rattle.dfu_device.specs.Table.{reset_stage};
@@ -20,10 +20,10 @@ use crate::{Asking, Mapped, Refusal, Reply};
 use dfu_device::{asked_row, decide_time};
 use dfu_wire::{Code, State};
 
-/// Returns `setup` for a device whose interface has number `interface` (bInterfaceNumber): with wIndex 0 if the setup has that number as
-/// its wIndex (USB DFU 1.1, section 3), and else with another wIndex, so that the device stalls the request and stays as it is.
-/// A program whose interface is not number 0 must pass each setup through this call before it hands the setup to `handle` or to the calls
-/// that ask or refuse beforehand.
+/// Returns `setup` rewritten for a device whose interface has number `interface` (bInterfaceNumber). wIndex of the result is 0 if wIndex of
+/// `setup` is `interface` (USB DFU 1.1, section 3). Otherwise it isn't 0, so that the device stalls the request and its state is unchanged.
+/// A program whose interface is not number 0 must pass each setup through this call before it passes the setup to `handle`, `closes`,
+/// `would_stall`, `too_long` or `refuse_close`.
 pub fn addressed(interface: u8, setup: &[u8; 8]) -> [u8; 8]
     ensures { result ≡ addressed_setup interface setup.now }
 {
@@ -33,26 +33,26 @@ pub fn addressed(interface: u8, setup: &[u8; 8]) -> [u8; 8]
 }
 
 impl Asking {
-    /// Returns the state of the standard (USB DFU 1.1, section 6.1.2, bState).
+    /// Returns the device's state, as the standard names it (USB DFU 1.1, section 6.1.2, bState).
     pub fn state(&self) -> State
         ensures { (spare block : List ℕ) → result ≡ state_of (stage_of self.now.mode spare block) }
     {
         self.mode.state()
     }
 
-    /// Returns the status code (USB DFU 1.1, section 6.1.2, bStatus).
+    /// Returns the device's status code (USB DFU 1.1, section 6.1.2, bStatus).
     pub fn code(&self) -> Code
         ensures { (spare block : List ℕ) → result ≡ code_of (stage_of self.now.mode spare block) }
     {
         self.mode.code()
     }
 
-    // Returns the flash as a medium with its view, if the kept fields fit the flash.
+    // Returns the flash as a medium, and the view of this medium, if the kept fields can be those of a device on this flash.
     fn see<'f>(&self, room: usize, flash: &'f [u8]) -> Result<(Mapped<'f>, View), Refusal>
         ensures medium { IfOk result (λ r. (r.0.unit ≡ self.now.unit) × (r.0.sector ≡ self.now.sector) × (r.0.bytes.now ≡ flash.now)) }
         ensures view { IfOk result (λ r. IsNoteView r.1 self.now.noted (mapped_medium (grain_of self.now.unit self.now.sector) flash.now)) }
         ensures there { OnOk result (NotedHeaderIsOnFlash self.now flash.now) }
-        ensures fits { OnOk result (RoomForBlocks self.now room) }
+        ensures block_fits { OnOk result (RoomForBlocks self.now room) }
         ensures end { IfOk result (λ r. self.now.put_end ≤ r.1.room) }
         ensures held { IfOk result (λ r. self.now.held_len ≤ self.now.put_end) }
         ensures no_medium { IfErr result (λ e. e ≡ Refusal.NoMedium → ¬ NotedHeaderIsOnFlash self.now flash.now) }
@@ -71,7 +71,7 @@ impl Asking {
         Ok((medium, view))
     }
 
-    // Answers a setup with its body: by its row if the table serves it, else with a stall. If the row writes, asks for the first write.
+    // Answers a setup and its body as `asked_row` decides. If flash must be written for this, returns `Asks` to request the first write.
     fn respond(
         &mut self,
         block: &mut [u8],
@@ -95,23 +95,25 @@ impl Asking {
             let flash = medium.now.bytes.now in IsDeviceOn self.old block.old held.old flash →
             DeviceCalled a flash out.old (λ d x sent d'. Handles setup.now body.now d x sent d')
             (lent self.new block.new held.new) out.new result }
-        ensures first { result ≡ Reply.Asks → (w : PendingWrites) × (self.new.work ≡ Some w) × (w.done ≡ 0) }
-        ensures few { ReplyHasAtMostBytes 65535 result }
-        ensures same { SameConfig self.old self.new }
-        ensures fits { self.new.block_len ≤ length block.new }
+        ensures nothing_done_yet { result ≡ Reply.Asks → (w : PendingWrites) × (self.new.work ≡ Some w) × (w.done ≡ 0) }
+        ensures at_most_65535 { ReplyHasAtMostBytes 65535 result }
+        ensures same_config { SameConfig self.old self.new }
+        ensures block_fits { self.new.block_len ≤ length block.new }
     {
         let profile = self.config.profile(u64::from(view.room));
         let (decision, asked) = asked_row(&profile, self.mode, setup, body);
         self.carry_out(decision, Some(asked), body, block, held, medium, view, out)
     }
 
-    /// Answers `setup` with its `body`, as `Device::handle`; or if the row writes, asks for the first write.
+    /// Answers `setup` and its `body` as `Device::handle` does. If flash must be written for this, returns `Asks` to request the first
+    /// write instead.
     ///
     /// # Errors
     ///
-    /// `Asked` if writes are due; `NoRoom` if `out` has less room than an answer may need, which is 6 bytes or the transfer size,
-    /// whichever is more; `NoMedium` if the noted header is not in an open slot of the flash; `NoDevice` if the kept state is not a device
-    /// on the flash, or `block` has less room than the transfer size. They are checked in this order, and nothing changes then.
+    /// `Asked` if writes are pending; `NoRoom` if `out` has less room than an answer may need, which is 6 bytes or the transfer size,
+    /// whichever is more; `NoMedium` if the noted slot of the flash is not open or doesn't have the noted header; `NoDevice` if the kept
+    /// state is not a device on the flash, or `block` has less room than the transfer size. They are checked in this order, and nothing
+    /// changes if one is returned.
     pub fn handle(
         &mut self,
         block: &mut [u8],
@@ -125,14 +127,14 @@ impl Asking {
         ensures outcome { let a = lent self.old block.old held.old in IfOk result (λ r. IsDeviceOn self.old block.old held.old flash.now →
             DeviceCalled a flash.now out.old (λ d x sent d'. Handles setup.now body.now d x sent d')
             (lent self.new block.new held.new) out.new r) }
-        ensures first { IfOk result (λ r. r ≡ Reply.Asks → (w : PendingWrites) × (self.new.work ≡ Some w) × (w.done ≡ 0)) }
+        ensures nothing_done_yet { IfOk result (λ r. r ≡ Reply.Asks → (w : PendingWrites) × (self.new.work ≡ Some w) × (w.done ≡ 0)) }
         ensures served { OnOk result (ServedCallFacts self.old block.old flash.now (answer_room self.old.config) (length out.old)) }
         ensures refused { IfErr result (λ e.
             IsRefusedCall e self.old block.old held.old flash.now (answer_room self.old.config) (length out.old)) }
         ensures asked { IsSome self.old.work → IsErrOf result Refusal.Asked }
-        ensures few { IfOk result (λ r. ReplyHasAtMostBytes 65535 r) }
-        ensures same { SameConfig self.old self.new }
-        ensures fits { OnOk result (RoomForBlocks self.new (length block.new)) }
+        ensures at_most_65535 { IfOk result (λ r. ReplyHasAtMostBytes 65535 r) }
+        ensures same_config { SameConfig self.old self.new }
+        ensures block_fits { OnOk result (RoomForBlocks self.new (length block.new)) }
         ensures unchanged { OnErr result ((self.new ≡ self.old) × (block.new ≡ block.old) × (held.new ≡ held.old) × (out.new ≡ out.old)) }
     {
         if self.work.is_some() {
@@ -145,11 +147,12 @@ impl Asking {
         Ok(self.respond(block, held, &medium, &view, setup, body, out))
     }
 
-    /// Lets `ms` milliseconds pass, as `Device::elapse`; or if the row writes, asks for the first write.
+    /// Lets `ms` milliseconds elapse, as `Device::elapse` does. If flash must be written for this, returns `Asks` to request the first
+    /// write instead.
     ///
     /// # Errors
     ///
-    /// As `handle`, but for `NoRoom`.
+    /// The errors of `handle`, except `NoRoom`.
     pub fn elapse(
         &mut self,
         block: &mut [u8],
@@ -162,12 +165,12 @@ impl Asking {
             (out : List ℕ) × DeviceCalled a flash.now (replicate 6 0)
             (λ d x sent d'. (x ≡ Ack) × (sent ≡ []) × Elapses ms d d')
             (lent self.new block.new held.new) out r) }
-        ensures first { IfOk result (λ r. r ≡ Reply.Asks → (w : PendingWrites) × (self.new.work ≡ Some w) × (w.done ≡ 0)) }
+        ensures nothing_done_yet { IfOk result (λ r. r ≡ Reply.Asks → (w : PendingWrites) × (self.new.work ≡ Some w) × (w.done ≡ 0)) }
         ensures served { OnOk result (ServedCallFacts self.old block.old flash.now 0 0) }
         ensures refused { IfErr result (λ e. IsRefusedCall e self.old block.old held.old flash.now 0 0) }
         ensures asked { IsSome self.old.work → IsErrOf result Refusal.Asked }
-        ensures same { SameConfig self.old self.new }
-        ensures fits { OnOk result (RoomForBlocks self.new (length block.new)) }
+        ensures same_config { SameConfig self.old self.new }
+        ensures block_fits { OnOk result (RoomForBlocks self.new (length block.new)) }
         ensures unchanged { OnErr result ((self.new ≡ self.old) × (block.new ≡ block.old) × (held.new ≡ held.old)) }
     {
         if self.work.is_some() {
@@ -180,22 +183,23 @@ impl Asking {
         Ok(self.carry_out(decision, None, &[], block, held, &medium, &view, &mut out))
     }
 
-    /// Takes a reset of the bus, as `Device::usb_reset`.
+    /// Handles a reset of the bus, as `Device::usb_reset` does.
     ///
     /// # Errors
     ///
-    /// As `elapse`.
+    /// The errors of `elapse`.
     pub fn usb_reset(&mut self, block: &[u8], held: &[u8], flash: &[u8]) -> Result<(), Refusal>
         requires { HasRoom self.old.unit held.now }
         ensures row { let before = device_in (lent self.old block.now held.now) flash.now in
             OnOk result (device_in (lent self.new block.now held.now) flash.now ≡ record before { stage = reset_stage before.stage }) }
-        ensures is { OnOk result (IsDeviceOn self.old block.now held.now flash.now → IsDeviceOn self.new block.now held.now flash.now) }
+        ensures stays_device { OnOk result
+            (IsDeviceOn self.old block.now held.now flash.now → IsDeviceOn self.new block.now held.now flash.now) }
         ensures work { OnOk result (self.new.work ≡ None) }
         ensures served { OnOk result (ServedCallFacts self.old block.now flash.now 0 0) }
         ensures refused { IfErr result (λ e. IsRefusedCall e self.old block.now held.now flash.now 0 0) }
         ensures asked { IsSome self.old.work → IsErrOf result Refusal.Asked }
-        ensures same { SameConfig self.old self.new }
-        ensures fits { OnOk result (RoomForBlocks self.new (length block.now)) }
+        ensures same_config { SameConfig self.old self.new }
+        ensures block_fits { OnOk result (RoomForBlocks self.new (length block.now)) }
         ensures unchanged { OnErr result (self.new ≡ self.old) }
     {
         if self.work.is_some() {

@@ -1,4 +1,4 @@
-//! Place of a received image that is not active yet, in the flash of a device that asks for its writes.
+//! Location of a received image that is not active yet, in the flash of a device that requests its writes from the caller.
 ghost use Rattle.std.specs.Prelude.{◌≡◌, ◌+◌, ◌≤◌, ℕ, List, length, IfOk, IfErr, IfSome, IfNone, None};
 ghost use Rattle.dfu_device.specs.Candidate.{candidate_in, IsCandidate};
 ghost use Rattle.dfu_asks.specs.Lent.{lent};
@@ -11,12 +11,12 @@ use dfu_device::Candidate;
 use dfu_slots::{Medium, data_at};
 
 impl Asking {
-    /// Returns the place of the received image, as `Device::candidate`. The bytes after those in the flash are the `held_len` ones that are
-    /// held back.
+    /// Returns the location of the received image, as `Device::candidate` does. The flash contains the image's first bytes; its last
+    /// `held_len` bytes are held back.
     ///
     /// # Errors
     ///
-    /// As `elapse`, except that the memory of the block is not checked.
+    /// The errors of `elapse`, except that the memory of the block is not checked.
     pub fn candidate(&self, flash: &[u8]) -> Result<Option<Candidate>, Refusal>
         ensures some { (block held : List ℕ) → IsDeviceOn self.now block held flash.now →
             IfOk result (λ r. IfSome r (λ c. IsCandidate (device_in (lent self.now block held) flash.now) c)) }

@@ -1,4 +1,4 @@
-//! Performs the decisions of a device, or begins the writes that they need.
+//! Execution of a device's decisions, and the start of the writes that they need.
 ghost use Rattle.std.specs.Prelude.{◌≡◌, ◌-◌, ◌≤◌, ◌++◌, min, ℕ, List, length, take, drop, Some, None};
 ghost use Rattle.dfu_slots.specs.Image.{slot_of};
 ghost use Rattle.dfu_slots.specs.StoreView.{image_of};
@@ -19,7 +19,7 @@ use crate::{Asking, Mapped, Reply};
 use dfu_device::{Answer, Decision, DeviceState, status_in};
 use dfu_slots::read_data;
 
-// Returns the number of bytes of a status that are asked for: wLength of the GETSTATUS, or 0 without one.
+// Returns the number of bytes that the host requests of the answer, or 0 if elapsed time caused the row.
 fn wanted(asked: Option<u16>) -> u16
     ensures { result ≡ wanted_status_length asked }
 {
@@ -29,12 +29,12 @@ fn wanted(asked: Option<u16>) -> u16
     }
 }
 
-// Copies the first `asked` of `bytes`, or all if there are fewer, to the front of `out`, and returns their number.
+// Copies the first `asked` bytes of `bytes`, or all if there are fewer, to the front of `out`, and returns the number of copied bytes.
 fn put_front(bytes: &[u8], asked: u16, out: &mut [u8]) -> usize
     requires few { length bytes.now ≤ 6 }
     requires room { 6 ≤ length out.old }
     ensures count { result ≡ length (take asked bytes.now) }
-    ensures most { result ≤ 6 }
+    ensures at_most_6 { result ≤ 6 }
     ensures bytes { out.new ≡ take asked bytes.now ++ drop result out.old }
 {
     let count = usize::from(asked).min(bytes.len());
@@ -42,7 +42,8 @@ fn put_front(bytes: &[u8], asked: u16, out: &mut [u8]) -> usize
     count
 }
 
-// Copies the bytes of the active image from `place` on, at most `size`, to the front of `out`, and returns their number.
+// Copies at most `size` bytes of the active image, from offset `place` on, to the front of `out`, and returns the number of copied bytes.
+// It is less than `size` if the image or `out` ends earlier.
 fn put_image(medium: &Mapped<'_>, view: &View, place: u32, size: u16, out: &mut [u8]) -> usize
     requires view { (n : Noted) × IsNoteView view.now n (mapped_medium (grain_of medium.now.unit medium.now.sector) medium.now.bytes.now) }
     ensures count { result ≡ min (view.now.len - place) (min size (length out.old)) }
@@ -58,7 +59,7 @@ fn put_image(medium: &Mapped<'_>, view: &View, place: u32, size: u16, out: &mut 
 }
 
 impl Asking {
-    /// Writes the bytes of `reply` to the front of `out`, at most `asked`, and returns the answer and their number.
+    /// Writes at most `asked` bytes of `reply` to the front of `out`, and returns the answer and the number of written bytes.
     pub(crate) fn give(
         &self,
         reply: dfu_device::Reply,
@@ -83,8 +84,8 @@ impl Asking {
         }
     }
 
-    /// Performs `decision`, on a request with `body` that asks for `asked` bytes of a status or of a state, or on elapsed time; or if the
-    /// decision writes, asks for its first write.
+    /// Executes `decision`, which belongs to a request with `body`, or to elapsed time if `asked` is None. For a request, `asked` is
+    /// wLength of GETSTATUS and GETSTATE, and 0 otherwise. If the decision writes, returns `Asks` to request the first write.
     pub(crate) fn carry_out(
         &mut self,
         decision: Decision,
@@ -115,10 +116,10 @@ impl Asking {
             → SendsWithin decision (image_of s) (length out.old) →
             DeviceCalled a flash out.old (λ d x sent d'. Done (plan_of_decision a.block body.now decision d) len d x sent d')
             (lent self.new block.new held.new) out.new result }
-        ensures first { result ≡ Reply.Asks → (w : PendingWrites) × (self.new.work ≡ Some w) × (w.done ≡ 0) }
-        ensures few { ReplyHasAtMostBytes 65535 result }
-        ensures same { SameConfig self.old self.new }
-        ensures fits { self.new.block_len ≤ length block.new }
+        ensures nothing_done_yet { result ≡ Reply.Asks → (w : PendingWrites) × (self.new.work ≡ Some w) × (w.done ≡ 0) }
+        ensures at_most_65535 { ReplyHasAtMostBytes 65535 result }
+        ensures same_config { SameConfig self.old self.new }
+        ensures block_fits { self.new.block_len ≤ length block.new }
     {
         match decision {
             Decision::Sure { reply, mode } => {
@@ -127,7 +128,7 @@ impl Asking {
                 Reply::Answered(answer, count)
             }
             Decision::Holds { mode } => {
-                // The body of a block always fits; the limits keep the slices within bounds.
+                // The body of a block is never longer than the block's memory. The limits only keep the slices within bounds.
                 let len = body.len().min(block.len()).min(4096);
                 block[..len].copy_from_slice(&body[..len]);
                 self.block_len = len;

@@ -1,4 +1,4 @@
-//! The piece that a search finds, and its bytes: as runs of memory, copied to a buffer, and compared with the flash.
+//! The next piece of a series of writes. Its bytes are located as runs of memory, copied to a buffer, and compared with the flash.
 ghost use Rattle.std.specs.Prelude.{◌≡◌, ◌+◌, ◌^◌, ◌<◌, ◌≤◌, ◌++◌, ◌↔◌, ℕ, false, length, replicate, slice_index, slice_range, IsTrue, ◌∷◌, [], take, drop};
 ghost use Rattle.dfu_asks.specs.Jobs.{step_of_piece, PieceBounds, steps_of_job};
 ghost use Rattle.dfu_asks.specs.Cuts.{step_of_cut, IsFoundPiece, source_bytes, run_bytes, IsNextPiece};
@@ -16,27 +16,26 @@ use dfu_slots::{OPEN_GATE, Source, flash_byte_at};
 /// A search for the next piece of a series of writes, and the piece once it is found.
 #[derive(Clone, Copy, Drop)]
 pub(crate) struct Cut<'a> {
-    /// Inputs of the writes.
-    pub(crate) stock: WriteInputs<'a>,
-    /// Number of carried-out bytes that belong to the writes not searched yet.
+    pub(crate) inputs: WriteInputs<'a>,
+    /// Number of bytes that are already written, counted from the first write that the search hasn't passed yet.
     pub(crate) rest: usize,
-    /// The header, if one is written.
+    /// Bytes of the header, if the writes include one.
     pub(crate) front: [u8; 16],
     /// The piece, once it is found.
     pub(crate) piece: FlashOp,
-    /// Source of its bytes, if it programs.
+    /// Source of the bytes that the piece programs. It has no meaning for an erase.
     pub(crate) source: Source,
-    /// Number of bytes of the source before the piece.
+    /// Offset of the piece in its source.
     pub(crate) from: usize,
 }
 
-/// Returns a search for the next piece after `done` bytes of the writes with the inputs `stock`.
-pub(crate) fn cut_at<'a>(stock: WriteInputs<'a>, done: u32) -> Cut<'a>
-    ensures stock { result.stock ≡ stock.entry }
+/// Returns a search for the next piece after `done` bytes of the writes with the inputs `inputs`.
+pub(crate) fn cut_at<'a>(inputs: WriteInputs<'a>, done: u32) -> Cut<'a>
+    ensures inputs { result.inputs ≡ inputs.entry }
     ensures rest { result.rest ≡ done }
 {
     Cut {
-        stock,
+        inputs,
         rest: done as usize,
         front: [0; 16],
         piece: FlashOp {
@@ -49,20 +48,18 @@ pub(crate) fn cut_at<'a>(stock: WriteInputs<'a>, done: u32) -> Cut<'a>
     }
 }
 
-/// Bytes that lie in two slices, and bytes of one value after them.
+/// Bytes in two slices, followed by bytes of a single value.
 #[derive(Clone, Copy, Drop)]
 struct Runs<'a> {
-    /// The bytes of the first slice.
     front: &'a [u8],
-    /// The bytes of the second slice.
     back: &'a [u8],
-    /// Number of bytes of one value after the slices.
+    /// Number of bytes after the two slices.
     rest: usize,
-    /// Value of each of these bytes.
+    /// Value of each byte after the two slices.
     pad: u8,
 }
 
-// Returns at most `most` bytes of a slice, after its first `skip`.
+// Returns at most `most` bytes of a slice, after its first `skip` bytes.
 fn run<'a>(bytes: &'a [u8], skip: usize, most: usize) -> &'a [u8]
     ensures { result.now ≡ take most (drop skip bytes.now) }
 {
@@ -71,11 +68,11 @@ fn run<'a>(bytes: &'a [u8], skip: usize, most: usize) -> &'a [u8]
     &bytes[skip..skip + len]
 }
 
-// Returns `len` bytes of two slices, one after the other, and of zeros after both, after the first `skip`.
+// Joins two slices and 256 zeros after them, and returns `len` bytes of the result, after its first `skip` bytes.
 fn runs_in<'a>(front: &'a [u8], back: &'a [u8], skip: usize, len: usize) -> Runs<'a>
     requires { skip + len ≤ length front.now + length back.now + 256 }
     ensures bytes { run_bytes result ≡ take len (drop skip ((front.now ++ back.now) ++ replicate 256 0)) }
-    ensures few { length result.front.now + length result.back.now ≤ len }
+    ensures at_most_len { length result.front.now + length result.back.now ≤ len }
     ensures size { length result.front.now + length result.back.now + result.rest ≡ len }
 {
     let first = run(front, skip, len);
@@ -92,11 +89,11 @@ fn runs_in<'a>(front: &'a [u8], back: &'a [u8], skip: usize, len: usize) -> Runs
 // Returns the two slices that make up the source of a piece, in order; `gate` is the byte of an open gate.
 fn source_slices<'a>(cut: &'a Cut<'_>, gate: &'a [u8; 1]) -> (&'a [u8], &'a [u8])
     requires { gate.now ≡ OPEN ∷ [] }
-    ensures { result.0.now ++ result.1.now ≡ source_bytes cut.now.source cut.now.stock cut.now.front }
+    ensures { result.0.now ++ result.1.now ≡ source_bytes cut.now.source cut.now.inputs cut.now.front }
 {
     match cut.source {
-        Source::Joined => (cut.stock.held, cut.stock.block),
-        Source::Held => (cut.stock.held, &[]),
+        Source::Joined => (cut.inputs.held, cut.inputs.block),
+        Source::Held => (cut.inputs.held, &[]),
         Source::Header => (&cut.front, &[]),
         Source::Opened => (gate, &[]),
         Source::Closed => (&[], &[]),
@@ -108,7 +105,7 @@ fn runs_of<'a>(cut: &'a Cut<'_>, gate: &'a [u8; 1]) -> Runs<'a>
     requires cut { (sector : ℕ) × IsFoundPiece sector cut.now }
     requires gate { gate.now ≡ OPEN ∷ [] }
     ensures bytes { run_bytes result ≡ (step_of_cut cut.now).write.bytes }
-    ensures few { length result.front.now + length result.back.now ≤ 256 }
+    ensures at_most_256 { length result.front.now + length result.back.now ≤ 256 }
     ensures size { length result.front.now + length result.back.now + result.rest ≡ cut.now.piece.len }
 {
     let len = cut.piece.len;
@@ -124,7 +121,7 @@ fn runs_of<'a>(cut: &'a Cut<'_>, gate: &'a [u8; 1]) -> Runs<'a>
     runs_in(front, back, cut.from, len)
 }
 
-// Returns whether bytes of flash equal those of a slice. A loop takes less code than `==`.
+// Returns true if bytes of flash equal those of a slice. A loop takes less code than `==`.
 fn are_same(one: &[u8], other: &[u8]) -> bool
     requires { length one.now ≡ length other.now }
     ensures { IsTrue result ↔ (one.now ≡ other.now) }
@@ -137,7 +134,7 @@ fn are_same(one: &[u8], other: &[u8]) -> bool
     true
 }
 
-// Returns whether each of these bytes of flash is `byte`.
+// Returns true if each of these bytes of flash is `byte`.
 fn are_all(bytes: &[u8], byte: u8) -> bool
     ensures { IsTrue result ↔ (bytes.now ≡ replicate (length bytes.now) byte) }
 {
@@ -167,11 +164,11 @@ impl Runs<'_> {
     }
 }
 
-/// Writes the bytes of the piece that `cut` found to the front of `out`; of an erase at most 256, each FFh.
+/// Writes the bytes of the piece that `cut` found to the front of `out`. For an erase, writes at most 256 bytes FFh.
 pub(crate) fn fill(cut: &Cut<'_>, out: &mut [u8; MAX_PROGRAM])
     requires { (sector : ℕ) × IsFoundPiece sector cut.now }
     ensures step { step_of_piece cut.now.piece out.new ≡ step_of_cut cut.now }
-    ensures fits { (sector : ℕ) → IsFoundPiece sector cut.now → PieceBounds sector cut.now.piece out.new }
+    ensures piece_bounds { (sector : ℕ) → IsFoundPiece sector cut.now → PieceBounds sector cut.now.piece out.new }
 {
     let runs = runs_of(cut, &[OPEN_GATE]);
     let middle = runs.front.len();
@@ -182,7 +179,7 @@ pub(crate) fn fill(cut: &Cut<'_>, out: &mut [u8; MAX_PROGRAM])
     out[end..len].fill(runs.pad);
 }
 
-/// Returns true if the bytes of the piece that `cut` found are on `flash`; after an erase they are FFh.
+/// Returns true if `flash` contains the bytes of the piece that `cut` found, which are FFh for an erase.
 pub(crate) fn stands(flash: &[u8], cut: &Cut<'_>) -> bool
     requires cut { (sector : ℕ) × IsFoundPiece sector cut.now }
     requires large { cut.now.piece.len < 2 ^ 32 }
@@ -202,17 +199,17 @@ impl Asking {
     /// Returns the bytes that are held back, from the front of their memory `held`.
     pub(crate) fn held_in<'a>(&self, held: &'a [u8]) -> &'a [u8]
         ensures bytes { result.now ≡ take self.now.held_len held.now }
-        ensures few { length result.now ≤ 256 }
+        ensures at_most_256 { length result.now ≤ 256 }
     {
         &held[..self.held_len.min(held.len())]
     }
 
-    /// Returns the inputs of the writes of a job.
-    pub(crate) fn stock<'a>(&self, block: &'a [u8], held: &'a [u8]) -> WriteInputs<'a>
+    /// Returns the inputs from which the writes of a job are computed.
+    pub(crate) fn inputs<'a>(&self, block: &'a [u8], held: &'a [u8]) -> WriteInputs<'a>
         ensures steps { (w : PendingWrites) → steps_of_job w.job result ≡ steps_in (lent self.now block.now held.now) w }
         ensures sector { result.sector ≡ self.now.sector }
-        ensures few { length result.held.now ≤ 256 }
-        ensures most { length result.block.now ≤ 4096 }
+        ensures at_most_256 { length result.held.now ≤ 256 }
+        ensures at_most_4096 { length result.block.now ≤ 4096 }
     {
         WriteInputs {
             unit: self.unit,
@@ -223,7 +220,7 @@ impl Asking {
         }
     }
 
-    /// Returns the number of bytes of the next piece of `work`, and true if the bytes are on `flash`; or 0 if no piece is left.
+    /// Returns the number of bytes of the next piece of `work`, and true if `flash` contains them; 0 and false if no piece is left.
     pub(crate) fn look_at(
         &self,
         work: &PendingWrites,
@@ -236,7 +233,7 @@ impl Asking {
         ensures end { work.now.done + result.0 < 2 ^ 32 }
         ensures none { result.0 ≡ 0 → total (writes_in (lent self.now block.now held.now) work.now) ≤ work.now.done }
     {
-        let mut cut = cut_at(self.stock(block, held), work.done);
+        let mut cut = cut_at(self.inputs(block, held), work.done);
         if !next_piece(work.job, &mut cut) {
             return (0, false);
         }

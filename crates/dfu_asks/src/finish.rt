@@ -18,7 +18,7 @@ use dfu_device::{Answer, Config, DeviceState};
 use dfu_slots::{Unit, WriteFault};
 use dfu_wire::Code;
 
-// Returns whether the row that is due in a mode writes a block.
+// Returns true if the due row of a mode writes a block.
 fn is_block(mode: DeviceState) -> bool
     ensures { result ≡ is_block mode }
 {
@@ -28,7 +28,7 @@ fn is_block(mode: DeviceState) -> bool
     }
 }
 
-// Returns the mode of a device after all writes of a row worked; `len` is the length of its block.
+// Returns the mode of a device after a row whose writes all succeeded; `len` is the length of the device's block.
 fn done_mode(config: Config, mode: DeviceState, len: u32) -> DeviceState
     ensures { result ≡ done_mode config mode len }
 {
@@ -57,7 +57,7 @@ fn done_mode(config: Config, mode: DeviceState, len: u32) -> DeviceState
     }
 }
 
-// Returns the mode of a device after a write of a row had this fault: dfuERROR with the fault's code.
+// Returns the mode of a device after a row with this fault in a write: dfuERROR with the fault's code.
 fn failed_mode(mode: DeviceState, fault: WriteFault) -> DeviceState
     ensures { result ≡ failed_mode fault mode }
 {
@@ -69,14 +69,14 @@ fn failed_mode(mode: DeviceState, fault: WriteFault) -> DeviceState
     DeviceState::Error { code }
 }
 
-// Keeps the last bytes of `held` followed by `block` that fill no whole unit, and returns their number.
+// Joins `held` and `block`, and moves the last bytes, which don't fill a unit, to the front of `held`. Returns the number of these bytes.
 fn keep_rest(unit: Unit, held: &mut [u8], held_len: usize, block: &[u8]) -> usize
     requires few { held_len ≤ 256 }
     requires held { held_len ≤ length held.old }
     requires room { HasRoom unit held.old }
     requires block { length block.now ≤ 4096 }
     ensures held { take result held.new ≡ put_rest unit (take held_len held.old) block.now }
-    ensures few { result ≤ 256 }
+    ensures at_most_256 { result ≤ 256 }
 {
     let size = unit.size() as usize;
     let all = held_len + block.len();
@@ -93,7 +93,7 @@ fn keep_rest(unit: Unit, held: &mut [u8], held_len: usize, block: &[u8]) -> usiz
     rest
 }
 
-// Updates the note of the active image after a row in this mode: a commit reads the images, and a block keeps the note.
+// Updates the note of the active image after a row in this mode. A commit reads the images; a block leaves the note unchanged.
 fn note(noted: &mut Noted, mode: DeviceState, flash: &[u8], unit: Unit, sector: Sector)
     ensures of_block { is_block mode ≡ true → noted.new ≡ noted.old }
     ensures of_commit { let m = mapped_medium (grain_of unit sector) flash.now in is_block mode ≡ false → HasImage m
@@ -108,14 +108,15 @@ fn note(noted: &mut Noted, mode: DeviceState, flash: &[u8], unit: Unit, sector: 
 }
 
 impl Asking {
-    // Keeps the bytes that are held back after a row whose writes worked. Returns their number, and the place at which the puts end.
+    // Moves the bytes that stay held back after a successful row to the front of `held`. Returns their number, and the number of bytes put
+    // into the spare slot so far. Both are 0 unless the row wrote a block.
     fn rest_after(&self, block: &[u8], held: &mut [u8]) -> (usize, u32)
         requires { HasRoom self.now.unit held.old }
         ensures held { let a = lent self.now block.now held.old in
             take result.0 held.new ≡ (if is_block a.mode then put_rest a.unit a.held a.block else []) }
         ensures end { let a = lent self.now block.now held.old in
             result.1 ≡ (if is_block a.mode then capped_sum a.put_end (length a.block) else 0) }
-        ensures few { result.0 ≤ 256 }
+        ensures at_most_256 { result.0 ≤ 256 }
     {
         if !is_block(self.mode) {
             return (0, 0);
@@ -126,12 +127,12 @@ impl Asking {
         (rest, self.put_end.saturating_add(len as u32))
     }
 
-    /// Ends a row whose writes all worked.
+    /// Ends a row whose writes all succeeded.
     pub(crate) fn finish(&mut self, block: &[u8], held: &mut [u8], flash: &[u8])
         requires { HasRoom self.old.unit held.old }
         ensures finished { IsKeptAfterWrites (lent self.old block.now held.old) (lent self.new block.now held.new) }
         ensures notes { NoteAfterRow self.old.mode flash.now (lent self.old block.now held.old) (lent self.new block.now held.new) }
-        ensures same { SameConfig self.old self.new }
+        ensures same_config { SameConfig self.old self.new }
         ensures block { self.new.block_len ≡ self.old.block_len }
     {
         note(&mut self.noted, self.mode, flash, self.unit, self.sector);
@@ -143,11 +144,11 @@ impl Asking {
         self.work = None;
     }
 
-    /// Ends a row of which a write had `fault`.
+    /// Ends a row because one of its writes had `fault`.
     pub(crate) fn break_off(&mut self, fault: WriteFault, flash: &[u8])
         ensures broken { (block held : List ℕ) → IsKeptAfterFault fault (lent self.old block held) (lent self.new block held) }
         ensures notes { (block held : List ℕ) → NoteAfterRow self.old.mode flash.now (lent self.old block held) (lent self.new block held) }
-        ensures same { SameConfig self.old self.new }
+        ensures same_config { SameConfig self.old self.new }
         ensures block { self.new.block_len ≡ self.old.block_len }
     {
         note(&mut self.noted, self.mode, flash, self.unit, self.sector);
@@ -157,8 +158,8 @@ impl Asking {
         self.work = None;
     }
 
-    /// Returns the answer at the end of a row, and the number of its bytes, which are at the front of `out`: the status if a GETSTATUS
-    /// asked for `asked` bytes of it, else an acknowledgement.
+    /// Returns the answer at the end of a row, and the number of its bytes, which are at the front of `out`. The answer is the status if a
+    /// GETSTATUS requested `asked` bytes of it, else an acknowledgement.
     pub(crate) fn answer(&self, asked: Option<u16>, out: &mut [u8]) -> (Answer, usize)
         requires { 6 ≤ length out.old }
         ensures { AnswerInBuffer (λ x sent. IsRowEndAnswer self.now.config self.now.mode asked x sent) result.0 result.1 out.old out.new }
@@ -169,7 +170,7 @@ impl Asking {
         }
     }
 
-    /// Asks for the next write of the row, or ends the row if no write is left.
+    /// Requests the next write of the row, or ends the row if no write is left.
     pub(crate) fn advance(
         &mut self,
         block: &[u8],
@@ -192,14 +193,14 @@ impl Asking {
         ensures more { (work : PendingWrites) → self.old.work ≡ Some work →
             (result ≡ Reply.Asks) ↔ (work.done < total (writes_in (lent self.old block.now held.old) work)) }
         ensures kept { result ≡ Reply.Asks → self.new.work ≡ self.old.work }
-        ensures few { ReplyHasAtMostBytes 6 result }
-        ensures same { SameConfig self.old self.new }
+        ensures at_most_6 { ReplyHasAtMostBytes 6 result }
+        ensures same_config { SameConfig self.old self.new }
         ensures block { self.new.block_len ≡ self.old.block_len }
     {
         let Some(work) = self.work else {
             return Reply::Answered(Answer::Ack, 0);
         };
-        // (An empty flash is enough to learn whether a piece is left.)
+        // An empty flash suffices here, because only the number of bytes of the next piece matters.
         let (len, _) = self.look_at(&work, block, held, &[]);
         if len > 0 {
             return Reply::Asks;
@@ -222,7 +223,7 @@ impl Asking {
         ensures notes { (block held : List ℕ) → NoteAfterRow self.old.mode flash.now (lent self.old block held) (lent self.new block held) }
         ensures gives { AnswerInBuffer (λ x sent. IsRowEndAnswer self.old.config self.new.mode asked x sent) result.0 result.1 out.old
             out.new }
-        ensures same { SameConfig self.old self.new }
+        ensures same_config { SameConfig self.old self.new }
         ensures block { self.new.block_len ≡ self.old.block_len }
     {
         self.break_off(fault, flash);

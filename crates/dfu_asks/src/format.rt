@@ -1,4 +1,4 @@
-//! The calls for a format that asks for its writes.
+//! The calls of a format that requests its writes from the caller.
 ghost use Rattle.std.specs.Prelude.{◌≡◌, ◌≢◌, ◌+◌, ◌++◌, ◌≤◌, ◌^◌, ◌<◌, ℕ, List, [], not, IsTrue, length, IfOk, IfErr, OnOk, IfSome, IfNone};
 ghost use Rattle.dfu_suffix.specs.Register.{register};
 ghost use Rattle.dfu_slots.specs.Units.{Grain};
@@ -14,19 +14,19 @@ ghost use Rattle.dfu_asks.specs.Formats.{FormatUnderWay, FormatPending, FormatOu
 ghost use Rattle.dfu_asks.specs.FormatFurther.{FormatAdvancedBy, FormatPieceAdvances};
 
 use crate::cut::{Cut, cut_at, fill, stands};
-use crate::format_piece::{filled_len, part_piece, stock_for};
+use crate::format_piece::{filled_len, inputs_for, part_piece};
 use crate::next_and_took::is_sound;
 use crate::{FlashOp, FormatProgress, FormatStep, Formatting, MAX_PROGRAM, Mapped, Sector};
 use dfu_slots::{FormatFault, Unit, WriteFault, capacity_of, is_sized};
 use dfu_suffix::Crc;
 
-// The most bytes of an image.
+// Largest number of bytes of an image: 16 MiB.
 const MOST_IMAGE: usize = 0x100_0000;
 
-// Bytes of the image that are written at a time.
+// Number of bytes of the image in each part of the format.
 const PART: usize = 4096;
 
-// Returns the register over an image.
+// Returns the CRC register over an image.
 fn register_of(image: &[u8]) -> u32
     ensures { result ≡ register image.now }
 {
@@ -35,7 +35,7 @@ fn register_of(image: &[u8]) -> u32
     crc.value()
 }
 
-// Returns the first fault of the flash or of the image for a format, if there is one.
+// Returns the first fault that prevents a format of this flash with this image, if there is one.
 fn fault_of(flash: &[u8], unit: Unit, sector: Sector, image: &[u8]) -> Option<FormatFault>
     ensures some { IfSome result (λ e. (e ≢ FormatFault.Failed)
         × IsFormatFault e (mapped_medium (grain_of unit sector) flash.now) image.now) }
@@ -53,7 +53,7 @@ fn fault_of(flash: &[u8], unit: Unit, sector: Sector, image: &[u8]) -> Option<Fo
     None
 }
 
-// Returns the step that comes after `phase` when a medium is formatted with an image of `len` bytes.
+// Returns the part that follows `phase` when a medium is formatted with an image of `len` bytes.
 fn part_after(phase: FormatStep, unit: Unit, len: usize) -> FormatStep
     requires { len ≤ 2 ^ 24 }
     ensures parts { (w : Grain) (size crc : ℕ) (image : List ℕ) → w.unit ≡ unit → length image ≡ len →
@@ -71,7 +71,7 @@ fn part_after(phase: FormatStep, unit: Unit, len: usize) -> FormatStep
             }
         }
         FormatStep::Image { from } => {
-            // A sum of 64 bits, which a damaged `from` does not wrap where a usize has 32.
+            // Adding in 64 bits keeps a damaged `from` from wrapping on a processor with a 32-bit usize.
             let next = from as u64 + PART as u64;
             if next < filled_len(unit, len) as u64 {
                 FormatStep::Image { from: next as u32 }
@@ -86,12 +86,13 @@ fn part_after(phase: FormatStep, unit: Unit, len: usize) -> FormatStep
 }
 
 impl Formatting {
-    /// Begins a format that puts `image` into the first slot of `flash` and makes it the active image, whatever the flash holds.
+    /// Begins a format that writes `image` into the first slot of `flash` and makes it the active image. The old contents of the flash
+    /// don't matter.
     ///
     /// # Errors
     ///
-    /// `WrongSize` if the flash is not two slots, as `Slots::format` has it, or has 2^32 bytes or more; `TooLarge` if the image has more
-    /// bytes than a slot's data. They are checked in this order.
+    /// `WrongSize` if `Slots::format` would reject the size of the flash, or the flash has 2^32 bytes or more; `TooLarge` if the image has
+    /// more bytes than a slot's data. They are checked in this order.
     pub fn start(
         flash: &[u8],
         unit: Unit,
@@ -115,42 +116,42 @@ impl Formatting {
         })
     }
 
-    // Returns whether a piece of the current part is left; `cut` has found the next one then.
+    // Returns true if a piece of the current part is left; `cut` then contains the next piece.
     fn due(&self, flash: &[u8], cut: &mut Cut<'_>) -> bool
-        requires held { cut.old.stock.held.now ≡ [] }
-        requires unit { cut.old.stock.unit ≡ self.now.unit }
-        requires sector { cut.old.stock.sector ≡ self.now.sector }
+        requires held { cut.old.inputs.held.now ≡ [] }
+        requires unit { cut.old.inputs.unit ≡ self.now.unit }
+        requires sector { cut.old.inputs.sector ≡ self.now.sector }
         ensures found { IsTrue result →
-            IsStepPiece (steps_of_part self.now (length flash.now) cut.old.stock.block.now) cut.old.rest (step_of_cut cut.new) }
-        ensures is { IsTrue result → IsFoundPiece self.now.sector.size cut.new }
+            IsStepPiece (steps_of_part self.now (length flash.now) cut.old.inputs.block.now) cut.old.rest (step_of_cut cut.new) }
+        ensures found_piece { IsTrue result → IsFoundPiece self.now.sector.size cut.new }
         ensures end { IsTrue result → cut.old.rest + cut.new.piece.len ≤ 2 ^ 21 }
         ensures flash { IsTrue result → length flash.now < 2 ^ 32 }
-        ensures image { IsTrue result → length cut.old.stock.block.now ≤ 2 ^ 24 }
-        ensures none { IsTrue (not result) → length flash.now < 2 ^ 32 → length cut.old.stock.block.now ≤ 2 ^ 24 →
-            total (step_writes (steps_of_part self.now (length flash.now) cut.old.stock.block.now)) ≤ cut.old.rest }
+        ensures image { IsTrue result → length cut.old.inputs.block.now ≤ 2 ^ 24 }
+        ensures none { IsTrue (not result) → length flash.now < 2 ^ 32 → length cut.old.inputs.block.now ≤ 2 ^ 24 →
+            total (step_writes (steps_of_part self.now (length flash.now) cut.old.inputs.block.now)) ≤ cut.old.rest }
     {
-        if flash.len() > 0xffff_ffff || cut.stock.block.len() > MOST_IMAGE {
+        if flash.len() > 0xffff_ffff || cut.inputs.block.len() > MOST_IMAGE {
             return false;
         }
         part_piece(self, flash.len(), cut)
     }
 
-    /// Returns the next piece that is asked for: at most 256 bytes to be programmed, or one sector to be erased. The piece lies within the
-    /// flash, even if the kept state was damaged. The bytes of a program are at the front of `out` then. `image` must be the image with
-    /// which the format began.
+    /// Returns the next piece to carry out: at most 256 bytes to program, or one sector to erase. The piece lies within the flash, even if
+    /// the kept state was damaged. The bytes of a program are at the front of `out`. `image` must be the image with which the format began.
     ///
-    /// None if no write is due, or its range is not within the flash, or the kept state would erase less than a sector. Then `out` does not
-    /// change. It is Some if `start` or `took` asked, and the pieces before this one are on the flash.
+    /// None if no write is pending, if the range of the piece is not within the flash, or if the kept state would erase less than a sector;
+    /// `out` is unchanged then. After `start` or `took` requested a write, the result is Some if the pieces before this one are on the
+    /// flash.
     pub fn next(&self, flash: &[u8], image: &[u8], out: &mut [u8; MAX_PROGRAM]) -> Option<FlashOp>
         ensures piece { IfSome result (λ p. IsStepPiece (remaining_steps self.now (length flash.now) image.now) self.now.done
             (step_of_piece p out.new)) }
-        ensures most { IfSome result (λ p. PieceBounds self.now.sector.size p out.new) }
+        ensures piece_bounds { IfSome result (λ p. PieceBounds self.now.sector.size p out.new) }
         ensures sector { IfSome result (λ p. ErasesSectorOrPrograms self.now.sector.size (step_of_piece p out.new)) }
         ensures within { IfSome result (λ p. (p.at + p.len ≤ length flash.now) × (length flash.now < 2 ^ 32)) }
         ensures unchanged { IfNone result (out.new ≡ out.old) }
-        ensures goes { IfNone result ((was : List ℕ) → ¬ FormatPending self.now image.now was flash.now) }
+        ensures none_pending { IfNone result ((was : List ℕ) → ¬ FormatPending self.now image.now was flash.now) }
     {
-        let mut cut = cut_at(stock_for(self, image), self.done);
+        let mut cut = cut_at(inputs_for(self, image), self.done);
         if !self.due(flash, &mut cut) {
             return None;
         }
@@ -165,22 +166,22 @@ impl Formatting {
         Some(piece)
     }
 
-    /// Takes the report that the piece that `next` gave was carried out, or that it `failed`. Its range is read back on the flash; after
-    /// an erase the whole sector is FFh.
+    /// Reports that the program carried out the piece that `next` returned, or that the piece `failed`. The call reads the piece's range
+    /// back from the flash; after an erase, the whole sector must be FFh.
     ///
-    /// None if no write is due. Nothing changes then.
+    /// None if no write is pending. Nothing changes then.
     pub fn took(&mut self, flash: &[u8], image: &[u8], failed: bool) -> Option<FormatProgress>
         ensures outcome { IfSome result (λ r. (was before : List ℕ) → FormatPending self.old image.now was before → (p : Step) →
             IsStepPiece (remaining_steps self.old (length was) image.now) self.old.done p → Torn before p.write.at p.write.bytes flash.now →
             FormatPieceReported self.old self.new image.now was flash.now p.write failed r) }
-        ensures further { IfSome result (λ r. FormatPieceAdvances self.old (length flash.now) image.now r self.new) }
-        ensures same { IfSome result (λ r. IsSameFormat self.old self.new) }
+        ensures piece_advances { IfSome result (λ r. FormatPieceAdvances self.old (length flash.now) image.now r self.new) }
+        ensures same_format { IfSome result (λ r. IsSameFormat self.old self.new) }
         ensures ended { IfSome result (λ r. r ≢ FormatProgress.Asks → self.new.phase ≡ FormatStep.Ended) }
         ensures taken { IfNone result ((was before : List ℕ) → length before ≡ length flash.now
             → ¬ FormatPending self.old image.now was before) }
         ensures unchanged { IfNone result (self.new ≡ self.old) }
     {
-        let mut cut = cut_at(stock_for(self, image), self.done);
+        let mut cut = cut_at(inputs_for(self, image), self.done);
         if !self.due(flash, &mut cut) {
             return None;
         }
@@ -196,35 +197,35 @@ impl Formatting {
         Some(self.advance(flash.len(), image))
     }
 
-    // Asks for the next piece of the current part, or ends the part if none is left. The flash has `size` bytes.
+    // Requests the next piece of the current part, or ends the part if none is left. The flash has `size` bytes.
     fn advance(&mut self, size: usize, image: &[u8]) -> FormatProgress
         requires flash { size < 2 ^ 32 }
         requires image { length image.now ≤ 2 ^ 24 }
         ensures outcome { (was flash : List ℕ) → length was ≡ size → FormatUnderWay self.old image.now was flash →
             self.old.done ≤ total (step_writes (steps_of_part self.old (length was) image.now)) →
             FormatOutcome (format_grain self.old) self.new image.now was flash result }
-        ensures further { result ≡ FormatProgress.Asks → self.old.done ≤ total (step_writes (steps_of_part self.old size image.now)) →
+        ensures piece_follows { result ≡ FormatProgress.Asks → self.old.done ≤ total (step_writes (steps_of_part self.old size image.now)) →
             FormatAdvancedBy self.old self.new size image.now 0 }
-        ensures same { IsSameFormat self.old self.new }
+        ensures same_format { IsSameFormat self.old self.new }
         ensures ended { result ≢ FormatProgress.Asks → self.new.phase ≡ FormatStep.Ended }
     {
-        let mut cut = cut_at(stock_for(self, image), self.done);
+        let mut cut = cut_at(inputs_for(self, image), self.done);
         if part_piece(self, size, &mut cut) {
             return FormatProgress::Asks;
         }
         self.go_on(image)
     }
 
-    // Begins the part after a part that is carried out, or ends the format after the last part.
+    // Begins the next part after a complete part, or ends the format after the last part.
     fn go_on(&mut self, image: &[u8]) -> FormatProgress
         requires { length image.now ≤ 2 ^ 24 }
         ensures outcome { (was flash : List ℕ) → FormatUnderWay self.old image.now was flash →
             self.old.done ≡ total (step_writes (steps_of_part self.old (length was) image.now)) →
             FormatOutcome (format_grain self.old) self.new image.now was flash result }
-        ensures further { (size : ℕ) → result ≡ FormatProgress.Asks →
+        ensures piece_follows { (size : ℕ) → result ≡ FormatProgress.Asks →
             self.old.done ≡ total (step_writes (steps_of_part self.old size image.now))
             → FormatAdvancedBy self.old self.new size image.now 0 }
-        ensures same { IsSameFormat self.old self.new }
+        ensures same_format { IsSameFormat self.old self.new }
         ensures ended { result ≢ FormatProgress.Asks → self.new.phase ≡ FormatStep.Ended }
     {
         let behind = part_after(self.phase, self.unit, image.len());

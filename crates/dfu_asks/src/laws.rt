@@ -1,5 +1,5 @@
-//! Laws of a device that asks for its writes. Each is the contract of a function with an empty body, which is proved, and has no effect
-//! when called.
+//! Laws of a device that requests its flash writes from the caller. Each law is the proved contract of a function with an empty body;
+//! calling it has no effect.
 
 ghost use Rattle.std.specs.Prelude.{◌≡◌, ◌⊎◌, ◌+◌, ◌≤◌, ℕ, List, length, Bool, true, slice_range};
 ghost use Rattle.dfu_slots.specs.Units.{Grain};
@@ -25,9 +25,9 @@ ghost use Rattle.dfu_asks.specs.Series.{block_series, block_store, BlockWritten,
 
 use dfu_device::laws::rows_keep;
 
-/// Carrying out a series piece by piece makes its writes. A series carried out to its end has made all its writes; a piece that
-/// is carried out takes the series one piece further; and a failed piece, whichever bytes it leaves in its range, breaks the
-/// series off in the write of the piece.
+/// A series that is carried out piece by piece has the same effect as its writes. Once all pieces are carried out, all writes are made.
+/// Each piece that succeeds advances the series by its bytes. A failed piece, whichever bytes it leaves in its range, breaks the series off
+/// in its write.
 pub fn pieces_are_the_writes()
     ensures all { (grain : Grain) (writes : List Write) (bytes : List ℕ) →
         AllWrites (mapped_medium grain bytes) writes (mapped_medium grain (bytes_after_writes bytes writes (total writes))) }
@@ -41,14 +41,14 @@ pub fn pieces_are_the_writes()
         BrokenWrites fault (mapped_medium grain bytes) writes (mapped_medium grain now) }
 {}
 
-/// The steps of a job, each the erase of a sector or a program, are its writes.
+/// The steps of a job are its writes, each marked as the erase of a sector or as a program.
 pub fn steps_are_the_writes()
     ensures { (job : SlotWrite) (grain : Grain) (end : ℕ) (held block : List ℕ) →
         step_writes (job_steps job grain end held block) ≡ job_writes job grain end held block }
 {}
 
-/// Making the writes of a row, in their order, makes the calls of the row; a write with a fault breaks the row's
-/// calls off. No other part of a row touches the medium.
+/// The writes of a row, made in their order, have the same effect as the slot store calls of the row; a write with a fault breaks these
+/// calls off. No other part of a row changes the medium.
 pub fn writes_are_the_calls()
     ensures block { (s : SlotsState) (n : ℕ) (block : List ℕ) (now : MediumState) → IsStore s → is_shaped s ≡ true →
         (n ≡ 0) ⊎ (is_put n s ≡ true) → n + length block ≤ room_of s →
@@ -63,9 +63,9 @@ pub fn writes_are_the_calls()
         BrokenWrites fault s.medium (writes_of s (Commit n)) now → CommitBroken fault s n (store_on now) }
 {}
 
-/// An error of the medium (errWRITE, errPROG or errVERIFY; USB DFU 1.1, section 6.1.2) comes only after an operation that failed. A call
-/// that is answered leads to no such error, because it has made no write; a reported piece leads to one only if it failed, or if other
-/// bytes are on the flash.
+/// The device reports an error of the medium (errWRITE, errPROG or errVERIFY; USB DFU 1.1, section 6.1.2) only after an operation that
+/// failed. A call that is answered leads to no such error, because it made no write. A reported piece leads to one only if it failed, or if
+/// other bytes are on the flash.
 pub fn errors_follow_failures()
     ensures answered { (a now : LentDevice) (flash out out' : List ℕ) (cause : Cause) (x : Answer) (count : ℕ) →
         DeviceCalled a flash out (λ d y sent d'. Row d cause y sent d') now out' (Answered x count) →
@@ -75,6 +75,6 @@ pub fn errors_follow_failures()
         IsMediumError (device_in now flash).stage →
         (failed ≡ true) ⊎ ¬ (slice_range flash p.at (p.at + length p.bytes) ≡ p.bytes) }
 {
-    // Called for its clause `errors`.
+    // The proof uses the clause `errors` of this call's contract.
     rows_keep();
 }

@@ -1,4 +1,4 @@
-//! A device that asks for each write of its medium, which its caller carries out.
+//! A device that requests each write of its medium from the caller, who carries it out.
 #![tactic(auto)]
 
 mod asking;

@@ -14,7 +14,7 @@ use crate::{Asking, Refusal};
 use dfu_device::{Config, DeviceState};
 use dfu_wire::{Code, Setup};
 
-// Returns the mode of a device after a setup in this mode whose body is longer than the transfer size.
+// Returns the mode of a device in `mode` after a setup whose body is longer than the transfer size.
 fn after_long(mode: DeviceState) -> DeviceState
     ensures { result ≡ after_long mode }
 {
@@ -28,7 +28,7 @@ fn after_long(mode: DeviceState) -> DeviceState
     }
 }
 
-// Returns whether the host sends more bytes with this setup than the transfer size.
+// Returns true if the setup announces more bytes from the host than the transfer size.
 fn is_long(setup: &Setup, transfer: u16) -> bool
     ensures { result ≡ nat_lt transfer (body_length setup.now) }
 {
@@ -36,7 +36,7 @@ fn is_long(setup: &Setup, transfer: u16) -> bool
 }
 
 /// Returns the mode to which `setup` leads a device with `config` in `mode`, if the host sends more bytes with it than the transfer size,
-/// as `Asking::too_long`; None exactly if the host sends no more.
+/// as `Asking::too_long` does; None exactly if the host sends no more.
 pub fn mode_after_long(config: &Config, mode: DeviceState, setup: &[u8; 8]) -> Option<DeviceState>
     ensures row { IfSome result (λ after. (a : LentDevice) (flash : List ℕ) → IsDeviceIn config.now mode a flash →
         IsDevice (record a { mode = after }) flash × ((body : List ℕ) → IsBodyOf setup.now body → (u : UnseenState) →
@@ -56,26 +56,26 @@ pub fn mode_after_long(config: &Config, mode: DeviceState, setup: &[u8; 8]) -> O
 }
 
 impl Asking {
-    /// Handles `setup`, as `handle`, if its body is longer than the transfer size, so that no memory must hold the body. Returns true if
-    /// the body is longer; the caller must then stall the request (USB DFU 1.1, section 6.1.1). Returns false if it is not; nothing changes
-    /// then. The call needs neither the flash nor the memory of the block.
+    /// Handles `setup`, as `handle` does, if its body is longer than the transfer size, so that no memory must hold the body. Returns true
+    /// if the body is longer; the caller must then stall the request (USB DFU 1.1, section 6.1.1). Returns false if it is not; nothing
+    /// changes then. The call needs neither the flash nor the memory of the block.
     ///
     /// # Errors
     ///
-    /// `Asked` if writes are due; nothing changes then.
+    /// `Asked` if writes are pending; nothing changes then.
     pub fn too_long(&mut self, setup: &[u8; 8]) -> Result<bool, Refusal>
         ensures long { IfOk result (λ b. IsTrue b ↔ IsLongerThanBlock self.old.config setup.now) }
         ensures row { (block held flash : List ℕ) → IsDevice (lent self.old block held) flash →
             IfOk result (λ b. IsTrue b → (body : List ℕ) → IsBodyOf setup.now body → (u : UnseenState) → Handles setup.now body
             (device_with u (lent self.old block held) flash) Stall [] (device_with u (lent self.new block held) flash)) }
-        ensures is { (block held flash : List ℕ) → OnOk result
+        ensures is_device { (block held flash : List ℕ) → OnOk result
             (IsDevice (lent self.old block held) flash → IsDevice (lent self.new block held) flash) }
         ensures unchanged { OnErr result (self.new ≡ self.old) }
         ensures asked { IfErr result (λ e. (e ≡ Refusal.Asked) × IsSome self.old.work) }
         ensures other { IfOk result (λ b. IsTrue (not b) → self.new ≡ self.old) }
         ensures work { OnOk result ((self.old.work ≡ None) × (self.new.work ≡ None)) }
-        ensures fits { (room : ℕ) → OnOk result (RoomForBlocks self.old room → RoomForBlocks self.new room) }
-        ensures same { SameConfig self.old self.new }
+        ensures block_fits { (room : ℕ) → OnOk result (RoomForBlocks self.old room → RoomForBlocks self.new room) }
+        ensures same_config { SameConfig self.old self.new }
     {
         if self.work.is_some() {
             return Err(Refusal::Asked);

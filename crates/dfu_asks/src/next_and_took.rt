@@ -1,4 +1,4 @@
-//! The calls for the writes that are due: `next` returns the next piece, and `took` takes the report of its outcome.
+//! The calls for pending writes: `next` returns the next piece, and `took` reports its outcome.
 ghost use Rattle.std.specs.Prelude.{◌≡◌, ◌≢◌, ◌+◌, ◌≤◌, ◌<◌, ◌^◌, ◌↔◌, ℕ, List, length, Some, IfOk, IfErr, IfSome, IfNone, OnOk, OnErr, IsTrue, not, ◌&&◌, if◌then◌else◌};
 ghost use Rattle.dfu_slots.specs.declared.fault.WriteFault.TheVariants.{Failed, NotVerified};
 ghost use Rattle.dfu_slots.specs.Medium.{Torn};
@@ -21,14 +21,14 @@ use crate::{Asking, FlashOp, MAX_PROGRAM, Mapped, PendingWrites, Refusal, Reply,
 use dfu_slots::laws::active_image_is_one;
 use dfu_slots::{OPEN_GATE, Unit, WriteFault, check, flash_byte_at};
 
-// Returns the start of the slot that a place lies in, of two slots of this size.
+// Returns the offset of the slot that contains offset `at`, if the flash has two slots of `size` bytes each.
 fn slot_start(at: u64, size: u64) -> u64
     ensures { IsSlotOf at size result }
 {
     if at < size { 0 } else { size }
 }
 
-// Returns whether a range lies within a slot whose gate is not open, or within the spare slot of an active image.
+// Returns true if a range lies within a slot whose gate is not open, or within the spare slot of an active image.
 fn is_spare(flash: &[u8], unit: Unit, sector: Sector, at: u64, len: u64) -> bool
     requires small { at + len < 2 ^ 44 }
     requires some { 0 < len }
@@ -51,14 +51,14 @@ fn is_spare(flash: &[u8], unit: Unit, sector: Sector, at: u64, len: u64) -> bool
     match check(&medium) {
         Ok(places) => u64::from(places.spare) == slot,
         Err(_) => {
-            // Called for its clause `refused`.
+            // The proof uses the clause `refused` of this call's contract.
             active_image_is_one();
             false
         }
     }
 }
 
-/// Returns true if `piece` programs, or erases one whole sector of `sector`.
+/// Returns true if `piece` programs bytes, or erases one whole sector.
 pub(crate) fn is_sound(sector: Sector, piece: FlashOp) -> bool
     requires some { 0 < piece.len }
     requires small { piece.at < 2 ^ 43 }
@@ -71,14 +71,14 @@ pub(crate) fn is_sound(sector: Sector, piece: FlashOp) -> bool
     size > 0 && piece.len == size as usize && offset_in_sector(size, piece.at) == 0
 }
 
-// Returns whether a piece did not fail, and its bytes are on the flash.
+// Returns true if the piece didn't fail and the flash contains its bytes.
 fn went_well(failed: bool, stands: bool) -> bool
     ensures { result ≡ not failed && stands }
 {
     !failed && stands
 }
 
-// Returns the fault of a piece that failed, or whose bytes are not on the flash.
+// Returns `Failed` for a piece that failed, else `NotVerified`, because the flash doesn't contain its bytes.
 fn fault_of(failed: bool) -> WriteFault
     ensures { result ≡ (if failed then Failed else NotVerified) }
 {
@@ -90,13 +90,12 @@ fn fault_of(failed: bool) -> WriteFault
 }
 
 impl Asking {
-    /// Returns the next piece that is asked for: at most 256 bytes to be programmed, or one sector to be erased. The piece lies within the
-    /// spare slot of the flash as it is now, if that has an active image, even if the kept state was damaged. The bytes of a program are
-    /// at the front of `out` then.
+    /// Returns the next piece to carry out: at most 256 bytes to program, or one sector to erase. If the flash has an active image now, the
+    /// piece lies within the spare slot, even if the kept state was damaged. The bytes of a program are at the front of `out`.
     ///
-    /// None if no write is due, if its range is not within that slot, if the slot's gate is open and no image is active, or if the kept
-    /// state would erase less than a sector. Then `out` is unchanged. It is Some if a call answered `Asks` and the pieces before this one
-    /// are on the flash.
+    /// None if no write is pending, if the range of the piece is not within the spare slot, if the gate of the piece's slot is open and no
+    /// image is active, or if the kept state would erase less than a sector; `out` is unchanged then. After a call returned `Asks`, the
+    /// result is Some if the pieces before this one are on the flash.
     pub fn next(
         &self,
         block: &[u8],
@@ -106,7 +105,7 @@ impl Asking {
     ) -> Option<FlashOp>
         ensures piece { IfSome result (λ p. (w : PendingWrites) → self.now.work ≡ Some w →
             IsStepPiece (steps_in (lent self.now block.now held.now) w) w.done (step_of_piece p out.new)) }
-        ensures most { IfSome result (λ p. PieceBounds self.now.sector.size p out.new) }
+        ensures piece_bounds { IfSome result (λ p. PieceBounds self.now.sector.size p out.new) }
         ensures sector { IfSome result (λ p. ErasesSectorOrPrograms self.now.sector.size (step_of_piece p out.new)) }
         ensures spare { IfSome result (λ p. (image : List ℕ) →
             Active (mapped_medium (grain_in (lent self.now block.now held.now)) flash.now) image →
@@ -118,11 +117,11 @@ impl Asking {
             ErasesSectorOrPrograms self.now.sector.size p →
             IsProtectedRange (mapped_medium (grain_in (lent self.now block.now held.now)) flash.now) p.write.at (length p.write.bytes)) }
         ensures unchanged { IfNone result (out.new ≡ out.old) }
-        ensures goes { IfNone result ((len : ℕ) (s : SlotsState) (was : List ℕ) →
+        ensures none_pending { IfNone result ((len : ℕ) (s : SlotsState) (was : List ℕ) →
             ¬ WritesPending (lent self.now block.now held.now) len s was flash.now) }
     {
         let work = self.work?;
-        let mut cut = cut_at(self.stock(block, held), work.done);
+        let mut cut = cut_at(self.inputs(block, held), work.done);
         if !next_piece(work.job, &mut cut) {
             return None;
         }
@@ -138,14 +137,14 @@ impl Asking {
         }
     }
 
-    /// Takes the report that the piece that `next` gave was carried out, or that it `failed`. Its range is read back on the flash; after
-    /// an erase the whole sector is FFh.
+    /// Reports that the program carried out the piece that `next` returned, or that the piece `failed`. The call reads the piece's range
+    /// back from the flash; after an erase, the whole sector must be FFh.
     ///
-    /// The call asks for the next piece, or returns the answer of the row, which has ended.
+    /// Returns `Asks` to request the next piece, or the answer of the row, which has ended.
     ///
     /// # Errors
     ///
-    /// `NoRoom` if `out` has fewer than 6 bytes; else `NoDevice` if no write is due. Nothing changes then.
+    /// `NoRoom` if `out` has fewer than 6 bytes; else `NoDevice` if no write is pending. Nothing changes then.
     pub fn took(
         &mut self,
         block: &[u8],
@@ -162,16 +161,16 @@ impl Asking {
             Torn before p.write.at p.write.bytes flash.now →
             DevicePieceReported (device_of (lent self.old block.now held.old) s) len s was p.write failed flash.now out.old
             (lent self.new block.now held.new) out.new r) }
-        ensures on { IfOk result (λ r. (w : PendingWrites) (p : Step) → self.old.work ≡ Some w →
+        ensures another_piece { IfOk result (λ r. (w : PendingWrites) (p : Step) → self.old.work ≡ Some w →
             IsStepPiece (steps_in (lent self.old block.now held.old) w) w.done p →
             (r ≡ Reply.Asks) ↔ AnotherPieceFollows (lent self.old block.now held.old) w p.write failed flash.now) }
-        ensures further { IfOk result (λ r. r ≡ Reply.Asks → (w : PendingWrites) (p : Step) → self.old.work ≡ Some w →
+        ensures piece_advances { IfOk result (λ r. r ≡ Reply.Asks → (w : PendingWrites) (p : Step) → self.old.work ≡ Some w →
             IsStepPiece (steps_in (lent self.old block.now held.old) w) w.done p →
             self.new.work ≡ Some (record w { done = w.done + length p.write.bytes })) }
         ensures refused { IfErr result (λ e. ReportRefusedFor e (lent self.old block.now held.old) (length out.old)) }
         ensures taken { OnOk result (ReportAccepted (lent self.old block.now held.old) (length out.old)) }
-        ensures few { IfOk result (λ r. ReplyHasAtMostBytes 6 r) }
-        ensures same { SameConfig self.old self.new }
+        ensures at_most_6 { IfOk result (λ r. ReplyHasAtMostBytes 6 r) }
+        ensures same_config { SameConfig self.old self.new }
         ensures block { self.new.block_len ≡ self.old.block_len }
         ensures unchanged { OnErr result ((self.new ≡ self.old) × (held.new ≡ held.old) × (out.new ≡ out.old)) }
     {

@@ -1,4 +1,4 @@
-//! The next piece of the writes of a job: the operations of dfu_slots, each cut into its erases and pieces of at most 256 bytes.
+//! The next piece of the writes of a job. The operations of dfu_slots are cut into erases of a sector and programs of at most 256 bytes.
 ghost use Rattle.std.specs.Prelude.{◌≡◌, ◌+◌, ◌*◌, ◌^◌, ◌<◌, ◌≤◌, ◌∷◌, [], length, not, true, if◌then◌else◌, IsTrue};
 ghost use Rattle.dfu_slots.specs.Operations.{operations};
 ghost use Rattle.dfu_asks.specs.Steps.{step_writes, write_some_steps, erase_step, close_step};
@@ -15,10 +15,10 @@ use dfu_slots::{MAX_OPERATIONS, Op, Sequence, Source, VERSION, make_header};
 /// Largest number of bytes that are programmed at a time.
 pub const MAX_PROGRAM: usize = 256;
 
-// Makes an erase of `len` bytes at `at` the found piece.
+// Sets the piece of `cut` to an erase of `len` bytes at offset `at`.
 fn find_erase(at: u64, len: usize, cut: &mut Cut<'_>)
     ensures piece { (cut.new.piece.erases ≡ true) × (cut.new.piece.at ≡ at) × (cut.new.piece.len ≡ len) }
-    ensures rest { (cut.new.stock ≡ cut.old.stock) × (cut.new.rest ≡ cut.old.rest) × (cut.new.front ≡ cut.old.front) }
+    ensures rest { (cut.new.inputs ≡ cut.old.inputs) × (cut.new.rest ≡ cut.old.rest) × (cut.new.front ≡ cut.old.front) }
 {
     cut.piece = FlashOp {
         erases: true,
@@ -27,19 +27,19 @@ fn find_erase(at: u64, len: usize, cut: &mut Cut<'_>)
     };
 }
 
-// Returns whether the next piece is one of the erase of the sector at `at`. `cut` has found it then; else the search goes on after the
-// erase.
+// Returns true if the next piece belongs to the erase of the sector at `at`. `cut` then contains the piece; else the search continues after
+// the erase.
 fn erase_piece(at: u64, cut: &mut Cut<'_>) -> bool
     requires { at < 2 ^ 41 }
-    ensures found { IsTrue result → IsStepPiece (erase_step at cut.old.stock.sector.size ∷ []) cut.old.rest (step_of_cut cut.new) }
-    ensures same { (cut.new.stock ≡ cut.old.stock) × (cut.new.front ≡ cut.old.front) }
-    ensures is { IsTrue result → IsFoundPiece cut.old.stock.sector.size cut.new }
+    ensures found { IsTrue result → IsStepPiece (erase_step at cut.old.inputs.sector.size ∷ []) cut.old.rest (step_of_cut cut.new) }
+    ensures same_inputs { (cut.new.inputs ≡ cut.old.inputs) × (cut.new.front ≡ cut.old.front) }
+    ensures found_piece { IsTrue result → IsFoundPiece cut.old.inputs.sector.size cut.new }
     ensures end { IsTrue result → cut.old.rest + cut.new.piece.len ≤ 2 ^ 19 }
     ensures behind { IsTrue (not result) →
-        total (step_writes (erase_step at cut.old.stock.sector.size ∷ [])) + cut.new.rest ≡ cut.old.rest }
+        total (step_writes (erase_step at cut.old.inputs.sector.size ∷ [])) + cut.new.rest ≡ cut.old.rest }
     ensures past { IsTrue (not result) → cut.old.rest ≤ cut.new.rest + 2 ^ 19 }
 {
-    let sector = cut.stock.sector.size() as usize;
+    let sector = cut.inputs.sector.size() as usize;
     if cut.rest < sector {
         find_erase(at + cut.rest as u64, sector - cut.rest, cut);
         return true;
@@ -48,26 +48,27 @@ fn erase_piece(at: u64, cut: &mut Cut<'_>) -> bool
     false
 }
 
-// Returns whether the next piece is one of a write of `len` bytes at `at`, or of its erases. The write has the bytes of `source` after the
-// first `skip`. `cut` has found the piece then; else the search goes on after the write.
+// Returns true if the next piece belongs to a write of `len` bytes at `at`, or to its erases. The write's bytes are those of `source` after
+// its first `skip` bytes. `cut` then contains the piece; else the search continues after the write.
 fn write_piece(at: u64, source: Source, skip: usize, len: usize, cut: &mut Cut<'_>) -> bool
     requires small { at < 2 ^ 41 }
     requires short { len ≤ 4608 }
-    requires within { skip + len ≤ length (source_bytes source cut.old.stock cut.old.front) + 256 }
+    requires within { skip + len ≤ length (source_bytes source cut.old.inputs cut.old.front) + 256 }
     requires skipped { skip ≤ 2 ^ 32 }
-    ensures found { IsTrue result → IsStepPiece (write_some_steps cut.old.stock.sector.size at
-        (range_of_source source cut.old.stock cut.old.front skip len))
+    ensures found { IsTrue result → IsStepPiece (write_some_steps cut.old.inputs.sector.size at
+        (range_of_source source cut.old.inputs cut.old.front skip len))
         cut.old.rest (step_of_cut cut.new) }
-    ensures same { (cut.new.stock ≡ cut.old.stock) × (cut.new.front ≡ cut.old.front) }
-    ensures is { IsTrue result → IsFoundPiece cut.old.stock.sector.size cut.new }
+    ensures same_inputs { (cut.new.inputs ≡ cut.old.inputs) × (cut.new.front ≡ cut.old.front) }
+    ensures found_piece { IsTrue result → IsFoundPiece cut.old.inputs.sector.size cut.new }
     ensures end { IsTrue result → cut.old.rest + cut.new.piece.len ≤ 2 ^ 19 }
     ensures behind { IsTrue (not result) →
-        total (step_writes (write_some_steps cut.old.stock.sector.size at (range_of_source source cut.old.stock cut.old.front skip len))) +
+        total (step_writes (write_some_steps cut.old.inputs.sector.size at (range_of_source source cut.old.inputs
+        cut.old.front skip len))) +
         cut.new.rest
         ≡ cut.old.rest }
     ensures past { IsTrue (not result) → cut.old.rest ≤ cut.new.rest + 2 ^ 19 }
 {
-    match locate(cut.stock.sector, at, len, cut.rest) {
+    match locate(cut.inputs.sector, at, len, cut.rest) {
         Position::Erase { place, len } => {
             find_erase(place, len, cut);
             true
@@ -89,20 +90,20 @@ fn write_piece(at: u64, source: Source, skip: usize, len: usize, cut: &mut Cut<'
     }
 }
 
-/// Returns true if the next piece is one of operation number `index` of `sequence`. `cut` has found the piece then; else the search goes
-/// on after the operation, if there is one.
+/// Returns true if the next piece belongs to operation number `index` of `sequence`. `cut` then contains the piece; else the search
+/// continues after that operation, if there is one.
 pub(crate) fn numbered_piece(sequence: Sequence, index: usize, cut: &mut Cut<'_>) -> bool
-    requires { OpsHaveFewBytes cut.old.stock cut.old.front (operations (input_grain cut.old.stock) sequence) }
-    ensures found { let s = cut.old.stock in IsTrue result →
+    requires { OpsHaveFewBytes cut.old.inputs cut.old.front (operations (input_grain cut.old.inputs) sequence) }
+    ensures found { let s = cut.old.inputs in IsTrue result →
         IsStepPiece (op_steps_at s cut.old.front (operations (input_grain s) sequence) index) cut.old.rest (step_of_cut cut.new) }
-    ensures same { (cut.new.stock ≡ cut.old.stock) × (cut.new.front ≡ cut.old.front) }
-    ensures is { IsTrue result → IsFoundPiece cut.old.stock.sector.size cut.new }
+    ensures same_inputs { (cut.new.inputs ≡ cut.old.inputs) × (cut.new.front ≡ cut.old.front) }
+    ensures found_piece { IsTrue result → IsFoundPiece cut.old.inputs.sector.size cut.new }
     ensures end { IsTrue result → cut.old.rest + cut.new.piece.len ≤ 2 ^ 19 }
-    ensures behind { let s = cut.old.stock in IsTrue (not result) →
+    ensures behind { let s = cut.old.inputs in IsTrue (not result) →
         total (step_writes (op_steps_at s cut.old.front (operations (input_grain s) sequence) index)) + cut.new.rest ≡ cut.old.rest }
     ensures past { IsTrue (not result) → cut.old.rest ≤ cut.new.rest + 2 ^ 19 }
 {
-    match sequence.operation(cut.stock.unit, cut.stock.sector.size(), index) {
+    match sequence.operation(cut.inputs.unit, cut.inputs.sector.size(), index) {
         None => false,
         Some(Op::Erase { at }) => erase_piece(at, cut),
         Some(
@@ -116,16 +117,16 @@ pub(crate) fn numbered_piece(sequence: Sequence, index: usize, cut: &mut Cut<'_>
     }
 }
 
-/// Returns true if the next piece is one of the operations of `sequence`. `cut` has found the piece then; else the search goes on after
-/// the operations.
+/// Returns true if the next piece belongs to an operation of `sequence`. `cut` then contains the piece; else the search continues after the
+/// operations.
 pub(crate) fn sequence_piece(sequence: Sequence, cut: &mut Cut<'_>) -> bool
-    requires { OpsHaveFewBytes cut.old.stock cut.old.front (operations (input_grain cut.old.stock) sequence) }
-    ensures found { let s = cut.old.stock in IsTrue result →
+    requires { OpsHaveFewBytes cut.old.inputs cut.old.front (operations (input_grain cut.old.inputs) sequence) }
+    ensures found { let s = cut.old.inputs in IsTrue result →
         IsStepPiece (ops_steps s cut.old.front (operations (input_grain s) sequence)) cut.old.rest (step_of_cut cut.new) }
-    ensures same { cut.new.stock ≡ cut.old.stock }
-    ensures is { IsTrue result → IsFoundPiece cut.old.stock.sector.size cut.new }
+    ensures same_inputs { cut.new.inputs ≡ cut.old.inputs }
+    ensures found_piece { IsTrue result → IsFoundPiece cut.old.inputs.sector.size cut.new }
     ensures end { IsTrue result → cut.old.rest + cut.new.piece.len ≤ 2 ^ 21 }
-    ensures behind { let s = cut.old.stock in IsTrue (not result) →
+    ensures behind { let s = cut.old.inputs in IsTrue (not result) →
         total (step_writes (ops_steps s cut.old.front (operations (input_grain s) sequence))) + cut.new.rest ≡ cut.old.rest }
     ensures past { IsTrue (not result) → cut.old.rest ≤ cut.new.rest + 2 ^ 21 }
 {
@@ -137,73 +138,74 @@ pub(crate) fn sequence_piece(sequence: Sequence, cut: &mut Cut<'_>) -> bool
     false
 }
 
-// Returns whether the next piece is one that closes the gate of the slot at `spare`; false if `close` is false.
+// Returns true if `close` is true and the next piece belongs to the closing of the gate of the slot at `spare`. `cut` then contains the
+// piece.
 fn close_piece(spare: u32, close: bool, cut: &mut Cut<'_>) -> bool
     ensures found { IsTrue result →
-        IsStepPiece (if close then close_step (input_grain cut.old.stock) spare ∷ [] else []) cut.old.rest (step_of_cut cut.new) }
-    ensures same { cut.new.stock ≡ cut.old.stock }
-    ensures is { IsTrue result → IsFoundPiece cut.old.stock.sector.size cut.new }
+        IsStepPiece (if close then close_step (input_grain cut.old.inputs) spare ∷ [] else []) cut.old.rest (step_of_cut cut.new) }
+    ensures same_inputs { cut.new.inputs ≡ cut.old.inputs }
+    ensures found_piece { IsTrue result → IsFoundPiece cut.old.inputs.sector.size cut.new }
     ensures end { IsTrue result → cut.old.rest + cut.new.piece.len ≤ 2 ^ 21 }
     ensures behind { IsTrue (not result) →
-        total (step_writes (if close then close_step (input_grain cut.old.stock) spare ∷ [] else [])) + cut.new.rest ≡ cut.old.rest }
+        total (step_writes (if close then close_step (input_grain cut.old.inputs) spare ∷ [] else [])) + cut.new.rest ≡ cut.old.rest }
     ensures past { IsTrue (not result) → cut.old.rest ≤ cut.new.rest + 2 ^ 21 }
 {
     close && sequence_piece(Sequence::Close { slot: spare }, cut)
 }
 
-// Returns whether the next piece is one of the writes of a block.
+// Returns true if the next piece belongs to the writes of a block. `cut` then contains the piece.
 fn block_piece(spare: u32, close: bool, cut: &mut Cut<'_>) -> bool
-    requires held { length cut.old.stock.held.now ≤ 256 }
-    requires block { length cut.old.stock.block.now ≤ 4096 }
+    requires held { length cut.old.inputs.held.now ≤ 256 }
+    requires block { length cut.old.inputs.block.now ≤ 4096 }
     ensures found { IsTrue result →
-        IsStepPiece (steps_of_job (SlotWrite.Block spare close) cut.old.stock) cut.old.rest (step_of_cut cut.new) }
-    ensures same { cut.new.stock ≡ cut.old.stock }
-    ensures is { IsTrue result → IsFoundPiece cut.old.stock.sector.size cut.new }
+        IsStepPiece (steps_of_job (SlotWrite.Block spare close) cut.old.inputs) cut.old.rest (step_of_cut cut.new) }
+    ensures same_inputs { cut.new.inputs ≡ cut.old.inputs }
+    ensures found_piece { IsTrue result → IsFoundPiece cut.old.inputs.sector.size cut.new }
     ensures end { IsTrue result → cut.old.rest + cut.new.piece.len ≤ 2 ^ 22 }
-    ensures none { IsTrue (not result) → total (step_writes (steps_of_job (SlotWrite.Block spare close) cut.old.stock)) ≤ cut.old.rest }
+    ensures none { IsTrue (not result) → total (step_writes (steps_of_job (SlotWrite.Block spare close) cut.old.inputs)) ≤ cut.old.rest }
 {
     if close_piece(spare, close, cut) {
         return true;
     }
     let sequence = Sequence::Put {
         slot: spare,
-        end: cut.stock.put_end,
-        held: cut.stock.held.len() as u16,
-        block: cut.stock.block.len() as u16,
+        end: cut.inputs.put_end,
+        held: cut.inputs.held.len() as u16,
+        block: cut.inputs.block.len() as u16,
     };
     sequence_piece(sequence, cut)
 }
 
-// Returns whether the next piece is one of the writes of a commit.
+// Returns true if the next piece belongs to the writes of a commit. `cut` then contains the piece.
 fn commit_piece(spare: u32, generation: u8, register: u32, cut: &mut Cut<'_>) -> bool
-    requires held { length cut.old.stock.held.now ≤ 256 }
+    requires held { length cut.old.inputs.held.now ≤ 256 }
     ensures found { IsTrue result →
-        IsStepPiece (steps_of_job (SlotWrite.Commit spare generation register) cut.old.stock) cut.old.rest (step_of_cut cut.new) }
-    ensures same { cut.new.stock ≡ cut.old.stock }
-    ensures is { IsTrue result → IsFoundPiece cut.old.stock.sector.size cut.new }
+        IsStepPiece (steps_of_job (SlotWrite.Commit spare generation register) cut.old.inputs) cut.old.rest (step_of_cut cut.new) }
+    ensures same_inputs { cut.new.inputs ≡ cut.old.inputs }
+    ensures found_piece { IsTrue result → IsFoundPiece cut.old.inputs.sector.size cut.new }
     ensures end { IsTrue result → cut.old.rest + cut.new.piece.len ≤ 2 ^ 22 }
     ensures none { IsTrue (not result) →
-        total (step_writes (steps_of_job (SlotWrite.Commit spare generation register) cut.old.stock)) ≤ cut.old.rest }
+        total (step_writes (steps_of_job (SlotWrite.Commit spare generation register) cut.old.inputs)) ≤ cut.old.rest }
 {
-    let end = cut.stock.put_end;
+    let end = cut.inputs.put_end;
     cut.front = make_header(VERSION, generation, end, register);
     let sequence = Sequence::Commit {
         slot: spare,
         end,
-        held: cut.stock.held.len() as u16,
+        held: cut.inputs.held.len() as u16,
     };
     sequence_piece(sequence, cut)
 }
 
-/// Returns true if a piece of the writes of `job` is left. `cut` has found the next one then.
+/// Returns true if a piece of the writes of `job` is left. `cut` then contains the next piece.
 pub(crate) fn next_piece(job: SlotWrite, cut: &mut Cut<'_>) -> bool
-    requires held { length cut.old.stock.held.now ≤ 256 }
-    requires block { length cut.old.stock.block.now ≤ 4096 }
-    ensures found { IsTrue result → IsStepPiece (steps_of_job job cut.old.stock) cut.old.rest (step_of_cut cut.new) }
-    ensures same { cut.new.stock ≡ cut.old.stock }
-    ensures is { IsTrue result → IsFoundPiece cut.old.stock.sector.size cut.new }
+    requires held { length cut.old.inputs.held.now ≤ 256 }
+    requires block { length cut.old.inputs.block.now ≤ 4096 }
+    ensures found { IsTrue result → IsStepPiece (steps_of_job job cut.old.inputs) cut.old.rest (step_of_cut cut.new) }
+    ensures same_inputs { cut.new.inputs ≡ cut.old.inputs }
+    ensures found_piece { IsTrue result → IsFoundPiece cut.old.inputs.sector.size cut.new }
     ensures end { IsTrue result → cut.old.rest + cut.new.piece.len ≤ 2 ^ 22 }
-    ensures none { IsTrue (not result) → total (step_writes (steps_of_job job cut.old.stock)) ≤ cut.old.rest }
+    ensures none { IsTrue (not result) → total (step_writes (steps_of_job job cut.old.inputs)) ≤ cut.old.rest }
 {
     match job {
         SlotWrite::Block { spare, close } => block_piece(spare, close, cut),

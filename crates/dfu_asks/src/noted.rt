@@ -15,8 +15,8 @@ use dfu_slots::{
     length_in, read_flash,
 };
 
-/// Flash that is mapped into memory, where it is read; every write or erase through this type fails. Its owner writes it, in its unit,
-/// in place or in sectors that it erases before.
+/// Flash that is mapped into memory, where it is read; every write or erase through this type fails. Its owner writes it in units, either
+/// in place or after it has erased the sectors.
 #[derive(Drop)]
 pub struct Mapped<'m> {
     pub(crate) bytes: &'m [u8],
@@ -35,8 +35,8 @@ impl<'m> Mapped<'m> {
         Mapped::with_sector(bytes, unit, Sector::none())
     }
 
-    /// Returns the medium of `bytes`, which is written in units of `unit`, in sectors of `sector` bytes that are erased before, or in place
-    /// if `sector` is 0.
+    /// Returns the medium of `bytes`, which is written in units of `unit`: after an erase of its sectors of `sector` bytes, or in place if
+    /// `sector` is 0.
     ///
     /// None if `sector` is neither 0 nor a multiple of 256 up to 262,144, or if there are 2^32 bytes or more.
     pub fn with_sectors(bytes: &'m [u8], unit: Unit, sector: u32) -> Option<Mapped<'m>>
@@ -48,7 +48,8 @@ impl<'m> Mapped<'m> {
         Mapped::with_sector(bytes, unit, Sector::new(sector)?)
     }
 
-    /// Returns the medium of `bytes`, as `with_sectors` does, for a `sector` that is allowed; None if there are 2^32 bytes or more.
+    /// Returns the medium of `bytes`, as `with_sectors` does, for a `sector` that is known to be valid; None if there are 2^32 bytes or
+    /// more.
     pub(crate) fn with_sector(bytes: &'m [u8], unit: Unit, sector: Sector) -> Option<Mapped<'m>>
         ensures some { IfSome result (λ m. mapped_medium (grain_of m.unit m.sector) m.bytes.now ≡ mapped_medium
             (grain_of unit sector) bytes.now) }
@@ -81,7 +82,7 @@ impl<'m> Medium for Mapped<'m> {
         self.sector.size()
     }
 
-    // True, because a library in a bootloader must be small.
+    // The CRC of a mapped flash uses small tables, because a library in a bootloader must be small.
     fn has_small_tables(&self) -> bool {
         true
     }
@@ -100,12 +101,12 @@ impl<'m> Medium for Mapped<'m> {
     }
 }
 
-/// Note of the active image: its slot, and that slot's header. A call that finds the header unchanged in that slot reads no image.
+/// Note of the active image: its slot, and that slot's header. A call that finds this header in that slot doesn't need to read the image.
 #[derive(Clone, Copy, Drop)]
 pub struct Noted {
-    /// True if the second slot has the image.
+    /// True if the active image is in the second slot, false if it is in the first.
     pub second: bool,
-    /// The header.
+    /// Header of the active image's slot.
     pub header: [u8; 16],
 }
 
@@ -125,7 +126,7 @@ impl Noted {
                 header: header_of(&medium, places.active),
             }),
             Err(_) => {
-                // Called for its clause `refused`.
+                // The proof uses the clause `refused` of this call's contract.
                 active_image_is_one();
                 None
             }
@@ -133,20 +134,20 @@ impl Noted {
     }
 }
 
-/// View of a call's flash: places and lengths that follow from the note of the active image.
+/// View of a call's flash: offsets and lengths that follow from the note of the active image.
 #[derive(Clone, Copy, Drop)]
 pub(crate) struct View {
-    /// Place at which the active slot begins.
+    /// Offset of the active slot.
     pub(crate) active: u32,
-    /// Place at which the spare slot begins.
+    /// Offset of the spare slot.
     pub(crate) spare: u32,
-    /// Largest number of bytes of an image.
+    /// Largest number of bytes of an image that a slot can hold.
     pub(crate) room: u32,
     /// Length of the active image.
     pub(crate) len: u32,
 }
 
-// Returns whether a header of flash equals `other`. A loop takes less code than `==`.
+// Returns true if a header of flash equals `other`. A loop takes less code than `==`.
 fn are_same(one: &[u8], other: &[u8; 16]) -> bool
     requires { length one.now ≡ 16 }
     ensures { IsTrue result ↔ (one.now ≡ other.now) }
@@ -159,7 +160,8 @@ fn are_same(one: &[u8], other: &[u8; 16]) -> bool
     true
 }
 
-/// Returns the view of `medium` if the header of `noted` is in an open slot of it; None exactly if it is not.
+/// Returns the view of `medium` if it consists of two slots, and the noted slot is open, has the noted header, and is large enough for the
+/// image length in that header; else None.
 #[inline(never)]
 pub(crate) fn look(medium: &Mapped<'_>, noted: &Noted) -> Option<View>
     ensures stands { let m = mapped_medium (grain_of medium.now.unit medium.now.sector) medium.now.bytes.now in
@@ -193,7 +195,7 @@ pub(crate) fn look(medium: &Mapped<'_>, noted: &Noted) -> Option<View>
     })
 }
 
-// Returns whether puts that end at `end` fit in `room`, and leave `held` bytes held back. Reads no flash.
+// Returns true if `end` is at most `room`, and `held` is the number of bytes by which `end` exceeds a multiple of the unit.
 fn puts_may_end_at(unit: Unit, held: usize, end: u32, room: u32) -> bool
     ensures { IsTrue result ↔ ((end ≤ room) × (held ≡ end % unit_size unit)) }
 {
@@ -201,7 +203,7 @@ fn puts_may_end_at(unit: Unit, held: usize, end: u32, room: u32) -> bool
 }
 
 impl Asking {
-    /// Returns true if the kept fields fit `medium` and `view`, and a block memory of `room` bytes.
+    /// Returns true if the kept fields agree with `medium` and `view`, and a block memory of `room` bytes is large enough.
     #[inline(never)]
     pub(crate) fn kept_fields_fit(&self, room: usize, medium: &Mapped<'_>, view: &View) -> bool
         requires unit { medium.now.unit ≡ self.now.unit }
@@ -209,7 +211,7 @@ impl Asking {
         requires view { IsNoteView view.now self.now.noted (mapped_medium (grain_of self.now.unit self.now.sector) medium.now.bytes.now) }
         ensures kept { (block held : List ℕ) → length block ≡ room → HasRoom self.now.unit held →
             IsDeviceOn self.now block held medium.now.bytes.now → IsTrue result }
-        ensures fits { IsTrue result → RoomForBlocks self.now room }
+        ensures block_fits { IsTrue result → RoomForBlocks self.now room }
         ensures end { IsTrue result → self.now.put_end ≤ view.now.room }
         ensures held { IsTrue result → self.now.held_len ≤ self.now.put_end }
     {

@@ -1,4 +1,4 @@
-//! The calls that tell whether a device will stall a setup, before the body of the setup arrives.
+//! The calls that predict if a device will stall a setup, before the body of the setup arrives.
 ghost use Rattle.std.specs.Prelude.{◌≡◌, ◌-◌, ◌*◌, ◌/◌, ℕ, List, length, Some, IfOk, IfErr, OnOk, IsSome, None};
 ghost use Rattle.dfu_device.specs.Stage.{Profile as TableProfile};
 ghost use Rattle.dfu_device.specs.Table.{plan};
@@ -18,7 +18,7 @@ use dfu_device::{Config, Decision, DeviceState, Profile, Reply, decide};
 use dfu_slots::Unit;
 use dfu_wire::{Request, Setup};
 
-// Returns whether a decision answers with a stall.
+// Returns true if a decision stalls its request.
 fn stalls(decision: Decision) -> bool
     ensures { (c : TableProfile) (image spare block body : List ℕ)
         → Some result ≡ stall_verdict (plan_of c image spare block body decision) }
@@ -31,7 +31,7 @@ fn stalls(decision: Decision) -> bool
     }
 }
 
-// Returns whether a device of this profile stalls this request of the class in this mode, with every body of the right length.
+// Returns true if a device of this profile stalls this class request in this mode, with every body of the right length.
 fn will_stall(profile: &Profile, mode: DeviceState, request: Request) -> bool
     ensures { (image spare unwritten body : List ℕ) → HasWrittenBytes mode spare → HasBodyLength request body
         → Some result ≡ stall_verdict (plan (table_profile_of profile.now) image (stage_of mode spare unwritten) (request_for_table request body)) }
@@ -46,8 +46,8 @@ fn room_in(unit: Unit, sector: Sector, size: usize) -> u64
     (size as u64 / 2).saturating_sub(2 * u64::from(gate_room(unit, sector)))
 }
 
-/// Returns true if a device with `config` in `mode` stalls `setup`, as `Asking::would_stall`, on a flash of `size` bytes that is written
-/// in units of `unit` and erased in sectors of `sector`.
+/// Returns true if a device with `config` in `mode` stalls `setup`, as `Asking::would_stall` does, on a flash of `size` bytes that is
+/// written in units of `unit` and erased in sectors of `sector`.
 pub fn mode_stalls(
     config: &Config,
     unit: Unit,
@@ -64,12 +64,12 @@ pub fn mode_stalls(
 }
 
 impl Asking {
-    /// Returns true exactly if `handle` will stall `setup`, whatever body of wLength bytes comes with it (USB DFU 1.1, appendix A). `size`
-    /// is the number of bytes of the flash. A stack that stalls a request before its data stage must ask by this call first.
+    /// Returns true exactly if `handle` will stall `setup` for every body of wLength bytes (USB DFU 1.1, appendix A). `size` is the number
+    /// of bytes of the flash. A stack that stalls a request before its data stage must make this call first.
     ///
     /// # Errors
     ///
-    /// `Asked` if writes are due.
+    /// `Asked` if writes are pending.
     pub fn would_stall(&self, size: usize, setup: &[u8; 8]) -> Result<bool, Refusal>
         ensures told { (block held flash : List ℕ) → IsDevice (lent self.now block held) flash → length flash ≡ size →
             IfOk result (λ b. IsStallVerdict b setup.now (device_in (lent self.now block held) flash)) }

@@ -1,4 +1,4 @@
-//! Start of the writes of a row, and the test that flash is erased where it is programmed without an erase before.
+//! Start of the writes of a row, and the test that flash is erased where it is programmed without a preceding erase.
 ghost use Rattle.std.specs.Prelude.{◌≡◌, ◌⊎◌, ◌+◌, ◌≤◌, ◌++◌, true, ℕ, List, Option, length, take, slice_range, Some, IsTrue, ◌^◌, ◌<◌, ◌↔◌};
 ghost use Rattle.dfu_suffix.specs.Register.{register};
 ghost use Rattle.dfu_device.specs.Parts.{stage_of, is_put};
@@ -17,7 +17,7 @@ use crate::{Asking, Mapped, PendingWrites, Reply, Sector, SlotWrite};
 use dfu_device::DeviceState;
 use dfu_slots::{WriteFault, crc_of_flash, data_at, is_flash_erased, is_open};
 
-// Returns the place at which the first sector begins among the `len` bytes from `at` on, or their end if none begins there.
+// Returns the offset of the first sector that begins among the `len` bytes from `at` on, or their end if none begins there.
 fn end_before_sector(size: u32, at: u64, len: u64) -> u64
     requires some { 0 < size }
     requires most { size ≤ 2 ^ 18 }
@@ -32,7 +32,7 @@ fn end_before_sector(size: u32, at: u64, len: u64) -> u64
     at + len.min(u64::from(size - behind))
 }
 
-// Returns whether the `len` bytes from `at` on are FFh, up to the next sector. True for flash without sectors, which is overwritten.
+// Returns true if the `len` bytes from `at` on are FFh, up to the next sector. True for flash without sectors, which is overwritten.
 fn is_erased_to_sector(flash: &[u8], sector: Sector, at: u64, len: u64) -> bool
     requires small { at < 2 ^ 43 }
     requires short { len < 2 ^ 43 }
@@ -46,7 +46,7 @@ fn is_erased_to_sector(flash: &[u8], sector: Sector, at: u64, len: u64) -> bool
     is_flash_erased(flash, at as usize, end as usize)
 }
 
-// Returns the register over `size` bytes of flash followed by `held`.
+// Returns the CRC register over the `size` bytes of flash from `from` on, followed by `held`.
 fn register_of(flash: &[u8], from: usize, size: usize, held: &[u8]) -> u32
     requires { from + size ≤ length flash.now }
     ensures { result ≡ register (slice_range flash.now from (from + size) ++ held.now) }
@@ -57,7 +57,7 @@ fn register_of(flash: &[u8], from: usize, size: usize, held: &[u8]) -> u32
 }
 
 impl Asking {
-    // Returns the job that commits all bytes that were put.
+    // Returns the job that commits all bytes put into the spare slot, including those held back.
     fn commit_job(&self, held: &[u8], medium: &Mapped<'_>, view: &View) -> SlotWrite
         requires unit { medium.now.unit ≡ self.now.unit }
         requires sector { medium.now.sector ≡ self.now.sector }
@@ -77,8 +77,8 @@ impl Asking {
         }
     }
 
-    // Returns the job of a block after `written` bytes, the number of bytes held back before it, and the place at which the puts end. A
-    // first block discards the bytes that were put before.
+    // Returns the job of a block after `written` bytes, the number of bytes held back before the block, and the number of bytes put into
+    // the spare slot before it. The first block of a download overwrites what an earlier download put into the slot.
     fn block_job(&self, written: u32, medium: &Mapped<'_>, view: &View) -> (SlotWrite, usize, u32)
         requires unit { medium.now.unit ≡ self.now.unit }
         requires sector { medium.now.sector ≡ self.now.sector }
@@ -86,7 +86,7 @@ impl Asking {
         ensures job { (block held : List ℕ) → let s = flash_store (lent self.now block held) medium.now.bytes.now in
             IsDevice (lent self.now block held) medium.now.bytes.now → (written ≡ 0) ⊎ (is_put written s ≡ true) →
             IsBlockJob written s result.0 result.2 (take result.1 held) }
-        ensures few { result.1 ≤ 256 }
+        ensures at_most_256 { result.1 ≤ 256 }
     {
         if written == 0 {
             let job = SlotWrite::Block {
@@ -102,7 +102,8 @@ impl Asking {
         (job, self.held_len, self.put_end)
     }
 
-    // Returns the job of the due row, the number of bytes held back before it, and the place at which the puts end.
+    // Returns the job of the due row, the number of bytes held back before the row, and the number of bytes put into the spare slot before
+    // it.
     fn begin_job(&self, held: &[u8], medium: &Mapped<'_>, view: &View) -> (SlotWrite, usize, u32)
         requires unit { medium.now.unit ≡ self.now.unit }
         requires sector { medium.now.sector ≡ self.now.sector }
@@ -113,7 +114,7 @@ impl Asking {
         ensures due { (block spare unwritten : List ℕ) (asked : Option ℕ) (len : ℕ) → let a = lent self.now block held.now in
             IsDevice a medium.now.bytes.now → IsDueStage (stage_of self.now.mode spare unwritten) asked len →
             IsJobOfMode self.now.mode (flash_store a medium.now.bytes.now) result.0 result.2 (take result.1 held.now) }
-        ensures few { result.1 ≤ 256 }
+        ensures at_most_256 { result.1 ≤ 256 }
     {
         match self.mode {
             DeviceState::DownloadSync { written, .. } => self.block_job(written, medium, view),
@@ -126,7 +127,7 @@ impl Asking {
         }
     }
 
-    // Returns whether the flash after the puts, which the due row programs without an erase before, is erased. True if `end` is 0.
+    // Returns true if the flash that the due row programs without a preceding erase is erased, or if `end` is 0.
     fn is_ahead(&self, end: u32, medium: &Mapped<'_>, view: &View) -> bool
         requires unit { medium.now.unit ≡ self.now.unit }
         requires sector { medium.now.sector ≡ self.now.sector }
@@ -144,8 +145,8 @@ impl Asking {
         is_erased_to_sector(medium.bytes, self.sector, u64::from(at), len as u64)
     }
 
-    /// Begins the writes of the due row. Nothing is written, and the row ends with NotVerified, if the flash behind the bytes put so far is
-    /// not erased: for example because another program has written there.
+    /// Begins the writes of the due row. If flash that the row programs without a preceding erase is not erased, for example because
+    /// another program has written there, nothing is written, and the row ends with NotVerified.
     pub(crate) fn start(
         &mut self,
         asked: Option<u16>,
@@ -166,9 +167,9 @@ impl Asking {
             let flash = medium.now.bytes.now in
             (len : ℕ) → IsDevice a flash → IsDueStage (device_in a flash).stage asked len →
             DeviceCalled a flash out.old (DueRow len) (lent self.new block.now held.new) out.new result }
-        ensures first { result ≡ Reply.Asks → (w : PendingWrites) × (self.new.work ≡ Some w) × (w.done ≡ 0) }
-        ensures few { ReplyHasAtMostBytes 6 result }
-        ensures same { SameConfig self.old self.new }
+        ensures nothing_done_yet { result ≡ Reply.Asks → (w : PendingWrites) × (self.new.work ≡ Some w) × (w.done ≡ 0) }
+        ensures at_most_6 { ReplyHasAtMostBytes 6 result }
+        ensures same_config { SameConfig self.old self.new }
         ensures block { self.new.block_len ≡ self.old.block_len }
     {
         let (job, held_len, put_end) = self.begin_job(held, medium, view);

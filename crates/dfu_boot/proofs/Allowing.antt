@@ -1,13 +1,13 @@
--- Due operations, each of which is allowed.
+-- Each next operation of a run area is allowed.
 use Rattle.std.proofs.Common.{◌≡◌, ◌<◌, ◌+◌, ◌%◌, ℕ, List, length, Option, Some, None, sym, subst, arith}
 use Rattle.dfu_boot.specs.declared.install.due.Due.TheVariants.{Refuse, Erase, Program, Start}
 use Rattle.dfu_boot.specs.install.Allowed.{ImageByteDiffers, IsInSectorOfLast, DueIsAllowed}
 use Rattle.dfu_boot.specs.install.Area.{RangeIsBlank, start_of}
 use Rattle.dfu_boot.specs.install.Next.{IsNextDifference, MayProgram, search_start}
-use Rattle.dfu_boot.proofs.Nexts.{next_byte_in_image, next_difference_differs}
+use Rattle.dfu_boot.proofs.NextDifference.{next_byte_in_image, next_difference_differs}
 use Rattle.dfu_boot.proofs.WholeStarts.{sectors_are_whole_parts, part_start_is_multiple, place_is_before_part_end, part_of_place_ends_by_edge}
 
--- The part that the next difference is in has a byte that differs.
+-- The sector or piece of the next differing byte differs from the image.
 pub part_of_difference_differs : (image run : List ℕ) (part begins at : ℕ) (last : Option ℕ) → 0 < part
     → IsNextDifference image run (search_start image last) at
     → begins ≡ start_of part at → ImageByteDiffers image run begins (begins + part)

@@ -1,4 +1,4 @@
--- Operations that the calls ask for: the medium accepts them.
+-- The medium accepts the operations of a trial.
 use Rattle.std.proofs.Common.{◌≡◌, ℕ, ◌+◌, ◌≤◌, false, length, sym, ◌∙◌, ap, subst, arith}
 use Rattle.dfu_slots.specs.Medium.{MediumState}
 use Rattle.dfu_slots.specs.Image.{Active, gate_of}
@@ -19,7 +19,7 @@ module _ (m : MediumState) (tries : ℕ) (t : Trial) (are : AreTries m.grain tri
   pub trial_slot_ends_within : t.slot + slot_size m.bytes ≤ length m.bytes
   trial_slot_ends_within = slot_ends_within_medium m t.slot t.base stands.0.sized stands.0.places
 
-  -- The mark of the confirmation ends within the medium.
+  -- The confirmation mark ends within the medium.
   pub confirmation_ends_within : mark_at m.grain t.slot 0 + mark_size m.grain ≤ length m.bytes
   confirmation_ends_within = mark_ends_within_medium m tries t.slot 0 stands.0.sized are (omega arith) trial_slot_ends_within
 
@@ -29,7 +29,7 @@ module _ (m : MediumState) (tries : ℕ) (t : Trial) (are : AreTries m.grain tri
     (confirmation_ends_within, gate_unit_at_most_256 m.grain.unit),
   )
 
-  -- The medium accepts the erase of the gate's sector.
+  -- The medium accepts the erase that closes the gate.
   pub end_of_trial_is_accepted : MediumAccepts m (Close t.slot)
   end_of_trial_is_accepted = gate_close_is_accepted m t.slot t.base stands.0.sized stands.0.places are.sectors
 
@@ -40,7 +40,7 @@ module _ (m : MediumState) (tries : ℕ) (s : Settled) (are : AreTries m.grain t
   place : a.at ≡ s.slot
   place = (test_finds_active_image (gate_of m) m.bytes a.at a.spare settled.has.image (active_image_at_its_place a)).0 ∙ sym settled.slot
 
-  -- The active slot ends within the medium.
+  -- The slot of the active image ends within the medium.
   pub slot_of_image_ends_within : s.slot + slot_size m.bytes ≤ length m.bytes
   slot_of_image_ends_within = omega (arith, place, slot_ends_within_medium m a.at a.spare a.sized a.places)
 

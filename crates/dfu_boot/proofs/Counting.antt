@@ -1,10 +1,10 @@
--- Number of starts that are recorded.
+-- Number of recorded starts, counted by the marks that are set.
 use Rattle.std.proofs.Common.{◌≡◌, ⊎_elim, ℕ, zero, suc, ◌+◌, ◌≤◌, ◌<◌, Bool, true, false, ◌∙◌, ap, arith, if◌then◌else◌}
 use Rattle.std.proofs.lemmas.Bool.{cases_Bool, cases_lt}
 use Rattle.dfu_slots.specs.Medium.{MediumState}
 use Rattle.dfu_boot.specs.trial.Marks.{is_mark_set, marks_set_in_row}
 
--- A mark that is set counts one, and the marks after it are counted.
+-- A mark that is set adds one to the count of the marks after it.
 set_mark_is_counted : (m : MediumState) (at i most : ℕ) → is_mark_set m at i ≡ true
     → marks_set_in_row m at i (suc most) ≡ marks_set_in_row m at (i + 1) most + 1
 set_mark_is_counted m at i most set = ap (λ (b : Bool). if b then marks_set_in_row m at (i + 1) most + 1 else 0) set
@@ -13,7 +13,7 @@ set_mark_is_counted m at i most set = ap (λ (b : Bool). if b then marks_set_in_
 unset_mark_ends_count : (m : MediumState) (at i most : ℕ) → is_mark_set m at i ≡ false → marks_set_in_row m at i (suc most) ≡ 0
 unset_mark_ends_count m at i most unset = ap (λ (b : Bool). if b then marks_set_in_row m at (i + 1) most + 1 else 0) unset
 
--- Of `most` marks no more than `most` are set.
+-- The count of `most` marks is at most `most`.
 pub count_is_at_most_all_marks : (m : MediumState) (at i most : ℕ) → marks_set_in_row m at i most ≤ most
 count_is_at_most_all_marks m at i zero = omega arith
 count_is_at_most_all_marks m at i (suc most) = ⊎_elim
@@ -21,7 +21,7 @@ count_is_at_most_all_marks m at i (suc most) = ⊎_elim
     (λ unset. omega (arith, unset_mark_ends_count m at i most unset))
     (cases_Bool (is_mark_set m at i))
 
--- If fewer than `most` marks are set in a row, the next mark is not set.
+-- If the count is below `most`, the mark after the counted ones is not set.
 pub next_mark_is_not_set : (m : MediumState) (at i most : ℕ) → marks_set_in_row m at i most < most
     → is_mark_set m at (i + marks_set_in_row m at i most) ≡ false
 next_mark_is_not_set m at i zero lt = absurd (omega (arith, lt))
@@ -36,7 +36,7 @@ next_mark_is_not_set m at i (suc most) lt = ⊎_elim
     ap (λ (k : ℕ). is_mark_set m at k) e ∙ unset)
     (cases_Bool (is_mark_set m at i))
 
--- If the first mark is not set, or `most` is 0, no mark counts.
+-- If the first mark is not set, or `most` is 0, the count is 0.
 pub no_mark_counts : (m : MediumState) (at i most : ℕ) → (0 < most → is_mark_set m at i ≡ false) → marks_set_in_row m at i most ≡ 0
 no_mark_counts m at i zero unset = omega arith
 no_mark_counts m at i (suc most) unset = unset_mark_ends_count m at i most (unset (omega arith))
@@ -54,7 +54,7 @@ counted_mark_is_set m at i (suc most) k low high = ⊎_elim
     (λ unset. absurd (omega (arith, unset_mark_ends_count m at i most unset, low, high)))
     (cases_Bool (is_mark_set m at i))
 
--- If the first n marks are set, n marks at least are counted.
+-- If the first n marks are set, the count is at least n.
 pub set_marks_are_counted : (m : MediumState) (at i most n : ℕ) → n ≤ most → ((k : ℕ) → i ≤ k → k < i + n → is_mark_set m at k ≡ true)
     → n ≤ marks_set_in_row m at i most
 set_marks_are_counted m at i most zero le each = omega arith
@@ -68,7 +68,7 @@ set_marks_are_counted m at i (suc most) (suc n) le each =
           (arith, high))),
     )
 
--- If the marks of two media agree, their counts are equal.
+-- If two media have the same marks set, their counts are equal.
 pub equal_marks_have_equal_counts : (m n : MediumState) (at i most : ℕ) → ((k : ℕ) → i ≤ k → k < i + most → is_mark_set n at k
     ≡ is_mark_set m at k)
     → marks_set_in_row n at i most ≡ marks_set_in_row m at i most

@@ -1,4 +1,4 @@
--- Downloads: they keep the confirmed image, and may bring one on trial.
+-- A download leaves the confirmed image in its slot, and may put a new image on trial.
 use Rattle.std.proofs.Common.{◌≡◌, ◌⊎◌, inl, inr, ⊎_elim, ℕ, ◌+◌, ◌≤◌, true, false, List, refl, sym, ◌∙◌, subst, arith}
 use Rattle.dfu_slots.specs.Medium.{MediumState, ChangedWithin}
 use Rattle.dfu_slots.specs.Layout.{slot, slot_size, ArePlaces}
@@ -39,7 +39,7 @@ module _ (m now : MediumState) (tries : ℕ) (are : AreTries m.grain tries) (s :
   confirmed_slot_is_filled : IsFilledSlot (slot_of m s.slot)
   confirmed_slot_is_filled = subst (λ (p : ℕ). IsFilledSlot (slot_of m p)) place (active_slot_is_filled m settled.has.image a)
 
-  -- The active slot is as it was.
+  -- The active slot is unchanged.
   confirmed_slot_stays : slot g now.bytes s.slot ≡ slot_of m s.slot
   confirmed_slot_stays =
       slot_kept_outside_change g spare (spare + slot_size m.bytes) m.bytes now.bytes s.slot keeps (gate_room_at_least_16 m.grain) (omega
@@ -71,7 +71,7 @@ module _ (m now : MediumState) (tries : ℕ) (are : AreTries m.grain tries) (s :
   download_keeps_confirmed_image : image_at n s.slot ≡ image_at m s.slot
   download_keeps_confirmed_image = equal_slots_equal_images _ _ confirmed_slot_stays
 
-  -- If the new image was not put in place, the confirmed one alone is trusted.
+  -- If the confirmed image is still the newest after the download, the confirmed image is the only trusted one.
   confirmed_stays_without_new : IsNewest (slot_of n s.slot) (slot_of n spare) → AreTrusted n tries (Alone (image_at m s.slot))
   confirmed_stays_without_new newest =
       let found = test_finds_newest_slot g now.bytes s.slot spare download_keeps_places newest in
@@ -91,7 +91,7 @@ module _ (m now : MediumState) (tries : ℕ) (are : AreTries m.grain tries) (s :
         download_keeps_confirmed_image,
       )
 
-  -- If the new image was put in place, it is on trial, and no start of it is recorded.
+  -- If the new image is the newest, and no mark of its slot is set, the new image is on trial, with no recorded start.
   placed_image_is_on_trial : (image : List ℕ) → IsNewest (slot_of n spare) (slot_of n s.slot) → IsFilledSlot (slot_of n spare) →
       image_at n spare ≡ image
       → ((i : ℕ) → i ≤ tries → is_mark_set n spare i ≡ false) → AreTrusted n tries (Tried (image_at m s.slot) image 0)

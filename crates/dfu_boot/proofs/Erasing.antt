@@ -1,4 +1,4 @@
--- Cost of an erase: one of the sectors that have to be erased.
+-- Each erase lowers the upper bound of the remaining operations by at least one.
 use Rattle.std.proofs.Common.{◌≡◌, ◌≢◌, ◌⊎◌, inl, inr, ◌<◌, ◌≤◌, ◌+◌, ◌*◌, ◌%◌, ℕ, suc, List, length, slice_index, Option, Some, None, sym, ◌∙◌, ap, subst, arith}
 use Rattle.std.proofs.lemmas.Bool.{cases_lt}
 use Rattle.std.proofs.Math.Nat.{suc-mul}
@@ -9,10 +9,10 @@ use Rattle.dfu_boot.specs.install.Operations.{OutsideUnchanged}
 use Rattle.dfu_boot.proofs.WholeStarts.{sectors_are_whole_parts, part_start_is_multiple, place_is_before_part_end, part_of_place_ends_by_edge, part_start_not_before_edge, place_in_part_has_its_start, sectors_do_not_overlap, part_ends_by_edge, part_end_is_multiple, multiple_begins_its_part}
 use Rattle.dfu_boot.proofs.Allowing.{part_of_difference_differs}
 use Rattle.dfu_boot.proofs.Members.{member_can_be_taken_away}
-use Rattle.dfu_boot.proofs.Nexts.{next_byte_in_image, next_difference_differs}
-use Rattle.dfu_boot.proofs.Tidy.{IsTidySector, WasLeftTidy, MustBeErased, CostsAtMost}
+use Rattle.dfu_boot.proofs.NextDifference.{next_byte_in_image, next_difference_differs}
+use Rattle.dfu_boot.proofs.RemainingOperations.{IsTidySector, WasLeftTidy, MustBeErased, CostsAtMost}
 
--- If a byte differs in a tidy sector, its piece may be programmed.
+-- If a byte of a tidy sector differs from the image, the piece that contains the byte may be programmed.
 tidy_difference_is_programmed : (image run : List ℕ) (sector last at : ℕ) → IsNotRefused image run sector →
     IsTidySector image run sector last
     → at < length image → slice_index run at ≢ slice_index image at → start_of sector last ≤ at → at < start_of sector last + sector
@@ -53,7 +53,7 @@ tidy_difference_is_programmed image run sector last at ready tidy inside differs
             (omega (arith, x, part_start_not_before_edge 256 (last + 256) at (omega arith) (omega (arith, tidy.whole)) beyond)) (omega
             (arith, y, ends))
 
--- A sector that is due to be erased was not left tidy.
+-- If the next operation erases a sector, the last operation did not leave the sector tidy.
 erased_sector_is_untidy : (image run : List ℕ) (sector begins at : ℕ) (last : Option ℕ) → IsNotRefused image run sector
     → IsEraseDueAt image run sector last begins at → ¬ WasLeftTidy image run sector last begins
 erased_sector_is_untidy image run sector begins at None ready e tidy = tidy
@@ -63,7 +63,7 @@ erased_sector_is_untidy image run sector begins at (Some last) ready e (is, tidy
     (next_difference_differs image run (search_start image (Some last)) at e.next) (omega (arith, is, e.is))
     (subst (λ (x : ℕ). at < x + sector) (sym e.is ∙ sym is) (place_is_before_part_end sector at ready.area.some)))
 
--- A sector that is due to be erased is one that has to be erased (`IsToErase`).
+-- If the next operation erases a sector, the sector must be erased (`MustBeErased`).
 due_sector_must_be_erased : (image run : List ℕ) (sector begins at : ℕ) (last : Option ℕ) → IsNotRefused image run sector
     → IsEraseDueAt image run sector last begins at → MustBeErased image run sector last begins
 due_sector_must_be_erased image run sector begins at last ready e = record {
@@ -89,7 +89,8 @@ blank_sector_is_tidy image run sector begins some pieces whole blank = record {
     first_piece_fits_sector = part_ends_by_edge 256 begins (begins + sector) (sectors_are_whole_parts 256 sector begins pieces whole)
         (sectors_are_whole_parts 256 sector (begins + sector) pieces edge) (omega (arith, some))
 
--- If another sector is due, nothing differs in the sector of the last operation, from the place of that operation on.
+-- If the next differing byte is in another sector than the last operation, the sector of the last operation equals the image from that
+-- operation's offset on.
 no_difference_in_other_sector : (image run : List ℕ) (sector last begins at other : ℕ) → 0 < sector
     → IsNextDifference image run (search_start image (Some last)) at
     → begins ≡ start_of sector at → ¬ (other ≡ begins) → start_of sector last ≡ other
@@ -106,7 +107,7 @@ no_difference_in_other_sector image run sector last begins at other some (inl d)
         let first : other ≤ at = omega (arith, in_other, d.after, low, inside) in
         absurd (apart (sym (place_in_part_has_its_start sector other at some whole first (omega (arith, le, high))) ∙ sym is))
 
--- A sector that was left tidy and is not due has no difference.
+-- If a sector was left tidy, and the next differing byte is in another sector, the tidy sector equals the image.
 tidy_sector_not_due_is_done : (image run : List ℕ) (sector begins at other : ℕ) (last : Option ℕ) → 0 < sector
     → IsNextDifference image run (search_start image last) at
     → begins ≡ start_of sector at → ¬ (other ≡ begins) → WasLeftTidy image run sector last other
@@ -120,7 +121,7 @@ tidy_sector_not_due_is_done image run sector begins at other (Some last) some ne
     in_either_order (inr le) =
         no_difference_in_other_sector image run sector last begins at other some next is apart in_other off.at le off.before off.inside
 
--- A sector with a difference after the erase of another sector had it before.
+-- An erase of one sector adds no difference between another sector and the image.
 difference_was_before_erase : (image run run' : List ℕ) (sector begins other : ℕ) → begins % sector ≡ 0 → other % sector ≡ 0 → ¬ (other
     ≡ begins)
     → OutsideUnchanged run run' begins (begins + sector) → ImageByteDiffers image run' other (other + sector)
@@ -138,7 +139,7 @@ difference_was_before_erase image run run' sector begins other whole whole_other
     difference_is_beside_erase (inl x) = inl (omega (arith, x, off.before))
     difference_is_beside_erase (inr x) = inr (omega (arith, x, off.after))
 
--- A sector that has to be erased after the erase of another one had to be erased before it too.
+-- If a sector must be erased after the erase of another sector, the sector already had to be erased before that erase.
 erase_adds_no_erase : (image run run' : List ℕ) (sector begins at other : ℕ) (last : Option ℕ) → IsNotRefused image run sector
     → IsEraseDueAt image run sector last begins at → ¬ (other ≡ begins) → OutsideUnchanged run run' begins (begins + sector)
     → MustBeErased image run' sector (Some begins) other → MustBeErased image run sector last other
@@ -150,7 +151,7 @@ erase_adds_no_erase image run run' sector begins at other last ready e apart lea
       is_untidy = λ tidy. tidy_sector_not_due_is_done image run sector begins at other last ready.area.some e.next e.is apart tidy off;
     }
 
--- An erase takes one of the sectors that have to be erased, and leaves the pieces of one sector to be programmed.
+-- An erase lowers the upper bound of the remaining operations by at least one.
 pub erase_costs_one_operation : (image run run' : List ℕ) (sector k begins at most : ℕ) (last : Option ℕ) → sector ≡ 256 * k
     → IsNotRefused image run sector
     → IsEraseDueAt image run sector last begins at → OutsideUnchanged run run' begins (begins + sector)

@@ -1,4 +1,4 @@
--- Operation of a start: the medium accepts it, with any images in its slots.
+-- The medium accepts the operation of a start, for any images in its slots.
 use Rattle.std.proofs.Common.{◌≡◌, inl, inr, ⊎_elim, ℕ, ◌+◌, ◌≤◌, ◌<◌, false, length, sym, ◌∙◌, ap, subst, arith}
 use Rattle.dfu_slots.specs.Medium.{MediumState}
 use Rattle.dfu_slots.specs.Image.{Active, gate_of, slot_of}
@@ -18,7 +18,7 @@ use Rattle.dfu_boot.proofs.Places.{mark_ends_within_medium, slot_ends_within_med
 use Rattle.dfu_boot.proofs.Counting.{next_mark_is_not_set}
 use Rattle.dfu_boot.proofs.Slots.{active_slot_is_filled}
 
--- A standing of the medium's images matches its slots.
+-- A standing of a medium's images matches the medium.
 pub standing_fits_slots : (m : MediumState) (tries : ℕ) (s : Standing) → IsStanding m tries s → MatchesMedium m tries s
 standing_fits_slots m tries (trials.Settled s) stands =
     let a : Active m stands.has.image = stands.has.active in
@@ -27,7 +27,7 @@ standing_fits_slots m tries (trials.Settled s) stands =
     (a.sized, ⊎_elim (λ p. inl (sym place ∙ p.0)) (λ p. inr (sym place ∙ p.0)) a.places)
 standing_fits_slots m tries (trials.OnTrial t) stands = (stands.0.sized, stands.0.places, stands.1)
 
--- If nothing is on trial, the active slot has a whole image.
+-- If no image is on trial, the active slot is filled.
 pub settled_slot_is_filled : (m : MediumState) (s : Settled) → IsSettledSlot m s → IsFilledSlot (slot_of m s.slot)
 settled_slot_is_filled m s settled =
     let a : Active m settled.has.image = settled.has.active in
@@ -35,13 +35,12 @@ settled_slot_is_filled m s settled =
     (test_finds_active_image (gate_of m) m.bytes a.at a.spare settled.has.image (active_image_at_its_place a)).0 ∙ sym settled.slot in
     subst (λ (x : ℕ). IsFilledSlot (slot_of m x)) place (active_slot_is_filled m settled.has.image a)
 
--- An image in a slot is whole at its place, because no other slot's data begins there.
+-- The image of a filled slot is whole at its offset, because no other slot's data begins there.
 pub image_is_whole_at_place : (m : MediumState) (slot : ℕ) → IsFilledSlot (slot_of m slot) → IsImageWholeAt m (image_place m.grain slot)
 image_is_whole_at_place m slot full other is =
     let same : slot ≡ other = omega (arith, is) in subst (λ (x : ℕ). IsFilledSlot (slot_of m x)) same full
 
 module _ (m : MediumState) (tries : ℕ) (t : Trial) (are : AreTries m.grain tries) (fits : MatchesMedium m tries (trials.OnTrial t)) where
-  -- Facts of the mark of the next start.
   module _ (lt : t.starts < tries) where
     next_start_mark_is_unset : is_mark_set m t.slot (t.starts + 1) ≡ false
     next_start_mark_is_unset =
@@ -63,6 +62,6 @@ module _ (m : MediumState) (tries : ℕ) (t : Trial) (are : AreTries m.grain tri
           (start_mark_ends_within, gate_unit_at_most_256 m.grain.unit),
         ))
 
-  -- The medium accepts the erase of the gate's sector.
+  -- The medium accepts the erase that closes the gate.
   pub gate_erase_is_accepted : MediumAccepts m (Close t.slot)
   gate_erase_is_accepted = gate_close_is_accepted m t.slot t.base fits.0 fits.1 are.sectors

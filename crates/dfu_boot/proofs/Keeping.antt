@@ -1,11 +1,12 @@
--- Trials after an operation.
+-- A trial after the write of a mark or the erase of its gate: the trial continues, ends with a confirmation, or ends with the confirmed
+-- image active again.
 use Rattle.std.proofs.Common.{◌≡◌, ◌⊎◌, inl, inr, ⊎_elim, ℕ, ◌+◌, ◌*◌, ◌≤◌, ◌<◌, true, false, length, take, slice_index, refl, sym, ◌∙◌, ap, subst, arith}
 use Rattle.std.proofs.Math.Nat.{mul-le-mul_right}
 use Rattle.std.proofs.lemmas.Bool.{cases_eq, cases_lt}
 use Rattle.dfu_slots.specs.Medium.{MediumState, ChangedWithin}
 use Rattle.dfu_slots.specs.Layout.{Slot, slot, ArePlaces, OPEN, header_length}
 use Rattle.dfu_slots.specs.Image.{gate_of, slot_of, IsNewest, HasImage}
-use Rattle.dfu_slots.proofs.Torn.{range_kept_outside_write}
+use Rattle.dfu_slots.proofs.BytesOutsideWrite.{range_kept_outside_write}
 use Rattle.dfu_slots.proofs.Sectors.{gate_room_at_least_16, gate_unit_at_least_16}
 use Rattle.dfu_slots.proofs.Parts.{gate_kept_outside_change, header_kept_outside_change, data_kept_outside_change, slot_kept_outside_change}
 use Rattle.dfu_slots.proofs.Newest.{test_finds_newest_slot}
@@ -20,7 +21,7 @@ use Rattle.dfu_boot.proofs.Slots.{newest_image_is_active, change_keeps_two_slots
 use Rattle.dfu_boot.proofs.Closing.{marks_exclude_trial}
 use Rattle.dfu_boot.proofs.Counting.{count_is_at_most_all_marks, counted_mark_is_set, set_marks_are_counted, equal_marks_have_equal_counts}
 
--- A mark that lies outside a change is set exactly if it was before.
+-- A mark outside a changed range is set exactly if it was set before.
 pub mark_kept_outside_change : (m now : MediumState) (p j from to : ℕ) → ChangedWithin from to m.bytes now.bytes
     → (mark_at m.grain p j + mark_size m.grain ≤ from) ⊎ (to ≤ mark_at m.grain p j)
     → is_mark_set (record now { grain = m.grain }) p j ≡ is_mark_set m p j
@@ -57,7 +58,7 @@ module _ (m now : MediumState) (tries : ℕ) (t : Trial) (are : AreTries m.grain
   mark_at_least_16 : 16 ≤ u
   mark_at_least_16 = gate_unit_at_least_16 m.grain.unit
 
-  -- If both slots and both confirmations are as they were, the image is still on trial.
+  -- If both slots and both confirmation marks are unchanged, the image is still on trial.
   trial_stays_with_slots : length now.bytes ≡ length m.bytes → slot g now.bytes at ≡ slot_of m at → slot g now.bytes base ≡ slot_of m base
       → is_mark_set n at 0 ≡ false → is_mark_set n base 0 ≡ is_mark_set m base 0 → IsOnTrial n at base
   trial_stays_with_slots size mine other unconfirmed kept = record {
@@ -74,7 +75,6 @@ module _ (m now : MediumState) (tries : ℕ) (t : Trial) (are : AreTries m.grain
   both_images_kept : slot g now.bytes at ≡ slot_of m at → slot g now.bytes base ≡ slot_of m base → ImagesSurvive m t n
   both_images_kept mine other = record { new = equal_slots_equal_images _ _ mine; base = equal_slots_equal_images _ _ other }
 
-  -- Facts after the write of a mark of the slot on trial, which worked, failed, lied or was cut.
   module _ (i : ℕ) (le : i ≤ tries) (keeps : ChangedWithin (mark_at m.grain at i) (mark_at m.grain at i + u) m.bytes now.bytes) where
     abbrev from : ℕ
     from = mark_at m.grain at i
@@ -92,7 +92,7 @@ module _ (m now : MediumState) (tries : ℕ) (t : Trial) (are : AreTries m.grain
         (⊎_elim (λ p. inr (omega (arith, p.0, p.1, trial.sized.room, marks_fit_gate_room i le))) (λ p. inl (omega (arith, p.0, p.1)))
         trial.places)
 
-    -- The marks of the other slot are as they were.
+    -- The marks of the other slot are unchanged.
     base_marks_kept_by_mark : (j : ℕ) → j ≤ tries → is_mark_set n base j ≡ is_mark_set m base j
     base_marks_kept_by_mark j lej = mark_kept_outside_change m now base j from (from + u) keeps
         (⊎_elim (λ p. inr (omega (arith, p.0, p.1, trial.sized.room, marks_fit_gate_room i le)))
@@ -116,7 +116,7 @@ module _ (m now : MediumState) (tries : ℕ) (t : Trial) (are : AreTries m.grain
         product : (i + 1) * u ≡ i * u + u
         product = grind arith
 
-    -- If the mark of a start is not set afterwards, the trial goes on as it was.
+    -- If a write leaves a mark set or unset as it was before, the trial is unchanged.
     pub unset_mark_continues_trial : is_mark_set n at i ≡ is_mark_set m at i → TrialContinues m tries t n
     unset_mark_continues_trial same = record {
       stands = (
@@ -132,7 +132,7 @@ module _ (m now : MediumState) (tries : ℕ) (t : Trial) (are : AreTries m.grain
             (λ ge. ⊎_elim (λ gt. other_marks_of_slot_kept k (inr gt)) (λ lei. let e : k ≡ i = omega (arith, ge, lei) in
             subst (λ (x : ℕ). is_mark_set n at x ≡ is_mark_set m at x) (sym e) same) (cases_lt i k)) (cases_lt k i)
 
-    -- If the mark of the next start is set afterwards, that start is recorded.
+    -- If the mark of the next start is set after its write, that start is recorded.
     pub set_mark_records_start : i ≡ t.starts + 1 → is_mark_set n at i ≡ true → StartIsRecorded m tries t n
     set_mark_records_start next set = record {
       starts = recorded_starts n tries at;
@@ -156,7 +156,7 @@ module _ (m now : MediumState) (tries : ℕ) (t : Trial) (are : AreTries m.grain
         least : i ≤ recorded_starts n tries at
         least = set_marks_are_counted n at 1 tries i le each
 
-    -- If the mark of the confirmation is set afterwards, the image is active and confirmed.
+    -- If the confirmation mark is set after its write, the image is active and confirmed.
     pub set_confirmation_confirms : is_mark_set n at 0 ≡ true → IsConfirmed m t n
     set_confirmation_confirms set =
         let newest : IsNewest (slot_of n at) (slot_of n base) = subst (λ (s : Slot). IsNewest s (slot g now.bytes base)) (sym
@@ -179,12 +179,11 @@ module _ (m now : MediumState) (tries : ℕ) (t : Trial) (are : AreTries m.grain
           images = both_images_kept trial_slot_kept_by_mark base_slot_kept_by_mark;
         }
 
-  -- Facts after the erase of the gate of the slot on trial, which worked, failed, lied or was cut.
   module _ (keeps : ChangedWithin at (at + g) m.bytes now.bytes) where
     base_slot_kept_by_erase : slot g now.bytes base ≡ slot_of m base
     base_slot_kept_by_erase = base_slot_kept_by_gate m now at base trial.sized trial.places keeps
 
-    -- The marks of the slot on trial are as they were.
+    -- The marks of the slot on trial are unchanged.
     trial_marks_kept_by_erase : (j : ℕ) → j ≤ tries → is_mark_set n at j ≡ is_mark_set m at j
     trial_marks_kept_by_erase j le = mark_kept_outside_change m now at j at (at + g) keeps (inr (omega arith))
 
@@ -199,7 +198,7 @@ module _ (m now : MediumState) (tries : ℕ) (t : Trial) (are : AreTries m.grain
         )))
         trial.places)
 
-    -- If the gate reads open afterwards, the trial goes on as it was.
+    -- If the gate reads as open after the erase, the trial is unchanged.
     pub open_gate_continues_trial : slice_index now.bytes at ≡ OPEN → TrialContinues m tries t n
     open_gate_continues_trial reads =
         let gate : slice_index now.bytes at ≡ slice_index m.bytes at = reads ∙ sym trial.mine.counts.is_open in
@@ -214,7 +213,7 @@ module _ (m now : MediumState) (tries : ℕ) (t : Trial) (are : AreTries m.grain
           images = both_images_kept mine base_slot_kept_by_erase;
         }
 
-    -- If the gate does not read open afterwards, the confirmed image is active again.
+    -- If the gate does not read as open after the erase, the confirmed image is active again.
     pub closed_gate_ends_trial : ¬ (slice_index now.bytes at ≡ OPEN) → ConfirmedImageIsBack m t n
     closed_gate_ends_trial shut =
         let places = change_keeps_slot_places m now keeps.size base at (slot_places_swap m.bytes at base trial.places) in

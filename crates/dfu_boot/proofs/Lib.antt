@@ -1,28 +1,28 @@
 pub mod Allowing
 pub mod Asked
-pub mod Beside
+pub mod BytesBesideImage
 mod Closing
 pub mod Counting
 mod Downloading
 pub mod Erasing
-pub mod Few
-pub mod Filling
+pub mod OperationCounts
+pub mod PieceBytes
 pub mod Fitting
-pub mod Fresh
-pub mod Holding
+pub mod FreshPieces
+pub mod RunAreas
 mod Keeping
 mod Lists
-pub mod Looking
+pub mod ComparedBytes
 pub mod Members
-pub mod Nexts
+pub mod NextDifference
 mod Outcomes
 pub mod Places
 pub mod Programming
 mod Slots
 mod Starts
-pub mod Tidy
-mod Tried
+pub mod RemainingOperations
+mod WorkingStarts
 mod Unique
-pub mod Unread
+pub mod UnreadMarks
 mod Uploading
 pub mod WholeStarts

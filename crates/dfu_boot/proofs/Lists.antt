@@ -1,4 +1,4 @@
--- Events one after another: after each the medium has the trusted images.
+-- After each event of a sequence, the medium has the trusted images.
 use Rattle.std.proofs.Common.{◌≡◌, ◌⊎◌, inl, inr, ⊎_elim, ℕ, ◌+◌, ◌≤◌, ◌==◌, nat_lt, Bool, true, false, List, [], ◌∷◌, Option, Some, None, refl, sym, ◌∙◌, ap, subst, arith, if◌then◌else◌}
 use Rattle.std.proofs.lemmas.Bool.{true≢false, ltb-true}
 use Rattle.dfu_slots.specs.Units.{Grain}
@@ -24,7 +24,7 @@ use Rattle.dfu_boot.proofs.Unique.{standing_is_unique}
 use Rattle.dfu_boot.proofs.Uploading.{upload_operation_by_starts, start_is_left}
 use Rattle.dfu_boot.proofs.Downloading.{download_keeps_trust}
 
--- A medium with trusted images has an active one.
+-- A medium with trusted images has an active image.
 pub trusted_medium_has_image : (m : MediumState) (tries : ℕ) (trust : TrustedImages) → AreTrusted m tries trust → HasImage m
 trusted_medium_has_image m tries (Alone base) are = are.1.has
 trusted_medium_has_image m tries (Tried base image runs) are =
@@ -32,13 +32,13 @@ trusted_medium_has_image m tries (Tried base image runs) are =
     let trial = are.1.0 in
     record { image = image_at m t.slot; active = newest_image_is_active m t.slot t.base trial.sized trial.places trial.newest trial.mine }
 
--- An image that was confirmed is the only trusted image at first.
+-- If the active image is confirmed, it is the only trusted image.
 pub confirmed_image_is_trusted : (m : MediumState) (tries : ℕ) (s : Settled) → IsStanding m tries (standing.Settled s) → s.is_confirmed
     ≡ true
     → AreTrusted m tries (Alone (image_at m s.slot))
 confirmed_image_is_trusted m tries s stands confirmed = (s, stands, confirmed, refl)
 
--- The image that an upload gives is a trusted one.
+-- An upload returns a trusted image.
 uploaded_image_is_trusted : (now : MediumState) (tries : ℕ) (next : TrustedImages) (given : Option (List ℕ)) → AreTrusted now tries next
     → UploadResult now tries given → ImageOfUpload tries given next
 uploaded_image_is_trusted now tries next None has by = tt
@@ -52,7 +52,7 @@ uploaded_image_is_trusted now tries (Tried base new runs) (Some image) has by =
       omega (arith, has.4, ltb-true has.0.starts tries left),
     )
 
--- Result of an event: the medium has trusted images, which may follow those before the event.
+-- After an event the medium has trusted images, which changed as `TrustedImagesAfterEvent` allows.
 abbrev EventKeepsTrust : MediumState → ℕ → TrustedImages → TrialEvent → MediumState → Type 0
 EventKeepsTrust m tries trust event now =
     (next : TrustedImages) × TrustedImagesAfterEvent tries trust event now next × AreTrusted now tries next
@@ -75,7 +75,7 @@ module _ (m now : MediumState) (tries : ℕ) (are : AreTries m.grain tries) wher
       confirmed_stays_trusted carried,
     )
 
-    -- The image is confirmed already, so that a confirmation asks for nothing.
+    -- A confirmation changes nothing, because the active image is confirmed already.
     confirm_keeps_confirmed_image : (at : ℕ) → ConfirmationOutcome m (trial_confirmation m.grain (standing.Settled s) at) now
         → EventKeepsTrust m tries (Alone base) (Confirms at) now
     confirm_keeps_confirmed_image at by = (
@@ -141,14 +141,14 @@ module _ (m now : MediumState) (tries : ℕ) (are : AreTries m.grain tries) wher
       h.most,
     )
 
-    -- If a start ran the slot of the confirmed image, it ran that image.
+    -- If a start runs the slot of the confirmed image, the start runs that image.
     start_of_base_ran_its_image : (ran : ℕ) → image_at now t.base ≡ image_at m t.base → ran ≡ t.base → image_at now ran ≡ base
     start_of_base_ran_its_image ran kept is = ap (λ (p : ℕ). image_at now p) is ∙ kept ∙ has.2
 
     start_of_new_ran_its_image : (ran : ℕ) → image_at now t.slot ≡ image_at m t.slot → ran ≡ t.slot → image_at now ran ≡ image
     start_of_new_ran_its_image ran kept is = ap (λ (p : ℕ). image_at now p) is ∙ kept ∙ has.3
 
-    -- Trusted images after a start that ran the image in this slot.
+    -- If a start runs one of the two slots, the trusted images change as `TrustedImagesAfterEvent` allows.
     run_start_keeps_trust : (ran : ℕ) → StartsBy m tries (standing.OnTrial t) now ran →
         EventKeepsTrust m tries (Tried base image runs) (Starts (Some ran)) now
     run_start_keeps_trust ran came = ⊎_elim
@@ -169,7 +169,7 @@ module _ (m now : MediumState) (tries : ℕ) (are : AreTries m.grain tries) wher
         (λ back. (Alone base, inr (start_of_base_ran_its_image ran back.image last.1, inr refl), restored_base_is_trusted back)) last.2)
         came
 
-    -- Trusted images after a start in which the power was lost.
+    -- If the power fails during a start, the trusted images change as `TrustedImagesAfterEvent` allows.
     cut_start_keeps_trust : (ran : ℕ) → StartsBy m tries (standing.OnTrial t) now ran →
         EventKeepsTrust m tries (Tried base image runs) (Starts None) now
     cut_start_keeps_trust ran came = ⊎_elim
@@ -189,7 +189,7 @@ module _ (m now : MediumState) (tries : ℕ) (are : AreTries m.grain tries) wher
         (subst (λ (r : ℕ). StartsBy m tries (standing.OnTrial t) now r) (sym by)
         (start_has_result m now tries are (standing.OnTrial t) has.1 carried))
 
-    -- If nothing changed, the trial goes on as it was.
+    -- If the medium is unchanged, the trusted images are unchanged too.
     unchanged_trial_is_trusted : now ≡ m → AreTrusted now tries (Tried base image runs)
     unchanged_trial_is_trusted same = subst (λ (x : MediumState). AreTrusted x tries (Tried base image runs)) (sym same) has
 
@@ -217,7 +217,7 @@ module _ (m now : MediumState) (tries : ℕ) (are : AreTries m.grain tries) wher
         (λ back. (Alone base, inr refl, restored_base_is_trusted back))
         (trial_continues_or_ends m now tries t are has.1 carried)
 
-    -- Without a start left an upload ends the trial; with one it leaves the trial as it is.
+    -- If no try is left, an upload ends the trial; otherwise it leaves the trial unchanged.
     upload_ends_or_leaves_trial : (b : Bool) → nat_lt t.starts tries ≡ b → AskedResult m (upload_operation tries (standing.OnTrial t)) now
         → (next : TrustedImages) × TrialContinuesOrIsOver base image runs next × AreTrusted now tries next
     upload_ends_or_leaves_trial true is carried = (
@@ -243,7 +243,7 @@ module _ (m now : MediumState) (tries : ℕ) (are : AreTries m.grain tries) wher
     no_download_on_trial : (new : List ℕ) → IsDownload m tries new now → ⊥
     no_download_on_trial new d = d.stands.none (record { at = t.slot; base = t.base; trial = has.1.0 })
 
-  -- After each event the medium has trusted images.
+  -- After each event the medium has trusted images, which changed as `TrustedImagesAfterEvent` allows.
   pub event_leaves_trusted_images : (trust : TrustedImages) (event : TrialEvent) → AreTrusted m tries trust →
       TrialStepResult tries m event now
       → EventKeepsTrust m tries trust event now
@@ -280,7 +280,7 @@ module _ (m now : MediumState) (tries : ℕ) (are : AreTries m.grain tries) wher
       (standing_is_unique m tries came.0 (standing.OnTrial has.0) came.1 has.1) came.2) came.3
   event_leaves_trusted_images (Tried base image runs) (Downloads new) has came = absurd (no_download_on_trial base image runs has new came)
 
--- An operation keeps the grain of the medium.
+-- An operation does not change the grain of the medium.
 operation_keeps_grain : (m now : MediumState) (o : Operation) → OperationOutcome m o now → now.grain ≡ m.grain
 operation_keeps_grain m now (Mark at len) carried = carried.1
 operation_keeps_grain m now (Close at) carried = carried.1
@@ -294,7 +294,7 @@ confirmation_keeps_grain m now (confirm.By o) carried = operation_keeps_grain m 
 confirmation_keeps_grain m now confirm.Confirmed same = ap (λ (x : MediumState). x.grain) same
 confirmation_keeps_grain m now confirm.Elsewhere same = ap (λ (x : MediumState). x.grain) same
 
--- Each event keeps the grain of the medium.
+-- An event does not change the grain of the medium.
 event_keeps_grain : (tries : ℕ) (m now : MediumState) (event : TrialEvent) → TrialStepResult tries m event now → now.grain ≡ m.grain
 event_keeps_grain tries m now (Starts ran) came = asked_operation_keeps_grain m now (trial_start m.grain tries came.0).operation came.2
 event_keeps_grain tries m now (Confirms at) came = confirmation_keeps_grain m now (trial_confirmation m.grain came.0 at) came.2
@@ -302,7 +302,7 @@ event_keeps_grain tries m now Ends came = asked_operation_keeps_grain m now (end
 event_keeps_grain tries m now (Uploads given) came = asked_operation_keeps_grain m now (upload_operation tries came.0) came.2
 event_keeps_grain tries m now (Downloads image) came = came.grain
 
--- After each event of a course the medium has trusted images.
+-- After each event of a sequence the medium has trusted images.
 pub trace_keeps_trusted_images : (m : MediumState) (tries : ℕ) (trust : TrustedImages) (steps : List TrialStep) → AreTries m.grain tries
     → AreTrusted m tries trust
     → IsTrialTrace tries m steps → AllTrusted tries trust m steps

@@ -1,20 +1,20 @@
--- Members of lists of sectors.
+-- Members of lists of sector offsets.
 use Rattle.std.proofs.Common.{◌≡◌, ◌⊎◌, inl, inr, ◌<◌, ◌≤◌, ◌*◌, ◌/◌, ◌%◌, ℕ, suc, zero, List, [], ◌∷◌, length, sym, ◌∙◌, ap, refl, subst, arith}
 use Rattle.std.proofs.lemmas.Bool.{cases_lt}
 use Rattle.std.proofs.Math.Nat.{div-add-mod, lt_of_mul-lt-mul_right}
 
--- A number is in a list.
+-- The number is an element of the list.
 abbrev pub IsInList : ℕ → List ℕ → Type 0
 IsInList a [] = ⊥
 IsInList a (x ∷ xs) = (x ≡ a) ⊎ IsInList a xs
 
--- A list with one element less than `xs`, which has each number of `xs` other than `a`.
+-- A list with one element less than `xs`, which contains each number of `xs` except `a`.
 pub record ListWithout (a : ℕ) (xs : List ℕ) : Type 0 where
   pub others : List ℕ
   pub fewer : length xs ≡ suc (length others)
   pub keeps : (i : ℕ) → IsInList i xs → ¬ (i ≡ a) → IsInList i others
 
--- If `a` can be taken out of a list, it can be with one more element before it.
+-- If `a` can be removed from a list, it can be removed from the list with one more element before it.
 removal_skips_first_element : (a x : ℕ) (xs : List ℕ) → ListWithout a xs → ListWithout a (x ∷ xs)
 removal_skips_first_element a x xs w = record {
   others = x ∷ w.others;
@@ -26,7 +26,7 @@ removal_skips_first_element a x xs w = record {
     keeps i (inl e) other = inl e
     keeps i (inr m) other = inr (w.keeps i m other)
 
--- If `a` is the first element, it can be taken out.
+-- The first element of a list can be removed.
 first_element_is_removable : (a x : ℕ) (xs : List ℕ) → x ≡ a → ListWithout a (x ∷ xs)
 first_element_is_removable a x xs is = record {
   others = xs;
@@ -38,23 +38,23 @@ first_element_is_removable a x xs is = record {
     keeps i (inl e) other = absurd (other (sym e ∙ is))
     keeps i (inr m) other = m
 
--- A number that is in a list can be taken out of it.
+-- Each element of a list can be removed.
 pub member_can_be_taken_away : (a : ℕ) (xs : List ℕ) → IsInList a xs → ListWithout a xs
 member_can_be_taken_away a [] m = absurd m
 member_can_be_taken_away a (x ∷ xs) (inl e) = first_element_is_removable a x xs e
 member_can_be_taken_away a (x ∷ xs) (inr m) = removal_skips_first_element a x xs (member_can_be_taken_away a xs m)
 
--- The first n multiples of a number, the largest one first.
+-- First n multiples of a number, from 0 on, the largest one first.
 abbrev pub multiples : ℕ → ℕ → List ℕ
 multiples part zero = []
 multiples part (suc n) = (n * part) ∷ multiples part n
 
--- The first n multiples are n numbers.
+-- The list of the first n multiples has n elements.
 pub multiples_have_length_n : (part n : ℕ) → length (multiples part n) ≡ n
 multiples_have_length_n part zero = refl
 multiples_have_length_n part (suc n) = ap suc (multiples_have_length_n part n)
 
--- If q times a number is one of its first n multiples for q below n, it is one of the first n + 1 for q below n + 1.
+-- If each q below n has its multiple among the first n, each q below n + 1 has its multiple among the first n + 1.
 next_multiple_is_member : (part n q : ℕ) → q < suc n → (q < n → IsInList (q * part) (multiples part n)) →
     IsInList (q * part) (multiples part (suc n))
 next_multiple_is_member part n q lt fewer = at_either_place (cases_lt q n)
@@ -63,7 +63,7 @@ next_multiple_is_member part n q lt fewer = at_either_place (cases_lt q n)
     at_either_place (inl less) = inr (fewer less)
     at_either_place (inr most) = let e : n ≡ q = omega (arith, most, lt) in inl (ap (λ (x : ℕ). x * part) e)
 
--- q times a number is one of its first n multiples, if q is below n.
+-- If q is below n, q times a number is one of its first n multiples.
 multiple_is_member : (part n q : ℕ) → q < n → IsInList (q * part) (multiples part n)
 multiple_is_member part zero q lt = absurd (omega (arith, lt))
 multiple_is_member part (suc n) q lt = next_multiple_is_member part n q lt (multiple_is_member part n q)

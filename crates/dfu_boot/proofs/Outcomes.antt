@@ -1,4 +1,4 @@
--- Results of the operations that a trial asks for.
+-- Outcomes of the operations of a trial.
 use Rattle.std.proofs.Common.{◌≡◌, ◌⊎◌, inl, inr, ℕ, ◌+◌, ◌<◌, Bool, true, false, Some, refl, sym, ◌∙◌, ap, subst, arith, if◌then◌else◌}
 use Rattle.std.proofs.lemmas.Bool.{cases_Bool}
 use Rattle.dfu_slots.specs.Units.{Grain}
@@ -15,7 +15,6 @@ use Rattle.dfu_boot.specs.declared.trial.standing.Standing.TheVariants.{OnTrial}
 use Rattle.dfu_boot.proofs.Counting.{next_mark_is_not_set}
 use Rattle.dfu_boot.proofs.Keeping.{unset_mark_continues_trial, set_mark_records_start, set_confirmation_confirms, gate_erase_ends_or_continues}
 
--- Image that runs after the mark of a start.
 module _ (m now : MediumState) (tries : ℕ) (t : Trial) (are : AreTries m.grain tries) (stands : IsStanding m tries (OnTrial t))
     (lt : t.starts < tries) (grain : now.grain ≡ m.grain)
     (keeps : ChangedWithin (mark_at m.grain t.slot (t.starts + 1)) (mark_at m.grain t.slot (t.starts + 1) + mark_size m.grain) m.bytes
@@ -29,7 +28,7 @@ module _ (m now : MediumState) (tries : ℕ) (t : Trial) (are : AreTries m.grain
   abbrev starting : Starting
   starting = record { operation = Some (mark_op m.grain t.slot next); slot = t.slot; otherwise = t.base }
 
-  -- The mark of the next start was not set before.
+  -- The mark of the next start was not set before its write.
   start_mark_was_unset : is_mark_set m t.slot next ≡ false
   start_mark_was_unset =
       let e : 1 + recorded_starts m tries t.slot ≡ next = omega (arith, stands.1) in
@@ -44,7 +43,7 @@ module _ (m now : MediumState) (tries : ℕ) (t : Trial) (are : AreTries m.grain
   unfolding is_mark_set
   unset_mark_reads_unset is = is
 
-  -- The image on trial runs, and the start is recorded; or the mark does not read set, and the confirmed one runs.
+  -- The image on trial runs, and the start is recorded; or the mark does not read as set, and the confirmed image runs.
   pub start_is_recorded_or_mark_unset : (StartIsRecorded m tries t now × (runs_in now starting starting.operation ≡ t.slot))
       ⊎ (TrialContinues m tries t now × (runs_in now starting starting.operation ≡ t.base) × MarkReadsUnset now starting.operation)
   start_is_recorded_or_mark_unset = elim (cases_Bool (is_mark_set w t.slot next)) [
@@ -67,7 +66,6 @@ module _ (m now : MediumState) (tries : ℕ) (t : Trial) (are : AreTries m.grain
     | inr same ↦ inr (same.0, same.1)
   ]
 
--- Results of a confirmation, and of an end of a trial.
 module _ (m now : MediumState) (tries : ℕ) (t : Trial) (are : AreTries m.grain tries) (stands : IsStanding m tries (OnTrial t)) where
   pub confirmed_or_trial_continues : OperationOutcome m (mark_op m.grain t.slot 0) now → IsConfirmed m t now ⊎ TrialContinues m tries t now
   confirmed_or_trial_continues carried =

@@ -1,4 +1,4 @@
--- Places of marks.
+-- The marks of a slot lie within the medium, and the medium accepts the marks that are not set.
 use Rattle.std.proofs.Common.{◌≡◌, inl, inr, ⊎_elim, ℕ, zero, suc, ◌+◌, ◌-◌, ◌*◌, ◌≤◌, ◌<◌, ◌==◌, Bool, true, false, List, [], ◌∷◌, length, get_or, take, drop, slice_index, slice_range, sym, ◌∙◌, ap, arith, if◌then◌else◌, length-drop, eqb-true}
 use Rattle.std.specs.List.{list_all}
 use Rattle.std.proofs.lemmas.Bool.{not-false, and_parts}
@@ -17,7 +17,7 @@ use Rattle.dfu_boot.specs.trial.Marks.{mark_size, mark_at, mark_bytes, is_erased
 use Rattle.dfu_boot.specs.trial.Calls.{MediumAccepts, mark_op}
 use Rattle.dfu_boot.specs.declared.trial.operation.Operation.TheVariants.{Close}
 
--- If p and q are the places of the two slots, q and p are.
+-- The offsets of the two slots may be given in either order.
 pub slot_places_swap : (l : List ℕ) (p q : ℕ) → ArePlaces l p q → ArePlaces l q p
 slot_places_swap l p q there = ⊎_elim (λ a. inr (a.1, a.0)) (λ a. inl (a.1, a.0)) there
 
@@ -26,14 +26,14 @@ unset_mark_is_erased : (m : MediumState) (at i : ℕ) → is_mark_set m at i ≡
 unfolding is_mark_set
 unset_mark_is_erased m at i unset = not-false _ unset
 
--- If all bytes of a list are FFh, each byte of it is.
+-- If a list is erased, each of its bytes is FFh.
 erased_list_bytes_are_ff : (l : List ℕ) (i : ℕ) → list_all is_erased l ≡ true → i < length l → get_or l i 0 ≡ 255
 erased_list_bytes_are_ff [] i all lt = absurd (omega (arith, lt))
 erased_list_bytes_are_ff (x ∷ xs) zero all lt = eqb-true x 255 (and_parts (x == 255) (list_all is_erased xs) all).0
 erased_list_bytes_are_ff (x ∷ xs) (suc i) all lt = erased_list_bytes_are_ff xs i (and_parts (x == 255) (list_all is_erased xs) all).1
     (omega (arith, lt))
 
--- If all bytes of a range are FFh, each byte of the medium in that range is.
+-- If a range is erased, each byte of the medium in that range is FFh.
 erased_range_bytes_are_ff : (l : List ℕ) (at n p : ℕ) → list_all is_erased (slice_range l at (at + n)) ≡ true → at + n ≤ length l → at
     ≤ p → p < at + n
     → slice_index l p ≡ 255
@@ -54,12 +54,12 @@ marks_end_in_header_sector w tries i t le =
     ap (λ (k : ℕ). (k + 2) * mark_size w) more ∙ grind arith in
     omega (arith, t.room, product)
 
--- Each mark of a slot within the medium ends within it.
+-- Each mark of a slot within the medium ends within the medium.
 pub mark_ends_within_medium : (m : MediumState) (tries at i : ℕ) → IsSizedMedium m → AreTries m.grain tries → i ≤ tries
     → at + slot_size m.bytes ≤ length m.bytes → mark_at m.grain at i + mark_size m.grain ≤ length m.bytes
 mark_ends_within_medium m tries at i sized t le within = omega (arith, marks_end_in_header_sector m.grain tries i t le, sized.room, within)
 
--- If the next mark is set, one start more is recorded.
+-- If the next mark is set, one more start is recorded.
 pub set_mark_adds_a_start : (m : MediumState) (at done tries : ℕ) → done < tries → is_mark_set m at (done + 1) ≡ true
     → recorded_starts m tries at ≡ done + marks_set_in_row m at (done + 1) (tries - done)
     → recorded_starts m tries at ≡ done + 1 + marks_set_in_row m at (done + 1 + 1) (tries - (done + 1))
@@ -70,7 +70,7 @@ set_mark_adds_a_start m at done tries lt set so_far =
     set
     ∙ omega arith
 
--- If the next mark is not set, no further start is recorded.
+-- If the next mark is not set, no more starts are recorded.
 pub unset_mark_ends_starts : (m : MediumState) (at done tries : ℕ) → done < tries → is_mark_set m at (done + 1) ≡ false
     → recorded_starts m tries at ≡ done + marks_set_in_row m at (done + 1) (tries - done) → done ≡ recorded_starts m tries at
 unset_mark_ends_starts m at done tries lt unset so_far =
@@ -80,7 +80,8 @@ unset_mark_ends_starts m at done tries lt unset so_far =
     unset
     ∙ omega arith)
 
--- A mark begins at a multiple of the unit, as its slot and the room of a gate do.
+-- A mark begins at a multiple of the write unit, because the offset of its slot and the number of bytes reserved for a gate are such
+-- multiples.
 mark_place_is_multiple : (u : WriteUnit) (a r i : ℕ) → IsMultiple u a → IsMultiple u r →
     IsMultiple u (a + r + gate_size u + i * gate_size u)
 mark_place_is_multiple Byte a r i x y = omega arith
@@ -105,7 +106,7 @@ module _ (m : MediumState) (at other : ℕ) (sized : IsSizedMedium m) (places : 
   pub slot_ends_within_medium : at + slot_size m.bytes ≤ length m.bytes
   slot_ends_within_medium = (slot_place_ends_within (gate_of m) m.bytes at other (sized_medium_has_two_slots m sized) places).0
 
-  -- Each slot begins at a multiple of the unit.
+  -- Each slot begins at a multiple of the write unit.
   slot_begins_with_unit : IsMultiple m.grain.unit at
   slot_begins_with_unit = ⊎_elim (λ p. zero_size_is_multiple m.grain.unit at p.0)
       (λ p. slot_size_is_multiple m.grain.unit (capacity_of m) (gate_of m) at sized.whole.units (gate_room_is_multiple m.grain (capacity_of
@@ -126,7 +127,7 @@ module _ (m : MediumState) (at other : ℕ) (sized : IsSizedMedium m) (places : 
         λ some p low high. erased_range_bytes_are_ff m.bytes place size p (unset_mark_is_erased m at i unset) room low high,
       )
 
-  -- The medium accepts the erase of the gate's sector.
+  -- The medium accepts the erase that closes the gate.
   pub gate_close_is_accepted : 0 < m.grain.sector → MediumAccepts m (Close at)
   gate_close_is_accepted some = (
     omega (arith, slot_ends_within_medium, sized.room, gate_room_is_a_sector m.grain (capacity_of m) sized.whole some),

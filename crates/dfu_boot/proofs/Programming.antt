@@ -1,4 +1,4 @@
--- Cost of a program: one of the pieces that are left.
+-- Each program lowers the upper bound of the remaining operations by at least one.
 use Rattle.std.proofs.Common.{◌≡◌, ◌≢◌, ◌⊎◌, inl, inr, ◌<◌, ◌≤◌, ◌+◌, ◌*◌, ◌%◌, ℕ, suc, zero, List, length, slice_index, Some, sym, ◌∙◌, subst, arith}
 use Rattle.std.proofs.lemmas.Bool.{cases_lt}
 use Rattle.dfu_boot.specs.install.Allowed.{ImageByteDiffers}
@@ -6,10 +6,10 @@ use Rattle.dfu_boot.specs.install.Area.{RangeMatchesImage, RangeIsBlank, start_o
 use Rattle.dfu_boot.specs.install.Next.{IsNotRefused, IsNextDifference, IsProgramDueAt, search_start}
 use Rattle.dfu_boot.specs.install.Operations.{OutsideUnchanged}
 use Rattle.dfu_boot.proofs.WholeStarts.{sectors_are_whole_parts, part_start_is_multiple, place_is_before_part_end, part_start_not_before_edge, part_ends_by_edge, part_end_is_multiple}
-use Rattle.dfu_boot.proofs.Tidy.{IsTidySector, MustBeErased, HasPiecesLeft, CostsAtMost}
+use Rattle.dfu_boot.proofs.RemainingOperations.{IsTidySector, MustBeErased, HasPiecesLeft, CostsAtMost}
 
--- A piece is due to be programmed: it is in the sector of the last operation, not before its place, `at` is the piece's first byte that
--- differs, and all bytes from the place of the last operation to before `at` equal the image.
+-- The next operation programs this piece. The piece is in the sector of the last operation, and not before it. `at` is the first differing
+-- byte of the piece, and the bytes from the last operation's offset up to `at` equal the image.
 pub record IsProgramOfPiece (image run : List ℕ) (sector last piece at : ℕ) : Type 0 where
   pub ready : IsNotRefused image run sector
   pub after : last ≤ piece
@@ -20,7 +20,8 @@ pub record IsProgramOfPiece (image run : List ℕ) (sector last piece at : ℕ) 
   pub same : RangeMatchesImage image run last at
   pub differs : slice_index run at ≢ slice_index image at
 
--- The first byte that differs is not before the last operation, because its piece is not.
+-- The next differing byte is not before the last operation's offset, because the piece that contains the byte begins at or after that
+-- offset.
 difference_not_before_last_op : (image run : List ℕ) (last piece at : ℕ) → IsNextDifference image run (search_start image (Some last)) at
     → piece ≡ start_of 256 at
     → last ≤ piece → (last ≤ at) × RangeMatchesImage image run last at × (at < length image) × (slice_index run at ≢ slice_index image at)
@@ -45,7 +46,7 @@ program_due_is_of_piece image run sector last piece at ready p =
       differs = f.3;
     }
 
--- The piece ends at the end of its sector, or before.
+-- The piece ends within its sector.
 pub piece_ends_in_its_sector : (image run : List ℕ) (sector last piece at : ℕ) → IsProgramOfPiece image run sector last piece at
     → piece + 256 ≤ start_of sector piece + sector
 piece_ends_in_its_sector image run sector last piece at p =
@@ -76,7 +77,7 @@ program_keeps_sector_tidy image run run' sector last piece at p leaves same tidy
     blank i low high =
         leaves.others i (inr low) ∙ tidy.blank i (omega (arith, low, p.after)) (omega (arith, high, p.sector_is))
 
--- A byte that differs after the program differed before.
+-- A program adds no difference between the run area and the image.
 difference_was_before_program : (image run run' : List ℕ) (sector piece begins : ℕ) → OutsideUnchanged run run' piece (piece + 256)
     → RangeMatchesImage image run' piece (piece + 256) → ImageByteDiffers image run' begins (begins + sector)
     → ImageByteDiffers image run begins (begins + sector)
@@ -97,7 +98,7 @@ difference_was_before_program image run run' sector piece begins leaves same off
         difference_by_piece_end (inl less) = same off.at le less off.inside
         difference_by_piece_end (inr beyond) = leaves.others off.at (inr beyond) ∙ e
 
--- A sector that has to be erased after the program had to be erased before it too.
+-- If a sector must be erased after a program, the sector already had to be erased before the program.
 program_adds_no_erase : (image run run' : List ℕ) (sector last piece at begins : ℕ) → IsProgramOfPiece image run sector last piece at
     → OutsideUnchanged run run' piece (piece + 256) → RangeMatchesImage image run' piece (piece + 256)
     → MustBeErased image run' sector (Some piece) begins → MustBeErased image run sector (Some last) begins
@@ -111,7 +112,7 @@ program_adds_no_erase image run run' sector last piece at begins p leaves same t
   );
 }
 
--- The pieces that are left, this one among them, reach to the end of the sector.
+-- The remaining pieces, including this one, reach to the end of the sector.
 pieces_left_reach_sector_end : (image run : List ℕ) (sector last piece at left : ℕ) → IsProgramOfPiece image run sector last piece at
     → HasPiecesLeft image run sector (Some last) left → start_of sector piece + sector ≤ piece + 256 * left
 pieces_left_reach_sector_end image run sector last piece at left p (inl most) = omega (arith, most, p.sector_is, p.after)
@@ -124,7 +125,7 @@ pieces_left_reach_sector_end image run sector last piece at left p (inr (whole, 
         let later : last + 256 ≤ start_of 256 at = part_start_not_before_edge 256 (last + 256) at (omega arith) (omega (arith, whole)) le in
         omega (arith, most, later, p.sector_is, p.is)
 
--- A program costs one of the pieces that are left.
+-- A program lowers the upper bound of the remaining operations by at least one.
 pub program_costs_one_piece : (image run run' : List ℕ) (sector k last piece at most : ℕ) → IsProgramOfPiece image run sector last piece at
     → OutsideUnchanged run run' piece (piece + 256) → RangeMatchesImage image run' piece (piece + 256)
     → CostsAtMost image run sector k (Some last) most

@@ -1,4 +1,4 @@
--- Slots with an image, which stay when other bytes change.
+-- Filled slots, and changes of a medium that leave a slot unchanged.
 use Rattle.std.proofs.Common.{◌≡◌, ◌⊎◌, inl, inr, ⊎_elim, ℕ, ◌+◌, ◌-◌, ◌*◌, ◌/◌, ◌^◌, ◌<◌, List, length, take, drop, slice_index, sym, ◌∙◌, ap, subst, arith}
 use Rattle.std.specs.Int.{w32, from_le_bytes}
 use Rattle.std.proofs.lemmas.List.{length-take-le}
@@ -13,13 +13,13 @@ use Rattle.dfu_slots.proofs.Parts.{slot_kept_outside_change, data_length}
 use Rattle.dfu_boot.specs.trial.Trial.{IsFilledSlot, image_at}
 use Rattle.dfu_boot.proofs.Places.{slot_places_swap, slot_ends_within_medium}
 
--- A well-formed header gives the length of its image.
+-- A well-formed header contains the length of its image.
 formed_header_has_length : (s : Slot) (len : ℕ) → HasHeader s len → len < 2 ^ 32 → header_length s ≡ len
 formed_header_has_length s len has fits =
     let read : List ℕ → ℕ = λ h. from_le_bytes w32 (take 4 (drop 4 h)) in
     ⊎_elim (λ e. ap read e ∙ from_le_bytes-to_le_bytes_4 len fits) (λ e. ap read e ∙ from_le_bytes-to_le_bytes_4 len fits) has.well_formed
 
--- A slot that counts, with a well-formed header, has an image.
+-- If a slot counts (`SlotCounts` of dfu_slots) and has a well-formed header, the slot is filled.
 pub slot_has_image : (m : MediumState) (p q len : ℕ) → IsSizedMedium m → ArePlaces m.bytes p q → SlotCounts (slot_of m p)
     → HasHeader (slot_of m p) len
     → IsFilledSlot (slot_of m p)
@@ -45,11 +45,11 @@ newest_image_is_active m p q sized places newest full =
       image_is = ap (λ (n : ℕ). take n (slot_of m p).data_bytes) (sym long);
     }
 
--- The active slot has an image.
+-- The active slot is filled.
 pub active_slot_is_filled : (m : MediumState) (image : List ℕ) (a : Active m image) → IsFilledSlot (slot_of m a.at)
 active_slot_is_filled m image a = slot_has_image m a.at a.spare (length image) a.sized a.places a.newest.counts a.header_is
 
--- The active image is the image of the newest slot.
+-- The active image is that of the newest slot.
 pub active_image_is_newest : (m : MediumState) (p q : ℕ) (image : List ℕ) → ArePlaces m.bytes p q → IsNewest (slot_of m p) (slot_of m q)
     → Active m image → image_at m p ≡ image
 active_image_is_newest m p q image places newest a =
@@ -68,7 +68,7 @@ module _ (m now : MediumState) (size : length now.bytes ≡ length m.bytes) wher
   change_keeps_slot_size : slot_size now.bytes ≡ slot_size m.bytes
   change_keeps_slot_size = ap (λ (k : ℕ). k / 2) size
 
-  -- A change that keeps the length of a medium keeps its two slots.
+  -- A change that does not alter the length of a medium leaves it with two slots.
   pub change_keeps_two_slots : IsSizedMedium m → IsSizedMedium n
   change_keeps_two_slots sized = record {
     even = omega (arith, size, change_keeps_slot_size, sized.even);
@@ -77,7 +77,7 @@ module _ (m now : MediumState) (size : length now.bytes ≡ length m.bytes) wher
     whole = subst (λ (k : ℕ). IsWhole m.grain (k - 2 * gate_of m)) (sym change_keeps_slot_size) sized.whole;
   }
 
-  -- A change that keeps the length of a medium keeps the places of its slots.
+  -- A change that does not alter the length of a medium leaves the offsets of its slots unchanged.
   pub change_keeps_slot_places : (p q : ℕ) → ArePlaces m.bytes p q → ArePlaces now.bytes p q
   change_keeps_slot_places p q there = subst (λ (k : ℕ). ((p ≡ 0) × (q ≡ k)) ⊎ ((p ≡ k) × (q ≡ 0))) (sym change_keeps_slot_size) there
 
@@ -86,13 +86,13 @@ module _ (m now : MediumState) (at base : ℕ) (sized : IsSizedMedium m) (places
   abbrev w : MediumState
   w = record now { grain = m.grain }
 
-  -- A change of the gate of one slot keeps the other slot.
+  -- A change in the gate of one slot leaves the other slot unchanged.
   pub base_slot_kept_by_gate : slot (gate_of m) now.bytes base ≡ slot_of m base
   base_slot_kept_by_gate = slot_kept_outside_change (gate_of m) at (at + gate_of m) m.bytes now.bytes base keeps (gate_room_at_least_16
       m.grain) (omega (arith, sized.room))
       (⊎_elim (λ p. inr (omega (arith, p.0, p.1, sized.room))) (λ p. inl (omega (arith, p.0, p.1))) places)
 
-  -- If the gate no longer reads open, the other slot is the newest, if it has an image.
+  -- If the gate no longer reads as open, the other slot is the newest, provided that it is filled.
   pub base_is_newest_again : ¬ (slice_index now.bytes at ≡ OPEN) → IsFilledSlot (slot_of m base) → IsNewest (slot_of w base) (slot_of w at)
   base_is_newest_again shut full = record {
     counts = subst SlotCounts (sym base_slot_kept_by_gate) full.counts;

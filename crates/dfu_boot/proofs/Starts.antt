@@ -1,4 +1,4 @@
--- Medium after a start.
+-- A start satisfies `StartOutcome`, and leaves an active image.
 use Rattle.std.proofs.Common.{◌≡◌, inl, inr, ⊎_elim, ℕ, ◌+◌, Bool, true, false, nat_lt, Some, refl, sym, ap, subst, arith, if◌then◌else◌}
 use Rattle.std.proofs.lemmas.Bool.{ltb-true, ltb-false}
 use Rattle.dfu_slots.specs.Medium.{MediumState}
@@ -34,13 +34,13 @@ module _ (m now : MediumState) (tries : ℕ) (are : AreTries m.grain tries) wher
       subst (λ (s : Starting). AskedResult m s.operation now → StartOutcome m tries (OnTrial t) now (runs_in now s s.operation)) (sym so)
       (λ carried. inr (ltb-false t.starts tries is, refl, trial_continues_or_ends m now tries t are stands carried))
 
-  -- A start leaves the medium, and runs the slot, that `StartOutcome` names, for any outcome of its operation.
+  -- A start satisfies `StartOutcome`, for any outcome of its operation.
   pub start_has_result : (s : Standing) → IsStanding m tries s → AskedResult m (trial_start m.grain tries s).operation now
       → StartOutcome m tries s now (runs_in now (trial_start m.grain tries s) (trial_start m.grain tries s).operation)
   start_has_result (standing.Settled s) stands carried = (carried, refl)
   start_has_result (standing.OnTrial t) stands carried = trial_start_has_result t stands (nat_lt t.starts tries) refl carried
 
-  -- Each medium with an image on trial has an active image.
+  -- A medium with an image on trial has an active image.
   trial_medium_has_image : (w : MediumState) (t : Trial) → IsStanding w tries (OnTrial t) → HasImage w
   trial_medium_has_image w t stands =
       let trial = stands.0 in
@@ -54,7 +54,7 @@ module _ (m now : MediumState) (tries : ℕ) (are : AreTries m.grain tries) wher
       (λ last. ⊎_elim (λ same. trial_medium_has_image now t same.stands) (λ back. back.stands.has) last.2)
       came
 
--- The mark lies within the medium after the operation too.
+-- A mark that lies within the medium before an operation lies within it after the operation.
 pub mark_stays_within_medium : (m now : MediumState) (o : Operation) → OperationOutcome m o now → MarkIsWithin m o → MarkIsWithin now o
 mark_stays_within_medium m now (Mark at len) carried within = (omega (arith, carried.0.size, within.0), within.1)
 mark_stays_within_medium m now (Close at) carried within = within

@@ -1,4 +1,4 @@
--- The images of a medium have one standing.
+-- The images of a medium have at most one standing.
 use Rattle.std.proofs.Common.{◌≡◌, ℕ, List, refl, sym, ◌∙◌, ap, arith}
 use Rattle.dfu_slots.specs.Medium.{MediumState}
 use Rattle.dfu_slots.specs.Image.{gate_of, Active}
@@ -29,7 +29,7 @@ module _ (m : MediumState) (tries : ℕ) where
       let count : a.starts ≡ b.starts = x.1 ∙ ap (λ (s : ℕ). recorded_starts m tries s) slot ∙ sym y.1 in
       λ i. standing.OnTrial (record { slot = slot i; base = base i; starts = count i })
 
--- If the active image is on trial, the trusted images are the two of the trial, with as many runs as starts are recorded.
+-- If the active image is on trial, the trusted images are the two of the trial, with as many runs as recorded starts.
 pub trial_images_are_trusted : (m : MediumState) (tries : ℕ) (t : Trial) (image : List ℕ) → IsStanding m tries (standing.OnTrial t) →
     Active m image
     → AreTrusted m tries (Tried (image_at m t.base) image t.starts)

@@ -1,4 +1,4 @@
--- Image that an upload gives: the one that the next start runs.
+-- Image that an upload returns: the one that the next start runs.
 use Rattle.std.proofs.Common.{◌≡◌, inl, inr, ⊎_elim, ℕ, ◌+◌, nat_lt, Bool, true, false, List, Option, Some, None, refl, sym, ◌∙◌, ap, subst, if◌then◌else◌}
 use Rattle.std.proofs.lemmas.Bool.{ltb-true, ltb-false}
 use Rattle.dfu_slots.specs.Medium.{MediumState}
@@ -15,7 +15,7 @@ use Rattle.dfu_boot.specs.declared.trial.standing.Standing.TheVariants as standi
 use Rattle.dfu_boot.proofs.Outcomes.{start_is_recorded_or_mark_unset, trial_continues_or_ends}
 use Rattle.dfu_boot.proofs.Unique.{standing_is_unique}
 
--- With a start left an upload asks for nothing, and without one for the end of the trial.
+-- If a try is left, an upload has no operation; otherwise its operation ends the trial.
 pub upload_operation_by_starts : (tries : ℕ) (t : Trial) (b : Bool) → nat_lt t.starts tries ≡ b
     → upload_operation tries (standing.OnTrial t) ≡ (if b then None else Some (Close t.slot))
 upload_operation_by_starts tries t b is = ap (λ (x : Bool). if x then None else Some (Close t.slot)) is
@@ -24,7 +24,7 @@ no_operation_means_start_left : (o : Operation) (b : Bool) → (if b then None e
 no_operation_means_start_left o true e = refl
 no_operation_means_start_left o false e = absurd cc
 
--- If an upload asks for nothing on trial, a start is left.
+-- If an upload on trial has no operation, a try is left.
 pub start_is_left : (tries : ℕ) (t : Trial) → upload_operation tries (standing.OnTrial t) ≡ None → nat_lt t.starts tries ≡ true
 start_is_left tries t e = no_operation_means_start_left (Close t.slot) (nat_lt t.starts tries) e
 
@@ -53,14 +53,15 @@ module _ (m now : MediumState) (tries : ℕ) (are : AreTries m.grain tries) wher
             (trial_continues_or_ends m now tries t are stands ends),
       )
 
-  -- An upload leaves the medium that `UploadOutcome` names, for any outcome of its operation.
+  -- An upload satisfies `UploadOutcome`, for any outcome of its operation.
   pub upload_has_result : (s : Standing) → IsStanding m tries s → AskedResult m (upload_operation tries s) now → UploadOutcome m tries s now
   upload_has_result (standing.Settled s) stands same =
       subst (λ (x : MediumState). RunsAtNextStart x tries (image_at m s.slot)) (sym same)
       (record { standing = standing.Settled s; stands = stands; asks = refl; image_is = refl })
   upload_has_result (standing.OnTrial t) stands carried = trial_upload_has_result t stands (nat_lt t.starts tries) refl carried
 
-  -- A start of the image on trial, with a start left, runs the image, or its mark does not read set.
+  -- With a try left, a start on trial runs the image on trial, or the mark of the start does not read as set and the image is the next one
+  -- to run.
   start_on_trial_runs_image : (t : Trial) → IsStanding m tries (standing.OnTrial t) → nat_lt t.starts tries ≡ true
       → AskedResult m (trial_start m.grain tries (standing.OnTrial t)).operation now
       → let s = trial_start m.grain tries (standing.OnTrial t) in
@@ -92,7 +93,8 @@ module _ (m now : MediumState) (tries : ℕ) (are : AreTries m.grain tries) wher
   start_runs_uploaded_image (standing.OnTrial t) stands asks carried = start_on_trial_runs_image t stands (start_is_left tries t asks)
       carried
 
-  -- The next start runs the image that an upload gives, or its mark does not read set.
+  -- The next start runs the image that an upload returned, or the mark of the start does not read as set and the image is the next one to
+  -- run.
   pub next_start_runs_upload : (image : List ℕ) (s : Standing) → RunsAtNextStart m tries image → IsStanding m tries s
       → AskedResult m (trial_start m.grain tries s).operation now
       → RunsOrIsNextToRun image tries (trial_start m.grain tries s).operation now

@@ -1,4 +1,4 @@
-//! The next operation that brings the active image of a slot store to a run area.
+//! Next operation that copies the active image of a slot store to a run area.
 ghost use Rattle.std.specs.Prelude.{◌≡◌, ℕ, List};
 ghost use Rattle.dfu_slots.specs.StoreView.{image_of};
 ghost use Rattle.dfu_slots.specs.Image.{Active};
@@ -10,9 +10,9 @@ use crate::install::{Due, next};
 use dfu_slots::laws::active_image_is_one;
 use dfu_slots::{Medium, Slots};
 
-/// Returns the next operation that brings the active image of the store to the run area: `install::next` with that image.
+/// Returns the next operation that copies the active image of the store to the run area: the result of `install::next` for that image.
 ///
-/// `memory` has the bytes of the store's medium, as it is mapped for reading. The store is not changed.
+/// `memory` is the store's medium, mapped for reading. The store is not changed.
 pub fn next_active<M: Medium>(
     slots: &Slots<M>,
     memory: &[u8],

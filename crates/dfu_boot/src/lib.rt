@@ -1,4 +1,4 @@
-//! Starts of an image of a slot store: a new image on trial, and a run area, for which images are linked.
+//! Start of an image of a slot store: a new image runs on trial first, and an image can be copied to the run area for which it is linked.
 #![tactic(auto)]
 
 pub mod install;

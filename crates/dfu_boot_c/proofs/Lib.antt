@@ -1,3 +1,3 @@
-mod Within
-mod Whole
-mod Told
+mod TrialSlots
+mod WholeImages
+mod DueOperations

@@ -1,4 +1,4 @@
-//! Start of an image, for programs in C: trials, two areas and run areas, in static libraries.
+//! Calls that choose and start an image, for programs in C: trials, two areas and run areas, in static libraries.
 #![tactic(auto)]
 
 mod home;

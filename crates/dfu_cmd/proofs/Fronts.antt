@@ -1,9 +1,9 @@
--- Bytes that a buffer has passed to its writer.
+-- Bytes that a buffer has passed on to its writer.
 use Rattle.std.proofs.Common.{refl, sym, ℕ, List, None, Option, Some, IfSome}
 use Rattle.std.specs.Io.KnownBytes.{Keeps, append_known}
 use Rattle.dfu_cmd.specs.Buffering.{HasWrittenPrefix}
 
--- If the bytes written into the buffer are known, those that it has passed to its writer are a prefix of them.
+-- The bytes that a buffer has passed on to its writer are a prefix of the bytes written into the buffer.
 pub buffer_front_is_out : (written behind : Option (List ℕ)) (buffer : List ℕ) → Keeps written (append_known behind buffer)
     → IfSome written (λ w. HasWrittenPrefix w behind)
 buffer_front_is_out None behind buffer kept = tt

@@ -12,8 +12,8 @@ use Rattle.dfu_output.specs.AnswerLines.{fault_line}
 use Rattle.dfu_output.specs.Output.{TextIsOut}
 use Rattle.dfu_cmd.specs.NumberText.{NumberedLineIsOut}
 
--- After the output of a script that stopped, the line of its fault is written; or nothing, if the fault is Write. If a line was printed
--- instead of an expected one, a line feed ends it first.
+-- After the output of a script that stopped, the command writes the line for the fault, or nothing if the fault is Write. If the script
+-- printed a line other than the expected one, a line feed ends that line first.
 abbrev pub StopLineIsOut : ScriptFault → Option (List ℕ) → Option (List ℕ) → Exit → Type 0
 StopLineIsOut (BadLine n) old new result = NumberedLineIsOut (codes "refused BadLine ") n old new result
 StopLineIsOut (LateConfig n) old new result = NumberedLineIsOut (codes "refused LateConfig ") n old new result
@@ -25,15 +25,15 @@ StopLineIsOut NoMemory old new result = TextIsOut old new (fault_line suffix.NoM
 StopLineIsOut Read old new result = TextIsOut old new (fault_line suffix.Read) Fault result
 StopLineIsOut Write old new result = (new ≡ old) × (result ≡ Fault)
 
--- The script `given` ran with the bytes `file` as FILE. Either it ran to its end, and nothing more is written; or it stopped, and the line
--- of its fault is written after its output.
+-- The script `given` ran with the bytes `file` as FILE. It ran to its end and nothing more is written, or it stopped and the line for its
+-- fault follows its output.
 pub data IsRunText (file given old new : Option (List ℕ)) (result : Exit) : Type 0 where
   ran_to_end : IfSome given (λ text. RunIsOut file text old new) → result ≡ Done → IsRunText file given old new result
   stopped_at_fault : (mid : Option (List ℕ)) (fault : ScriptFault) →
       IfSome given (λ text. ScriptFails file text old mid fault) → StopLineIsOut fault mid new result → IsRunText file given old new result
 
--- The headline (`Printed` of dfu_link) holds of the output: of the text of the whole script, and nothing more is written; or of the text up
--- to the stop, and then the line of the script's fault is written.
+-- Either `WholeIsPrinted` of dfu_link holds for the output of the whole script, and nothing more is written. Or the script stopped,
+-- `PartIsPrinted` holds for its output up to the fault, and the line for the fault follows.
 pub data HeadlineIsOut (file given old new : Option (List ℕ)) (result : Exit) : Type 0 where
   whole_text_is_printed : IfSome given (λ text. WholeIsPrinted file text old new) → result ≡ Done → HeadlineIsOut file given old new result
   text_part_is_printed : (mid : Option (List ℕ)) (fault : ScriptFault) →

@@ -1,9 +1,9 @@
--- Reasons for refusing words of the command line.
+-- Reasons for refusing arguments of the command line.
 use Rattle.std.specs.Prelude.{ℕ, List, codes}
 use Rattle.dfu_cmd.specs.declared.words.WordFault.{WordFault}
 use Rattle.dfu_cmd.specs.declared.words.WordFault.TheVariants.{Kind, Out, Place, Format, Fill, LoneFill, NoChange, File, Interface, Device, Boot, Areas}
 
--- Label of a word that has this fault, and the reason for refusing it.
+-- Label for an argument with this fault, and the reason for refusing it.
 abbrev pub label_and_why : WordFault → List ℕ × List ℕ
 label_and_why Kind = (codes "KIND ", codes "it has to be functional, status, state, setup or configuration")
 label_and_why Out = (codes "OUT ", codes "it has to be a file, as ./- for one with this name")

@@ -11,10 +11,9 @@ use dfu_output::Exit;
 use std::alloc::Global;
 use std::io::{BufWriter, Read, Write};
 
-/// Runs the script as `run_text` does, into the buffer, and then writes the bytes that the buffer still holds to its writer. Returns the
-/// exit and that writer.
+/// Runs the script into the buffer as `run_text` does, and then flushes the buffer. Returns the exit and the buffer's writer.
 ///
-/// If the writer fails, the exit is Fault, and a prefix of the text is written.
+/// If the writer fails, the exit is Fault, and the writer has received a prefix of the text.
 pub fn run_buffered<R: Read + Drop, W: Write + Drop>(
     alloc: Global,
     reader: R,
@@ -41,7 +40,7 @@ pub(crate) fn run_buffered_with_fault<R: Read + Drop, W: Write + Drop>(
     match buffer.into_inner() {
         Ok(writer) => (exit, fault, writer),
         Err(error) => {
-            // A dropped buffer would write its bytes again, so it's taken apart.
+            // Dropping the buffer would write its bytes again, so the buffer is taken apart.
             let (writer, _) = error.into_inner().into_parts();
             (Exit::Fault, fault, writer)
         }

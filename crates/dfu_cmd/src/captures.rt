@@ -4,16 +4,16 @@ use crate::numbering::number_of;
 use dfu_conformance::captures::{Address, CaptureFault};
 use std::io::{self, Read};
 
-/// Largest size of a capture, in bytes.
+/// Largest size of a capture in bytes.
 pub(crate) const MAX_CAPTURE: usize = 16_777_216;
 
-/// Reads `word` as the number of an interface, 0 to 255; None for any other word.
+/// Returns the interface number in `word`, 0 to 255, or None for any other text.
 pub(crate) fn interface_in(word: &str) -> Option<u8> {
     u8::try_from(number_of(word)?).ok()
 }
 
-/// Reads `word`, the value of `--device`: `Some(Some(address))` for BUS.DEVICE, two numbers up to 65,535 and 255; `Some(None)` for `only`;
-/// and `None` for anything else.
+/// Parses `word`, the value of `--device`. Returns `Some(Some(address))` for BUS.DEVICE, where BUS is at most 65,535 and DEVICE at most
+/// 255, `Some(None)` for `only`, and `None` for any other text.
 pub(crate) fn device_in(word: &str) -> Option<Option<Address>> {
     if word == "only" {
         return Some(None);
@@ -24,7 +24,7 @@ pub(crate) fn device_in(word: &str) -> Option<Option<Address>> {
     Some(Some(Address { bus, device }))
 }
 
-/// Reader whose first four bytes have been read ahead, or fewer if it has no more.
+/// Reader that has already read its first four bytes, or all of them if there are fewer.
 #[derive(Drop)]
 pub(crate) struct PeekedReader<R> {
     head: [u8; 4],
@@ -34,7 +34,7 @@ pub(crate) struct PeekedReader<R> {
 }
 
 impl<R: Read + Drop> PeekedReader<R> {
-    /// Returns a reader of all bytes of `rest`, with the first four of them, or all if there are fewer, already read.
+    /// Reads the first four bytes of `rest`, or all of them if there are fewer. Returns a reader of these bytes and the later ones.
     pub(crate) fn new(mut rest: R) -> io::Result<PeekedReader<R>> {
         let mut head = [0u8; 4];
         let mut to = 0usize;
@@ -56,7 +56,7 @@ impl<R: Read + Drop> PeekedReader<R> {
         })
     }
 
-    /// Returns the first four bytes, or fewer if the reader had no more.
+    /// Returns the first four bytes, or all of them if there are fewer.
     pub(crate) fn head(&self) -> &[u8] {
         self.head.get(..self.to).unwrap_or(&[])
     }
@@ -75,7 +75,7 @@ impl<R: Read> Read for PeekedReader<R> {
     }
 }
 
-/// Returns the line that refuses a capture because of `fault`.
+/// Returns the line for a capture that is refused because of `fault`.
 pub(crate) fn capture_line(fault: CaptureFault) -> &'static str {
     match fault {
         CaptureFault::NotUsbmon => "refused NotUsbmon\n",
@@ -86,7 +86,7 @@ pub(crate) fn capture_line(fault: CaptureFault) -> &'static str {
     }
 }
 
-/// Explains in words why `fault` refuses a capture; None for NoMemory.
+/// Returns the reason for refusing a capture because of `fault`, or None for NoMemory.
 pub(crate) fn capture_why(fault: CaptureFault) -> Option<&'static str> {
     match fault {
         CaptureFault::NotUsbmon => Some(

@@ -1,4 +1,4 @@
-//! `dfu add` and `dfu set`: check the words of the command line, then make or change files.
+//! `dfu add` and `dfu set`: check their arguments, and then write or change files.
 
 use crate::identifiers::{IdTexts, change_in_texts, ids_in_texts};
 use crate::words::{WordFault, bad_identifier_reason, refused, refused_word, word_reason};
@@ -7,7 +7,8 @@ use dfu_output::{FormatChoice, Outcome, fill_in, format_choice_in};
 use std::alloc::Global;
 use std::rt::Files;
 
-/// Returns the options that `--format` and `--fill` give for FILE, or the reason for refusing one of them.
+/// Returns the options from the values of `--format` and `--fill`. The error is the line with the reason for refusing one of them, or None
+/// if memory runs out.
 fn add_options_in(
     alloc: Global,
     format: &Option<String>,
@@ -39,7 +40,7 @@ fn add_options_in(
     }
 }
 
-/// Makes file `to` from `file` and a suffix with the identifiers of `texts`; or refuses the first invalid word.
+/// Writes `file` and a suffix with the identifiers of `texts` into a new file `to`, or refuses the first invalid argument.
 pub(crate) fn perform_add<R: Files + Input + Print + AllocGlobal>(
     rt: &R,
     file: &str,
@@ -64,7 +65,7 @@ where
     }
 }
 
-/// Returns the text of an option, or `ffff`, a valid identifier, if the option isn't given.
+/// Returns the text of an option. If the option isn't given, returns `ffff`, which is a valid identifier.
 fn text_in(text: &Option<String>) -> &str {
     match text {
         Some(text) => text,
@@ -72,7 +73,7 @@ fn text_in(text: &Option<String>) -> &str {
     }
 }
 
-/// Changes the identifiers of `file`; or refuses the first invalid word, or the command if it gives no identifier.
+/// Changes the identifiers in the suffix of `file`. Refuses the first invalid argument, or the command if it has none of the three options.
 pub(crate) fn perform_set<R: Files + Input + Print + AllocGlobal>(
     rt: &R,
     file: &str,

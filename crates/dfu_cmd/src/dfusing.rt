@@ -10,7 +10,7 @@ use dfu_suffix::{READ_BYTES, SuffixFault, write_whole};
 use std::alloc::Global;
 use std::io::{Read, Write};
 
-/// A DfuSe device, followed through a log.
+/// Judge of a DfuSe device's log, with the counts for the verdict.
 #[derive(Drop)]
 struct FollowedDevice {
     judge: DfuseJudge,
@@ -22,7 +22,7 @@ struct FollowedDevice {
 }
 
 impl FollowedDevice {
-    /// Returns a device before the first byte of its log; `None` if an allocation was refused.
+    /// Returns the state before the first byte of a log, or `None` if an allocation failed.
     fn new(alloc: Global) -> Option<FollowedDevice> {
         Some(FollowedDevice {
             judge: DfuseJudge::new(),
@@ -33,7 +33,7 @@ impl FollowedDevice {
         })
     }
 
-    /// Takes the next event of the log. Returns the departure if the device departs from DfuSe at `event`.
+    /// Judges the next event of the log. Returns the departure if the device departs from DfuSe at `event`.
     fn take_next_event(&mut self, event: &LogEvent) -> Option<Departure> {
         self.events = self.events.saturating_add(1);
         match self.judge.take(event) {
@@ -50,7 +50,8 @@ impl FollowedDevice {
         }
     }
 
-    /// Takes the next byte of the log, at `interface`. Returns the departure if `byte` ends a line at which the device departs from DfuSe.
+    /// Takes the next byte of the log for DFU at `interface`. Returns the departure if `byte` ends a line at which the device departs from
+    /// DfuSe.
     fn take(&mut self, interface: u8, byte: u8) -> Result<Option<Departure>, LogFault> {
         match self.lines.take(interface, byte)? {
             Some(Line::Came(event)) => Ok(self.take_next_event(&event)),
@@ -58,7 +59,7 @@ impl FollowedDevice {
         }
     }
 
-    /// Returns the verdict on all events that were taken: NotKept if the device departed at one of them, and else Kept.
+    /// Returns the verdict on all events so far: NotKept if the device departed at one of them, and Kept otherwise.
     fn verdict(&self) -> Verdict {
         if self.has_departed {
             Verdict::NotKept
@@ -68,7 +69,7 @@ impl FollowedDevice {
     }
 }
 
-/// Takes the next byte of the log. If it ends a line at which the device departs from DfuSe, writes the line of the departure to `writer`.
+/// Takes the next byte of the log. If `byte` ends a line at which the device departs from DfuSe, writes the departure to `writer`.
 fn step<W: Write>(
     alloc: Global,
     interface: u8,
@@ -112,7 +113,8 @@ fn judge_all<R: Read + Drop, W: Write>(
     step(alloc, interface, followed, b'\n', writer)
 }
 
-/// Writes the line of the verdict on all events that were taken to `writer`. Once it is written, the exit is Done for Kept, else Refused.
+/// Writes the verdict on all events of the log to `writer`. Returns Done for Kept and Refused for NotKept, unless the line can't be made or
+/// written.
 fn write_verdict<W: Write>(alloc: Global, followed: &FollowedDevice, writer: &mut W) -> Exit {
     let verdict = followed.verdict();
     let exit = match verdict {
@@ -126,8 +128,7 @@ fn write_verdict<W: Write>(alloc: Global, followed: &FollowedDevice, writer: &mu
     }
 }
 
-/// Judges the log of `reader` as `judge_with_fault` does, but against DfuSe: `kept` means that the device speaks DfuSe, and `not kept` that
-/// it doesn't.
+/// Judges the log of `reader` as `judge_with_fault` does, but against DfuSe. `kept` means that the device behaves as DfuSe requires.
 pub(crate) fn judge_dfuse<R: Read + Drop, W: Write>(
     alloc: Global,
     interface: u8,

@@ -4,10 +4,10 @@ ghost use Rattle.std.specs.Prelude.{◌≤◌, length, IfOk};
 
 use std::io::{self, Write};
 
-/// Beginning of the verdict on a log without events.
+/// First bytes of the verdict on a log without events.
 const NONE: &[u8] = b"kept events 0 ";
 
-/// Output that holds back the verdict on a log without events, if that is its first line. It passes on any other text.
+/// Output that holds back the verdict on a log without events if this is its first line. It passes on all other text.
 #[derive(Drop)]
 pub(crate) struct NoEventsFilter<W> {
     out: W,
@@ -17,7 +17,7 @@ pub(crate) struct NoEventsFilter<W> {
 }
 
 impl<W> NoEventsFilter<W> {
-    /// Returns a new output in front of `out`.
+    /// Returns a new filter that passes its text on to `out`.
     pub(crate) fn new(out: W) -> NoEventsFilter<W> {
         NoEventsFilter {
             out,
@@ -31,14 +31,15 @@ impl<W> NoEventsFilter<W> {
         !self.is_passing && self.held == NONE.len()
     }
 
-    /// Returns the output to which the bytes are passed on.
+    /// Returns the output that receives the text.
     pub(crate) fn behind(&mut self) -> &mut W {
         &mut self.out
     }
 }
 
 impl<W: Write> NoEventsFilter<W> {
-    /// Holds back `byte` if it continues or follows `NONE`. Otherwise writes the held bytes and `byte`, and passes on all later bytes.
+    /// Holds back `byte` if it continues `NONE`, or if all of `NONE` has been held back. Otherwise writes the held bytes and `byte`, and
+    /// passes on all later bytes.
     fn hold(&mut self, byte: u8) -> io::Result<()> {
         if self.is_verdict_held() {
             return Ok(());

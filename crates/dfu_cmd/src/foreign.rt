@@ -1,4 +1,4 @@
-//! Advice on words of dfu-suffix and dfu-prefix: what to type instead.
+//! Advice for users of dfu-suffix and dfu-prefix, who may type the arguments of those programs.
 
 use dfu_output::reason_line;
 use std::alloc::Global;
@@ -11,7 +11,7 @@ const EXTRACT: &str = "type dfu extract FILE OUT";
 
 const PREFIX: &str = "a prefix is neither made nor read here; dfu-prefix does both";
 
-/// A word of another program, and the advice on it.
+/// An argument of another program, and the advice for it.
 struct Foreign(&'static str, &'static str);
 
 static FOREIGN: [Foreign; 19] = [
@@ -39,7 +39,7 @@ static FOREIGN: [Foreign; 19] = [
 /// Options of dfu-suffix that take a value.
 static VALUED: [&str; 8] = ["-v", "--vid", "-p", "--pid", "-d", "--did", "-S", "--spec"];
 
-/// Returns the advice on `word` if it is a word of another program; else None.
+/// Returns the advice for `word` if it is an argument of another program, and None otherwise.
 fn advice_on_word(word: &str) -> Option<&'static str> {
     for Foreign(name, typed) in &FOREIGN {
         if *name == word {
@@ -59,8 +59,8 @@ fn option_takes_value(word: &str) -> bool {
     false
 }
 
-/// Returns the line of advice if the first of `words` after the program's name, past options with their values, is a word of another
-/// program. None if it isn't, or if there is no memory.
+/// Returns a line of advice if an argument of another program follows the program's name. Options of dfu-suffix and their values may
+/// precede this argument. Returns None for other command lines, or if memory runs out.
 pub(crate) fn foreign_reason(alloc: Global, words: &[String]) -> Option<String> {
     let mut is_value = false;
     for word in words.get(1..)? {

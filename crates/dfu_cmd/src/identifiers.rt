@@ -1,4 +1,4 @@
-//! The identifiers that the options of `dfu add` and `dfu set` give.
+//! The identifiers that the options of `dfu add` and `dfu set` specify.
 
 ghost use Rattle.std.specs.Prelude.{◌≡◌, option_and_then, option_map};
 ghost use Rattle.std.specs.String.{string_bytes};
@@ -20,7 +20,7 @@ pub(crate) struct IdTexts<'t> {
 }
 
 impl<'t> IdTexts<'t> {
-    /// Returns the texts `vendor`, `product` and `device` as one value.
+    /// Returns the three texts as one value.
     pub(crate) fn new(vendor: &'t str, product: &'t str, device: &'t str) -> IdTexts<'t>
         ensures vendor { result.vendor.now ≡ vendor.now }
         ensures product { result.product.now ≡ product.now }
@@ -34,7 +34,7 @@ impl<'t> IdTexts<'t> {
     }
 }
 
-/// Returns the identifiers in `texts`; None if a text is not four hexadecimal digits.
+/// Returns the identifiers in `texts`, or None if a text doesn't have four hexadecimal digits.
 pub(crate) fn ids_in_texts(texts: &IdTexts<'_>) -> Option<Ids>
     ensures { result ≡ ids_in_texts texts.now.vendor.now texts.now.product.now texts.now.device.now }
 {
@@ -48,7 +48,7 @@ pub(crate) fn ids_in_texts(texts: &IdTexts<'_>) -> Option<Ids>
     })
 }
 
-/// Returns the label and the text of the first option whose text is no identifier; None if all are identifiers.
+/// Returns the label and text of the first option whose text isn't an identifier, or None if all three texts are identifiers.
 pub(crate) fn wrong_option<'t>(texts: &IdTexts<'t>) -> Option<(&'static str, &'t str)>
     ensures { option_map (λ o. (o.0.now, o.1.now)) result
         ≡ wrong_option texts.now.vendor.now texts.now.product.now texts.now.device.now }
@@ -65,7 +65,7 @@ pub(crate) fn wrong_option<'t>(texts: &IdTexts<'t>) -> Option<(&'static str, &'t
     None
 }
 
-/// Returns the identifier in `text`; None if there is no text, or it is not four hexadecimal digits.
+/// Returns the identifier in `text`, or None if there is no text or it doesn't have four hexadecimal digits.
 fn number_in(text: &Option<String>) -> Option<u16>
     ensures { result ≡ option_and_then identifier_in (option_map string_bytes text.now) }
 {
@@ -75,7 +75,8 @@ fn number_in(text: &Option<String>) -> Option<u16>
     }
 }
 
-/// Returns the change of identifiers: a number for each text that is given and is four hexadecimal digits. Every other identifier stays.
+/// Returns the change of identifiers that the texts specify. A text with four hexadecimal digits sets its identifier, and the other
+/// identifiers stay unchanged.
 pub(crate) fn change_in_texts(
     vendor: &Option<String>,
     product: &Option<String>,

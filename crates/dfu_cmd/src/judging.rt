@@ -16,7 +16,7 @@ use std::alloc::Global;
 use std::io::{self, Printer, Read};
 use std::rt::Files;
 
-/// Explains the fault `why` of a line in words.
+/// Returns an explanation of `why`, the fault of a line.
 fn fault_why(why: LineFault) -> &'static str {
     match why {
         LineFault::Long => "it has over 262,158 bytes",
@@ -30,7 +30,7 @@ fn fault_why(why: LineFault) -> &'static str {
     }
 }
 
-/// Returns the line that explains `fault`, at which the judging of log `name` stopped; None for Write, or if there is no memory.
+/// Returns the line with the reason why judging log `name` stopped at `fault`, or None for Write or if memory runs out.
 fn stop_reason<S>(
     alloc: Global,
     name: &str,
@@ -59,29 +59,29 @@ fn stop_reason<S>(
 /// Options of `dfu judge`.
 #[derive(Clone, Copy)]
 pub(crate) struct JudgeOptions {
-    /// The number of the interface.
+    /// Number of the DFU interface.
     pub interface: u8,
-    /// The address of the device of a capture, if one is named.
+    /// Address of the device to judge in a capture, or None if `--device` doesn't name one.
     pub only: Option<Address>,
-    /// True if the device is judged as a DfuSe device.
+    /// True if the device is judged by the rules of DfuSe.
     pub dfuse: bool,
     /// True if each line is printed as a JSON object.
     pub json: bool,
 }
 
-/// A file to judge, and the options.
+/// File to judge, with the options.
 #[derive(Clone, Copy)]
 pub(crate) struct JudgedFile<'w> {
     /// The name of the file.
     pub name: &'w str,
-    /// Text in front of each line.
+    /// Prefix of each printed line.
     pub before: &'w str,
-    /// Options for judging it.
+    /// Options for judging the file.
     pub how: JudgeOptions,
 }
 
 impl<'w> JudgedFile<'w> {
-    /// Returns file `name` and the options, with no text in front of each line.
+    /// Returns the file `name` with the options and without a prefix.
     fn bare(name: &'w str, how: JudgeOptions) -> JudgedFile<'w> {
         JudgedFile {
             name,
@@ -91,7 +91,7 @@ impl<'w> JudgedFile<'w> {
     }
 }
 
-/// Returns the output for the lines of `judged`.
+/// Returns the output for the lines about `judged`.
 pub(crate) fn output<'o, R: Print + AllocGlobal>(
     rt: &'o R,
     judged: JudgedFile<'o>,
@@ -107,7 +107,7 @@ pub(crate) fn output<'o, R: Print + AllocGlobal>(
     )
 }
 
-/// Judges the log read from `log`, and returns the outcome. A log without events is refused.
+/// Judges the log that the reader `log` returns, and returns the outcome. A log without events is refused.
 pub(crate) fn judge_log<R: Print + AllocGlobal, S: Read + Drop>(
     rt: &R,
     judged: JudgedFile<'_>,
@@ -136,7 +136,7 @@ pub(crate) fn judge_log<R: Print + AllocGlobal, S: Read + Drop>(
     Outcome { exit, reason }
 }
 
-/// Judges the log of one device in `capture`, and returns the outcome; or refuses the capture if it gives no log.
+/// Judges the log of one device in the bytes of a capture, and returns the outcome. Refuses a capture from which no log can be read.
 fn judge_bytes<R: Print + AllocGlobal>(rt: &R, judged: JudgedFile<'_>, capture: &[u8]) -> Outcome {
     let alloc = rt.alloc();
     match log_of(alloc, capture, judged.how.interface, judged.how.only) {
@@ -145,7 +145,7 @@ fn judge_bytes<R: Print + AllocGlobal>(rt: &R, judged: JudgedFile<'_>, capture: 
     }
 }
 
-/// Judges the capture read from `capture`, and returns the outcome.
+/// Judges the capture that the reader `capture` returns, and returns the outcome.
 fn judge_capture<R: Print + AllocGlobal, S: Read + Drop>(
     rt: &R,
     judged: JudgedFile<'_>,
@@ -162,7 +162,7 @@ fn judge_capture<R: Print + AllocGlobal, S: Read + Drop>(
     }
 }
 
-/// Writes the line for a file or standard input that can't be read, and returns the outcome with the reason of `error`.
+/// Writes the line for a file or standard input that can't be read, and returns the outcome with `error` as its reason.
 pub(crate) fn unread<R: Print + AllocGlobal>(
     rt: &R,
     judged: JudgedFile<'_>,
@@ -174,7 +174,7 @@ pub(crate) fn unread<R: Print + AllocGlobal>(
     }
 }
 
-/// Judges the log or capture in a file, or on standard input if the name is `-`. The outcome has the reason if judging stops early.
+/// Judges the log or capture in a file, or on standard input if the name is `-`. If judging stops early, the outcome contains the reason.
 fn judge_file<R: Files + Input + Print + AllocGlobal>(rt: &R, judged: JudgedFile<'_>) -> Outcome {
     let given = match open(rt, judged.name) {
         Ok(given) => given,
@@ -195,7 +195,7 @@ fn judge_file<R: Files + Input + Print + AllocGlobal>(rt: &R, judged: JudgedFile
     }
 }
 
-/// Judges file `name`, one of several, with its name before each line, and returns the outcome.
+/// Judges file `name`, one of several, and prints its name before each line. Returns the outcome.
 fn judge_named<R: Files + Input + Print + AllocGlobal>(
     rt: &R,
     name: &str,
@@ -216,9 +216,9 @@ fn judge_named<R: Files + Input + Print + AllocGlobal>(
     }
 }
 
-/// Judges logs and captures in files, or on standard input for the name `-`. The outcome has the worst exit of all, and the reasons for
-/// which judging stopped early. With several files, each line begins with its file's name; with `json`, each line is a JSON object with the
-/// name as its member `file`.
+/// Judges the logs and captures in files, or on standard input for the name `-`. The outcome has the worst exit, and the reasons why
+/// judging stopped early. If there are several files, each line begins with the name of its file. With `json`, each line is a JSON object
+/// instead, with the name as its member `file`.
 pub(crate) fn judge_files<R: Files + Input + Print + AllocGlobal>(
     rt: &R,
     names: &[String],

@@ -1,9 +1,9 @@
-//! Reasons for stopping a script, in words.
+//! Reasons for stopping a script, as sentences.
 
 use dfu_link::{Field, LineFault, Reason, SetupFault};
 use std::alloc::{AllocError, Global};
 
-/// Describes the words that `field` takes.
+/// Returns a description of the values of `field`.
 fn wanted(field: Field) -> &'static str {
     match field {
         Field::Identifier => "four hexadecimal digits",
@@ -20,7 +20,7 @@ fn wanted(field: Field) -> &'static str {
     }
 }
 
-/// Explains `fault` of a line that has `words` words.
+/// Returns an explanation of `fault`, the fault of a line with `words` words.
 fn words_why(alloc: Global, fault: LineFault, words: usize) -> Result<String, AllocError> {
     let why = match fault {
         LineFault::Word(field, number) => {
@@ -41,7 +41,7 @@ fn words_why(alloc: Global, fault: LineFault, words: usize) -> Result<String, Al
     String::from_str(alloc, why)
 }
 
-/// Explains the fault of a line with a byte that isn't printable ASCII.
+/// Returns an explanation for a line with a byte that isn't printable ASCII.
 fn unprintable_why(begins: bool, ends: bool) -> &'static str {
     if begins {
         "it begins with a byte order mark"
@@ -52,7 +52,7 @@ fn unprintable_why(begins: bool, ends: bool) -> &'static str {
     }
 }
 
-/// Explains why a line is not in the language. No reason is noted for a line over 65,536 bytes.
+/// Returns the reason why a line isn't valid in a script. A line over 65,536 bytes has no `reason`.
 pub(crate) fn line_why(alloc: Global, reason: Option<Reason>) -> Result<String, AllocError> {
     match reason {
         Some(Reason::Line(fault, words)) => words_why(alloc, fault, words),
@@ -63,7 +63,7 @@ pub(crate) fn line_why(alloc: Global, reason: Option<Reason>) -> Result<String, 
     }
 }
 
-/// Explains why no device can be set up.
+/// Returns the reason why no device can be set up.
 pub(crate) fn setup_why(fault: SetupFault) -> &'static str {
     match fault {
         SetupFault::Transfer => "TRANSFER isn't 1 to 4,096",

@@ -4,22 +4,22 @@ ghost use Rattle.std.specs.Prelude.{◌≤◌, length, IfOk};
 
 use std::io::{self, Read};
 
-/// Number of bytes that are read at a time.
+/// Number of bytes per read.
 const BUFFER_BYTES: usize = 4096;
 
-/// Reader that replaces each CR LF by LF. Any other carriage return stays.
+/// Reader that replaces each CR LF by LF. Any other carriage return stays unchanged.
 #[derive(Drop)]
 pub(crate) struct LineEnds<R> {
     reader: R,
     piece: [u8; BUFFER_BYTES],
     from: usize,
     to: usize,
-    // True if a carriage return was taken, and the byte after it isn't known yet.
+    // True if the reader has consumed a carriage return, but hasn't read the next byte yet.
     is_return_pending: bool,
     is_ended: bool,
 }
 
-/// Copies the bytes before the first carriage return to `to`, as far as they fit. Returns the number of bytes copied.
+/// Copies the bytes before the first carriage return to `to`, as many as fit. Returns the number of bytes copied.
 fn copied(bytes: &[u8], to: &mut [u8]) -> usize {
     let most = bytes.len().min(to.len());
     for at in 0..most {
@@ -45,7 +45,7 @@ impl<R> LineEnds<R> {
         }
     }
 
-    /// Returns the next byte of the buffer without taking it; None if the buffer is empty.
+    /// Returns the next byte of the buffer without consuming it, or None if the buffer is empty.
     fn ahead(&self) -> Option<u8> {
         if self.from < self.to {
             self.piece.get(self.from).copied()
@@ -54,7 +54,7 @@ impl<R> LineEnds<R> {
         }
     }
 
-    /// Takes the next byte to return; None if more bytes must be read first, or no byte is left.
+    /// Consumes and returns the next byte of the converted text. Returns None if more bytes must be read first, or if none remain.
     fn next(&mut self) -> Option<u8> {
         if self.is_return_pending {
             return self.byte_for_return();
@@ -68,8 +68,8 @@ impl<R> LineEnds<R> {
         Some(byte)
     }
 
-    /// Writes the buffered bytes before the next carriage return to `buf`, as far as they fit. If there are none, writes the byte that
-    /// replaces the carriage return. Returns the number of bytes written.
+    /// Copies the buffered bytes before the next carriage return to `buf`, as many as fit. If there are none, stores the byte that replaces
+    /// the carriage return. Returns the number of bytes stored.
     fn give(&mut self, buf: &mut [u8]) -> usize {
         let count = if self.is_return_pending {
             0
@@ -93,8 +93,8 @@ impl<R> LineEnds<R> {
         }
     }
 
-    /// Takes the byte that replaces a carriage return: the line feed after it, or else the carriage return itself. None if the byte after
-    /// it must be read first.
+    /// Returns the byte that replaces a carriage return: the line feed after it, or the carriage return itself. Returns None if the next
+    /// byte must be read first.
     fn byte_for_return(&mut self) -> Option<u8> {
         let ahead = self.ahead();
         if ahead.is_none() && !self.is_ended {
@@ -110,7 +110,7 @@ impl<R> LineEnds<R> {
 }
 
 impl<R: Read> LineEnds<R> {
-    /// Refills the buffer if it is empty and the reader has not ended.
+    /// Refills the buffer if it is empty and the reader hasn't ended.
     fn fill(&mut self) -> io::Result<()> {
         if self.from < self.to || self.is_ended {
             return Ok(());
@@ -127,7 +127,7 @@ impl<R: Read> LineEnds<R> {
 impl<R: Read> Read for LineEnds<R> {
     fn read(&mut self, buf: &mut [u8]) -> io::Result<usize> {
         let mut count = 0usize;
-        // A carriage return at the end of the buffer needs one more read.
+        // If a carriage return ends the buffer, another read is necessary to know the byte that replaces it.
         for _turn in 0..3 {
             if count > 0 {
                 break;

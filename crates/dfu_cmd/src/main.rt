@@ -1,4 +1,4 @@
-//! The program `dfu`: parses its command line, opens files, and prints the results of the library crates. It doesn't talk to a USB device.
+//! The program `dfu`. It parses its command line, opens files, and prints the results of the library crates. It doesn't access USB devices.
 #![tactic(auto)]
 
 ghost use Rattle.std.specs.Prelude.{◌≡◌, IfSome, codes};
@@ -42,10 +42,10 @@ use std::env::{Env, FillError};
 use std::io::{self, ErrorKind, IsTerminal};
 use std::process::ExitCode;
 
-/// Largest size, in bytes, of a word that is examined.
+/// Largest size in bytes of an argument that is examined.
 const WORD_BYTES: usize = 4096;
 
-/// Returns the words of the command line.
+/// Returns the arguments of the command line, including the program's name.
 fn words_of(rt: &HostRuntime) -> io::Result<Vec<String>> {
     let mut words = Vec::new(rt.alloc());
     for word in std::env::args(rt)? {
@@ -54,8 +54,8 @@ fn words_of(rt: &HostRuntime) -> io::Result<Vec<String>> {
     Ok(words)
 }
 
-/// Returns the position of the first word that isn't UTF-8, or 0 if each is, and true if a word is `--explain`. A word of over 4,096 bytes
-/// is not examined.
+/// Returns the position of the first argument that isn't UTF-8, or 0 if there is none, and true if `--explain` is given. Arguments over
+/// 4,096 bytes are not examined.
 fn looked_at(rt: &HostRuntime) -> (usize, bool) {
     let mut wrong = 0;
     let mut explain = false;
@@ -77,8 +77,8 @@ fn looked_at(rt: &HostRuntime) -> (usize, bool) {
     (wrong, explain)
 }
 
-/// Returns the reason for refusing a word that isn't UTF-8, such as a file name in another encoding; None if there is no memory. `place` is
-/// its position, counted from 1 after the program's name.
+/// Returns the reason for refusing an argument that isn't UTF-8, such as a file name in another encoding, or None if memory runs out.
+/// `place` is the argument's position after the program's name, counted from 1.
 fn non_utf8_reason(alloc: Global, place: usize) -> Option<String>
     ensures { IfSome result (λ t. string_bytes t ≡ reason_line (codes "word ") (decimal place)
         (codes "it has to be UTF-8 text; a file with another name can be given as standard input")) }
@@ -93,7 +93,7 @@ fn non_utf8_reason(alloc: Global, place: usize) -> Option<String>
     }
 }
 
-/// Refuses a command line with a word that isn't UTF-8, and prints the reason if it is wanted or `--explain` is given.
+/// Refuses a command line with an argument that isn't UTF-8. Prints the reason if `is_wanted` is set or `--explain` is given.
 fn refuse_word(rt: &HostRuntime, is_wanted: bool) -> Exit {
     let exit = bad_words(&mut io::writer(rt));
     let (place, explain) = looked_at(rt);
@@ -105,7 +105,7 @@ fn refuse_word(rt: &HostRuntime, is_wanted: bool) -> Exit {
     exit
 }
 
-/// Refuses a command line that can't be read: a word isn't UTF-8, or there is no memory for the words.
+/// Refuses a command line that can't be read, because an argument isn't UTF-8 or memory runs out.
 fn refuse_words(rt: &HostRuntime, error: &io::Error, is_wanted: bool) -> Exit {
     match error.kind() {
         ErrorKind::InvalidData => refuse_word(rt, is_wanted),

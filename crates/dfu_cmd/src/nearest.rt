@@ -1,23 +1,23 @@
-//! Names of the parts in a table, and the name nearest to a word.
+//! Names of the parts in a table, and the name most similar to a given one.
 
 use dfu_plan::row_in;
 use std::alloc::{AllocError, Global};
 
-/// A name is near a word if they share more than this number of leading bytes, or if it contains the word.
+/// Likeness to a word that a name must exceed to be similar to the word.
 const LEAST_LIKENESS: usize = 3;
 
-/// Names of the parts in a table, and the name nearest to a word.
+/// Names of the parts in a table, and the one most similar to a given word.
 #[derive(Drop)]
 pub(crate) struct KnownParts<'t> {
-    /// The names, separated by commas.
+    /// All names, separated by commas.
     pub names: String,
-    /// The name nearest to the word; empty if none is near.
+    /// The name most similar to the word; empty if none is similar.
     pub nearest: &'t str,
     likeness: usize,
     last: &'t str,
 }
 
-/// Returns the number of leading bytes that two words share, in either case.
+/// Returns the number of leading bytes that two words share, ignoring case.
 fn shared_prefix_length(one: &str, other: &str) -> usize {
     let one = one.as_bytes();
     let other = other.as_bytes();
@@ -30,8 +30,8 @@ fn shared_prefix_length(one: &str, other: &str) -> usize {
     most
 }
 
-/// Returns the likeness of a name to a word: the number of their shared leading bytes, or the maximum if the name contains the word, of at
-/// least three bytes, such as `f407`.
+/// Returns the likeness of a name to a word, which is the number of shared leading bytes. The likeness is maximal if the name contains the
+/// word and the word has at least three bytes, such as `f407`.
 fn likeness(name: &str, word: &str) -> usize {
     if word.len() >= 3 && name.contains(word) {
         return usize::MAX;
@@ -40,7 +40,7 @@ fn likeness(name: &str, word: &str) -> usize {
 }
 
 impl<'t> KnownParts<'t> {
-    /// Adds a name, unless the name before is equal, and keeps it as the nearest if it is nearer to `word` than those before.
+    /// Adds a name, unless it equals the previous one. Keeps it as the nearest name if it is more similar to `word` than all earlier names.
     fn take(&mut self, name: &'t str, word: &str) -> Result<(), AllocError> {
         if name == self.last {
             return Ok(());
@@ -59,7 +59,7 @@ impl<'t> KnownParts<'t> {
     }
 }
 
-/// Returns the names on the valid lines of a table of parts, and the one nearest to `word`.
+/// Returns the names on the valid lines of a table of parts, and the one most similar to `word`.
 pub(crate) fn known_parts_in<'t>(
     alloc: Global,
     table: &'t [u8],

@@ -1,4 +1,4 @@
-//! Numbers: lines that end in a number, and words that are numbers.
+//! Lines that end with a number, and arguments that are numbers.
 
 ghost use Rattle.std.specs.Prelude.{◌≡◌, ◌++◌, ◌∷◌, IfOk, [], codes};
 ghost use Rattle.std.specs.Fmt.{decimal};
@@ -11,7 +11,7 @@ use dfu_suffix::SuffixFault;
 use std::alloc::{AllocError, Global};
 use std::io::Write;
 
-/// Returns a line of `text` followed by `number`.
+/// Returns a line that consists of `text` and `number`.
 ///
 /// # Errors
 ///
@@ -22,7 +22,7 @@ fn numbered_line(alloc: Global, text: &str, number: u32) -> Result<String, Alloc
     format!(in alloc; "{text}{number}\n")
 }
 
-/// Writes a line of `text` followed by `number`, which is that of a line of the script, to `writer`.
+/// Writes a line of `text` and `number`, the number of a script's line, to `writer`.
 pub(crate) fn number_text<W: Write>(alloc: Global, text: &str, number: u32, writer: &mut W) -> Exit
     ensures { NumberedLineIsOut text.now number (W.contents writer.old) (W.contents writer.new) result }
 {
@@ -32,7 +32,7 @@ pub(crate) fn number_text<W: Write>(alloc: Global, text: &str, number: u32, writ
     }
 }
 
-/// Reads `word` as a number of 1 to 10 decimal digits, up to 4,294,967,295; None if it is anything else.
+/// Returns the number in `word`, 1 to 10 decimal digits up to 4,294,967,295, or None for any other text.
 pub(crate) fn number_of(word: &str) -> Option<u32> {
     let digits = word.as_bytes();
     if digits.len() > 10 || !digits.iter().all(|digit| digit.is_ascii_digit()) {
@@ -44,7 +44,7 @@ pub(crate) fn number_of(word: &str) -> Option<u32> {
     }
 }
 
-/// Returns the areas that the word `2` or `3` asks for; None for any other word.
+/// Returns the number of areas in `word`, which must be `2` or `3`, or None for any other text.
 pub(crate) fn areas_in(word: &str) -> Option<Areas> {
     match word {
         "2" => Some(Areas::Two),

@@ -1,4 +1,4 @@
-//! Captures in files. Each file is read three times, so that no more of it is in memory than `CaptureStream` of dfu_conformance keeps.
+//! Captures in files. Each file is read three times, so that only a small part of it is in memory at a time.
 
 use crate::captures::{capture_line, capture_why};
 use crate::judging::{JudgedFile, judge_log, output, unread};
@@ -9,7 +9,7 @@ use std::fs;
 use std::io::Error;
 use std::rt::Files;
 
-/// Writes the line that refuses a capture because of `fault`, and returns the outcome with its reason.
+/// Writes the line for a capture that is refused because of `fault`, and returns the outcome with the reason.
 pub(crate) fn refuse_capture<R: Print + AllocGlobal>(
     rt: &R,
     judged: JudgedFile<'_>,
@@ -25,7 +25,7 @@ pub(crate) fn refuse_capture<R: Print + AllocGlobal>(
     }
 }
 
-/// Returns true if file `name` can be read again from its beginning: it is a regular file, and not standard input.
+/// Returns true if file `name` can be read again from its beginning, which a regular file allows and standard input doesn't.
 pub(crate) fn can_be_reread<R: Files>(rt: &R, name: &str) -> bool {
     if name == "-" {
         return false;
@@ -36,7 +36,8 @@ pub(crate) fn can_be_reread<R: Files>(rt: &R, name: &str) -> bool {
     }
 }
 
-/// Returns the devices that a pass over a capture `found`; else writes the line of the fault or the error, and returns the outcome.
+/// Returns the devices in `found`, the result of a pass over a capture. After a fault or an error, writes the line for it and returns the
+/// outcome.
 fn devices_of_pass<R: Print + AllocGlobal>(
     rt: &R,
     judged: JudgedFile<'_>,
@@ -49,8 +50,8 @@ fn devices_of_pass<R: Print + AllocGlobal>(
     }
 }
 
-/// Reads the capture in file `judged` twice: to find its devices, and to check it, because no line of a log may be judged if the capture
-/// has a fault.
+/// Reads the capture in file `judged` twice, to find its devices and to check it. The check precedes all judging, because no line may be
+/// judged if the capture has a fault.
 fn looked_at<R: Files + Print + AllocGlobal>(
     rt: &R,
     judged: JudgedFile<'_>,
@@ -68,7 +69,7 @@ fn looked_at<R: Files + Print + AllocGlobal>(
     devices_of_pass(rt, judged, found)
 }
 
-/// Judges the capture in file `judged`, of any size, in three passes over the file.
+/// Judges the capture in file `judged` in three passes over the file. The file may have any size.
 pub(crate) fn judge_in_passes<R: Files + Print + AllocGlobal>(
     rt: &R,
     judged: JudgedFile<'_>,

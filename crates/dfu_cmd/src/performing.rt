@@ -1,4 +1,4 @@
-//! Runs a command: parses the words of the command line, and performs the subcommand.
+//! Runs a command: parses the command line and performs the subcommand.
 
 use crate::captures::{device_in, interface_in};
 use crate::changing::{perform_add, perform_set};
@@ -19,7 +19,7 @@ use dfu_suffix::SuffixFault;
 use std::io::{self, IsTerminal};
 use std::rt::Files;
 
-/// Judges the log or capture in each of the files `names`; or refuses the first invalid option.
+/// Judges the log or capture in each of the files `names`, or refuses the first invalid option.
 fn perform_judge<R: Files + Input + Print + AllocGlobal>(
     rt: &R,
     names: &[String],
@@ -43,7 +43,7 @@ fn perform_judge<R: Files + Input + Print + AllocGlobal>(
     judge_files(rt, names, how)
 }
 
-/// Runs `script` with the options `ways`. Refuses standard input for both the script and its `file`.
+/// Runs `script` with the options `ways`. Refuses the command line if `script` and `file` are both `-`.
 fn perform_run<R: Files + Input + Print + AllocGlobal>(
     rt: &R,
     script: &str,
@@ -89,7 +89,7 @@ where
     extract_file(rt, file, to, explain)
 }
 
-/// Returns the word of an option, if it was given.
+/// Returns the value of an option if it is given.
 fn given(word: &Option<String>) -> Option<&str> {
     match word {
         Some(word) => Some(word),
@@ -148,7 +148,7 @@ where
     }
 }
 
-/// Prints the parser's message for `error`, with misleading tips replaced if there is memory for it.
+/// Prints the parser's message for `error`. Misleading tips are replaced if there is memory for the new ones.
 fn print_advised<R: Print + AllocGlobal>(rt: &R, error: &clap::Error) -> io::Result<()> {
     let alloc = rt.alloc();
     let Ok(text) = format!(in alloc; "{error}") else {
@@ -160,8 +160,7 @@ fn print_advised<R: Print + AllocGlobal>(rt: &R, error: &clap::Error) -> io::Res
     }
 }
 
-/// Prints the parser's message for `error`, and returns the error's exit status, or that of Fault if the message can't be printed. For a
-/// mistake, the message ends by saying how to ask for help.
+/// Prints the parser's message for `error`. Returns the error's exit status, or that of Fault if the message can't be printed.
 fn print_text<R: Print + AllocGlobal>(rt: &R, error: &clap::Error) -> u8 {
     match print_advised(rt, error) {
         Ok(()) => error.exit_code() as u8,
@@ -169,14 +168,15 @@ fn print_text<R: Print + AllocGlobal>(rt: &R, error: &clap::Error) -> u8 {
     }
 }
 
-/// Returns true if the reason of `exit` is a hint, which is printed unasked: `dfu add` took FILE as it is, but FILE looks like something
-/// else. A build's log has no terminal, and its reader would flash the text of a HEX file.
+/// Returns true if `dfu add` succeeded. Its reason is then a hint that must always be printed: FILE was read as a raw image, but looks like
+/// another kind of file. Build scripts run without a terminal, so their users wouldn't see the hint otherwise, and might flash the text of
+/// a HEX file.
 fn is_hint(subcommand: &Subcommand, exit: Exit) -> bool {
     matches!(exit, Exit::Done) && matches!(subcommand, Subcommand::Add { .. })
 }
 
-/// Performs the command of `words`. Returns the exit status, and the reason if it is a hint, or if `--explain` or `is_wanted` asks for it.
-/// For words of another program, always returns what to type instead.
+/// Performs the command of `words`. Returns the exit status, and the reason if it is a hint, if `is_wanted` is set or if `--explain` is
+/// given. If the arguments are those of another program, it always returns advice.
 fn answer_words<R: Files + Input + Print + AllocGlobal>(
     rt: &R,
     words: &[String],
@@ -207,7 +207,7 @@ where
     }
 }
 
-/// Performs the command of `words`, and returns the exit status. Writes no reason.
+/// Performs the command of `words` without reasons, and returns the exit status.
 pub fn run_words<R: Files + Input + Print + AllocGlobal>(rt: &R, words: &[String]) -> u8
 where
     R::File: Owned + IsTerminal,
@@ -217,8 +217,8 @@ where
     status
 }
 
-/// Performs the command of `words` as `run_words` does. Writes the reason of a refusal to standard error if `words` have `--explain` or
-/// `is_wanted` is set, and always a hint, or for words of another program what to type instead. If the reason can't be written, nothing else
+/// Performs the command of `words` as `run_words` does. If `is_wanted` is set or `--explain` is given, writes the reason of a refusal to
+/// standard error. A hint, or advice on arguments of another program, is always written. If standard error can't be written, nothing else
 /// changes.
 pub fn run_explained<R: Files + Input + Print + Eprint + AllocGlobal>(
     rt: &R,
@@ -236,7 +236,7 @@ where
     status
 }
 
-/// Writes the line of NoMemory, and returns its exit.
+/// Writes the line for NoMemory, and returns its exit.
 fn no_memory<R: Print>(rt: &R) -> Exit {
     fault_text(SuffixFault::NoMemory, &mut io::writer(rt))
 }

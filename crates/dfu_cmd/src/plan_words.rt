@@ -1,8 +1,8 @@
-//! The words of `dfu plan`.
+//! The arguments of `dfu plan`.
 
 ghost use Rattle.std.specs.Prelude.{◌≡◌, option_map};
 
-/// Words of `dfu plan`.
+/// Arguments of `dfu plan`.
 #[derive(Clone, Copy)]
 pub(crate) struct PlanWords<'w> {
     /// Name of the part.
@@ -11,14 +11,14 @@ pub(crate) struct PlanWords<'w> {
     pub boot: &'w str,
     /// Number of areas.
     pub areas: &'w str,
-    /// File of parts; the built-in table without it.
+    /// File with a table of parts; None for the built-in table.
     pub parts: Option<&'w str>,
-    /// True if each line is to be printed as a JSON object.
+    /// True if each line is printed as a JSON object.
     pub json: bool,
 }
 
 impl<'w> PlanWords<'w> {
-    /// Returns the words of a command line as one value.
+    /// Returns the arguments of a command line as one value.
     pub(crate) fn new(
         part: &'w str,
         boot: &'w str,

@@ -16,10 +16,10 @@ use std::alloc::{AllocError, Global};
 use std::io::{self, Printer};
 use std::rt::Files;
 
-/// Largest size of a table of parts, in bytes.
+/// Largest size of a table of parts in bytes.
 const MAX_TABLE: usize = 1_048_576;
 
-/// Returns the output for the line of a refusal or a fault, which is a JSON object if `--json` is given.
+/// Returns the output for the line of a refusal or a fault. With `--json`, the line is a JSON object.
 fn output<'o, R: Print + AllocGlobal>(
     rt: &'o R,
     words: PlanWords<'o>,
@@ -27,7 +27,7 @@ fn output<'o, R: Print + AllocGlobal>(
     JsonLines::new(rt.alloc(), words.json, words.parts, io::writer(rt))
 }
 
-/// Reads a whole table of parts, or returns the outcome if that fails. Its lines may end in CR LF.
+/// Reads a whole table of parts, whose lines may end with CR LF. Returns the outcome if reading fails.
 fn read_table<R: Files + Input + Print + AllocGlobal>(
     rt: &R,
     words: PlanWords<'_>,
@@ -53,7 +53,7 @@ fn read_table<R: Files + Input + Print + AllocGlobal>(
     }
 }
 
-/// Returns the reason for refusing an unknown part: the names in the table, and the nearest one.
+/// Returns the reason for refusing an unknown part, with the names in the table and the most similar one.
 fn unknown_reason(alloc: Global, table: &[u8], part: &str) -> Result<String, AllocError> {
     let KnownParts { names, nearest, .. } = known_parts_in(alloc, table, part)?;
     let why = if nearest.is_empty() {
@@ -64,7 +64,7 @@ fn unknown_reason(alloc: Global, table: &[u8], part: &str) -> Result<String, All
     reason_line(alloc, "--part ", part, &why)
 }
 
-/// Refuses a part that no line of the table names, or a table with an invalid line.
+/// Refuses a part that the table doesn't contain, or a table with an invalid line.
 fn refuse_part<R: Print + AllocGlobal>(
     rt: &R,
     words: PlanWords<'_>,
@@ -86,7 +86,7 @@ fn refuse_part<R: Print + AllocGlobal>(
     }
 }
 
-/// Refuses a table because of line `number`, which has the fault `why`.
+/// Refuses a table whose line `number` is invalid because of `why`.
 fn bad_line<R: Print + AllocGlobal>(
     rt: &R,
     words: PlanWords<'_>,
@@ -107,7 +107,7 @@ fn bad_line<R: Print + AllocGlobal>(
     }
 }
 
-/// Refuses a bootloader of `boot` bytes and a number of areas for which the part has no room.
+/// Refuses a bootloader of `boot` bytes and a number of areas that don't fit into the part.
 fn refuse_no_room<R: Print + AllocGlobal>(
     rt: &R,
     words: PlanWords<'_>,
@@ -132,7 +132,7 @@ fn refuse_no_room<R: Print + AllocGlobal>(
     }
 }
 
-/// Writes the line of NoMemory, and returns the outcome without a reason.
+/// Writes the line for NoMemory, and returns the outcome without a reason.
 fn no_memory<R: Print + AllocGlobal>(rt: &R, words: PlanWords<'_>) -> Outcome {
     Outcome {
         exit: fault_text(SuffixFault::NoMemory, &mut output(rt, words)),
@@ -140,7 +140,7 @@ fn no_memory<R: Print + AllocGlobal>(rt: &R, words: PlanWords<'_>) -> Outcome {
     }
 }
 
-/// Returns the address of the first byte of a part; 0 if it has no regions.
+/// Returns the address of the first byte of a part, or 0 if the part has no regions.
 fn first_address_of(part: &Part) -> u32 {
     match part.regions.first() {
         Some(region) => region.at,
@@ -148,7 +148,7 @@ fn first_address_of(part: &Part) -> u32 {
     }
 }
 
-/// Returns true if a bootloader of `boot` bytes fills the part.
+/// Returns true if a bootloader of `boot` bytes fills the whole part.
 fn is_full(part: &Part, boot: u32) -> bool {
     part.end <= u64::from(first_address_of(part)).saturating_add(u64::from(boot))
 }
@@ -164,7 +164,7 @@ fn print_plan<R: Print + AllocGlobal>(
     let alloc = rt.alloc();
     let planned = Plan {
         part: words.part,
-        // A note is printable ASCII.
+        // Each note is printable ASCII.
         note: std::str::from_utf8(&part.note).unwrap_or(""),
         boot,
         placement,
@@ -183,7 +183,8 @@ fn print_plan<R: Print + AllocGlobal>(
     }
 }
 
-/// Prints where gates, headers and data lie on a part of a table; or refuses the part, or the bootloader and the areas.
+/// Prints the addresses of gates, headers and data on a part of the table. Refuses an unknown part, or a bootloader and areas that don't
+/// fit.
 fn plan_part<R: Print + AllocGlobal>(
     rt: &R,
     words: PlanWords<'_>,
@@ -199,7 +200,7 @@ fn plan_part<R: Print + AllocGlobal>(
         at: first_address_of(&part),
         len: boot,
     };
-    // 256 bytes is the largest unit, so gates and headers have room for any unit.
+    // The placement must suit every unit, so it is computed for the largest one, 256 bytes.
     let needs = Needs {
         boot,
         unit: Unit::U256,
@@ -211,7 +212,7 @@ fn plan_part<R: Print + AllocGlobal>(
     }
 }
 
-/// Prints where gates, headers and data lie on a part; or refuses the first invalid word.
+/// Prints the addresses of gates, headers and data on a part, or refuses the first invalid argument.
 pub(crate) fn perform_plan<R: Files + Input + Print + AllocGlobal>(
     rt: &R,
     words: PlanWords<'_>,

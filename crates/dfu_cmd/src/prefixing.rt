@@ -1,4 +1,4 @@
-//! Output that begins each line with a text, such as the name of a file.
+//! Output that begins each line with a prefix, such as the name of a file.
 
 ghost use Rattle.std.specs.Prelude.{◌≤◌, length, IfOk};
 
@@ -24,7 +24,7 @@ impl<'t, W> Prefixed<'t, W> {
 }
 
 impl<W: Write> Prefixed<'_, W> {
-    /// Writes the text, unless the line has begun.
+    /// Writes the prefix at the beginning of a line.
     fn begin(&mut self) -> io::Result<()> {
         if self.is_begun || self.text.is_empty() {
             return Ok(());

@@ -1,4 +1,4 @@
-//! `dfu run`: runs a script, and writes the line of its fault if it stopped.
+//! `dfu run`: runs a script, and writes a line for the fault if the script stops.
 
 ghost use Rattle.std.specs.Prelude.{◌≡◌, ℕ, List, Option, None, IfSome};
 ghost use Rattle.dfu_link.specs.LineContent.{given_bytes};
@@ -13,7 +13,7 @@ use dfu_suffix::SuffixFault;
 use std::alloc::Global;
 use std::io::{Read, Write};
 
-/// Writes the line for a script that stopped at `fault` to `writer`. If the writer failed, nothing more is written.
+/// Writes the line for a script that stopped at `fault` to `writer`. It writes nothing if the fault is Write.
 pub(crate) fn stop_text<W: Write>(alloc: Global, fault: ScriptFault, writer: &mut W) -> Exit
     ensures { StopLineIsOut fault (W.contents writer.old) (W.contents writer.new) result }
 {
@@ -23,7 +23,7 @@ pub(crate) fn stop_text<W: Write>(alloc: Global, fault: ScriptFault, writer: &mu
             number_text(alloc, "refused LateConfig ", number, writer)
         }
         ScriptFault::BadConfig => write_out(writer, b"refused BadConfig\n", Exit::Refused),
-        // The line printed instead of the expected one has no line feed yet.
+        // The script printed a line other than the expected one, and this line has no line feed yet.
         ScriptFault::Expected(number) => {
             number_text(alloc, "\nrefused Expected ", number, writer)
         }
@@ -37,7 +37,7 @@ pub(crate) fn stop_text<W: Write>(alloc: Global, fault: ScriptFault, writer: &mu
     }
 }
 
-/// Writes the line of the fault in `answer`, if the script stopped. Returns the exit, and the fault.
+/// If the script stopped, writes the line for the fault in `answer`. Returns the exit and the fault.
 pub(crate) fn end_text<W: Write>(
     alloc: Global,
     answer: Result<(), ScriptFault>,
@@ -55,12 +55,11 @@ pub(crate) fn end_text<W: Write>(
     }
 }
 
-/// Runs the script of the reader, and writes its output. If the script runs to its end, the exit is Done, and the last line is that of the
-/// active image. If it stops, the last line is `refused NAME` with Refused, or `fault Read` with Fault, after the output up to there.
-/// BadLine, LateConfig and Expected are followed by the number of the line. If there is no memory for a line with a number, it is `refused
-/// NoMemory`.
+/// Runs the script of the reader, and writes its output. If the script runs to its end, the exit is Done, and the last line shows the
+/// active image. If it stops, the last line is `refused NAME` with Refused or `fault Read` with Fault, after the output so far. BadLine,
+/// LateConfig and Expected are followed by the number of the line. If there is no memory for such a line, it is `refused NoMemory`.
 ///
-/// If the writer fails, the exit is Fault; a prefix of the text is written, not all of it, and nothing more.
+/// If the writer fails, the exit is Fault, and only a proper prefix of the text is written.
 pub fn run_text<R: Read + Drop, W: Write>(alloc: Global, reader: R, writer: &mut W) -> Exit
     ensures run { IsRunText None (R.remaining reader) (W.contents writer.old) (W.contents writer.new) result }
     ensures printed { HeadlineIsOut None (R.remaining reader) (W.contents writer.old) (W.contents writer.new) result }
@@ -70,7 +69,7 @@ pub fn run_text<R: Read + Drop, W: Write>(alloc: Global, reader: R, writer: &mut
 }
 
 /// Runs the script as `run_text` does, with the bytes of `file`, if given, as FILE. Also returns the fault at which the script stopped, and
-/// notes its reason in `stopped`.
+/// stores the reason in `stopped`.
 pub(crate) fn run_with_fault<R: Read + Drop, W: Write>(
     alloc: Global,
     file: Option<&[u8]>,
@@ -80,7 +79,7 @@ pub(crate) fn run_with_fault<R: Read + Drop, W: Write>(
 ) -> (Exit, Option<ScriptFault>)
     ensures run { IsRunText (given_bytes file.entry) (R.remaining reader) (W.contents writer.old) (W.contents writer.new) result.0 }
     ensures printed { HeadlineIsOut (given_bytes file.entry) (R.remaining reader) (W.contents writer.old) (W.contents writer.new) result.0 }
-    // Without a fault, the script ran to its end.
+    // If there is no fault, the script ran to its end.
     ensures fault { result.1 ≡ None → result.0 ≡ Exit.Done }
 {
     let answer = script_with(alloc, file, reader, writer, stopped);
@@ -99,7 +98,7 @@ pub(crate) fn run_traced_with_fault<R: Read + Drop, W: Write, N: Write>(
 ) -> (Exit, Option<ScriptFault>, bool)
     ensures run { IsRunText (given_bytes file.entry) (R.remaining reader) (W.contents writer.old) (W.contents writer.new) result.0 }
     ensures printed { HeadlineIsOut (given_bytes file.entry) (R.remaining reader) (W.contents writer.old) (W.contents writer.new) result.0 }
-    // Without a fault, the script ran to its end.
+    // If there is no fault, the script ran to its end.
     ensures fault { result.1 ≡ None → result.0 ≡ Exit.Done }
 {
     let (answer, is_traced) = script_traced_with(alloc, file, reader, writer, trace, stopped);

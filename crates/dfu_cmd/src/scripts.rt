@@ -15,12 +15,11 @@ use std::alloc::Global;
 use std::io::{self, BufWriter, IsTerminal, Printer, Read, Write};
 use std::rt::Files;
 
-/// Size of the buffer of `dfu run`, in bytes. Two successive writes put out at least this number of bytes, for lines of any length; so
-/// there is at most one write for each 8,192 bytes, and one more.
+/// Size of the buffer of `dfu run` in bytes. Two successive writes together pass on at least this number of bytes. A run therefore makes at
+/// most one write for each 8,192 bytes of its output, plus one.
 const BUFFER: usize = 16_384;
 
-/// Returns a buffer of `room` bytes in front of the output. If there is no memory for it, the buffer has no room, and each text is written
-/// at once.
+/// Returns a buffer of `room` bytes for the output. If there is no memory for it, the buffer has no room, and each text is written at once.
 fn buffer_of<R: Print + AllocGlobal>(rt: &R, room: usize) -> BufWriter<Printer<'_, R>> {
     if let Ok(buffer) = BufWriter::with_capacity(rt.alloc(), room, io::writer(rt)) {
         return buffer;
@@ -31,19 +30,19 @@ fn buffer_of<R: Print + AllocGlobal>(rt: &R, room: usize) -> BufWriter<Printer<'
     buffer
 }
 
-/// Options of a script's run.
+/// Options for running a script.
 #[derive(Clone, Copy)]
 pub(crate) struct RunOptions<'f> {
-    /// True if each action of the host is printed.
+    /// True if the run prints each action of the host.
     pub trace: bool,
-    /// The bytes of FILE, if it is given.
+    /// Bytes of FILE, if it is given.
     pub file: Option<&'f [u8]>,
-    /// True if the reason is wanted when the script stops.
+    /// True if the outcome must contain the reason when the script stops.
     pub explain: bool,
 }
 
 impl RunOptions<'_> {
-    /// Returns the options `trace` and `explain`, without a FILE.
+    /// Returns options without a FILE.
     pub(crate) fn without_file(trace: bool, explain: bool) -> RunOptions<'static>
         ensures trace { result.trace ≡ trace }
         ensures file { result.file ≡ None }
@@ -57,7 +56,8 @@ impl RunOptions<'_> {
     }
 }
 
-/// Returns the line that explains why script `name` stopped at `fault`; None for Write, if no reason was noted, or if there is no memory.
+/// Returns the line with the reason why script `name` stopped at `fault`. Returns None for Write, if no reason is known, or if memory runs
+/// out.
 fn fault_reason<S>(
     alloc: Global,
     name: &str,
@@ -105,7 +105,7 @@ fn fault_reason<S>(
     }
 }
 
-/// Returns the line with the reason `why` for line `number` of script `name`; None if there is no memory.
+/// Returns the line with the reason `why` for line `number` of script `name`, or None if memory runs out.
 fn line_reason(alloc: Global, name: &str, number: u32, why: &str) -> Option<String> {
     match format!(in alloc; "line {number}: {why}") {
         Ok(why) => file_reason(alloc, name, &why),
@@ -113,7 +113,7 @@ fn line_reason(alloc: Global, name: &str, number: u32, why: &str) -> Option<Stri
     }
 }
 
-/// Runs a script with a trace. The output and the trace share the buffer, in the order of their writes. If a line of either can't be
+/// Runs a script with a trace. Output and trace share the buffer, which keeps the order of their writes. If a line of either can't be
 /// written, the exit is Fault.
 fn run_traced<R: Read + Drop, W: Write + Drop>(
     alloc: Global,
@@ -155,8 +155,8 @@ fn run_with_options<R: Read + Drop, W: Write + Drop>(
     (exit, fault)
 }
 
-/// Runs a script through a buffer, to make few writes. If the script is typed at a terminal, the buffer has no room, so that the output of
-/// a line is written before the next line is read.
+/// Runs a script with buffered output, which needs fewer writes. If the script is typed at a terminal, the buffer has no room, so that the
+/// output of a line appears before the next line is read.
 fn run_opened_script<R: Print + AllocGlobal, S: Read + IsTerminal + Drop>(
     rt: &R,
     name: &str,

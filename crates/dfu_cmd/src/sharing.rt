@@ -3,19 +3,19 @@
 use std::cell::RefCell;
 use std::io::{self, BufWriter, ErrorKind, Write};
 
-/// An output behind a buffer. After a failed write, nothing more is written.
+/// A buffered output. After a failed write, it writes nothing more.
 #[derive(Drop)]
 struct Output<W: Write + Drop> {
     buffer: BufWriter<W>,
     is_broken: bool,
 }
 
-/// An output that several writers share. Their bytes are written in the order of their writes.
+/// An output that several writers share. It writes their bytes in the order of their writes.
 #[derive(Drop)]
 pub(crate) struct Shared<W: Write + Drop>(RefCell<Output<W>>);
 
 impl<W: Write + Drop> Shared<W> {
-    /// Returns an output behind `buffer`, without a failed write so far.
+    /// Returns an output with this buffer, which hasn't failed so far.
     pub(crate) fn new(buffer: BufWriter<W>) -> Shared<W> {
         Shared(RefCell::new(Output {
             buffer,
@@ -23,16 +23,16 @@ impl<W: Write + Drop> Shared<W> {
         }))
     }
 
-    /// Returns one of the writers of the output.
+    /// Returns a new writer for the output.
     pub(crate) fn writer(&self) -> SharedWriter<'_, W> {
         SharedWriter(self)
     }
 
-    /// Writes the bytes that the buffer still holds. Returns true if all bytes of all writers are written.
+    /// Flushes the buffer. Returns true if all bytes of all writers are written.
     pub(crate) fn finish(self) -> bool {
         let Output { buffer, is_broken } = self.0.into_inner();
         if is_broken {
-            // A dropped buffer would write its bytes again, so it's taken apart.
+            // Dropping the buffer would write its bytes again, so the buffer is taken apart.
             let _ = buffer.into_parts();
             return false;
         }
@@ -50,7 +50,7 @@ impl<W: Write + Drop> Shared<W> {
 #[derive(Drop)]
 pub(crate) struct SharedWriter<'o, W: Write + Drop>(&'o Shared<W>);
 
-/// Returns the error of an output that can't be written any more.
+/// Returns the error for an output that has failed before.
 fn broken_output() -> io::Error {
     io::Error::from(ErrorKind::BrokenPipe)
 }

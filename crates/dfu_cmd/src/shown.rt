@@ -1,4 +1,4 @@
-//! `dfu show`, and the reasons for its refusals, found by the printed line.
+//! `dfu show`, and the reasons for its refusals, which are derived from the printed line.
 
 ghost use Rattle.std.specs.Prelude.{◌≤◌, length, IfOk};
 
@@ -10,10 +10,10 @@ use dfu_suffix::SuffixFault;
 use std::alloc::Global;
 use std::io::{self, Write};
 
-/// Number of bytes to remember: more than the longest refusal of `dfu show` has.
+/// Number of first bytes of the output that are kept. No line of a refusal of `dfu show` is longer.
 const REMEMBERED_BYTES: usize = 32;
 
-/// Output that remembers the first bytes written to it.
+/// Output that keeps the first bytes that are written to it.
 #[derive(Drop)]
 struct PrefixKeeper<W> {
     out: W,
@@ -22,7 +22,7 @@ struct PrefixKeeper<W> {
 }
 
 impl<W> PrefixKeeper<W> {
-    /// Returns a new output in front of `out`.
+    /// Returns a new output that passes its bytes on to `out`.
     fn new(out: W) -> PrefixKeeper<W> {
         PrefixKeeper {
             out,
@@ -31,12 +31,12 @@ impl<W> PrefixKeeper<W> {
         }
     }
 
-    /// Returns the first 32 bytes that were written, or all if there were fewer.
+    /// Returns the first 32 bytes that were written, or fewer if there were fewer.
     fn front(&self) -> &[u8] {
         self.kept.get(..self.count).unwrap_or(&[])
     }
 
-    /// Remembers the first of `bytes`, as far as there is room.
+    /// Keeps the first of `bytes`, as many as there is room for.
     fn keep(&mut self, bytes: &[u8]) {
         for byte in bytes {
             match self.kept.get_mut(self.count) {
@@ -60,7 +60,7 @@ impl<W: Write> Write for PrefixKeeper<W> {
     }
 }
 
-/// Explains a refusal of bytes by its printed line, and says what to do; None if `line` is no refusal of bytes.
+/// Returns an explanation of a refusal, and what to do. Returns None if `line` isn't a refusal of bytes.
 fn why(line: &str) -> Option<&'static str> {
     match line {
         "refused BadHex\n" => Some(
@@ -87,10 +87,10 @@ fn why(line: &str) -> Option<&'static str> {
     }
 }
 
-/// Returns the line that says why bytes of `kind` are refused, if `line` is a refusal of `dfu show`. None if `line` is no such line, or if
-/// there is no memory.
+/// Returns the line with the reason for refusing bytes of `kind`. Returns None if `line` isn't a refusal of `dfu show`, or if memory runs
+/// out.
 fn show_reason(alloc: Global, kind: &str, line: &[u8]) -> Option<String> {
-    // Each line of a refusal is ASCII.
+    // Every line of a refusal is ASCII.
     let why = why(std::str::from_utf8(line).unwrap_or(""))?;
     match reason_line(alloc, "", kind, why) {
         Ok(line) => Some(line),
@@ -98,7 +98,7 @@ fn show_reason(alloc: Global, kind: &str, line: &[u8]) -> Option<String> {
     }
 }
 
-/// Returns true if bytes of `kind` can be shown.
+/// Returns true if `dfu show` can decode bytes of `kind`.
 fn is_kind(kind: &str) -> bool {
     matches!(
         kind,
@@ -106,7 +106,7 @@ fn is_kind(kind: &str) -> bool {
     )
 }
 
-/// Shows the bytes of `words` as `kind`. The outcome has the reason if the kind or the bytes are refused.
+/// Decodes the bytes of `words` as `kind`, and prints their fields. If the kind or the bytes are refused, the outcome contains the reason.
 pub(crate) fn perform_show<R: Print + AllocGlobal>(
     rt: &R,
     kind: &str,

@@ -1,8 +1,8 @@
-//! Tips in the parser's message for a mistake.
+//! Tips in the parser's message about a mistake.
 
 use std::alloc::{AllocError, Global};
 
-/// Returns the names of the commands that have `option`; None if no command has it.
+/// Returns the names of the commands that have `option`, or None if no command does.
 fn owners(option: &str) -> Option<&'static str> {
     match option {
         "--vid" | "--pid" | "--did" => Some("add and set"),
@@ -10,12 +10,13 @@ fn owners(option: &str) -> Option<&'static str> {
         "--trace" | "--file" => Some("run"),
         "--interface" | "--device" | "--dfuse" => Some("judge"),
         "--part" | "--boot" | "--areas" | "--parts" => Some("plan"),
-        "--json" => Some("check, show and judge"),
+        "--json" => Some("check, show, judge and plan"),
         _ => None,
     }
 }
 
-/// Returns the option, with its `--`, that `line`, the first line of a message, reports as unexpected; None for any other line.
+/// If `line`, the first line of a message, reports an unexpected option, returns this option with its `--`. Returns None for any other
+/// line.
 fn unexpected(line: &str) -> Option<&str> {
     let option = line.strip_prefix("error: unexpected argument '")?;
     let option = option.strip_suffix("' found")?;
@@ -26,7 +27,8 @@ fn unexpected(line: &str) -> Option<&str> {
     }
 }
 
-/// Appends the tips for an option: the commands that have it, or else the parser's own tips, except how to pass the option as a value.
+/// Appends the tips for an option, which name the commands that have it. If no command has the option, the tips are the parser's own,
+/// except the tip to pass the option as a value.
 fn push_tips(text: &mut String, option: &str, tips: &str) -> Result<(), AllocError> {
     if let Some(names) = owners(option) {
         text.push_str("\n\n  tip: '")?;
@@ -45,8 +47,8 @@ fn push_tips(text: &mut String, option: &str, tips: &str) -> Result<(), AllocErr
     Ok(())
 }
 
-/// Returns the parser's message `text`; if it reports an unexpected option, with better tips: for an option of other commands, they name
-/// these commands; for any other, the tip to pass the option as a value is left out.
+/// Returns the parser's message `text` with better tips about an unexpected option. They name the commands that have the option. If no
+/// command has it, the tip to pass it as a value is left out.
 pub(crate) fn advised_message(alloc: Global, text: &str) -> Result<String, AllocError> {
     let Some((line, rest)) = text.split_once('\n') else {
         return String::from_str(alloc, text);

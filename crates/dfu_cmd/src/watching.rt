@@ -1,4 +1,4 @@
-//! Reader that keeps the error at which it failed, and the reading of whole files.
+//! Reader that keeps the error of a failed read, and reading of whole files.
 
 use dfu_fs::{error_reason, gather_fault, open};
 use dfu_output::{Outcome, fault_text};
@@ -7,10 +7,10 @@ use std::alloc::Global;
 use std::io::{self, Read};
 use std::rt::Files;
 
-/// Largest size of a file, in bytes.
+/// Largest size of a file in bytes.
 const MAX_FILE: usize = 16_777_216;
 
-/// Reader that keeps the error at which it failed.
+/// Reader that keeps the error of a failed read.
 #[derive(Drop)]
 pub(crate) struct ErrorKeeper<R> {
     reader: R,
@@ -26,7 +26,7 @@ impl<R> ErrorKeeper<R> {
         }
     }
 
-    /// Returns the reason for which file `name` could not be read, if reading it failed; else None.
+    /// Returns the reason why file `name` couldn't be read, or None if no read failed.
     pub(crate) fn reason(&self, alloc: Global, name: &str) -> Option<String> {
         match &self.error {
             Some(error) => error_reason(alloc, name, error),
@@ -48,7 +48,8 @@ impl<R: Read> Read for ErrorKeeper<R> {
     }
 }
 
-/// Reads the whole file `name`, or standard input if the name is `-`. If that fails, returns the outcome that `dfu check` has.
+/// Reads the whole file `name`, or standard input if the name is `-`. If reading fails, writes the line for the fault and returns the
+/// outcome.
 pub(crate) fn read_file<R: Files + Input + Print + AllocGlobal>(
     rt: &R,
     name: &str,

@@ -1,4 +1,4 @@
-//! Reasons for refusing words of the command line.
+//! Reasons for refusing arguments of the command line.
 
 ghost use Rattle.std.specs.Prelude.{◌≡◌, IfOk, IfSome, None, is_some, true};
 ghost use Rattle.std.specs.String.{string_bytes};
@@ -11,7 +11,7 @@ use dfu_output::{Outcome, bad_words, reason_line};
 use std::alloc::{AllocError, Global};
 use std::io;
 
-/// Refuses the words of the command line: writes the line `bad words`, and returns the outcome with `reason`.
+/// Refuses the command line: writes the line `bad words`, and returns the outcome with `reason`.
 pub(crate) fn refused<R: Print>(rt: &R, reason: Option<String>) -> Outcome {
     Outcome {
         exit: bad_words(&mut io::writer(rt)),
@@ -19,7 +19,7 @@ pub(crate) fn refused<R: Print>(rt: &R, reason: Option<String>) -> Outcome {
     }
 }
 
-/// Refuses `word` because of `fault`.
+/// Refuses the argument `word` because of `fault`.
 pub(crate) fn refused_word<R: Print + AllocGlobal>(
     rt: &R,
     fault: WordFault,
@@ -28,7 +28,7 @@ pub(crate) fn refused_word<R: Print + AllocGlobal>(
     refused(rt, word_reason(rt.alloc(), fault, word))
 }
 
-/// Returns the line; None if there was no memory for it.
+/// Returns the line, or None if there was no memory for it.
 fn made(line: Result<String, AllocError>) -> Option<String>
     ensures { (t : _) → IfOk line (λ s. string_bytes s ≡ t) → IfSome result (λ s. string_bytes s ≡ t) }
 {
@@ -38,7 +38,7 @@ fn made(line: Result<String, AllocError>) -> Option<String>
     }
 }
 
-/// Returns the reason for refusing the first wrong one of the three identifiers; None if all are right, or if there is no memory.
+/// Returns the reason for refusing the first wrong one of the three identifiers. Returns None if all are right, or if memory runs out.
 pub(crate) fn bad_identifier_reason(alloc: Global, texts: &IdTexts<'_>) -> Option<String>
     ensures sound { is_some (ids_in_texts texts.now.vendor.now texts.now.product.now texts.now.device.now) ≡ true → result ≡ None }
 {
@@ -51,7 +51,7 @@ pub(crate) fn bad_identifier_reason(alloc: Global, texts: &IdTexts<'_>) -> Optio
     }
 }
 
-/// Fault of a word of the command line.
+/// Fault of an argument of the command line.
 #[derive(Clone, Copy)]
 pub(crate) enum WordFault {
     /// KIND is unknown.
@@ -62,11 +62,11 @@ pub(crate) enum WordFault {
     Place,
     /// The format is unknown.
     Format,
-    /// The byte for gaps isn't two hexadecimal digits.
+    /// The fill byte doesn't have two hexadecimal digits.
     Fill,
-    /// A raw image has no byte for gaps.
+    /// `--fill` is given, but FILE is read as a raw image, which has no gaps.
     LoneFill,
-    /// No option gives FILE a new identifier.
+    /// No option sets an identifier of FILE.
     NoChange,
     /// A script and its file can't both be standard input.
     File,
@@ -74,13 +74,13 @@ pub(crate) enum WordFault {
     Interface,
     /// The device of a capture is neither `only` nor a bus and a device.
     Device,
-    /// The size of the bootloader isn't a valid size.
+    /// The value of `--boot` isn't a valid size.
     Boot,
     /// The number of areas is neither 2 nor 3.
     Areas,
 }
 
-/// Returns the label of a word that has `fault`, and the reason for refusing it.
+/// Returns the label for an argument with `fault`, and the reason for refusing it.
 fn label_and_why(fault: WordFault) -> (&'static str, &'static str)
     ensures label { result.0.now ≡ (label_and_why fault).0 }
     ensures why { result.1.now ≡ (label_and_why fault).1 }
@@ -116,7 +116,7 @@ fn label_and_why(fault: WordFault) -> (&'static str, &'static str)
     }
 }
 
-/// Returns the line with the reason for refusing `word`, which has `fault`; None if there is no memory.
+/// Returns the line with the reason for refusing `word` because of `fault`, or None if memory runs out.
 pub(crate) fn word_reason(alloc: Global, fault: WordFault, word: &str) -> Option<String>
     ensures { IfSome result (λ t. string_bytes t ≡ reason_line (label_and_why fault).0 word.now (label_and_why fault).1) }
 {

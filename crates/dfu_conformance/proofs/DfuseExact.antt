@@ -1,4 +1,4 @@
--- The step of a DfuSe judge is exact: the list after an event has exactly the places where a run ends.
+-- After each event, the judge of a DfuSe device lists exactly the states in which a run may end.
 use Rattle.std.specs.Prelude.{◌≡◌, ◌⊎◌, ◌↔◌, ◌&&◌, ◌||◌, Bool, true, List, [], ◌∷◌, ◌++◌}
 use Rattle.std.specs.List.{list_any}
 use Rattle.std.proofs.Common.{refl, sym, ap, ◌∙◌, inl, inr}
@@ -14,9 +14,9 @@ use Rattle.dfu_conformance.specs.declared.dfuse.rows.TheConstants.{DFUSE}
 use Rattle.dfu_conformance.specs.dfuse.Runs.{dfuse_attributes, dfuse_habits, dfuse_may_stay_at_event, DfuseMayAnswer, DfuseRun, DfuseMayBeAt, DfuseRowStep, DfuseMayMove}
 use Rattle.dfu_conformance.specs.dfuse.Verdicts.{has_place}
 use Rattle.dfu_conformance.specs.inside.DfuseStep.{row_leads_to, may_be_at_before_move, may_be_at_after_event}
-use Rattle.dfu_conformance.proofs.Goings.{leading_row_is_row_step, row_step_is_leading_row, leading_drift_is_move, move_is_leading_drift}
+use Rattle.dfu_conformance.proofs.RowTests.{leading_row_is_row_step, row_step_is_leading_row, leading_drift_is_move, move_is_leading_drift}
 
--- Some row of the four lists leads to the place `n`, or the device stays there.
+-- A row of one of the four lists leads to state `n`, or the device stays in it.
 abbrev four_lists_lead_to : (s m h d : List Row) (at : List Bool) (e : LogEvent) (n : StandardState) → Bool
 four_lists_lead_to s m h d at e n =
     ((((dfuse_may_stay_at_event e && has_place at n) || list_any (row_leads_to at e n) s) || list_any (row_leads_to at e n) m)
@@ -24,13 +24,13 @@ four_lists_lead_to s m h d at e n =
     (row_leads_to at e n) h)
     || list_any (row_leads_to at e n) d
 
--- An event may lead a DfuSe device from `p` to `n` by a row of the four lists, or the device stays.
+-- The event may lead a DfuSe device from state `p` to state `n` by a row of the four lists, or the device stays.
 abbrev DfuseMayAnswerBy : (s m h d : List Row) → StandardState → LogEvent → StandardState → Type 0
 DfuseMayAnswerBy s m h d p e n =
     DfuseRowStep s p e n ⊎ DfuseRowStep m p e n ⊎ DfuseRowStep h p e n
     ⊎ DfuseRowStep d p e n ⊎ ((n ≡ p) × (dfuse_may_stay_at_event e ≡ true))
 
--- If a row of the four lists leads to place `n`, or the device stays there, the list has a place from which the event may lead it to `n`.
+-- If a row leads to state `n`, or the device stays in it, the event may lead the device to `n` from a listed state.
 dfuse_led_place_has_source : (s m h d : List Row) (at : List Bool) (e : LogEvent) (n : StandardState)
     → four_lists_lead_to s m h d at e n ≡ true
     → (p : StandardState) × (has_place at p ≡ true) × DfuseMayAnswerBy s m h d p e n
@@ -51,7 +51,7 @@ dfuse_led_place_has_source s m h d at e n some = elim (or_cases _ _ some) [
   ]
 ]
 
--- If the list has place `p`, and the event may lead a device from there to `n`, a row of the four lists leads to `n`, or the device stays.
+-- If state `p` is listed, and the event may lead a device from it to `n`, a row leads to `n` or the device stays there.
 dfuse_source_leads_to_place : (s m h d : List Row) (at : List Bool) (e : LogEvent) (p n : StandardState) → has_place at p ≡ true →
     DfuseMayAnswerBy s m h d p e n
     → four_lists_lead_to s m h d at e n ≡ true
@@ -67,7 +67,7 @@ dfuse_source_leads_to_place s m h d at e p n is (inr (inr (inr (inl g)))) =
 dfuse_source_leads_to_place s m h d at e p n is (inr (inr (inr (inr (same, stay))))) =
     or_left _ _ (or_left _ _ (or_left _ _ (or_left _ _ (and_from _ _ stay (ap (λ (q : StandardState). has_place at q) same ∙ is)))))
 
--- A device may be at a place right after an event exactly if the event may lead it there from a place of the list.
+-- Right after an event, a device may be in a state exactly if the event may lead it there from a listed state.
 dfuse_answers_are_exact : (at : List Bool) (e : LogEvent) (n : StandardState)
     → (may_be_at_before_move at e n ≡ true) ↔ ((p : StandardState) × (has_place at p ≡ true) × DfuseMayAnswer p e n)
 dfuse_answers_are_exact at e n = (
@@ -75,8 +75,8 @@ dfuse_answers_are_exact at e n = (
   λ x. dfuse_source_leads_to_place STANDARD MARKS HABITS DFUSE at e x.0 n x.1 x.2,
 )
 
--- A device may be at a place after an event exactly if the event may lead it on from a place of the list, and it may then move to the place
--- by itself.
+-- After an event and a move, a device may be in state `n` exactly if the event may lead it from a listed state to `n`, or to a state from
+-- which it may move to `n` by itself.
 dfuse_steps_are_exact : (at : List Bool) (e : LogEvent) (n : StandardState)
     → (may_be_at_after_event at e n ≡ true) ↔ ((p q : StandardState) × (has_place at p ≡ true) × DfuseMayAnswer p e q × DfuseMayMove q n)
 dfuse_steps_are_exact at e n = (
@@ -88,7 +88,7 @@ dfuse_steps_are_exact at e n = (
       (x.0, x.2, x.3)) x.4,
 )
 
--- A run through `events` and then `e` is a run through `events`, an answer to `e`, and at most one move by itself.
+-- A run through `events` and then `e` consists of a run through `events`, an answer to `e`, and at most one move of the device by itself.
 dfuse_run_splits_at_last_event : (p : StandardState) (events : List LogEvent) (e : LogEvent) (n : StandardState)
     → DfuseRun p (events ++ e ∷ []) n
     ↔ ((here next : StandardState) × DfuseRun p events here × DfuseMayAnswer here e next × DfuseMayMove next n)
@@ -104,7 +104,7 @@ dfuse_run_splits_at_last_event p (f ∷ events) e n = (
   λ x. (x.2.0, x.2.1, x.2.2, x.2.3, (dfuse_run_splits_at_last_event x.2.1 events e n).1 (x.0, x.1, x.2.4, x.3, x.4)),
 )
 
--- If the places are exact before an event, those of the step are exact after it.
+-- If the list of states is exact before an event, the list that the step computes is exact after it.
 pub dfuse_step_keeps_exactness : (before after : List Bool) (events : List LogEvent) (e : LogEvent)
     → ((p : StandardState) → (has_place before p ≡ true) ↔ DfuseMayBeAt events p)
     → ((n : StandardState) → has_place after n ≡ may_be_at_after_event before e n)
@@ -119,7 +119,7 @@ dfuse_step_keeps_exactness before after events e so says n = (
       says n ∙ (dfuse_steps_are_exact before e n).1 (p, q, (so p).1 (x.0, run), may, moved),
 )
 
--- A run through a list of events begins with a run through any prefix of the list.
+-- A run through a list of events begins with a run through any prefix of it.
 pub dfuse_run_has_prefix_run : (p : StandardState) (front back : List LogEvent) (n : StandardState) → DfuseRun p (front ++ back) n
     → (last : StandardState) × DfuseRun p front last
 dfuse_run_has_prefix_run p [] back n run = (p, inl refl)

@@ -1,4 +1,4 @@
--- A run of a device of USB DFU 1.1 is a run of a DfuSe device.
+-- Each run of a USB DFU 1.1 device with the bmAttributes and habits of a DfuSe device is also a run of a DfuSe device.
 use Rattle.std.specs.Prelude.{◌≡◌, ◌&&◌, Bool, true, false, List, [], ◌∷◌}
 use Rattle.std.proofs.Common.{refl, inl, inr}
 use Rattle.dfu_conformance.specs.declared.row.StandardState.{StandardState}
@@ -10,7 +10,7 @@ use Rattle.dfu_conformance.specs.MayAnswer.{MayAnswer as StandardAnswer, Run as 
 use Rattle.dfu_conformance.specs.dfuse.Laws.{StandardIsIncluded}
 use Rattle.dfu_conformance.specs.dfuse.Runs.{dfuse_attributes, dfuse_habits, reports_place, DfuseMayAnswer, DfuseRun}
 
--- A device that may stay at its place may also stay if it must answer fewer requests.
+-- A device that may stay in its state may also stay if fewer requests must be answered.
 fewer_duties_allow_staying : (plain other : Bool) (a : Response) → may_stay_by_answer plain a ≡ true
     → may_stay_by_answer (plain && other) a ≡ true
 fewer_duties_allow_staying plain other answer.Nothing e = refl
@@ -18,7 +18,7 @@ fewer_duties_allow_staying false other answer.Stall e = refl
 fewer_duties_allow_staying true other answer.Stall e = absurd cc
 fewer_duties_allow_staying plain other (answer.Bytes count first fifth) e = absurd cc
 
--- Every answer that the standard allows is one that DfuSe allows.
+-- DfuSe allows every answer that the other tables allow a device with the bmAttributes and habits of a DfuSe device.
 standard_answer_is_dfuse_answer : (from next : StandardState) (e : LogEvent) → StandardAnswer dfuse_attributes dfuse_habits from e next →
     DfuseMayAnswer from e next
 standard_answer_is_dfuse_answer from next e (inl by_s) = inl by_s
@@ -30,7 +30,7 @@ standard_answer_is_dfuse_answer from next e (inr (inr (inr (same, stay)))) = inr
       (reports_place e.asked) e.answer stay,
 ))))
 
--- Each run of a device of the standard is a run of a DfuSe device, event by event.
+-- Each run of a USB DFU 1.1 device with the bmAttributes and habits of a DfuSe device is also a run of a DfuSe device.
 pub standard_run_is_dfuse_run : StandardIsIncluded
 standard_run_is_dfuse_run [] from last run = run
 standard_run_is_dfuse_run (e ∷ events) from last (here, next, moved, may, rest) =

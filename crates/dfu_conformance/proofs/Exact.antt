@@ -1,4 +1,4 @@
--- The step of a judge is exact: after an event it holds devices at exactly the places where their runs end.
+-- After each event, the judge's candidates are exactly the devices and states in which a run may end.
 use Rattle.std.specs.Prelude.{◌≡◌, ◌⊎◌, ◌↔◌, ℕ, ◌&&◌, ◌||◌, Bool, true, List, [], ◌∷◌, ◌++◌}
 use Rattle.std.specs.List.{list_any}
 use Rattle.std.proofs.Common.{refl, sym, ap, ◌∙◌, inl, inr}
@@ -13,21 +13,21 @@ use Rattle.dfu_conformance.specs.declared.drifts.TheConstants.{DRIFTS}
 use Rattle.dfu_conformance.specs.RowMatches.{may_stay_at_event}
 use Rattle.dfu_conformance.specs.Candidates.{is_held_at}
 use Rattle.dfu_conformance.specs.MayAnswer.{RowStep, MayAnswer, MayMove, Run, MayBeAt}
-use Rattle.dfu_conformance.proofs.Goings.{leading_row_is_row_step, row_step_is_leading_row, leading_drift_is_move, move_is_leading_drift}
+use Rattle.dfu_conformance.proofs.RowTests.{leading_row_is_row_step, row_step_is_leading_row, leading_drift_is_move, move_is_leading_drift}
 use Rattle.dfu_conformance.specs.inside.Stepped.{row_leads, is_held_before_moves, is_held_after_event}
 
--- Some row of the three lists leads to the place `n`, or the device stays there.
+-- A row of one of the three lists leads to state `n`, or the device stays in it.
 abbrev three_lists_lead_to : (s m h : List Row) (held : List (List ℕ)) (e : LogEvent) (n : StandardState) (a r : ℕ) → Bool
 three_lists_lead_to s m h held e n a r =
     (((may_stay_at_event e && is_held_at held n a r) || list_any (row_leads held e n a r) s) || list_any (row_leads held e n a r) m)
     || list_any
     (row_leads held e n a r) h
 
--- An event may lead a device from `p` to `n` by a row of the three lists, or the device stays.
+-- The event may lead a device from state `p` to state `n` by a row of the three lists, or the device stays.
 abbrev MayAnswerBy : (s m h : List Row) (a r : ℕ) → StandardState → LogEvent → StandardState → Type 0
 MayAnswerBy s m h a r p e n = RowStep s a r p e n ⊎ RowStep m a r p e n ⊎ RowStep h a r p e n ⊎ ((n ≡ p) × (may_stay_at_event e ≡ true))
 
--- If a row of the three lists leads to place `n`, or the device stays there, it is held at a place from which the event may lead it to `n`.
+-- If a row leads to state `n`, or the device stays in it, the device is a candidate in a state from which the event may lead it to `n`.
 led_place_has_source : (s m h : List Row) (held : List (List ℕ)) (e : LogEvent) (n : StandardState) (a r : ℕ)
     → three_lists_lead_to s m h held e n a r
     ≡ true
@@ -45,7 +45,7 @@ led_place_has_source s m h held e n a r some = elim (or_cases _ _ some) [
   ]
 ]
 
--- If a device is held at place `p`, and the event may lead it to `n`, a row of the three lists leads to `n`, or the device stays there.
+-- If a device is a candidate in state `p`, and the event may lead it to `n`, a row leads to `n` or the device stays there.
 source_leads_to_place : (s m h : List Row) (held : List (List ℕ)) (e : LogEvent) (p n : StandardState) (a r : ℕ)
     → is_held_at held p a r ≡ true
     → MayAnswerBy s m h a r p e n
@@ -59,7 +59,7 @@ source_leads_to_place s m h held e p n a r is (inr (inr (inl g))) =
 source_leads_to_place s m h held e p n a r is (inr (inr (inr (same, stay)))) =
     or_left _ _ (or_left _ _ (or_left _ _ (and_from _ _ stay (ap (λ (q : StandardState). is_held_at held q a r) same ∙ is))))
 
--- A device is held at a place right after an event exactly if the event may lead it there from a place where it was held.
+-- Right after an event, a device is a candidate in a state exactly if the event may lead it there from a state in which it was a candidate.
 pub answers_are_exact : (held : List (List ℕ)) (e : LogEvent) (n : StandardState) (a r : ℕ)
     → (is_held_before_moves held e n a r ≡ true) ↔ ((p : StandardState) × (is_held_at held p a r ≡ true) × MayAnswer a r p e n)
 answers_are_exact held e n a r = (
@@ -67,8 +67,8 @@ answers_are_exact held e n a r = (
   λ x. source_leads_to_place STANDARD MARKS HABITS held e x.0 n a r x.1 x.2,
 )
 
--- A device is held at a place after an event exactly if it was held somewhere, the event may lead it on from there, and it may then move to
--- the place by itself.
+-- After an event and a move, a device is a candidate in state `n` exactly if the event may lead it, from a state in which it was a
+-- candidate, to `n` or to a state from which it may move to `n` by itself.
 pub steps_are_exact : (held : List (List ℕ)) (e : LogEvent) (n : StandardState) (a r : ℕ)
     → (is_held_after_event held e n a r ≡ true) ↔ ((p q : StandardState) × (is_held_at held p a r ≡ true) × MayAnswer a r p e q
     × MayMove a r q n)
@@ -81,7 +81,7 @@ steps_are_exact held e n a r = (
       ((answers_are_exact held e x.1 a r).1 (x.0, x.2, x.3)) x.4,
 )
 
--- A run through `events` and then `e` is a run through `events`, an answer to `e`, and at most one move by itself.
+-- A run through `events` and then `e` consists of a run through `events`, an answer to `e`, and at most one move of the device by itself.
 pub run_splits_at_last_event : (a r : ℕ) (p : StandardState) (events : List LogEvent) (e : LogEvent) (n : StandardState)
     → Run a r p (events ++ e ∷ []) n
     ↔ ((here next : StandardState) × Run a r p events here × MayAnswer a r here e next × MayMove a r next n)
@@ -92,7 +92,7 @@ run_splits_at_last_event a r p (f ∷ events) e n = (
   λ x. (x.2.0, x.2.1, x.2.2, x.2.3, (run_splits_at_last_event a r x.2.1 events e n).1 (x.0, x.1, x.2.4, x.3, x.4)),
 )
 
--- If the candidates are exact before an event, those of the step are exact after it.
+-- If the candidates are exact before an event, those that the step computes are exact after it.
 pub step_keeps_exactness : (held after : List (List ℕ)) (events : List LogEvent) (e : LogEvent) (a r : ℕ)
     → ((p : StandardState) → (is_held_at held p a r ≡ true) ↔ MayBeAt a r events p)
     → ((n : StandardState) → is_held_at after n a r ≡ is_held_after_event held e n a r)

@@ -1,4 +1,4 @@
--- Facts that proofs of other crates cite: a row is found by its fields, and two moves are one.
+-- Facts for the proofs of other crates: the tables contain a row with given fields, and two moves in sequence are one move.
 use Rattle.std.specs.Prelude.{◌≡◌, ℕ, ◌+◌, ◌==◌, ◌&&◌, ◌||◌, not, Bool, true, List, [], ◌∷◌, Contains, if◌then◌else◌}
 use Rattle.std.specs.List.{list_any, list_all}
 use Rattle.std.proofs.Common.{refl, sym, ap, subst, ◌∙◌, inl, inr}
@@ -20,7 +20,7 @@ use Rattle.dfu_conformance.specs.Candidates.{applies_to, reading_bit}
 use Rattle.dfu_conformance.specs.MayAnswer.{RowStep, MovesBy, MayMove, Run}
 use Rattle.dfu_conformance.proofs.Places.{equal_place_numbers_equal_place}
 
--- Number of an answer that a row may allow, 0 to 7.
+-- Number of the answer that a row allows, 0 to 7.
 abbrev pub gives_number : Gives → ℕ
 gives_number gives.Ack = 0
 gives_number gives.Stall = 1
@@ -31,19 +31,19 @@ gives_number gives.Full = 5
 gives_number gives.Short = 6
 gives_number gives.Silent = 7
 
--- Answer of a row with this number; `Silent` for 7 and above.
+-- Answer with this number, or `Silent` for 7 and above.
 gives_of_number : ℕ → Gives
 gives_of_number n =
     if n == 0 then gives.Ack else if n == 1 then gives.Stall else if n == 2 then gives.Status else if n == 3 then gives.NoCode
     else if n == 4 then gives.State else if n == 5 then gives.Full else if n == 6 then gives.Short else gives.Silent
 
--- The answer with the number of an answer is that answer.
+-- From the number of an answer, `gives_of_number` returns this answer.
 gives_has_its_number : (g : Gives) → gives_of_number (gives_number g) ≡ g
 unfolding gives_of_number
 gives_has_its_number gives.Ack = refl
 gives_has_its_number g = refl
 
--- Number of a `When`, the devices to which a row applies: 0 to 11.
+-- Number of the set of devices to which a row applies, 0 to 11.
 abbrev pub when_number : When → ℕ
 when_number Always = 0
 when_number CanDownload = 1
@@ -53,14 +53,14 @@ when_number NotTolerant = 4
 when_number WillDetach = 5
 when_number (By reading) = 6 + reading_bit reading
 
--- `When` with this number; `By ErrorWithoutCode` for 11 and above.
+-- Set of devices with this number, or `By ErrorWithoutCode` for 11 and above.
 when_of_number : ℕ → When
 when_of_number n =
     if n == 0 then Always else if n == 1 then CanDownload else if n == 2 then CanUpload else if n == 3 then Tolerant
     else if n == 4 then NotTolerant else if n == 5 then WillDetach else if n == 6 then By Bootloader else if n == 7 then By RuntimeMute
     else if n == 8 then By SelfReset else if n == 9 then By DetachAtOnce else if n == 10 then By DetachLeaves else By ErrorWithoutCode
 
--- The `When` with the number of a `When` is that `When`.
+-- From the number of a set of devices, `when_of_number` returns this set.
 when_has_its_number : (w : When) → when_of_number (when_number w) ≡ w
 unfolding when_of_number
 when_has_its_number Always = refl
@@ -75,7 +75,7 @@ is_row from asked when g next row =
     && ((when_number row.when == when_number when) && ((gives_number row.gives == gives_number g)
     && (place_number row.next == place_number next))))
 
--- If a row of the list has these fields, and fits the device and the event, the row leads the device.
+-- If the list contains a row with these fields that fits the event and the device, a row leads the device from `from` to `next`.
 pub device_goes_by_listed_row : (rows : List Row) (from : StandardState) (asked : EventKind) (when : When) (g : Gives) (next :
     StandardState) (a r : ℕ)
     (e : LogEvent)
@@ -109,7 +109,7 @@ abbrev pub is_move : StandardState → When → StandardState → Drift → Bool
 is_move from when next d =
     (place_number d.from == place_number from) && ((when_number d.when == when_number when) && (place_number d.next == place_number next))
 
--- If a move of the list has these fields, and applies to the device, the device may make it.
+-- If the list contains a move with these fields that applies to the device, the device may make this move.
 pub device_moves_by_listed_drift : (moves : List Drift) (from : StandardState) (when : When) (next : StandardState) (a r : ℕ)
     → list_any (is_move from when next) moves ≡ true
     → applies_to when a r ≡ true → MovesBy moves a r from next
@@ -126,27 +126,27 @@ device_moves_by_listed_drift moves from when next a r some row_is_for_device =
           ∙ ap when_of_number (eqb-true _ _ w.0) ∙ when_has_its_number when) ∙ row_is_for_device;
     }
 
--- The move `f` leads from the start of `d` to the end of `e`, for all devices that make both.
+-- The move `f` leads from the start of `d` to the end of `e`, for all devices that may make both `d` and `e`.
 drift_joins_two : Drift → Drift → Drift → Bool
 drift_joins_two d e f =
     ((place_number f.from == place_number d.from) && (place_number f.next == place_number e.next))
     && ((when_number f.when == 0) || ((when_number f.when == when_number d.when) || (when_number f.when == when_number e.when)))
 
--- If `e` begins at the place where `d` ends, a move of the list joins the two.
+-- If `e` begins in the state in which `d` ends, `DRIFTS` contains a move that joins the two.
 followed_drifts_are_joined : Drift → Drift → Bool
 followed_drifts_are_joined d e = not (place_number d.next == place_number e.from) || list_any (drift_joins_two d e) DRIFTS
 
--- Any two moves of `DRIFTS`, of which the second begins where the first ends, are joined by a move of `DRIFTS`.
+-- If a move of `DRIFTS` begins in the state in which another one ends, `DRIFTS` contains a move that joins the two.
 all_drift_pairs_are_joined : list_all (λ (d : Drift). list_all (λ (e : Drift). followed_drifts_are_joined d e) DRIFTS) DRIFTS ≡ true
 unfolding followed_drifts_are_joined drift_joins_two
 all_drift_pairs_are_joined = refl
 
--- If all elements of a list pass a test, its element `x` passes the test.
+-- If all elements of a list pass a test, so does its element `x`.
 pub each_element_passes : {X : Type 0} (p : X → Bool) (xs : List X) (x : X) → Contains xs x → list_all p xs ≡ true → p x ≡ true
 each_element_passes p xs x (k, in', is) all = true_from_ne_false (p x) (λ fails.
     both_ways (list_all p xs) (list_all_at p xs k x in' (ap p is ∙ fails)) all)
 
--- Two moves of `DRIFTS` in a row are one move of `DRIFTS`.
+-- If two moves of `DRIFTS` in sequence lead a device from `p` to `s`, one move of `DRIFTS` does so too.
 two_listed_moves_are_one : (a r : ℕ) (p q s : StandardState) → MovesBy DRIFTS a r p q → MovesBy DRIFTS a r q s → MovesBy DRIFTS a r p s
 unfolding followed_drifts_are_joined drift_joins_two
 two_listed_moves_are_one a r p q s m n =
@@ -184,13 +184,13 @@ two_listed_moves_are_one a r p q s m n =
       ]
     ]
 
--- A device that may move twice may move once to the same place.
+-- If a device may reach a state in two moves, it may reach it in one.
 pub two_moves_are_one : (a r : ℕ) (p q s : StandardState) → MayMove a r p q → MayMove a r q s → MayMove a r p s
 two_moves_are_one a r p q s (inl same) n = subst (λ (x : StandardState). MayMove a r x s) same n
 two_moves_are_one a r p q s (inr m) (inl same) = inr (subst (λ (x : StandardState). MovesBy DRIFTS a r p x) (sym same) m)
 two_moves_are_one a r p q s (inr m) (inr n) = inr (two_listed_moves_are_one a r p q s m n)
 
--- A run from a place that a device reached by a move is also a run from the place that the device left.
+-- If a device moves from `p` to `q`, each run from `q` is also a run from `p`.
 pub move_begins_run : (a r : ℕ) (p q : StandardState) (events : List LogEvent) (last : StandardState) → MayMove a r p q
     → Run a r q events last
     → Run a r p events last

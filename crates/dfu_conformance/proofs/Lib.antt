@@ -3,16 +3,16 @@ mod DfuseKept
 mod DfusePasses
 mod DfuseSomewhere
 mod DfuseVerdicts
-mod Everywhere
+mod FirstPlaces
 mod Exact
 mod Fields
 pub mod ForCallers
-pub mod Goings
-mod Joined
+pub mod RowTests
+mod JoinedBits
 mod Least
 pub mod Places
 mod Requests
-pub mod Somewhere
+pub mod HeldPlaces
 mod Verdicts
 mod Words
-mod Untaken
+mod UntakenRows

@@ -1,4 +1,4 @@
--- The rows of `MARKS`, for resets and power, apply to no request.
+-- The rows of `MARKS` apply to bus resets and to returns of power, but not to requests.
 use Rattle.std.specs.Prelude.{◌≡◌, ℕ, ◌≤◌, nat_le, Bool, true, false, List}
 use Rattle.std.specs.List.{list_any, list_all}
 use Rattle.std.proofs.Common.{refl, arith, inl, inr}
@@ -12,24 +12,24 @@ use Rattle.dfu_conformance.specs.RowMatches.{event_kind_number}
 use Rattle.dfu_conformance.specs.inside.Stepped.{row_leads}
 use Rattle.dfu_conformance.proofs.ForCallers.{each_element_passes}
 
--- The row is for a reset or power.
+-- The row is for a bus reset or a return of power.
 is_reset_or_power_row : Row → Bool
 is_reset_or_power_row row = nat_le 9 (event_kind_number row.asked)
 
--- Every row of `MARKS` is for a reset or power.
+-- Each row of `MARKS` is for a bus reset or a return of power.
 marks_are_reset_or_power_rows : list_all is_reset_or_power_row MARKS ≡ true
 unfolding is_reset_or_power_row
 marks_are_reset_or_power_rows = refl
 
--- The index of a request, at most 8, is not that of a reset or power, 9 or more.
+-- Requests have indices up to 8, and resets and power have indices from 9 on, so they differ.
 request_is_no_reset_or_power : (x y : ℕ) → 9 ≤ x → y ≤ 8 → x ≡ y → ⊥
 request_is_no_reset_or_power x y above below same = omega arith
 
--- The index of a reset or power is not 8, the index of `Other`.
+-- The index of a reset or of power isn't 8, the index of `Other`.
 nine_or_more_is_not_eight : (x : ℕ) → 9 ≤ x → x ≡ 8 → ⊥
 nine_or_more_is_not_eight x above same = omega arith
 
--- No row of `MARKS` leads a device at a request, because each is for a reset or power.
+-- No row of `MARKS` applies to a request, because each is for a bus reset or a return of power.
 pub marks_lead_no_request : (held : List (List ℕ)) (e : LogEvent) (n : StandardState) (a r : ℕ) → event_kind_number e.asked ≤ 8
     → list_any (row_leads held e n a r) MARKS ≡ false
 unfolding is_reset_or_power_row

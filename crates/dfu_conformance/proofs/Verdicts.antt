@@ -1,4 +1,4 @@
--- The verdict of a judge is right.
+-- The verdict of the judge is right.
 use Rattle.std.specs.Prelude.{◌≡◌, ◌↔◌, ℕ, ◌<◌, Bool, true, false, List, [], ◌∷◌, ◌++◌, slice_index_or, Some, None}
 use Rattle.std.proofs.Common.{sym, ◌∙◌, subst, arith}
 use Rattle.std.proofs.lemmas.Bool.{both_ways}
@@ -14,20 +14,21 @@ use Rattle.dfu_conformance.specs.inside.Stepped.{is_held_after_event, has_candid
 use Rattle.dfu_conformance.proofs.Exact.{step_keeps_exactness}
 use Rattle.dfu_conformance.proofs.Least.{IsLeastSetBelow, least_set_below_is_least}
 use Rattle.dfu_conformance.proofs.Places.{place_number_below_12}
-use Rattle.dfu_conformance.proofs.Somewhere.{ExactForReadings, held_device_can_answer, held_place_is_possible}
+use Rattle.dfu_conformance.proofs.HeldPlaces.{ExactForReadings, held_device_can_answer, held_place_is_possible}
 
 -- If the candidates are exact, they are exact for each set of habits.
 pub candidates_are_exact_for_each : (held : List (List ℕ)) (events : List LogEvent) (r : ℕ) → r < 64 → CandidatesExact held events
     → ExactForReadings held events r
 candidates_are_exact_for_each held events r within so = λ a p below. so a r p below within
 
--- If a device without habits is held somewhere, the verdict is `Kept`.
+-- If the candidates are exact, and a device without habits is a candidate, the verdict `Kept` is right.
 pub plain_device_gives_kept : (held : List (List ℕ)) (events : List LogEvent) → CandidatesExact held events → is_held_anywhere held 0 ≡ true
     → IsVerdict Kept events
 plain_device_gives_kept held events so is_so =
     (held_device_can_answer held events 0 (candidates_are_exact_for_each held events 0 (omega arith) so)).0 is_so
 
--- If no device without habits is held, and `s` is the least set of habits with a device that is held, the verdict is `KeptBy s`.
+-- If the candidates are exact, no device without habits is a candidate, and `s` is the smallest set of habits with a candidate, the verdict
+-- `KeptBy s` is right.
 pub least_readings_give_kept_by : (held : List (List ℕ)) (events : List LogEvent) (s : ℕ) → CandidatesExact held events
     → is_held_anywhere held 0 ≡ false
     → Some s ≡ least_set_below (is_held_anywhere held) 64 → IsVerdict (KeptBy s) events
@@ -45,14 +46,14 @@ least_readings_give_kept_by held events s so not_plain is =
       },
     )
 
--- The number of the least set of habits, of those below 64, has at most six bits.
+-- The number of the smallest of the 64 sets of habits with a candidate has at most six bits.
 pub least_set_has_six_bits : (held : List (List ℕ)) (s : ℕ) → Some s ≡ least_set_below (is_held_anywhere held) 64 → HasSixBits (KeptBy s)
 least_set_has_six_bits held s is =
     let least : IsLeastSetBelow (is_held_anywhere held) 64 (Some s) = subst (IsLeastSetBelow (is_held_anywhere held) 64) (sym is)
     (least_set_below_is_least (is_held_anywhere held) 64) in
     least.0
 
--- If no device is held with any set of habits, the verdict is `NotKept`.
+-- If the candidates are exact, and no device with any set of habits is a candidate, the verdict `NotKept` is right.
 pub no_device_gives_not_kept : (held : List (List ℕ)) (events : List LogEvent) → CandidatesExact held events
     → None ≡ least_set_below (is_held_anywhere held) 64
     → IsVerdict NotKept events
@@ -62,27 +63,27 @@ no_device_gives_not_kept held events so is = λ r within may.
     both_ways (is_held_anywhere held r) (none_held r within)
     ((held_device_can_answer held events r (candidates_are_exact_for_each held events r within so)).1 may)
 
--- The candidates `after` are those of the judge's step from `before` at event `e`.
+-- `after` contains the candidates that the judge's step computes from `before` for event `e`.
 abbrev pub IsCandidateStep : List (List ℕ) → LogEvent → List (List ℕ) → Type 0
 IsCandidateStep before e after = (n : StandardState) (a r : ℕ) → a < 16 → r < 64
     → is_held_at after n a r ≡ is_held_after_event before e n a r
 
--- If the candidates are exact before an event, they are exact after it.
+-- If the candidates are exact before an event, those that the step computes are exact after it.
 pub candidates_stay_exact : (before after : List (List ℕ)) (events : List LogEvent) (e : LogEvent) → IsCandidateStep before e after
     → CandidatesExact before events
     → CandidatesExact after (events ++ e ∷ [])
 candidates_stay_exact before after events e says so a r p below within =
     step_keeps_exactness before after events e a r (λ q. so a r q below within) (λ n. says n a r below within) p
 
--- If the candidates without habits are exact before an event, they are exact after it.
+-- If the candidates without habits are exact before an event, those that the step computes are exact after it.
 pub plain_candidates_stay_exact : (before after : List (List ℕ)) (events : List LogEvent) (e : LogEvent) → IsCandidateStep before e after
     → PlainCandidatesExact before events
     → PlainCandidatesExact after (events ++ e ∷ [])
 plain_candidates_stay_exact before after events e says so a p below =
     step_keeps_exactness before after events e a 0 (λ q. so a q below) (λ n. says n a 0 below (omega arith)) p
 
--- If a device without habits is left after an event, such a device may have answered all events up to it, and the candidates after it are
--- exact.
+-- If the candidates without habits are exact before an event, and the step computes at least one, a device without habits may have answered
+-- all events so far, and the new candidates are exact.
 pub plain_device_can_answer : (before after : List (List ℕ)) (events : List LogEvent) (e : LogEvent) → IsCandidateStep before e after
     → PlainCandidatesExact before events
     → is_held_anywhere after 0 ≡ true → CanAnswer 0 (events ++ e ∷ []) × PlainCandidatesExact after (events ++ e ∷ [])
@@ -93,7 +94,8 @@ plain_device_can_answer before after events e says so left =
       next,
     )
 
--- The places where a device without habits is held are the places where it may be.
+-- If the candidates without habits are exact, the states with such a candidate are exactly those in which a device without habits may be
+-- after the events.
 pub held_places_are_possible : (before : List (List ℕ)) (at : List Bool) (events : List LogEvent) → PlainCandidatesExact before events
     → ((n : ℕ) → n < 12 → slice_index_or at n false ≡ has_candidate (slice_index_or before n []) 0) → ArePlacesAfter 0 events at
 held_places_are_possible before at events so places = λ p.
@@ -102,12 +104,12 @@ held_places_are_possible before at events so places = λ p.
     places (place_number p) (place_number_below_12 p) in
     (λ here. is.0 (sym same ∙ here), λ x. same ∙ is.1 x)
 
--- The departure has the event and the places of devices without habits before it, and no such device is held after it.
+-- The departure contains the event and the states of the candidates without habits before it. After the event, there is no such candidate.
 abbrev pub IsDepartureOfStep : (before after : List (List ℕ)) → LogEvent → Departure → Type 0
 IsDepartureOfStep before after e d = (d.event ≡ e) × (is_held_anywhere after 0 ≡ false)
     × ((n : ℕ) → n < 12 → slice_index_or d.before n false ≡ has_candidate (slice_index_or before n []) 0)
 
--- If no device without habits is left, the event is a departure.
+-- If the candidates without habits are exact before an event, and the step computes none, the event is a departure.
 pub event_without_devices_departs : (before after anew : List (List ℕ)) (events : List LogEvent) (e : LogEvent) (d : Departure) →
     IsCandidateStep before e after
     → PlainCandidatesExact before events → PlainCandidatesExact anew [] → IsDepartureOfStep before after e d → EventDeparts events d anew

@@ -1,4 +1,4 @@
--- Constant words of sets of habits.
+-- Constant words, with one bit for each set of habits.
 use Rattle.std.specs.Prelude.{◌≡◌, ℕ, ◌<◌, ◌==◌, Bool, true, false, slice_index_or}
 use Rattle.std.specs.Int.{bit_at}
 use Rattle.std.proofs.Common.{refl}
@@ -13,10 +13,10 @@ word_of_reading_has_bit k in' r below =
     agree_below_at (word_has k) (number_has k) 64 r
     (agree_below_at (λ k. agree_below (word_has k) (number_has k) 64) (λ k. true) 6 k refl in') below
 
--- Every bit of the word of all sets of habits is 1.
+-- In the word of all sets of habits, every bit is 1.
 pub each_set_has_bit : (r : ℕ) → r < 64 → (bit_at 0xffff_ffff_ffff_ffff r == 1) ≡ true
 each_set_has_bit r below = agree_below_at (λ r. bit_at 0xffff_ffff_ffff_ffff r == 1) (λ r. true) 64 r refl below
 
--- Every bit of 0, the word of no sets, is 0.
+-- In the word of no sets, which is 0, every bit is 0.
 pub none : (r : ℕ) → r < 64 → (bit_at 0 r == 1) ≡ false
 none r below = agree_below_at (λ r. bit_at 0 r == 1) (λ r. false) 64 r refl below

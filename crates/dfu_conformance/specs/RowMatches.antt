@@ -11,7 +11,7 @@ use Rattle.dfu_conformance.specs.declared.event.Response.{Response}
 use Rattle.dfu_conformance.specs.declared.event.Response.TheVariants as answer
 use Rattle.dfu_conformance.specs.declared.event.LogEvent.{LogEvent}
 
--- Index of a place in the list of all twelve.
+-- Index of a state in the list of all twelve.
 abbrev pub place_number : StandardState → ℕ
 place_number AppIdle = 0
 place_number AppDetach = 1
@@ -26,7 +26,7 @@ place_number UploadIdle = 9
 place_number Error = 10
 place_number Fresh = 11
 
--- bState of a device at a place: 2, dfuIDLE, also for `Fresh`.
+-- bState that a device reports in a state. In `Fresh`, a device reports dfuIDLE, which is 2.
 abbrev pub bstate_of_place : StandardState → ℕ
 bstate_of_place Fresh = 2
 bstate_of_place p = place_number p
@@ -45,17 +45,17 @@ event_kind_number Other = 8
 event_kind_number Reset = 9
 event_kind_number Power = 10
 
--- A row for `asked` applies to the event. A device may take a request that is not well-formed by section 3 as `Other`, too.
+-- A row for `asked` applies to the event. A device may also treat a request that is not well-formed by section 3 as `Other`.
 abbrev pub asks : EventKind → LogEvent → Bool
 asks asked e = (event_kind_number asked == event_kind_number e.asked)
     || (not e.is_plain && (event_kind_number asked == event_kind_number Other))
 
--- A device that enters the place may report the status code: OK outside dfuERROR, and 1 to 15 in dfuERROR.
+-- A device that enters the state may report this status code: OK outside dfuERROR, and 1 to 15 in dfuERROR.
 abbrev pub has_code : StandardState → ℕ → Bool
 has_code Error code = nat_lt 0 code && nat_lt code 16
 has_code p code = code == 0
 
--- A row from `from` to `next` with this answer allows the bytes (their count, the first and the fifth), if `len` bytes were asked for.
+-- A row from `from` to `next` with this answer allows bytes with this count, first byte and fifth byte, if `len` bytes were requested.
 abbrev pub answer_allows_bytes : Gives → (from next : StandardState) → (len count first fifth : ℕ) → Bool
 answer_allows_bytes gives.Silent from next len count first fifth = true
 answer_allows_bytes gives.Stall from next len count first fifth = false
@@ -74,23 +74,23 @@ answer_allows_stall gives.Stall = true
 answer_allows_stall gives.Silent = true
 answer_allows_stall g = false
 
--- The answer that was seen is one that a row with answer `g` allows. If no answer was seen, the device may have given any.
+-- The logged answer is one that a row with answer `g` allows. If the log has no answer, the device may have given any.
 abbrev pub answer_matches : Gives → (from next : StandardState) → ℕ → Response → Bool
 answer_matches g from next len answer.Nothing = true
 answer_matches g from next len answer.Stall = answer_allows_stall g
 answer_matches g from next len (answer.Bytes count first fifth) = answer_allows_bytes g from next len count first fifth
 
--- The row fits the event: it applies to the kind of event, and allows the answer that was seen.
+-- The row fits the event: it is for this kind of event, and allows the logged answer.
 abbrev pub row_fits : Row → LogEvent → Bool
 row_fits row e = asks row.asked e && answer_matches row.gives row.from row.next e.length e.answer
 
--- A device may stay at its place: no answer was seen, or it stalled a request that it may stall (`plain` is false).
+-- A device may stay in its state if the log has no answer, or if it stalled a request that it may stall (`plain` is false).
 abbrev pub may_stay_by_answer : Bool → Response → Bool
 may_stay_by_answer plain answer.Nothing = true
 may_stay_by_answer plain answer.Stall = not plain
 may_stay_by_answer plain (answer.Bytes count first fifth) = false
 
--- A device may stay at its place: no answer was seen, so the request may not have come; or it stalled a request that is not well-formed by
--- section 3.
+-- A device may stay in its state if the log has no answer, because the request may not have arrived, or if it stalled a request that is not
+-- well-formed by section 3.
 abbrev pub may_stay_at_event : LogEvent → Bool
 may_stay_at_event e = may_stay_by_answer e.is_plain e.answer

@@ -1,7 +1,7 @@
-//! Readers of USB captures: pcap and pcapng with packets of Linux's usbmon, or of USBPcap on Windows.
+//! Readers of USB captures: pcap and pcapng files with packets of Linux's usbmon, or of USBPcap on Windows.
 //!
-//! `log_of` makes the log of a device from a whole capture, and `CaptureStream` from a capture that is read in pieces. Any bytes give
-//! either a log or a fault.
+//! `log_of` makes the log of a device from a whole capture, and `CaptureStream` from a capture that is read in pieces. For any bytes, the
+//! result is a log or a fault.
 
 mod address;
 mod devices;

@@ -1,4 +1,4 @@
-//! Candidates: the devices that may be at each place, as bits of words.
+//! Candidates: for each state, the devices that may be in it, as bits of words.
 
 ghost use Rattle.std.specs.Prelude.{◌≡◌, ◌<◌, ◌≤◌, ℕ, ◌||◌, ◌&&◌, slice_index, length, ◌==◌, List, [], false, true, slice_index_or};
 ghost use Rattle.std.specs.Int.{bit_at};
@@ -15,10 +15,10 @@ use crate::marks::MARKS;
 use crate::standard::STANDARD;
 use crate::{Drift, LogEvent, Reading, Row, StandardState, When};
 
-/// A set of devices: bit r of word a is 1 if it has the device with bmAttributes a and the set of habits (readings) r.
+/// A set of devices. Bit r of word a is 1 if the set contains the device with bmAttributes a and the set of habits (readings) r.
 pub(crate) type Devices = [u64; 16];
 
-/// Returns the sets of habits to which a row with `when` applies, for devices with bmAttributes `attributes`, 0 to 15.
+/// Returns the sets of habits, as bits, with which a row with `when` applies to a device with bmAttributes `attributes`, 0 to 15.
 fn word(when: When, attributes: usize) -> u64
     ensures { (r : ℕ) → r < 64 → (bit_at result r == 1) ≡ applies_to when attributes r }
 {
@@ -33,14 +33,14 @@ fn word(when: When, attributes: usize) -> u64
     }
 }
 
-/// Returns all 64 sets of habits if `yes`, and else no set.
+/// Returns the word of all 64 sets of habits if `yes`, and the word of no sets otherwise.
 fn all_if(yes: bool) -> u64
     ensures { (r : ℕ) → r < 64 → (bit_at result r == 1) ≡ yes }
 {
     if yes { u64::MAX } else { 0 }
 }
 
-/// For each habit, by its number, the sets of habits that contain it.
+/// For each habit, by its index, the sets of habits that contain it.
 const SETS_WITH: [u64; 6] = [
     0xaaaa_aaaa_aaaa_aaaa,
     0xcccc_cccc_cccc_cccc,
@@ -50,9 +50,9 @@ const SETS_WITH: [u64; 6] = [
     0xffff_ffff_0000_0000,
 ];
 
-/// Returns the index of `reading` in the list of all six, 0 to 5.
+/// Returns the index of `reading` in the list of all six habits, 0 to 5.
 fn number_of(reading: Reading) -> usize
-    ensures is { result ≡ reading_bit reading }
+    ensures reading_bit { result ≡ reading_bit reading }
     ensures below { result < 6 }
 {
     reading as usize
@@ -66,7 +66,7 @@ fn readings_with(reading: Reading) -> u64
     SETS_WITH[number_of(reading)]
 }
 
-/// Returns the devices of `to`, and the devices of `from` to which a row with `when` applies.
+/// Returns the devices of `to`, and those devices of `from` to which a row with `when` applies.
 fn join(to: &Devices, from: &Devices, when: When) -> Devices
     ensures size { length result ≡ 16 }
     ensures all { (a r : ℕ) → a < 16 → r < 64 →
@@ -79,7 +79,7 @@ fn join(to: &Devices, from: &Devices, when: When) -> Devices
     after
 }
 
-/// Returns the sets of habits of all devices in `devices`, whatever their bmAttributes.
+/// Returns the sets of habits of all devices in `devices`, for any bmAttributes.
 fn readings_of(devices: &Devices) -> u64
     ensures { (r : ℕ) → r < 64 → (bit_at result r == 1) ≡ has_candidate devices.now r }
 {
@@ -90,21 +90,22 @@ fn readings_of(devices: &Devices) -> u64
     all
 }
 
-/// Returns true if `devices` has no device.
-#[tactic(auto, using(crate::proofs::Untaken::words_hold_none))]
+/// Returns true if `devices` contains no device.
+#[tactic(auto, using(crate::proofs::UntakenRows::words_hold_none))]
 fn is_empty(devices: &Devices) -> bool
     ensures { result ≡ true → (a r : ℕ) → a < 16 → r < 64 → holds_device devices.now a r ≡ false }
 {
     readings_of(devices) == 0
 }
 
-/// Candidates: for each place, by its number, the devices that may be there.
+/// Candidates: for each state, by its index, the devices that may be in it.
 pub(crate) type Places = [Devices; 12];
 
-/// For each place, by its number, false only if no device may be there. Rows from such a place lead no device, and are skipped.
+/// For each state, by its index, true if the state may have candidates. Rows from any other state are skipped, because they add no
+/// candidates.
 type Taken = [bool; 12];
 
-/// Returns the places at which `places` has a device.
+/// Returns the states for which `places` contains a device.
 fn taken(places: &Places) -> Taken
     ensures { CoversPlaces places.now result }
 {
@@ -115,7 +116,7 @@ fn taken(places: &Places) -> Taken
     at
 }
 
-/// Adds to place `to` of `after` the devices at `from` in `before` to which a row with `when` applies.
+/// Adds the candidates in state `from` of `before` to state `to` of `after`, if a row with `when` applies to them.
 fn lead(before: &Places, from: StandardState, when: When, after: &mut Places, to: StandardState)
     ensures { (n : StandardState) (a r : ℕ) → a < 16 → r < 64
         → is_held_at after.new n a r
@@ -125,7 +126,7 @@ fn lead(before: &Places, from: StandardState, when: When, after: &mut Places, to
     after[to] = join(&after[to], &before[from.number()], when);
 }
 
-/// Adds to `after` the devices of `before` to which `row` applies at `event`, at the place to which it leads.
+/// Adds to `after`, in the state to which `row` leads, the candidates of `before` to which `row` applies at `event`.
 fn go(row: &Row, before: &Places, at: &Taken, event: &LogEvent, after: &mut Places)
     requires { CoversPlaces before.now at.now }
     ensures { (n : StandardState) (a r : ℕ) → a < 16 → r < 64
@@ -136,7 +137,7 @@ fn go(row: &Row, before: &Places, at: &Taken, event: &LogEvent, after: &mut Plac
     }
 }
 
-/// Adds to `after`, for each of `rows`, the devices of `before` to which the row applies at `event`.
+/// Adds to `after`, in the states to which `rows` lead, the candidates of `before` to which these rows apply at `event`.
 fn pass(rows: &[Row], before: &Places, at: &Taken, event: &LogEvent, after: &mut Places)
     requires { CoversPlaces before.now at.now }
     ensures { (n : StandardState) (a r : ℕ) → a < 16 → r < 64
@@ -147,7 +148,7 @@ fn pass(rows: &[Row], before: &Places, at: &Taken, event: &LogEvent, after: &mut
     }
 }
 
-/// Adds to `after` the devices of `before` to which a row of `MARKS` applies. Skips requests, because no row of `MARKS` is for one.
+/// Adds to `after` the candidates that `pass` adds for `MARKS`. A request is skipped, because `MARKS` has no row for it.
 #[tactic(auto, using(crate::proofs::Requests::marks_lead_no_request))]
 fn pass_marks(before: &Places, at: &Taken, event: &LogEvent, after: &mut Places)
     requires { CoversPlaces before.now at.now }
@@ -159,7 +160,7 @@ fn pass_marks(before: &Places, at: &Taken, event: &LogEvent, after: &mut Places)
     }
 }
 
-/// Adds to `after` the devices of `before` that make the move `one`.
+/// Adds to `after`, in the state to which the move `one` leads, the candidates of `before` to which this move applies.
 fn slide(one: &Drift, before: &Places, at: &Taken, after: &mut Places)
     requires { CoversPlaces before.now at.now }
     ensures { (n : StandardState) (a r : ℕ) → a < 16 → r < 64
@@ -170,7 +171,7 @@ fn slide(one: &Drift, before: &Places, at: &Taken, after: &mut Places)
     }
 }
 
-/// Returns the devices of `before`, and each of them that makes one of `moves` also at the place to which the move leads.
+/// Returns the candidates of `before`, each in its states and also in the states that it may enter by one of `moves`.
 fn drift(moves: &[Drift], before: &Places) -> Places
     ensures { (n : StandardState) (a r : ℕ) → a < 16 → r < 64
         → is_held_at result n a r ≡ (is_held_at before.now n a r || list_any (drift_leads before.now n a r) moves.now) }
@@ -183,7 +184,7 @@ fn drift(moves: &[Drift], before: &Places) -> Places
     after
 }
 
-/// Returns the devices of `before` that may stay at their places at `event`: all of them, or none.
+/// Returns the candidates of `before` that may stay in their states at `event`: all of them, or none.
 fn rest(before: &Places, event: &LogEvent) -> Places
     ensures { (n : StandardState) (a r : ℕ) → a < 16 → r < 64
         → is_held_at result n a r ≡ (may_stay_at_event event.now && is_held_at before.now n a r) }
@@ -195,7 +196,7 @@ fn rest(before: &Places, event: &LogEvent) -> Places
     }
 }
 
-/// Returns the candidates after `event`, if `before` are the candidates before it.
+/// Returns the candidates after `event`, if those before it are `before`.
 pub(crate) fn step(before: &Places, event: &LogEvent) -> Places
     ensures { (n : StandardState) (a r : ℕ) → a < 16 → r < 64 → is_held_at result n a r ≡ is_held_after_event before.now event.now n a r }
 {
@@ -215,7 +216,7 @@ fn has_bit(word: u64, bit: u8) -> bool
     word >> bit & 1 == 1
 }
 
-/// Returns true if `devices` has a device with the set of habits `readings`, and with some bmAttributes.
+/// Returns true if `devices` contains a device with the set of habits `readings`, for some bmAttributes.
 fn is_held(devices: &Devices, readings: u8) -> bool
     requires { readings < 64 }
     ensures { result ≡ has_candidate devices.now readings }
@@ -223,7 +224,7 @@ fn is_held(devices: &Devices, readings: u8) -> bool
     has_bit(readings_of(devices), readings)
 }
 
-/// Returns, for each place, true if `places` has a device with the set of habits `readings` there.
+/// Returns, for each state, true if a device with the set of habits `readings` is a candidate in it.
 pub(crate) fn places_of(places: &Places, readings: u8) -> [bool; 12]
     requires { readings < 64 }
     ensures { (n : ℕ) → n < 12 → slice_index_or result n false ≡ has_candidate (slice_index_or places.now n []) readings }
@@ -235,7 +236,7 @@ pub(crate) fn places_of(places: &Places, readings: u8) -> [bool; 12]
     at
 }
 
-/// Returns true if `places` has a device with the set of habits `readings` at some place.
+/// Returns true if a device with the set of habits `readings` is a candidate in some state.
 pub(crate) fn is_any_held(places: &Places, readings: u8) -> bool
     requires { readings < 64 }
     ensures { result ≡ is_held_anywhere places.now readings }
@@ -247,8 +248,8 @@ pub(crate) fn is_any_held(places: &Places, readings: u8) -> bool
     is_some
 }
 
-/// Returns the smallest set of habits, of those with a number below `sets`, with which `places` has a device: the set with the fewest
-/// habits, and among equals the lowest number. None if there is no such set.
+/// Returns the smallest set of habits with a candidate, among those with a number below `sets`, or None. It has the fewest habits and, of
+/// the sets with equally many, the lowest number.
 pub(crate) fn least_held(places: &Places, sets: u8) -> Option<u8>
     requires { sets ≤ 64 }
     ensures { result ≡ least_set_below (is_held_anywhere places.now) sets }
@@ -260,7 +261,8 @@ pub(crate) fn least_held(places: &Places, sets: u8) -> Option<u8>
     least
 }
 
-/// Returns the smaller of two sets: `readings`, if `held`, and `least` is None or has more habits than `readings`; else `least`.
+/// Returns the smaller of two sets, which is `readings` if `held` is true and `least` is None or has more habits. Otherwise returns
+/// `least`.
 fn smaller_set(held: bool, readings: u8, least: Option<u8>) -> Option<u8>
     ensures { result ≡ smaller_set_of_readings held readings least }
 {

@@ -1,4 +1,4 @@
-//! The judge of one device, by the tables of the standard and of the habits.
+//! The judge of one device, which uses the tables of the standard and of the habits.
 
 ghost use Rattle.std.specs.Prelude.{◌≡◌, ◌<◌, ℕ, List, IsNone, IfSome, [], ◌∷◌, ◌++◌, slice_index_or, true, false};
 ghost use Rattle.dfu_conformance.specs.inside.Stepped.{is_held_anywhere, has_candidate};
@@ -7,22 +7,22 @@ use crate::held::{Places, is_any_held, least_held, places_of, step};
 use crate::{Departure, LogEvent, Verdict};
 use std::marker::Model;
 
-/// Candidates before the first event: every device, at every place.
+/// Candidates before the first event: every device, in every state.
 const EVERY: Places = [[u64::MAX; 16]; 12];
 
-/// A judge of one device, about which nothing is known at first: it follows every possible device at once, with each set of habits, and
-/// allocates no memory beyond its own 3,080 bytes.
+/// A judge of one device, about which nothing is known at first. It follows all possible devices at once, with each set of habits. It has
+/// 3,080 bytes, and allocates no memory.
 #[derive(Drop)]
 pub struct Judge {
-    // True after the first departure. Until then `since` is not used, because `whole` has the candidates since the start.
+    // True after the first departure. Before that, `since` is not used, because `whole` contains the same candidates.
     has_departed: bool,
-    // Candidates by the events since the last departure.
+    // Candidates for the events since the last departure.
     since: Places,
-    // Candidates by all events.
+    // Candidates for all events.
     whole: Places,
 }
 
-// Contracts see the candidates by the events since the last departure, and by all events since the start.
+// For contracts, `since` contains the candidates for the events since the last departure, or for all events if there was none.
 impl Model for Judge {
     ghost use Rattle.dfu_conformance.specs.Candidates.{JudgedDevices, devices_since};
 
@@ -31,7 +31,7 @@ impl Model for Judge {
     ghost view = { λ s. record { since = devices_since s.has_departed s.since s.whole; whole = s.whole } };
 }
 
-/// Returns the departure at `event`, if no device without habits is left in `after`; else None.
+/// Returns the departure at `event` if `after` has no candidate without habits, or None.
 fn departure(before: &Places, after: &Places, event: &LogEvent) -> Option<Departure>
     ensures none { IsNone result → is_held_anywhere after.now 0 ≡ true }
     ensures some { IfSome result (λ d. (d.event ≡ event.now) × (is_held_anywhere after.now 0 ≡ false)
@@ -51,7 +51,7 @@ impl Judge {
     ghost use Rattle.dfu_conformance.specs.Verdict.{IsVerdict, HasSixBits, ArePlacesAfter, EventDeparts};
     ghost use Rattle.dfu_conformance.specs.declared.event.LogEvent.{LogEvent};
 
-    /// Returns a judge before the first event: nothing is known about the device, which may be at any place.
+    /// Returns a judge before the first event. The device may be in any state.
     pub fn new() -> Judge
         ensures whole { CandidatesExact result.whole [] }
         ensures since { PlainCandidatesExact result.since [] }
@@ -63,8 +63,8 @@ impl Judge {
         }
     }
 
-    /// Takes the next event. Returns a departure if no device that keeps the standard could have answered all events since the last
-    /// departure and `event`. The search for departures then starts again from every place; the verdict remains on all events.
+    /// Processes the next event. If no device that keeps the standard could have given the answers of all events since the last departure,
+    /// including this one, returns a departure, and restarts its search with every state. The verdict still covers all events.
     pub fn take(&mut self, event: &LogEvent) -> Option<Departure>
         ensures whole { (es : List LogEvent) → CandidatesExact self.old.whole es → CandidatesExact self.new.whole (es ++ event.now ∷ []) }
         ensures kept { IsNone result → (es : List LogEvent) → PlainCandidatesExact self.old.since es
@@ -103,9 +103,9 @@ impl Judge {
         }
     }
 
-    /// Returns the verdict on all events that the judge took.
+    /// Returns the verdict on all events that the judge has processed.
     pub fn verdict(&self) -> Verdict
-        ensures is { (es : List LogEvent) → CandidatesExact self.now.whole es → IsVerdict result es }
+        ensures verdict { (es : List LogEvent) → CandidatesExact self.now.whole es → IsVerdict result es }
         ensures bits { HasSixBits result }
     {
         if is_any_held(&self.whole, 0) {
@@ -117,8 +117,8 @@ impl Judge {
         }
     }
 
-    /// Returns, for each place, true if a device with the set of habits `readings`, 0 to 63, may be there after all events. The places are
-    /// in the order of [`crate::StandardState`].
+    /// Returns, for each state in the order of [`crate::StandardState`], true if a device with the set of habits `readings`, 0 to 63, may
+    /// be in it after all events.
     pub fn places(&self, readings: u8) -> [bool; 12]
         requires { readings < 64 }
         ensures { (es : List LogEvent) → CandidatesExact self.now.whole es → ArePlacesAfter readings es result }
@@ -126,8 +126,8 @@ impl Judge {
         places_of(&self.whole, readings)
     }
 
-    /// Returns, for each place, true if a device without habits may be there, by the events since the last departure. The places are in the
-    /// order of [`crate::StandardState`].
+    /// Returns, for each state in the order of [`crate::StandardState`], true if a device without habits may be in it after the events
+    /// since the last departure.
     pub fn standing(&self) -> [bool; 12]
         ensures { (es : List LogEvent) → PlainCandidatesExact self.now.since es → ArePlacesAfter 0 es result }
     {

@@ -7,14 +7,14 @@ ghost use Rattle.dfu_conformance.specs.Line.{is_space, is_digit, digit_value, by
 use crate::Response;
 use dfu_wire::Setup;
 
-/// Returns the index of the first space of `line`; None if it has none.
+/// Returns the index of the first space in `line`, or None.
 fn first_space(line: &[u8]) -> Option<usize>
     ensures { result ≡ position is_space line.now }
 {
     line.iter().position(|byte| *byte == b' ')
 }
 
-/// Returns the end of the first field of `line`: its first space, or the line's end.
+/// Returns the index at which the first field of `line` ends: its first space, or the end of the line.
 pub(crate) fn field_end(line: &[u8]) -> usize
     ensures value { result ≡ position_or_len is_space line.now }
     ensures within { result ≤ length line.now }
@@ -25,10 +25,10 @@ pub(crate) fn field_end(line: &[u8]) -> usize
     }
 }
 
-/// Returns the value of hexadecimal digit `byte`, of either case, and 16 for any other byte.
+/// Returns the value of hexadecimal digit `byte`, of either case, or 16 for any other byte.
 fn value_of(byte: u8) -> u8
     ensures value { result ≡ digit_value byte }
-    ensures fits { result ≤ 16 }
+    ensures at_most_16 { result ≤ 16 }
 {
     match byte {
         b'0'..=b'9' => byte - b'0',
@@ -45,7 +45,7 @@ fn are_digits(text: &[u8]) -> bool
     text.iter().all(|byte| value_of(*byte) < 16)
 }
 
-/// Returns true if `text` is pairs of hexadecimal digits, for at most 65,535 bytes.
+/// Returns true if `text` consists of at most 65,535 pairs of hexadecimal digits.
 #[tactic(auto, unfolding(crate::specs::Line::is_hex))]
 fn is_bytes(text: &[u8]) -> bool
     ensures { result ≡ is_hex text.now }
@@ -59,7 +59,7 @@ fn is_bytes(text: &[u8]) -> bool
     are_digits(text)
 }
 
-/// Returns the byte that pair `n` of hexadecimal digits in `text` makes, or 0 if `text` ends before the pair does.
+/// Returns the byte that pair `n` of hexadecimal digits encodes, or 0 if `text` ends before this pair does.
 fn byte_at(text: &[u8], n: usize) -> u8
     requires { n < 8 }
     ensures { result ≡ byte_of_digit_pair text.now n }
@@ -72,7 +72,7 @@ fn byte_at(text: &[u8], n: usize) -> u8
     ((16 * high + low) % 256) as u8
 }
 
-/// Returns the number that pairs `n` and `n` + 1 of `text` make, the low byte first.
+/// Returns the number that pairs `n` and `n + 1` of hexadecimal digits encode, the low byte first.
 fn number_at(text: &[u8], n: usize) -> u16
     requires { n < 7 }
     ensures { result ≡ byte_of_digit_pair text.now n + 256 * byte_of_digit_pair text.now (n + 1) }
@@ -80,7 +80,7 @@ fn number_at(text: &[u8], n: usize) -> u16
     byte_at(text, n) as u16 + 256 * byte_at(text, n + 1) as u16
 }
 
-/// Returns the setup that `text` encodes in sixteen hexadecimal digits; None for any other text.
+/// Returns the setup that the sixteen hexadecimal digits of `text` encode, or None for any other text.
 #[tactic(auto, unfolding(crate::specs::Line::setup_in))]
 pub(crate) fn setup_of(text: &[u8]) -> Option<Setup>
     ensures { result ≡ setup_in text.now }
@@ -97,7 +97,8 @@ pub(crate) fn setup_of(text: &[u8]) -> Option<Setup>
     })
 }
 
-/// Returns the number of bytes of the body `text`: half the number of its hexadecimal digits, or 0 for a dash; None for any other text.
+/// Returns the number of bytes of the body `text`: half the number of its hexadecimal digits, or 0 for `-`. Returns None for any other
+/// text.
 #[tactic(auto, unfolding(crate::specs::Line::body_in))]
 pub(crate) fn body_of(text: &[u8]) -> Option<usize>
     ensures { result ≡ body_in text.now }
@@ -111,7 +112,7 @@ pub(crate) fn body_of(text: &[u8]) -> Option<usize>
     Some(text.len() / 2)
 }
 
-/// Reads `text` as an answer: `ack`, `stall`, `nothing`, or the bytes of the device; None for any other text.
+/// Returns the answer in `text`: `ack`, `stall`, `nothing`, or the bytes that the device sent. Returns None for any other text.
 #[tactic(auto, unfolding(crate::specs::Line::answer_in, crate::specs::Line::is_hex))]
 pub(crate) fn answer_of(text: &[u8]) -> Option<Response>
     ensures { result ≡ answer_in text.now }

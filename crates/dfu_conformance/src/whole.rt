@@ -1,10 +1,10 @@
-//! The verdict on a whole list of events.
+//! The verdict on a complete list of events.
 
 ghost use Rattle.dfu_conformance.specs.Verdict.{IsVerdict};
 
 use crate::{Judge, LogEvent, Verdict};
 
-/// Returns the verdict on `events`, for a device about which nothing is known.
+/// Returns the verdict on `events`, for a device about which nothing is known at first.
 pub fn verdict_on(events: &[LogEvent]) -> Verdict
     ensures { IsVerdict result events.now }
 {

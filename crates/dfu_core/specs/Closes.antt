@@ -1,4 +1,4 @@
--- Answer of dfu_core_closes, which tells a program in C whether a setup closes a download, before the device handles the setup.
+-- Result of dfu_core_closes, with which a program in C detects a setup packet that closes a download, before the device handles the packet.
 use Rattle.std.specs.Prelude.{◌≡◌, ℕ, ℤ, Bool, List}
 use Rattle.dfu_asks.specs.declared.asking.Asking.{Asking}
 use Rattle.dfu_asks.specs.Asks.{device_in, IsDevice}
@@ -8,7 +8,8 @@ use Rattle.dfu_core.specs.declared.record.DfuRecord.{DfuRecord}
 use Rattle.dfu_core.specs.RecordMeaning.{IsRecordOf, with_memory}
 use Rattle.dfu_core.specs.Numbers.{yes_no_number}
 
--- The result is 1 if the setup closes the download of the record's device, else 0, on each flash and block memory that fit the device.
+-- The result is 1 if the setup packet closes the download of the record's device, otherwise 0, for each flash and block memory that agree
+-- with the device.
 abbrev pub CloseResult : DfuConfig → DfuRecord → List ℕ → ℤ → Type 0
 CloseResult c r setup result = (block flash : List ℕ) (a : Asking) → IsRecordOf c r a → IsDevice (with_memory block a) flash
     → (said : Bool) × (result ≡ yes_no_number said) × IsCloseVerdict said setup (device_in (with_memory block a) flash)

@@ -10,12 +10,12 @@ use Rattle.dfu_core.specs.declared.config.DfuConfig.{DfuConfig}
 use Rattle.dfu_core.specs.declared.record.DfuRecord.{DfuRecord}
 use Rattle.dfu_core.specs.RecordMeaning.{IsRecordOf, block_in_memory, held_memory, with_memory}
 
--- The largest number that dfu_core_due returns: it means this many milliseconds or more.
+-- Largest number that dfu_core_due returns: it means this many milliseconds or more.
 abbrev pub LONGEST_DUE : ℕ
 LONGEST_DUE = 2 ^ 31 - 1
 
--- The result is the number of milliseconds after which the state of the record's device changes, at most LONGEST_DUE, and 0 if no time
--- changes it.
+-- The result is the number of milliseconds after which the state of the record's device changes, at most LONGEST_DUE, or 0 if the state
+-- doesn't change with time.
 pub record DueResult (c : DfuConfig) (r : DfuRecord) (result : ℤ) : Type 0 where
   pub due : ℕ
   pub number_is : result ≡ pos (min LONGEST_DUE due)

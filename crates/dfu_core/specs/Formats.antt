@@ -1,4 +1,4 @@
--- Results of the calls by which a program in C formats flash.
+-- Results of the calls with which a program in C formats flash.
 use Rattle.std.specs.Prelude.{◌≡◌, ◌≢◌, ◌⊎◌, ◌+◌, ◌<◌, ◌≤◌, ◌^◌, ℕ, ℤ, pos, Bool, List, length}
 use Rattle.dfu_slots.specs.declared.fault.FormatFault.{FormatFault}
 use Rattle.dfu_slots.specs.declared.fault.FormatFault.TheVariants as fault
@@ -22,7 +22,7 @@ use Rattle.dfu_core.specs.Formatting.{IsFormatRecord}
 use Rattle.dfu_core.specs.Writes.{ask_step}
 use Rattle.dfu_core.specs.Numbers.{WRITE_PENDING_NUMBER, NO_CONFIG_NUMBER, NO_DEVICE_NUMBER, NO_MEDIUM_NUMBER, format_number}
 
--- A format began: the record represents a format whose first write is due. Fields that a format does not use are 0.
+-- A format began: the record represents a format whose first write is pending. Fields that a format doesn't use are 0.
 pub record FormatStarted (c : DfuConfig) (flash image : List ℕ) (result : ℤ) (r' : DfuRecord) : Type 0 where
   pub number_is : result ≡ WRITE_PENDING_NUMBER
   pub config : IsConfig c
@@ -31,16 +31,16 @@ pub record FormatStarted (c : DfuConfig) (flash image : List ℕ) (result : ℤ)
   pub asks : FormatPending formatting image flash flash
   pub rest : r' ≡ record blank_record { work = r'.work; spare = r'.spare; sum = r'.sum; done = r'.done; generation = r'.generation }
 
--- A start of a format is refused with the number of the first cause. In this order: the configuration is not allowed; the flash has 2^32
--- bytes or more; the flash or the image has a fault for a format.
+-- The start of a format is refused with the number of the first of these reasons: the configuration is not allowed; the flash has 2^32
+-- bytes or more; the flash or the image can't be formatted.
 abbrev pub FormatStartRefused : DfuConfig → List ℕ → List ℕ → ℤ → Type 0
 FormatStartRefused c flash image result = ((result ≡ NO_CONFIG_NUMBER) × ¬ IsConfig c)
     ⊎ ((result ≡ NO_MEDIUM_NUMBER) × IsConfig c × (2 ^ 32 ≤ length flash))
     ⊎ ((f : FormatFault) × (f ≢ fault.Failed) × (result ≡ format_number f) × IsConfig c × (length flash < 2 ^ 32)
     × IsFormatFault f (mapped_medium (config_grain c) flash) image)
 
--- The next write of the format that the record represents was handed out. It has at least one byte, erases one sector or programs at most
--- 256 bytes, and lies within the flash.
+-- The program received the next write of the format that the record represents. The write has at least one byte, erases one sector or
+-- programs at most 256 bytes, and lies within the flash.
 pub record FormatWriteHandedOut (c : DfuConfig) (r : DfuRecord) (flash image : List ℕ) (result : ℤ) (ask : DfuAsk) : Type 0 where
   pub number_is : result ≡ pos 0
   pub config : IsConfig c
@@ -53,21 +53,21 @@ pub record FormatWriteHandedOut (c : DfuConfig) (r : DfuRecord) (flash image : L
   pub sector : ErasesSectorOrPrograms c.sector (ask_step ask)
   pub within : ask.at + ask.length ≤ length flash
 
--- A call for a format is refused: the configuration is not allowed; or else the record represents no format, or a format that satisfies
--- `Why`.
+-- A call for a format is refused for the first of these reasons: the configuration is not allowed; the record represents no format, or a
+-- format that satisfies `Why`.
 abbrev pub RefusesFormat : DfuConfig → DfuRecord → (Formatting → Type 0) → ℤ → Type 0
 RefusesFormat c r Why result = ((result ≡ NO_CONFIG_NUMBER) × ¬ IsConfig c)
     ⊎ ((result ≡ NO_DEVICE_NUMBER) × IsConfig c × (((f : Formatting) → ¬ IsFormatRecord c r f)
     ⊎ ((f : Formatting) × IsFormatRecord c r f × Why f)))
 
--- The number returned for the progress of a format after a piece: DFU_WRITE_PENDING, 0 if the format is complete, or DFU_NOT_WRITTEN.
+-- Number that reports the progress of a format after a piece: DFU_WRITE_PENDING, 0 if the format is complete, or DFU_NOT_WRITTEN.
 abbrev pub progress_number : FormatProgress → ℤ
 progress_number format_progress.Asks = WRITE_PENDING_NUMBER
 progress_number format_progress.Formatted = pos 0
 progress_number (format_progress.Broken why) = format_number fault.Failed
 
 -- The program reported the outcome of a piece of a format, and the number encodes the progress. The record represents the format while a
--- write is due, and no work afterwards. Fields that a format does not use are unchanged.
+-- write is pending, and no work afterwards. Fields that a format doesn't use are unchanged.
 pub record FormatReportOutcome (c : DfuConfig) (r : DfuRecord) (flash image : List ℕ) (failed : Bool) (result : ℤ) (r' : DfuRecord) : Type 0
   where
     pub config : IsConfig c

@@ -7,12 +7,12 @@ use Rattle.dfu_core.specs.declared.config.DfuConfig.{DfuConfig}
 use Rattle.dfu_core.specs.Config.{unit_of}
 use Rattle.dfu_core.specs.declared.record.DfuRecord.{DfuRecord}
 
--- The value of `work` in the record of a format.
+-- Value of `work` in a record that represents a format.
 abbrev pub FORMAT_WORK : ℕ
 FORMAT_WORK = 3
 
--- The two numbers encode a part of a format: the number of the part, and, if the part writes the image, the place at which the image goes
--- on.
+-- The two numbers encode a step of a format: the number of the step and, if the step writes a piece of the image, the piece's offset in the
+-- image.
 abbrev pub HasFormatPhase : ℕ → ℕ → FormatStep → Type 0
 HasFormatPhase n from format_step.CloseSecond = n ≡ 0
 HasFormatPhase n from format_step.CloseFirst = n ≡ 1
@@ -21,7 +21,7 @@ HasFormatPhase n from format_step.Header = n ≡ 3
 HasFormatPhase n from format_step.Gate = n ≡ 4
 HasFormatPhase n from format_step.Ended = n ≡ 5
 
--- Only the fields that a format uses differ in the two records.
+-- The two records differ only in the fields that a format uses.
 abbrev pub ChangesOnlyFormat : DfuRecord → DfuRecord → Type 0
 ChangesOnlyFormat r r' = r' ≡ record r { work = r'.work; spare = r'.spare; sum = r'.sum; done = r'.done; generation = r'.generation }
 

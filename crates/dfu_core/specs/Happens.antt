@@ -23,13 +23,13 @@ use Rattle.dfu_core.specs.Long.{RecordTakesTooLongRow}
 use Rattle.dfu_core.specs.Refuse.{RefuseCloseOutcome, RefuseOutcome}
 use Rattle.dfu_core.specs.Board.{CoreBoard, CoreEvent, CoreHandle, CoreElapse, CoreReset, CoreTooLong, CoreRefuseClose, CoreRefuse, CoreWrite, CoreTook, CoreRestart}
 
--- A call leaves the configuration and the flash as they were.
+-- A call changes neither the configuration nor the flash.
 pub record KeepsConfigAndFlash (b b' : CoreBoard) : Type 0 where
   pub config : b'.config ≡ b.config
   pub flash : b'.flash ≡ b.flash
 
--- Outcome of dfu_core_handle with a setup, a body and a buffer: the row of the setup, a refusal, or a buffer that is too small for an
--- answer.
+-- Outcome of dfu_core_handle with a setup packet, a body and a buffer: the row of the packet, a refusal, or a buffer that is too small for
+-- an answer.
 abbrev pub HandleOutcome : CoreBoard → (setup body out : List ℕ) → ℤ → List ℕ → CoreBoard → Type 0
 HandleOutcome b setup body out n out' b' =
     RecordAfterCall b.config b.kept b.block b'.kept b'.block (λ a a'. let before = with_memory b.block a in
@@ -56,7 +56,7 @@ ResetOutcome b n b' =
     × (IsIntactBlock b.block b.flash a → IsIntactBlock b'.block b.flash a'))
     ⊎ CoreRefuses b.config b.kept b.block b.flash n b'.kept b'.block
 
--- Outcome of dfu_core_too_long with a setup: a stall and its row, DFU_NOT_LONG, or a refusal.
+-- Outcome of dfu_core_too_long with a setup packet: a stall and the row of the packet, DFU_NOT_LONG, or a refusal.
 abbrev pub TooLongOutcome : CoreBoard → (setup : List ℕ) → ℤ → CoreBoard → Type 0
 TooLongOutcome b setup n b' =
     let own = addressed_setup b.config.interface setup in
@@ -65,8 +65,8 @@ TooLongOutcome b setup n b' =
     ⊎ ((b'.kept ≡ b.kept) × (((n ≡ NOT_LONG_NUMBER) × IsIdleRecord b.config b.kept × ¬ IsLongerThanBlock (config_setting b.config) own)
     ⊎ RefusesUnlessIdle b.config b.kept n))
 
--- Outcome of dfu_core_took with a number that is not 0 for a failure, and a buffer: the reply to the report, a refusal, or a buffer that is
--- too small for a status.
+-- Outcome of dfu_core_took: the reply to the report, a refusal, or a buffer that is too small for a status. A `failed` other than 0 reports
+-- a failure.
 abbrev pub CoreTookOutcome : CoreBoard → (failed : ℕ) (out : List ℕ) → ℤ → List ℕ → CoreBoard → Type 0
 CoreTookOutcome b failed out n out' b' =
     RecordAfterCall b.config b.kept b.block b'.kept b'.block
@@ -75,8 +75,8 @@ CoreTookOutcome b failed out n out' b' =
     × (b'.kept ≡ b.kept) × (b'.block ≡ b.block) × (out' ≡ out))
     ⊎ BufferTooSmall 6 b.kept b.block out n b'.kept b'.block out'
 
--- The flash changes in the range of a write that dfu_core_next hands out, and nowhere else. The range may hold any bytes afterwards,
--- because the write may be complete or partial, may fail, or may store other bytes.
+-- The flash changes only in the range of the write that dfu_core_next stored in `ask`. The range may hold any bytes afterwards, because the
+-- write may be complete or partial, may fail, or may store other bytes.
 pub record CoreFlashIsWritten (b : CoreBoard) (n : ℤ) (b' : CoreBoard) : Type 0 where
   pub ask : DfuAsk
   pub handed : WriteHandedOut b.config b.kept b.block b.flash n ask
@@ -85,7 +85,7 @@ pub record CoreFlashIsWritten (b : CoreBoard) (n : ℤ) (b' : CoreBoard) : Type 
   pub kept : b'.kept ≡ b.kept
   pub block : b'.block ≡ b.block
 
--- The mode of a device at power-on: dfuIDLE if it begins for a host, else appIDLE.
+-- Mode of a device at power-on: dfuIDLE if the program calls dfu_core_begin, otherwise appIDLE.
 abbrev pub start_mode : Bool → DeviceState
 start_mode true = DfuIdle
 start_mode false = AppIdle
@@ -107,7 +107,7 @@ CoreEventOutcome b CoreWrite n out' b' = CoreFlashIsWritten b n b'
 CoreEventOutcome b (CoreTook failed out) n out' b' = KeepsConfigAndFlash b b' × CoreTookOutcome b failed out n out' b'
 CoreEventOutcome b (CoreRestart begins) n out' b' = KeepsConfigAndFlash b b' × PowerOutcome b.config (start_mode begins) b.flash n b'.kept
 
--- A board in C was just powered on: dfu_core_power_on made its record for the flash, or dfu_core_begin if the board begins for a host.
+-- A board in C was just powered on: dfu_core_power_on, or dfu_core_begin if `begins` is true, made its record for the flash.
 pub record IsCorePoweredOn (b : CoreBoard) : Type 0 where
   pub begins : Bool
   pub powers : PowerOutcome b.config (start_mode begins) b.flash (pos 0) b.kept

@@ -1,4 +1,4 @@
--- Setups whose body is longer than the transfer size.
+-- Setup packets whose body is longer than the transfer size.
 use Rattle.std.specs.Prelude.{◌≡◌, ℕ, List, [], None, length}
 use Rattle.dfu_wire.specs.declared.setups.Setup.{Setup}
 use Rattle.dfu_wire.specs.Setup.{IsSetup}
@@ -11,8 +11,8 @@ use Rattle.dfu_core.specs.declared.config.DfuConfig.{DfuConfig}
 use Rattle.dfu_core.specs.declared.record.DfuRecord.{DfuRecord}
 use Rattle.dfu_core.specs.RecordMeaning.{IsRecordOf, with_memory}
 
--- The record takes the row of a setup with a body that is too long: a stall. The record afterwards depends on no byte of the body, and the
--- block keeps its length.
+-- The record changes as in the row of a setup packet with a body that is too long: a stall. The record afterwards doesn't depend on the
+-- bytes of the body, and the block keeps its length.
 abbrev pub RecordTakesTooLongRow : DfuConfig → DfuRecord → List ℕ → DfuRecord → Type 0
 RecordTakesTooLongRow c r setup r' = (a : Asking) → IsRecordOf c r a → (a' : Asking) × IsRecordOf c r' a' × (a'.work ≡ None)
     × (a'.block_len ≡ a.block_len)

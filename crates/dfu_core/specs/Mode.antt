@@ -6,7 +6,7 @@ use Rattle.dfu_device.specs.declared.device_state.DeviceState.TheVariants as dev
 use Rattle.dfu_core.specs.declared.record.DfuRecord.{DfuRecord}
 use Rattle.dfu_core.specs.Config.{version}
 
--- The record has the number of the mode, and the numbers that the mode keeps. Fields that the mode does not keep may hold any number.
+-- The record holds the number of the mode and the values that the mode keeps. Fields that the mode doesn't keep may hold any number.
 abbrev pub HasModeNumbers : DfuRecord → DeviceState → Type 0
 HasModeNumbers r device_state.AppIdle = r.mode ≡ 0
 HasModeNumbers r (device_state.AppDetach timer passed) = (r.mode ≡ 1) × (timer ≡ r.first) × (passed ≡ r.second)
@@ -23,16 +23,16 @@ HasModeNumbers r device_state.ManifestWaitReset = r.mode ≡ 10
 HasModeNumbers r (device_state.UploadIdle place number) = (r.mode ≡ 11) × (place ≡ r.first) × (number ≡ r.number)
 HasModeNumbers r (device_state.Error code) = (r.mode ≡ 12) × (code_byte code ≡ r.number)
 
--- The record is of the library's version, and has the mode m.
+-- The record has the library's version and the mode m.
 pub record HasMode (r : DfuRecord) (m : DeviceState) : Type 0 where
   pub version_is : r.version ≡ version
   pub numbers : HasModeNumbers r m
 
--- Only the version, the mode and the numbers that a mode keeps differ in the two records.
+-- The two records differ only in the version, the mode and the values that a mode keeps.
 abbrev pub ChangesOnlyMode : DfuRecord → DfuRecord → Type 0
 ChangesOnlyMode r r' = r' ≡ record r { version = r'.version; mode = r'.mode; first = r'.first; second = r'.second; number = r'.number }
 
--- The record with the library's version, in which every other field is 0.
+-- Record with the library's version in which every other field is 0.
 abbrev pub blank_record : DfuRecord
 blank_record = record {
   version = version;

@@ -8,8 +8,8 @@ use Rattle.dfu_asks.specs.declared.reply.Reply.{Reply}
 use Rattle.dfu_asks.specs.declared.reply.Reply.TheVariants as reply
 use Rattle.dfu_asks.specs.declared.reply.Refusal.{Refusal as Why}
 use Rattle.dfu_asks.specs.declared.reply.Refusal.TheVariants as why
-use Rattle.dfu_core.specs.declared.numbers.Refusal.{Refusal}
-use Rattle.dfu_core.specs.declared.numbers.Refusal.TheVariants as refusal
+use Rattle.dfu_core.specs.declared.numbers.CoreRefusal.{CoreRefusal}
+use Rattle.dfu_core.specs.declared.numbers.CoreRefusal.TheVariants as refusal
 
 -- DFU_STALL: the request is stalled.
 abbrev pub STALL_NUMBER : ℤ
@@ -19,11 +19,11 @@ STALL_NUMBER = negsuc 0
 abbrev pub NO_CONFIG_NUMBER : ℤ
 NO_CONFIG_NUMBER = negsuc 1
 
--- DFU_NO_MEDIUM: the flash has no active image, or 2^32 bytes or more; for a device, the noted header is not in an open slot of the flash.
+-- DFU_NO_MEDIUM: the flash has no active image, or it has 2^32 bytes or more; for a device, no open slot of the flash has the noted header.
 abbrev pub NO_MEDIUM_NUMBER : ℤ
 NO_MEDIUM_NUMBER = negsuc 2
 
--- DFU_NO_DEVICE: the record represents no device, or none that fits the flash and the block; for a piece, no write is due.
+-- DFU_NO_DEVICE: the record represents no device, or none that agrees with the flash and the block; for a piece, no write is pending.
 abbrev pub NO_DEVICE_NUMBER : ℤ
 NO_DEVICE_NUMBER = negsuc 3
 
@@ -31,11 +31,11 @@ NO_DEVICE_NUMBER = negsuc 3
 abbrev pub NO_ROOM_NUMBER : ℤ
 NO_ROOM_NUMBER = negsuc 4
 
--- DFU_WRONG_SIZE: the flash cannot be divided into two slots.
+-- DFU_WRONG_SIZE: the size of the flash doesn't allow two slots.
 abbrev pub WRONG_SIZE_NUMBER : ℤ
 WRONG_SIZE_NUMBER = negsuc 5
 
--- DFU_NOT_LONG: the body of the setup is no longer than the transfer size.
+-- DFU_NOT_LONG: the body of the setup packet is not longer than the transfer size.
 abbrev pub NOT_LONG_NUMBER : ℤ
 NOT_LONG_NUMBER = negsuc 8
 
@@ -43,15 +43,15 @@ NOT_LONG_NUMBER = negsuc 8
 abbrev pub NO_BLOCK_NUMBER : ℤ
 NO_BLOCK_NUMBER = negsuc 9
 
--- DFU_WRITE_PENDING: an operation of the flash is due.
+-- DFU_WRITE_PENDING: a flash operation is pending.
 abbrev pub WRITE_PENDING_NUMBER : ℤ
 WRITE_PENDING_NUMBER = negsuc 10
 
--- DFU_BUSY: operations are due and must be carried out first.
+-- DFU_BUSY: flash operations are pending and must be performed first.
 abbrev pub BUSY_NUMBER : ℤ
 BUSY_NUMBER = negsuc 11
 
--- DFU_NO_CLOSE: the setup closes no download.
+-- DFU_NO_CLOSE: the setup packet closes no download.
 abbrev pub NO_CLOSE_NUMBER : ℤ
 NO_CLOSE_NUMBER = negsuc 12
 
@@ -59,46 +59,46 @@ NO_CLOSE_NUMBER = negsuc 12
 abbrev pub NO_STATUS_NUMBER : ℤ
 NO_STATUS_NUMBER = negsuc 13
 
--- DFU_NO_CANDIDATE: no image was received that may be refused.
+-- DFU_NO_CANDIDATE: there is no received image that may be refused.
 abbrev pub NO_CANDIDATE_NUMBER : ℤ
 NO_CANDIDATE_NUMBER = negsuc 19
 
--- The number that a call in C returns for a refusal.
-abbrev pub refusal_number : Refusal → ℤ
+-- Number that a call in C returns for a refusal.
+abbrev pub refusal_number : CoreRefusal → ℤ
 refusal_number refusal.NoConfig = NO_CONFIG_NUMBER
 refusal_number refusal.NoBlock = NO_BLOCK_NUMBER
 refusal_number refusal.Asked = BUSY_NUMBER
 refusal_number refusal.NoMedium = NO_MEDIUM_NUMBER
 refusal_number refusal.NoDevice = NO_DEVICE_NUMBER
 
--- The refusal in C that reports a refusal of dfu_asks.
-abbrev pub core_refusal_of : Why → Refusal
+-- Refusal in C that reports a refusal of dfu_asks.
+abbrev pub core_refusal_of : Why → CoreRefusal
 core_refusal_of why.Asked = refusal.Asked
 core_refusal_of why.NoMedium = refusal.NoMedium
 core_refusal_of e = refusal.NoDevice
 
--- The number of an answer: 0 for an acknowledgement, DFU_STALL for a stall, and else the number of its bytes.
+-- Number of an answer: 0 for an acknowledgement, DFU_STALL for a stall, otherwise the number of its bytes.
 abbrev pub answer_number : Answer → ℕ → ℤ
 answer_number answer.Ack count = pos 0
 answer_number answer.Bytes count = pos count
 answer_number answer.Stall count = STALL_NUMBER
 
--- The number of a reply: that of its answer, or DFU_WRITE_PENDING.
+-- Number of a reply: that of its answer, or DFU_WRITE_PENDING.
 abbrev pub reply_number : Reply → ℤ
 reply_number reply.Asks = WRITE_PENDING_NUMBER
 reply_number (reply.Answered x count) = answer_number x count
 
--- The number of a reply to time that passed: 0, or DFU_WRITE_PENDING.
+-- Number of a reply to elapsed time: 0, or DFU_WRITE_PENDING.
 abbrev pub time_reply_number : Reply → ℤ
 time_reply_number reply.Asks = WRITE_PENDING_NUMBER
 time_reply_number (reply.Answered x count) = pos 0
 
--- The number of a yes or a no: 1 for true, 0 for false.
+-- 1 for true, 0 for false.
 abbrev pub yes_no_number : Bool → ℤ
 yes_no_number true = pos 1
 yes_no_number false = pos 0
 
--- The number of a fault of a format: DFU_WRONG_SIZE, DFU_TOO_LARGE or DFU_NOT_WRITTEN.
+-- Number of a format's fault: DFU_WRONG_SIZE, DFU_TOO_LARGE or DFU_NOT_WRITTEN.
 abbrev pub format_number : FormatFault → ℤ
 format_number fault.WrongSize = WRONG_SIZE_NUMBER
 format_number fault.TooLarge = negsuc 6

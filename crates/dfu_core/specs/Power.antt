@@ -1,4 +1,4 @@
--- Power-on of a device in C.
+-- Results of dfu_core_power_on and dfu_core_begin.
 use Rattle.std.specs.Prelude.{◌≡◌, ◌⊎◌, ◌≤◌, ◌^◌, ℕ, ℤ, pos, List, [], length, None}
 use Rattle.dfu_slots.specs.Units.{Grain}
 use Rattle.dfu_slots.specs.Image.{HasImage}
@@ -15,12 +15,12 @@ use Rattle.dfu_core.specs.Mode.{blank_record}
 use Rattle.dfu_core.specs.RecordMeaning.{IsRecordOf, with_memory}
 use Rattle.dfu_core.specs.Numbers.{NO_CONFIG_NUMBER, NO_MEDIUM_NUMBER}
 
--- The flash has no active image, or 2^32 bytes or more.
+-- The flash has no active image, or it has 2^32 bytes or more.
 abbrev pub LacksUsableMedium : Grain → List ℕ → Type 0
 LacksUsableMedium grain flash = ¬ HasImage (mapped_medium grain flash) ⊎ 2 ^ 32 ≤ length flash
 
--- A device was powered on with the flash, in the mode: with any block memory the record represents that device, and no writes are due.
--- Fields that the device does not use are 0.
+-- A device was powered on with the flash, in the mode. With any block memory the record represents that device, and no writes are pending.
+-- Fields that the device doesn't use are 0.
 pub record PowerOutcome (c : DfuConfig) (mode : DeviceState) (flash : List ℕ) (result : ℤ) (r' : DfuRecord) : Type 0 where
   pub number_is : result ≡ pos 0
   pub config : IsConfig c
@@ -33,7 +33,8 @@ pub record PowerOutcome (c : DfuConfig) (mode : DeviceState) (flash : List ℕ) 
       ≡ record (powered_on_device (config_setting c) (mapped_medium (config_grain c) flash)) { stage = stage_of mode [] [] }
   pub rest : r' ≡ record blank_record { mode = r'.mode; slot = r'.slot; header = r'.header }
 
--- A power-on is refused: the configuration is not allowed; or else the flash has no active image, or 2^32 bytes or more.
+-- A power-on is refused for the first of these reasons: the configuration is not allowed; the flash has no active image, or it has 2^32
+-- bytes or more.
 abbrev pub RefusesPower : DfuConfig → List ℕ → ℤ → Type 0
 RefusesPower c flash result = ((result ≡ NO_CONFIG_NUMBER) × ¬ IsConfig c)
     ⊎ ((result ≡ NO_MEDIUM_NUMBER) × IsConfig c × LacksUsableMedium (config_grain c) flash)

@@ -1,4 +1,4 @@
--- Records that represent a device which asks its program for each write.
+-- Records that represent a device that lets its program write the flash.
 use Rattle.std.specs.Prelude.{◌≡◌, ◌+◌, ◌^◌, ◌<◌, ℕ, Bool, true, false, List, take, drop, Option, Some, None}
 use Rattle.dfu_slots.specs.declared.layout.Unit.{Unit as WriteUnit}
 use Rattle.dfu_device.specs.Setting.{Setting}
@@ -14,7 +14,7 @@ use Rattle.dfu_core.specs.declared.record.DfuRecord.{DfuRecord}
 use Rattle.dfu_core.specs.Config.{config_setting, unit_of}
 use Rattle.dfu_core.specs.Mode.{HasMode}
 
--- The number is 1 for true, and 0 for false.
+-- The number is 1 for true and 0 for false.
 abbrev pub IsFlagNumber : Bool → ℕ → Type 0
 IsFlagNumber true n = n ≡ 1
 IsFlagNumber false n = n ≡ 0
@@ -25,21 +25,21 @@ HasJobNumbers r (slot_write.Block spare close) = (r.work ≡ 1) × (spare ≡ r.
 HasJobNumbers r (slot_write.Commit spare generation register) =
     (r.work ≡ 2) × (spare ≡ r.spare) × (generation ≡ r.generation) × (register ≡ r.sum)
 
--- Only the fields of a job differ in the two records.
+-- The two records differ only in the fields of a job.
 abbrev pub ChangesOnlyJob : DfuRecord → DfuRecord → Type 0
 ChangesOnlyJob r r' = r' ≡ record r { work = r'.work; spare = r'.spare; sum = r'.sum; generation = r'.generation; close = r'.close }
 
--- The number is 1 more than wLength of the pending GETSTATUS, or 0 if none is pending.
+-- The number is wLength of the pending GETSTATUS plus 1, or 0 if none is pending.
 abbrev pub IsPendingLengthNumber : ℕ → Option ℕ → Type 0
 IsPendingLengthNumber n None = n ≡ 0
 IsPendingLengthNumber n (Some len) = (n ≡ len + 1) × (len < 2 ^ 16)
 
--- The record encodes the pending writes, or that none are pending.
+-- The record encodes the pending writes; None means that none are pending.
 abbrev pub HasWorkNumbers : DfuRecord → Option PendingWrites → Type 0
 HasWorkNumbers r None = r.work ≡ 0
 HasWorkNumbers r (Some w) = HasJobNumbers r w.job × IsPendingLengthNumber r.asked w.asked × (w.done ≡ r.done)
 
--- Only the fields of the pending writes differ in the two records.
+-- The two records differ only in the fields of the pending writes.
 abbrev pub ChangesOnlyWork : DfuRecord → DfuRecord → Type 0
 ChangesOnlyWork r r' = ChangesOnlyJob (record r { done = r'.done; asked = r'.asked }) r'
 
@@ -48,7 +48,7 @@ pub record HasNoteNumbers (r : DfuRecord) (n : Noted) : Type 0 where
   pub second : IsFlagNumber n.second r.slot
   pub header : n.header ≡ r.header
 
--- The setting, the unit and the sectors are those of the configuration.
+-- The settings, the unit and the sectors are those of the configuration.
 pub record AreConfigParts (c : DfuConfig) (config : Setting) (unit : WriteUnit) (sector : Sector) : Type 0 where
   pub config_is : config ≡ config_setting c
   pub unit_is : unit ≡ unit_of c
@@ -64,14 +64,14 @@ pub record IsRecordOf (c : DfuConfig) (r : DfuRecord) (a : Asking) : Type 0 wher
   pub noted : HasNoteNumbers r a.noted
   pub work : HasWorkNumbers r a.work
 
--- The first part of a block memory, as long as the transfer size: it holds the block.
+-- First part of a block memory, as long as the transfer size. It holds the block.
 abbrev pub block_in_memory : Asking → List ℕ → List ℕ
 block_in_memory a memory = take a.config.functional.transfer memory
 
--- The rest of a block memory: it holds the bytes that are held back.
+-- Rest of a block memory. It holds the bytes that are held back.
 abbrev pub held_memory : Asking → List ℕ → List ℕ
 held_memory a memory = drop a.config.functional.transfer memory
 
--- The device with its block and its held bytes in the memory.
+-- The device a whose block and held bytes are in the block memory.
 abbrev pub with_memory : List ℕ → Asking → LentDevice
 with_memory memory a = lent a (block_in_memory a memory) (held_memory a memory)

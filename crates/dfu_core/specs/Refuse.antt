@@ -15,7 +15,7 @@ use Rattle.dfu_core.specs.Idle.{IsIdleRecord, RefusesUnlessIdle}
 use Rattle.dfu_core.specs.RecordMeaning.{IsRecordOf, with_memory}
 use Rattle.dfu_core.specs.Numbers.{STALL_NUMBER, NO_CLOSE_NUMBER, NO_STATUS_NUMBER}
 
--- The objection that a status reports: 1 is errTARGET, and any other number counts as errFILE.
+-- Objection that a status reports: 1 is errTARGET, and any other number counts as errFILE.
 abbrev pub objection_of_status : ℕ → Objection
 objection_of_status status = if status == 1 then Target else File
 
@@ -23,32 +23,32 @@ objection_of_status status = if status == 1 then Target else File
 abbrev pub IsObjectionStatus : ℕ → Type 0
 IsObjectionStatus status = code_byte (objection_code (objection_of_status status)) ≡ status
 
--- The record takes the row of the cause, with the answer and no bytes. No writes are due afterwards, and the block keeps its length.
+-- The record changes as in a row of the cause with this answer and no bytes. No writes are pending then, and the block keeps its length.
 abbrev pub RecordTakesRow : DfuConfig → DfuRecord → Cause → Answer → DfuRecord → Type 0
 RecordTakesRow c r cause x r' = (a : Asking) → IsRecordOf c r a → (a' : Asking) × IsRecordOf c r' a' × (a'.work ≡ None) × (a'.block_len
     ≡ a.block_len)
     × ((block flash : List ℕ) → IsDevice (with_memory block a) flash → IsDevice (with_memory block a') flash
     × Row (device_in (with_memory block a) flash) cause x [] (device_in (with_memory block a') flash))
 
--- The setup closes no download of the record's device, on any flash and block memory that fit the device.
+-- The setup packet closes no download of the record's device, for any flash and block memory that agree with the device.
 abbrev pub ClosesNoDownload : DfuConfig → DfuRecord → List ℕ → Type 0
 ClosesNoDownload c r setup = (a : Asking) → IsRecordOf c r a → (block flash : List ℕ) → IsDevice (with_memory block a) flash
     → ¬ ClosesDownload setup (device_in (with_memory block a) flash)
 
--- A call with a status is refused as dfu_core_would_stall is; or else the status is not that of an objection.
+-- A call with a status is refused for a reason of dfu_core_would_stall, or else because the status is not that of an objection.
 abbrev pub RefusesStatus : DfuConfig → DfuRecord → ℕ → ℤ → Type 0
 RefusesStatus c r status result =
     ((result ≡ NO_STATUS_NUMBER) × IsIdleRecord c r × ¬ IsObjectionStatus status) ⊎ RefusesUnlessIdle c r result
 
--- Outcome of dfu_core_refuse with a status: 0 and the row of the refusal, or a call that is refused and leaves the record unchanged.
+-- Outcome of dfu_core_refuse with a status: 0 and the row of the refusal, or a refused call, which leaves the record unchanged.
 abbrev pub RefuseOutcome : DfuConfig → DfuRecord → ℕ → ℤ → DfuRecord → Type 0
 RefuseOutcome c r status result r' =
     ((result ≡ pos 0) × IsIdleRecord c r × IsObjectionStatus status
     × RecordTakesRow c r (Refusing (objection_of_status status)) answer.Ack r')
     ⊎ ((r' ≡ r) × RefusesStatus c r status result)
 
--- Outcome of dfu_core_refuse_close with a status, and a setup as the device table reads it: a stall and the row of the refusal, or a call
--- that is refused and leaves the record unchanged.
+-- Outcome of dfu_core_refuse_close with a status and an addressed setup packet: a stall and the row of the refusal, or a refused call,
+-- which leaves the record unchanged.
 abbrev pub RefuseCloseOutcome : DfuConfig → DfuRecord → List ℕ → ℕ → ℤ → DfuRecord → Type 0
 RefuseCloseOutcome c r setup status result r' =
     ((result ≡ STALL_NUMBER) × IsIdleRecord c r × IsObjectionStatus status

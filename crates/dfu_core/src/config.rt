@@ -1,4 +1,4 @@
-//! Configuration that a program in C gives a device.
+//! Configuration of a device, which a program in C provides.
 ghost use Rattle.std.specs.Prelude.{◌≡◌, IfSome, IfNone, OnSome};
 ghost use Rattle.dfu_core.specs.Config.{config_setting, unit_of, IsConfig};
 
@@ -7,54 +7,54 @@ use dfu_device::{Config, Pace};
 use dfu_slots::Unit;
 use dfu_wire::{Functional, Ids};
 
-/// The version, 0.3.0: 10,000 for each major one, 100 for each minor one, and 1 for each patch.
+/// Version of the library, 0.3.0: 10,000 times the major, plus 100 times the minor, plus the patch number.
 pub const VERSION: u32 = 300;
 
-/// bcdDFUVersion of every device.
+/// bcdDFUVersion of every device: DFU 1.1.
 const BCD_VERSION: u16 = 0x0110;
 
-/// Configuration of a device: `struct dfu_config`. The configuration must stay the same between two calls for a device.
+/// Configuration of a device: `struct dfu_config`. It must stay the same between two calls for a device.
 #[repr(C)]
 #[derive(Clone, Copy)]
 pub struct DfuConfig {
-    /// The version of the header that the program was built with.
+    /// Version of the header with which the program was built.
     pub version: u32,
-    /// bcdDevice.
+    /// bcdDevice: the release number of the device.
     pub device: u16,
-    /// idProduct.
+    /// idProduct: the product number.
     pub product: u16,
-    /// idVendor.
+    /// idVendor: the vendor number.
     pub vendor: u16,
-    /// wDetachTimeOut, in milliseconds.
+    /// wDetachTimeOut: the longest time in appDETACH, in milliseconds.
     pub detach_ms: u16,
-    /// wTransferSize: the most bytes of a block, 1 to 4,096.
+    /// wTransferSize: the largest length of a block, 1 to 4,096 bytes.
     pub transfer: u16,
-    /// bmAttributes: bitCanDnload, bitCanUpload, bitManifestationTolerant and bitWillDetach from bit 0 on; bits 4 to 7 are ignored.
+    /// bmAttributes: bits 0 to 3 are bitCanDnload, bitCanUpload, bitManifestationTolerant and bitWillDetach; bits 4 to 7 are ignored.
     pub attributes: u8,
-    /// bInterfaceNumber: a setup whose wIndex is another number is stalled.
+    /// bInterfaceNumber: a request with another wIndex is stalled.
     pub interface: u8,
-    /// Time of each block beside its erases and programs, in milliseconds, 0 to 16,777,215. With 0 a block is written before its status is
-    /// answered, and the status reports no time.
+    /// Time to write a block, without its erases and programs, in milliseconds, 0 to 16,777,215. With 0, the block is written before
+    /// GETSTATUS is answered, and the status reports no time.
     pub busy_ms: u32,
-    /// Time of each image beside its erases and programs, in milliseconds, 0 to 16,777,215; at least 1 without bitManifestationTolerant.
+    /// Time to make an image active, without its erases and programs, in milliseconds, 0 to 16,777,215; at least 1 without
+    /// bitManifestationTolerant.
     pub manifest_ms: u32,
-    /// The fewest bytes of an image, 1 to 16,777,216.
+    /// Smallest length of an image, 1 to 16,777,216 bytes.
     pub least: u32,
-    /// Size of a unit, the bytes that the flash is written at a time: 1, 16, 64 or 256.
+    /// Size of the unit in which the flash is written, in bytes: 1, 16, 64 or 256.
     pub unit: u32,
-    /// Size of a sector, the bytes that the flash is erased at a time: a multiple of 256 up to 262,144; or 0 if it is overwritten in
-    /// place.
+    /// Size of a sector, which is erased as a whole, in bytes: a multiple of 256 up to 262,144; 0 if the flash is overwritten in place.
     pub sector: u32,
-    /// Milliseconds to erase a sector, which a status counts for each sector that a block or an image erases.
+    /// Time to erase a sector, in milliseconds. The poll timeout includes it once for each sector that must be erased.
     pub erase_ms: u16,
-    /// Milliseconds to program 256 bytes, which a status counts in proportion.
+    /// Time to program 256 bytes, in milliseconds. The poll timeout includes it in proportion to the bytes that must be programmed.
     pub program_ms: u16,
 }
 
-/// Settings of a configuration that is allowed.
+/// Settings from an allowed configuration.
 #[derive(Drop)]
 pub struct Settings {
-    /// The configuration of the device.
+    /// Configuration of the device, as dfu_device uses it.
     pub config: Config,
     /// Unit in which the flash is written.
     pub unit: Unit,
@@ -74,7 +74,7 @@ pub fn functional_of(config: &DfuConfig) -> Functional
     )
 }
 
-/// Returns the unit in which the flash is written by `config`; the byte if no unit has that size.
+/// Returns the unit in which the flash is written, or `Unit::Byte` if no unit has the configured size.
 #[tactic(auto, unfolding(crate::specs::Config::unit_of))]
 pub(crate) fn unit_of(config: &DfuConfig) -> Unit
     ensures { result ≡ unit_of config.now }
@@ -90,8 +90,8 @@ pub(crate) fn unit_of(config: &DfuConfig) -> Unit
     }
 }
 
-/// Returns the settings of the configuration. None if its version is another one, `Config::new` refuses its numbers, or no unit or sectors
-/// have the sizes that it gives.
+/// Returns the settings of the configuration. Returns None if its version is not the library's, if `Config::new` refuses its numbers, or if
+/// no unit or sector can have its sizes.
 #[inline(never)]
 pub fn settings_of(config: &DfuConfig) -> Option<Settings>
     ensures config { IfSome result (λ s. s.config ≡ config_setting config.now) }

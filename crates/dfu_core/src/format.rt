@@ -1,4 +1,4 @@
-//! Reading and writing of the record of a format.
+//! Reads and writes the record of a format.
 ghost use Rattle.std.specs.Prelude.{◌≡◌, IfSome, IfNone};
 ghost use Rattle.dfu_asks.specs.declared.formatting.FormatStep.{FormatStep as Part};
 ghost use Rattle.dfu_asks.specs.declared.formatting.Formatting.{Formatting as Going};
@@ -10,10 +10,11 @@ use crate::config::Settings;
 use crate::record::DfuRecord;
 use dfu_asks::{FormatStep, Formatting};
 
-/// The value of `work` in the record of a format.
+/// Value of `work` in a record that represents a format.
 pub(crate) const WORK: u32 = 3;
 
-// Returns the part of a format with the number; `from` is the place at which the image goes on. None if no part has the number.
+// Returns the step of a format that `number` encodes; `from` is the offset in the image at which an Image step begins. None if `number`
+// encodes no step.
 fn phase_of(number: u8, from: u32) -> Option<FormatStep>
     ensures some { IfSome result (λ phase. HasFormatPhase number from phase) }
     ensures none { IfNone result ((phase : Part) → ¬ HasFormatPhase number from phase) }
@@ -29,7 +30,7 @@ fn phase_of(number: u8, from: u32) -> Option<FormatStep>
     }
 }
 
-/// Returns the format that record `kept` represents; None if it represents none.
+/// Returns the format that record `kept` represents, or None if it represents no format.
 pub fn formatting_of(settings: &Settings, kept: &DfuRecord) -> Option<Formatting>
     ensures some { IfSome result (λ f. (c : Given) → AreConfigParts c settings.now.config settings.now.unit settings.now.sector
         → IsFormatRecord c kept.now f) }
@@ -48,7 +49,7 @@ pub fn formatting_of(settings: &Settings, kept: &DfuRecord) -> Option<Formatting
     })
 }
 
-// Returns the number of a part of a format, and the place at which the image goes on.
+// Returns the number of a step of a format, and the offset in the image at which an Image step begins, or 0.
 fn numbers_of(phase: FormatStep) -> (u8, u32)
     ensures { HasFormatPhase result.0 result.1 phase }
 {

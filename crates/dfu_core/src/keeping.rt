@@ -1,4 +1,4 @@
-//! Reading and writing of the record of a device that asks its program for each write.
+//! Reads and writes the record of a device that lets its program write the flash.
 ghost use Rattle.std.specs.Prelude.{◌≡◌, ◌≤◌, ◌<◌, IfOk, IfErr, OnOk, IfSome, IfNone, ℕ, Bool, Option, Some};
 ghost use Rattle.dfu_asks.specs.declared.asking.Asking.{Asking as Device};
 ghost use Rattle.dfu_asks.specs.declared.noted.Noted.{Noted as Note};
@@ -12,12 +12,13 @@ ghost use Rattle.dfu_asks.specs.declared.pending_writes.SlotWrite.{SlotWrite as 
 use crate::config::{DfuConfig, Settings, settings_of};
 use crate::format::WORK;
 use crate::mode::{mode_of, set_mode};
-use crate::numbers::Refusal;
+use crate::numbers::CoreRefusal;
 use crate::record::DfuRecord;
 use dfu_asks::{Asking, Noted, PendingWrites, SlotWrite};
 use dfu_slots::MAX_UNIT;
 
-// Returns wLength of the pending GETSTATUS, if one is pending, from its number in the record; `None` if the number is not valid.
+// Decodes `number` of a record: 0 means that no GETSTATUS is pending, otherwise it is wLength of the pending GETSTATUS plus 1. Returns None
+// for an invalid number.
 fn pending_length_of(number: u32) -> Option<Option<u16>>
     ensures some { IfSome result (λ asked. IsPendingLengthNumber number asked) }
     ensures only { (asked : Option ℕ) → IsPendingLengthNumber number asked → result ≡ Some asked }
@@ -41,7 +42,7 @@ fn flag_of(number: u8) -> Option<bool>
     }
 }
 
-// Returns the job of a record; None if its numbers are those of no job.
+// Returns the job that the numbers of a record encode; None if they encode no job.
 fn job_of(kept: &DfuRecord) -> Option<SlotWrite>
     ensures some { IfSome result (λ job. HasJobNumbers kept.now job) }
     ensures only { (job : Series) → HasJobNumbers kept.now job → result ≡ Some job }
@@ -61,7 +62,7 @@ fn job_of(kept: &DfuRecord) -> Option<SlotWrite>
     }
 }
 
-// Returns the pending writes of a record, or that none are pending; None if its numbers encode neither.
+// Returns the pending writes of a record, or Some(None) if none are pending. Returns None if the numbers encode neither.
 fn work_of(kept: &DfuRecord) -> Option<Option<PendingWrites>>
     ensures some { IfSome result (λ work. HasWorkNumbers kept.now work) }
     ensures only { (work : Option Due) → HasWorkNumbers kept.now work → result ≡ Some work }
@@ -78,7 +79,7 @@ fn work_of(kept: &DfuRecord) -> Option<Option<PendingWrites>>
     }))
 }
 
-// Writes a job into a record.
+// Stores a job in a record.
 fn set_job(kept: &mut DfuRecord, job: SlotWrite)
     ensures job { HasJobNumbers kept.new job }
     ensures others { ChangesOnlyJob kept.old kept.new }
@@ -110,7 +111,7 @@ fn set_job(kept: &mut DfuRecord, job: SlotWrite)
     }
 }
 
-// Writes the pending writes, or that none are pending, into a record.
+// Stores the pending writes in a record; None means that none are pending.
 fn set_work(kept: &mut DfuRecord, work: Option<PendingWrites>)
     ensures work { HasWorkNumbers kept.new work }
     ensures others { ChangesOnlyWork kept.old kept.new }
@@ -128,14 +129,14 @@ fn set_work(kept: &mut DfuRecord, work: Option<PendingWrites>)
     }
 }
 
-/// Returns the number of a slot: 1 if it is the `second`, else 0.
+/// Returns the number of a slot: 1 if it is the `second`, otherwise 0.
 pub fn slot_of(second: bool) -> u32
     ensures { IsFlagNumber second result }
 {
     u32::from(second)
 }
 
-// Returns the note on the active image in a record; None if its slot is neither of the two.
+// Returns the note on the active image that a record holds; None if its slot is neither 0 nor 1.
 fn note_in(kept: &DfuRecord) -> Option<Noted>
     ensures some { IfSome result (λ n. HasNoteNumbers kept.now n) }
     ensures none { IfNone result ((n : Note) → ¬ HasNoteNumbers kept.now n) }
@@ -149,7 +150,7 @@ fn note_in(kept: &DfuRecord) -> Option<Noted>
     })
 }
 
-// Returns the device that a record represents; None if it represents none. Its block must have at most 4,096 bytes.
+// Returns the device that a record represents, or None if it represents no device. The block must have at most 4,096 bytes.
 fn asking_of(settings: Settings, kept: &DfuRecord) -> Option<Asking>
     requires { kept.now.length ≤ 4096 }
     ensures some { IfSome result (λ a. (c : Given) → AreConfigParts c settings.config settings.unit settings.sector
@@ -175,32 +176,38 @@ fn asking_of(settings: Settings, kept: &DfuRecord) -> Option<Asking>
     })
 }
 
-/// Writes to `read` the device that record `kept` represents, or the reason why there is none. `room` is the size of the block memory.
+/// Writes to `read` the device that record `kept` represents, or the reason why `kept` represents none. `room` is the size of the block
+/// memory.
 #[inline(never)]
-pub fn found(config: &DfuConfig, kept: &DfuRecord, room: usize, read: &mut Result<Asking, Refusal>)
+pub fn found(
+    config: &DfuConfig,
+    kept: &DfuRecord,
+    room: usize,
+    read: &mut Result<Asking, CoreRefusal>,
+)
     ensures ok { IfOk read.new (λ a. IsRecordOf config.now kept.now a) }
     ensures config { OnOk read.new (IsConfig config.now) }
     ensures room { OnOk read.new (block_memory_size config.now ≤ room) }
     ensures err { IfErr read.new (λ e. DeviceNotFound e config.now kept.now room) }
 {
     if kept.work == WORK {
-        *read = Err(Refusal::Asked);
+        *read = Err(CoreRefusal::Asked);
         return;
     }
     let Some(settings) = settings_of(config) else {
-        *read = Err(Refusal::NoConfig);
+        *read = Err(CoreRefusal::NoConfig);
         return;
     };
     if room < usize::from(config.transfer) + settings.unit.size() as usize {
-        *read = Err(Refusal::NoBlock);
+        *read = Err(CoreRefusal::NoBlock);
         return;
     }
     if kept.length > config.transfer {
-        *read = Err(Refusal::NoDevice);
+        *read = Err(CoreRefusal::NoDevice);
         return;
     }
     let Some(asking) = asking_of(settings, kept) else {
-        *read = Err(Refusal::NoDevice);
+        *read = Err(CoreRefusal::NoDevice);
         return;
     };
     *read = Ok(asking);

@@ -1,5 +1,5 @@
-//! Base of the library of the device for C: its configuration, its record, and the device or format that they represent. The records and
-//! numbers that the other libraries for C share are here too.
+//! Base of the library of the device for C: the configuration, the record, and the device or format that they represent. It also contains
+//! the records and numbers that the other libraries for C share.
 #![tactic(auto)]
 
 mod config;
@@ -14,6 +14,6 @@ pub use config::{DfuConfig, Settings, VERSION, functional_of, settings_of};
 pub use format::{formatting_of, keep_format};
 pub use keeping::{found, keep, slot_of};
 pub use mode::{has_mode, idle_mode, mode_in, set_mode};
-pub use numbers::Refusal;
+pub use numbers::CoreRefusal;
 pub use record::{DfuRecord, blank};
 pub use records::{ASKS, DfuAsk, DfuPlace, ERASE, PROGRAM};

@@ -9,12 +9,12 @@ ghost use Rattle.dfu_core.specs.Numbers.{refusal_number};
 ghost use Rattle.dfu_core.specs.Idle.{IsIdleRecord, RefusesConfigOrRecord, RefusesUnlessIdle};
 
 use crate::config::{DfuConfig, Settings, VERSION, settings_of};
-use crate::numbers::Refusal;
+use crate::numbers::CoreRefusal;
 use crate::record::DfuRecord;
 use dfu_device::DeviceState;
 use dfu_wire::Code;
 
-// Returns the status code with number `number`; None if no code has it.
+// Returns the status code with this number, or None if there is none.
 fn code_of(number: u16) -> Option<Code>
     ensures some { IfSome result (λ c. code_byte c ≡ number) }
     ensures only { (c : Code) → code_byte c ≡ number → result ≡ Some c }
@@ -28,7 +28,7 @@ fn code_of(number: u16) -> Option<Code>
     }
 }
 
-/// Returns the mode of record `kept`; None if its version is another one or it has no mode.
+/// Returns the mode of record `kept`; None if its version is not the library's, or its numbers encode no mode.
 #[inline(never)]
 pub(crate) fn mode_of(kept: &DfuRecord) -> Option<DeviceState>
     ensures some { IfSome result (λ m. HasMode kept.now m) }
@@ -37,7 +37,7 @@ pub(crate) fn mode_of(kept: &DfuRecord) -> Option<DeviceState>
     if kept.version != VERSION {
         return None;
     }
-    // The names are those of a download. Other modes keep other values in these fields.
+    // Names of the three fields during a download. In other modes the fields hold other values.
     let (written, passed, number) = (kept.first, kept.second, kept.number);
     let mode = match kept.mode {
         0 => DeviceState::AppIdle,
@@ -71,7 +71,7 @@ pub(crate) fn mode_of(kept: &DfuRecord) -> Option<DeviceState>
     Some(mode)
 }
 
-/// Returns true if record `kept` has a mode.
+/// Returns true if the numbers in record `kept` represent a mode.
 pub fn has_mode(kept: &DfuRecord) -> bool
     ensures one { IsTrue result → (m : DeviceState) × HasMode kept.now m }
     ensures none { IsTrue (not result) → (m : DeviceState) → ¬ HasMode kept.now m }
@@ -82,8 +82,9 @@ pub fn has_mode(kept: &DfuRecord) -> bool
     }
 }
 
-/// Returns the settings of the configuration and the mode of a record, if the configuration is allowed and the record has a mode.
-pub fn mode_in(config: &DfuConfig, kept: &DfuRecord) -> Result<(Settings, DeviceState), Refusal>
+/// Returns the settings and the mode, if the configuration is allowed and the record has a mode. Otherwise returns `NoConfig`, or else
+/// `NoDevice`.
+pub fn mode_in(config: &DfuConfig, kept: &DfuRecord) -> Result<(Settings, DeviceState), CoreRefusal>
     ensures set_up { IfOk result (λ r. AreConfigParts config.now r.0.config r.0.unit r.0.sector) }
     ensures only { IfOk result (λ r. (x : KeptMode) → HasMode kept.now x → r.1 ≡ x) }
     ensures mode { IfOk result (λ r. HasMode kept.now r.1) }
@@ -91,16 +92,19 @@ pub fn mode_in(config: &DfuConfig, kept: &DfuRecord) -> Result<(Settings, Device
     ensures err { IfErr result (λ e. RefusesConfigOrRecord config.now kept.now (refusal_number e)) }
 {
     let Some(settings) = settings_of(config) else {
-        return Err(Refusal::NoConfig);
+        return Err(CoreRefusal::NoConfig);
     };
     match mode_of(kept) {
         Some(mode) => Ok((settings, mode)),
-        None => Err(Refusal::NoDevice),
+        None => Err(CoreRefusal::NoDevice),
     }
 }
 
-/// Returns the settings and the mode as `mode_in`, if no writes are due either.
-pub fn idle_mode(config: &DfuConfig, kept: &DfuRecord) -> Result<(Settings, DeviceState), Refusal>
+/// Returns the settings and the mode, as `mode_in` does, but refuses the record with `Asked` if writes are pending.
+pub fn idle_mode(
+    config: &DfuConfig,
+    kept: &DfuRecord,
+) -> Result<(Settings, DeviceState), CoreRefusal>
     ensures idle { OnOk result (IsIdleRecord config.now kept.now) }
     ensures err { IfErr result (λ e. RefusesUnlessIdle config.now kept.now (refusal_number e)) }
     ensures only { IfOk result (λ r. (x : KeptMode) → HasMode kept.now x → r.1 ≡ x) }
@@ -108,12 +112,12 @@ pub fn idle_mode(config: &DfuConfig, kept: &DfuRecord) -> Result<(Settings, Devi
 {
     let (settings, mode) = mode_in(config, kept)?;
     if kept.work != 0 {
-        return Err(Refusal::Asked);
+        return Err(CoreRefusal::Asked);
     }
     Ok((settings, mode))
 }
 
-// Returns the numbers of a mode: `mode`, `first`, `second` and `number` of the record.
+// Returns the numbers that encode a mode: `mode`, `first`, `second` and `number` of the record.
 fn numbers_of(mode: DeviceState) -> (u32, u32, u32, u16)
     ensures { (r : DfuRecord) → r.mode ≡ result.0 → r.first ≡ result.1 → r.second ≡ result.2 → r.number ≡ result.3 → HasModeNumbers r mode }
 {
@@ -138,7 +142,7 @@ fn numbers_of(mode: DeviceState) -> (u32, u32, u32, u16)
     }
 }
 
-/// Writes `mode` into record `kept`.
+/// Writes the library's version, and the number and the values of `mode`, into record `kept`.
 #[inline(never)]
 pub fn set_mode(kept: &mut DfuRecord, mode: DeviceState)
     ensures mode { HasMode kept.new mode }

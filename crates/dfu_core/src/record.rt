@@ -1,62 +1,63 @@
-//! Record that a program in C keeps of a device, or of a format, between two calls.
+//! Record of a device or of a format, which a program in C keeps between two calls.
 ghost use Rattle.std.specs.Prelude.{◌≡◌};
 ghost use Rattle.dfu_core.specs.Mode.{blank_record};
 
 use crate::config::VERSION;
 
-/// Record of a device that asks for its writes: `struct dfu_record`, as the last call left it.
+/// Record of a device that lets its program write the flash: `struct dfu_record`, as the last call left it.
 ///
 /// | `mode` | State | `first` | `second` | `number` |
 /// |---|---|---|---|---|
 /// | 0 | appIDLE | | | |
 /// | 1 | appDETACH | its timer | milliseconds in the state | |
 /// | 2 | dfuIDLE | | | |
-/// | 3 | dfuDNLOAD-SYNC, the block not written | bytes written | | of the next block |
-/// | 4 | dfuDNLOAD-SYNC, all written | bytes written | | of the next block |
-/// | 5 | dfuDNBUSY | bytes written | milliseconds in the state | of the next block |
-/// | 6 | dfuDNLOAD-IDLE | bytes written | | of the next block |
+/// | 3 | dfuDNLOAD-SYNC, block not written | bytes written | | next block number |
+/// | 4 | dfuDNLOAD-SYNC, block written | bytes written | | next block number |
+/// | 5 | dfuDNBUSY | bytes written | milliseconds in the state | next block number |
+/// | 6 | dfuDNLOAD-IDLE | bytes written | | next block number |
 /// | 7 | dfuMANIFEST-SYNC, not complete | bytes written | | |
 /// | 8 | dfuMANIFEST-SYNC, complete | | | |
 /// | 9 | dfuMANIFEST | bytes written | milliseconds in the state | |
 /// | 10 | dfuMANIFEST-WAIT-RESET | | | |
-/// | 11 | dfuUPLOAD-IDLE | bytes sent | | of the next block |
-/// | 12 | dfuERROR | | | the status code |
+/// | 11 | dfuUPLOAD-IDLE | bytes sent | | next block number |
+/// | 12 | dfuERROR | | | status code |
 #[repr(C)]
 #[derive(Drop)]
 pub struct DfuRecord {
-    /// The version of the library that wrote the record.
+    /// Version of the library that wrote the record.
     pub version: u32,
-    /// The number of the mode: the state, and which of the numbers below belong to it.
+    /// Number of the mode: it determines the state, and the meaning of the next fields.
     pub mode: u32,
-    /// The bytes written or sent, or a timer.
+    /// Number of bytes written or sent, or the timer of appDETACH in milliseconds.
     pub first: u32,
-    /// The milliseconds that passed in the state.
+    /// Milliseconds that passed in the state.
     pub second: u32,
-    /// Place at which the puts end in the spare slot.
+    /// Number of bytes put into the spare slot.
     pub put_end: u32,
-    /// Slot that was found to be the active one: 0 the first, 1 the second.
+    /// Slot that was found to be active: 0 is the first, 1 the second.
     pub slot: u32,
-    /// The number of the next block, or the status code.
+    /// Number of the next block, or the status code.
     pub number: u16,
-    /// Length of the block that is not written yet, at the front of the block's memory, 0 to 4,096.
+    /// Length of the block, 0 to 4,096 bytes. In modes 3 and 5 the block is at the front of the block's memory and not written yet.
     pub length: u16,
-    /// The 16 bytes of the header of the active slot, as they were in the flash.
+    /// The 16 bytes of the active slot's header, as they were in the flash.
     pub header: [u8; 16],
-    /// Work that is due: 0 no writes, 1 those of a block, 2 those that put an image in place, 3 those of a format.
+    /// Work that is pending: 0 for none, 1 for the writes of a block, 2 for those that make an image active, 3 for those of a format.
     pub work: u32,
-    /// Place at which the spare slot begins; for a format the place at which the image goes on.
+    /// Offset of the spare slot in the flash; while a format writes the image, the offset of the current piece in the image.
     pub spare: u32,
-    /// The register over the image.
+    /// CRC register of the image.
     pub sum: u32,
-    /// Number of bytes of the writes that are carried out.
+    /// Number of bytes of the pending writes that are already written; for a format, only those of its current step.
     pub done: u32,
-    /// 0; or 1 more than wLength of the GETSTATUS that waits for its answer.
+    /// 0, or wLength of the pending GETSTATUS plus 1.
     pub asked: u32,
-    /// The generation of the image that is put in place; of a format the number of its part.
+    /// Generation of the image that becomes active; for a format the number of its step.
     pub generation: u8,
-    /// 1 if the gate of the spare slot is closed first, else 0.
+    /// 1 if the writes first close the gate of the spare slot, otherwise 0.
     pub close: u8,
-    /// Number of bytes that are held back until a unit is whole, in the block's memory after the transfer size; fewer than a unit has.
+    /// Number of bytes that are held back until a unit is full, fewer than a unit has. They are in the block's memory after the transfer
+    /// size.
     pub held_length: u16,
 }
 

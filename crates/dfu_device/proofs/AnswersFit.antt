@@ -1,4 +1,4 @@
--- No reply has more bytes than the largest block, or than the six of a status if that is more.
+-- No answer is longer than the transfer size or, if that is larger, the six bytes of a status.
 use Rattle.std.specs.Prelude.{ℕ, ◌≤◌, max, List, [], ◌∷◌, length}
 use Rattle.std.proofs.Common.{ap, inl, inr, arith}
 use Rattle.std.proofs.lemmas.List.{length-take}
@@ -13,7 +13,7 @@ use Rattle.dfu_device.specs.RowForms.{HoldsForEachReply, ReplyMatches, row_form,
 use Rattle.dfu_device.specs.Borrowed.{answer_room}
 use Rattle.dfu_device.specs.Cases.{holds_in_both_branches}
 
--- An answer of a reply that its request may have has at most t bytes, or six if that is more.
+-- If a reply matches its request, its answer has at most t bytes, or six if that is more.
 reply_answer_fits_room : (t len : ℕ) (r : Request) (reply : Reply) (a : Answer) (out : List ℕ) → ReplyMatches t reply r →
     ReplyAnswer len reply a out
     → length out ≤ max 6 t
@@ -30,7 +30,7 @@ reply_answer_fits_room t len r (StateOf state) a out fits (is, same) = omega (
 reply_answer_fits_room t len r (StatusOf code poll state) a out fits (is, bytes, status, last, same) =
     omega (arith, ap length same, length-take len bytes, status.length)
 
--- An answer of a plan that was carried out, each reply of which its request may have, has at most t bytes, or six if that is more.
+-- If each reply of a performed plan matches the request, its answer has at most t bytes, or six if that is more.
 done_answer_fits_room : (t len : ℕ) (r : Request) (p : Plan) (d : DeviceView) (a : Answer) (out : List ℕ) (d' : DeviceView)
     → HoldsForEachReply (λ reply. ReplyMatches t reply r) p → Done p len d a out d' → length out ≤ max 6 t
 done_answer_fits_room t len r (Sure reply stage) d a out d' fits (answers, same) = reply_answer_fits_room t len r reply a out fits
@@ -44,7 +44,7 @@ done_answer_fits_room t len r (Commits taken reply stage bad) d a out d' fits (i
 done_answer_fits_room t len r (Commits taken reply stage bad) d a out d' fits (inr (fault, answers, failed)) =
     reply_answer_fits_room t len r (bad fault) a out (fits.1 fault) answers
 
--- A setup is answered with at most as many bytes as the transfer size, or with six if that is more.
+-- The answer to a setup packet has at most as many bytes as the transfer size, or six if that is more.
 pub handled_answer_fits_room : (setup body : List ℕ) (d : DeviceView) (a : Answer) (out : List ℕ) (d' : DeviceView) →
     Handles setup body d a out d'
     → length out ≤ answer_room d.config

@@ -1,4 +1,4 @@
--- The calls of the slot store that write a block.
+-- Lemmas about the calls of the slot store that write a block.
 use Rattle.std.proofs.Common.{◌≡◌, ◌⊎◌, inl, inr, ◌==◌, Bool, true, false, if◌then◌else◌, ℕ, ◌≤◌, ◌<◌, List, [], ◌∷◌, length, take, refl, sym, subst, arith, Result, Ok, Err, OnOk, OnErr}
 use Rattle.std.proofs.lemmas.Grind.{common_steps}
 use Rattle.std.proofs.lemmas.List.{length-take-le}
@@ -11,19 +11,19 @@ use Rattle.dfu_slots.specs.Changes.{fault_of, ending_of}
 use Rattle.dfu_device.specs.Parts.{is_put}
 use Rattle.dfu_device.specs.Rows.{block_calls}
 
--- One call of the store is a list of one call with the ending of the call.
+-- A call of the store and the list of this one call have the same ending.
 pub one_call_is_series : (s now : SlotsState) (call : StoreCall) (ending : Ending) → CallEnding s call ending now
     → CallsEnd s (call ∷ []) ending now
 one_call_is_series s now call AllWorked d = (now, d.calls, refl)
 one_call_is_series s now call (BrokenBy fault) d = inl d.calls
 
--- Two calls of the store, of which the first worked, have the ending of the second.
+-- If the first of two calls of the store worked, the two calls have the ending of the second.
 two_calls_are_series : (s mid now : SlotsState) (first second : StoreCall) (ending : Ending) → CallEnding s first AllWorked mid
     → CallEnding mid second ending now → CallsEnd s (first ∷ second ∷ []) ending now
 two_calls_are_series s mid now first second AllWorked d e = (mid, d.calls, (now, e.calls, refl))
 two_calls_are_series s mid now first second (BrokenBy fault) d e = inr (mid, d.calls, inl e.calls)
 
--- The calls of the first block, if `begin` worked, have the ending of its `put`.
+-- If `begin` worked before the first block, the calls of the block have the ending of its `put`.
 pub first_block_ends_as_put : (s mid now : SlotsState) (n : ℕ) (block : List ℕ) (ending : Ending) → n ≡ 0 → CallEnding s Begin AllWorked mid
     → CallEnding mid (Put 0 block) ending now → CallsEnd s (block_calls (take n (spare_of s)) block) ending now
 first_block_ends_as_put s mid now n block ending none d e =
@@ -38,7 +38,7 @@ failed_begin_ends_calls fault s now n block none d =
     subst (λ (k : ℕ). CallsEnd s (block_calls (take k (spare_of s)) block) (BrokenBy fault) now) (sym none)
     (inl d.calls)
 
--- The calls of a block after the first have the ending of its only `put`.
+-- The calls of every later block have the ending of its only `put`.
 pub later_block_ends_as_put : (s now : SlotsState) (n : ℕ) (block : List ℕ) (ending : Ending) → 0 < n → n ≤ length (spare_of s)
     → CallEnding s (Put n block) ending now → CallsEnd s (block_calls (take n (spare_of s)) block) ending now
 later_block_ends_as_put s now n block ending some fits d =
@@ -48,22 +48,22 @@ later_block_ends_as_put s now n block ending some fits d =
     (subst (λ (b : Bool). CallsEnd s (if b then Begin ∷ Put 0 block ∷ [] else Put n block ∷ []) ending now) (sym behind)
     (one_call_is_series s now (Put n block) ending d))
 
--- If the n bytes written were put and n is not 0, the spare slot is closed.
+-- If n bytes were put and n is not 0, the spare slot is closed.
 pub put_bytes_need_begun_store : (n : ℕ) (s : SlotsState) → 0 < n → (n ≡ 0) ⊎ (is_put n s ≡ true) → is_begun s ≡ true
 put_bytes_need_begun_store n s some (inl none) = absurd (omega (arith, some, none))
 put_bytes_need_begun_store n s some (inr put) = (and_parts (is_begun s) (s.put_end == n) put).0
 
--- As many bytes as fit in the room of a store fit in the data of its spare slot.
+-- Any number of bytes up to the capacity of a store fits into the data of its spare slot.
 pub room_fits_spare_slot : (s : SlotsState) (n : ℕ) → is_shaped s ≡ true → n ≤ room_of s → n ≤ length (spare_of s)
 room_fits_spare_slot s n shape fits = grind (arith, common_steps)
 
--- If n bytes were put in a closed spare slot, `is_put n` holds of the store afterwards.
+-- If a successful `put` keeps a closed spare slot closed and ends at n, is_put n holds afterwards.
 pub put_bytes_count_as_put : {T E : Type 0} (result : Result T E) (here now : SlotsState) (n : ℕ) → is_begun here ≡ true
     → OnOk result (is_begun now ≡ is_begun here) → OnOk result (now.put_end ≡ n) → OnOk result (is_put n now ≡ true)
 put_bytes_count_as_put (Ok x) here now n begun shut end = grind (arith, common_steps)
 put_bytes_count_as_put (Err e) here now n begun shut end = tt
 
--- If the count of failures rises during a failed call, it has risen since any earlier moment.
+-- If the count of failures rose from `mid` to `now`, it also rose from any count `before` that is at most `mid`.
 pub failure_count_rose_since : {T : Type 0} (result : Result T PutFault) (before mid now : ℕ) → before ≤ mid
     → ((fault : WriteFault) → ending_of result ≡ BrokenBy fault → CountRose mid now) → OnErr result (CountRose before now)
 failure_count_rose_since (Ok x) before mid now le rose = tt

@@ -1,4 +1,4 @@
--- Place of an image that was received and is not active yet.
+-- Lemmas about the location of an image that was received and is not active yet.
 use Rattle.std.proofs.Common.{◌≡◌, ℕ, ◌+◌, ◌-◌, ◌*◌, ◌%◌, ◌≤◌, IsTrue, List, ◌++◌, length, take, drop, slice_range, Option, Some, None, refl, sym, ◌∙◌, ap, subst, arith, length-append}
 use Rattle.std.proofs.lemmas.Grind.{common_steps}
 use Rattle.std.proofs.lemmas.List.{take-take, take_at, length-take-le}
@@ -11,7 +11,7 @@ use Rattle.dfu_slots.proofs.Stands.{active_image_at_its_place}
 use Rattle.dfu_slots.proofs.Newest.{spare_place_ends_within}
 use Rattle.dfu_slots.proofs.Parts.{data_length}
 use Rattle.dfu_slots.proofs.Multiples.{held_bytes_end_at_put_end}
-use Rattle.dfu_slots.proofs.Seeing.{spare_is_data_with_held}
+use Rattle.dfu_slots.proofs.VisibleStores.{spare_is_data_with_held}
 use Rattle.dfu_device.specs.declared.candidate.Candidate.{Candidate}
 use Rattle.dfu_device.specs.declared.device_state.DeviceState.{DeviceState}
 use Rattle.dfu_device.specs.declared.device_state.DeviceState.TheVariants as device_state
@@ -30,7 +30,7 @@ module _ (s : SlotsState) (store : IsStore s) where
   pub spare_data_ends_within : place + slot_size s.medium.bytes ≤ length s.medium.bytes
   spare_data_ends_within = spare_place_ends_within g s.medium.bytes (active_image_at_its_place store.has_image.active).sized
 
-  -- The data of the spare slot is as long as the slot without its gate and its header.
+  -- The length of the spare slot's data is that of the slot without its gate and its header.
   slot_data_fills_slot_rest : length (spare_slot s).data_bytes ≡ slot_size s.medium.bytes - 2 * g
   slot_data_fills_slot_rest = data_length g s.medium.bytes place spare_data_ends_within (omega (arith, store.has_image.active.sized.room))
 
@@ -51,17 +51,17 @@ module _ (s : SlotsState) (store : IsStore s) where
       (take-take k (place + slot_size s.medium.bytes - p) (drop p s.medium.bytes) (omega (arith, le, slot_data_fills_slot_rest))
       ∙ ap (λ (n : ℕ). take n (drop p s.medium.bytes)) count)
 
--- The first n bytes of the spare slot if a length n is given, else None.
+-- First n bytes of the spare slot's data if a length n is given, otherwise None.
 abbrev pub front_of : Option ℕ → List ℕ → Option (List ℕ)
 front_of (Some n) spare = Some (take n spare)
 front_of None spare = None
 
--- If a length n is given, n bytes were put in the store, and they fit in its room. True without a length.
+-- If a length n is given, n bytes were put into the store, and n is at most the store's capacity. True without a length.
 abbrev pub IsPutLength : Option ℕ → SlotsState → Type 0
 IsPutLength (Some n) s = (n ≡ s.put_end) × (n ≤ room_of s)
 IsPutLength None s = Unit {0}
 
--- The candidate of a mode's stage is the front of the spare slot, with the candidate's length in that mode.
+-- The candidate of a mode's stage is a prefix of the spare slot's data, and candidate_length of the mode is its length.
 pub stage_candidate_is_spare_front : (m : DeviceState) (spare block : List ℕ) → candidate_in (stage_of m spare block)
     ≡ front_of (candidate_length m) spare
 stage_candidate_is_spare_front (device_state.DownloadIdle written number) spare block = refl
@@ -69,7 +69,7 @@ stage_candidate_is_spare_front (device_state.ManifestSync written) spare block =
 stage_candidate_is_spare_front (device_state.Manifest written passed) spare block = refl
 stage_candidate_is_spare_front m spare block = refl
 
--- The length of a mode's candidate, if it has one, is the number of bytes put in the store, and they fit in its room.
+-- If a mode has a candidate, the candidate's length is the number of bytes put into the store, and is at most the store's capacity.
 pub candidate_length_was_put : (m : DeviceState) (b : ℕ) (s : SlotsState) → IsTrue (are_device_parts m b s) →
     IsPutLength (candidate_length m) s
 candidate_length_was_put (device_state.DownloadIdle written number) b s sound = (
@@ -83,7 +83,8 @@ candidate_length_was_put (device_state.ManifestSync written) b s sound = (sym (g
 candidate_length_was_put (device_state.Manifest written passed) b s sound = (sym (grind (arith, common_steps)), grind (arith, common_steps))
 candidate_length_was_put m b s sound = tt
 
--- The candidate is the received image of n bytes, if its place is the spare slot's data and `stored` counts its whole units.
+-- A candidate of n bytes satisfies IsCandidate if `at` is the beginning of the spare slot's data, and `stored` is the number of bytes in
+-- the whole units of n.
 pub candidate_is : (w : DeviceView) (m : DeviceState) (block : List ℕ) (c : Candidate) (n : ℕ)
     → w.stage ≡ stage_of m (spare_of w.slots) block
     → IsTrue (are_device_parts m (length block) w.slots) → IsStore w.slots → candidate_length m ≡ Some n

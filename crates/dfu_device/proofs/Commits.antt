@@ -1,4 +1,4 @@
--- The call of the slot store that puts an image in place.
+-- Lemmas about the call of the slot store that makes an image active.
 use Rattle.std.proofs.Common.{◌≡◌, ◌⊎◌, ◌&&◌, inl, inr, true, IsTrue, ℕ, ◌+◌, ◌≤◌, ◌<◌, nat_le, nat_lt, List, [], ◌∷◌, length, take, refl, sym, subst, arith}
 use Rattle.std.proofs.lemmas.Grind.{common_steps}
 use Rattle.std.proofs.lemmas.List.{length-take-le}
@@ -13,18 +13,18 @@ use Rattle.dfu_device.specs.Table.{commit_code}
 use Rattle.dfu_device.specs.Rows.{Committed, FailedCommit}
 use Rattle.dfu_device.proofs.Calls.{one_call_is_series}
 
--- A store is ready for a commit of n bytes: they were put in the closed spare slot, within its room.
+-- A store is ready for a commit of n bytes: exactly n bytes were put into the closed spare slot, and n is at most the capacity.
 pub record IsReadyToCommit (s : SlotsState) (n : ℕ) : Type 0 where
   pub begun : is_begun s ≡ true
   pub end : s.put_end ≡ n
   pub room : n ≤ room_of s
   pub spare : n ≤ length (spare_of s)
 
--- The store of a device has the shape of a slot store.
+-- The store of a device satisfies is_shaped.
 pub device_store_is_shaped : (m : DeviceState) (b : ℕ) (s : SlotsState) → IsTrue (are_device_parts m b s) → is_shaped s ≡ true
 device_store_is_shaped m b s sound = grind (arith, common_steps)
 
--- A store that has the bytes that dfuMANIFEST-SYNC needs is ready for their commit.
+-- If a store agrees with dfuMANIFEST-SYNC, the store is ready for a commit.
 pub synced_store_is_ready_to_commit : (b n : ℕ) (s : SlotsState) → is_shaped s ≡ true →
     IsTrue (is_filled (device_state.ManifestSync n) b s) → IsReadyToCommit s n
 synced_store_is_ready_to_commit b n s shape filled = record {
@@ -34,23 +34,23 @@ synced_store_is_ready_to_commit b n s shape filled = record {
   spare = grind (arith, common_steps);
 }
 
--- A commit of the bytes taken is a list of one call, whether it worked or not.
+-- A commit of the accepted bytes and the list of this one call have the same ending.
 commit_is_one_call : (s now : SlotsState) (n : ℕ) (ending : Ending) → n ≤ length (spare_of s) → CallEnding s (Commit n) ending now
     → CallsEnd s (Commit (length (take n (spare_of s))) ∷ []) ending now
 commit_is_one_call s now n ending fits d =
     subst (λ (k : ℕ). CallsEnd s (Commit k ∷ []) ending now) (sym (length-take-le n (spare_of s) fits))
     (one_call_is_series s now (Commit n) ending d)
 
--- The stage of a mode without bytes of a download does not depend on the spare slot.
+-- The stage of a mode after a commit doesn't depend on the spare slot.
 stage_ignores_spare_slot : (m : DeviceState) → IsModeAfterCommit m → (xs ys : List ℕ)
     → stage_of m xs ys ≡ stage_of m [] []
 stage_ignores_spare_slot m three xs ys = elim three [ inl e ↦ rw e refl | inr other ↦ elim other [ inl e ↦ rw e refl | inr e ↦ rw e refl ] ]
 
--- A mode without bytes of a download needs no more of a store than its shape.
+-- A mode after a commit requires only is_shaped of the store.
 shape_suffices_for_empty_mode : (s : SlotsState) → is_shaped s ≡ true → IsTrue (is_shaped s && true)
 shape_suffices_for_empty_mode s shape = grind (arith, common_steps)
 
--- A mode without bytes of a download and any store with its shape are parts of a device.
+-- A mode after a commit and any store that satisfies is_shaped are parts of a device.
 pub empty_mode_is_device_part : (m : DeviceState) (b : ℕ) (s : SlotsState) → IsModeAfterCommit m
     → is_shaped s ≡ true → IsTrue (are_device_parts m b s)
 empty_mode_is_device_part m b s three shape =
@@ -65,12 +65,12 @@ empty_mode_is_device_part m b s three shape =
       ]
     ]
 
--- If n bytes were put, at least one and within the room, the store has the bytes that a mode with n written bytes needs.
+-- If n bytes were put, at least one and not more than the capacity, the store agrees with a mode with n written bytes.
 put_bytes_suffice_for_mode : (n : ℕ) (s : SlotsState) → 0 < n → n ≤ room_of s → is_shaped s ≡ true → is_put n s ≡ true
     → IsTrue (is_shaped s && (nat_lt 0 n && (nat_le n (room_of s) && is_put n s)))
 put_bytes_suffice_for_mode n s some room shape put = grind (arith, common_steps)
 
--- After a block was put, the mode with its bytes and the store are parts of a device.
+-- After a block was put, the store and the mode with its bytes are parts of a device.
 pub written_mode_is_device_part : (m : DeviceState) (b n number : ℕ) (s : SlotsState) → (m ≡ device_state.DownloadSyncWritten n number)
     ⊎ (m ≡ device_state.DownloadIdle n number) → 0 < n → n ≤ room_of s → is_shaped s ≡ true → is_put n s ≡ true
     → IsTrue (are_device_parts m b s)
@@ -84,16 +84,16 @@ written_mode_is_device_part m b n number s either some room shape put =
           (λ (k : DeviceState). IsTrue (are_device_parts k b s)) (sym e) sound
     ]
 
--- An unwritten block of b bytes is not empty, and has room after the n bytes that are written.
+-- An unwritten block of b bytes is not empty, and fits after the n bytes that are written.
 pub record HasRoomForBlock (s : SlotsState) (n b : ℕ) : Type 0 where
   pub some : 0 < b
   pub room : n + b ≤ room_of s
 
--- A block that is to be written has room in the store.
+-- A block that the device is about to write fits into the store.
 pub block_room : (n b number : ℕ) (s : SlotsState) → IsTrue (is_filled (device_state.DownloadSync n number) b s) → HasRoomForBlock s n b
 block_room n b number s filled = record { some = grind (arith, common_steps); room = grind (arith, common_steps) }
 
--- A commit that worked has the effects that the table demands: the bytes taken are the image.
+-- A commit that worked has the effects that the table requires: the accepted bytes are the image.
 pub worked_commit_fits_table : (config : Setting) (s now : SlotsState) (next : DeviceState) (block : List ℕ) (n : ℕ) → IsReadyToCommit s n
     → CallEnding s (Commit n) AllWorked now → image_of now ≡ take n (spare_of s) → room_of now ≡ room_of s
     → IsModeAfterCommit next
@@ -106,7 +106,7 @@ worked_commit_fits_table config s now next block n ready d image room three = re
   image = image;
 }
 
--- A commit that failed has the effects that the table demands: the image is the old one or the bytes taken.
+-- A commit that failed has the effects that the table requires: the image is the old one or the accepted bytes.
 pub commit_fault_fits_table : (fault : WriteFault) (config : Setting) (s now : SlotsState) (block : List ℕ) (n : ℕ) →
     IsReadyToCommit s n
     → CallEnding s (Commit n) (BrokenBy fault) now

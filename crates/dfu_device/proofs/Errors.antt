@@ -1,4 +1,4 @@
--- The cause of an error code of the medium.
+-- The medium errors errWRITE, errPROG and errVERIFY have a cause.
 use Rattle.std.specs.Prelude.{◌⊎◌, ℕ, List, []}
 use Rattle.std.proofs.Common.{ap, inl, inr, subst}
 use Rattle.dfu_slots.specs.StoreView.{image_of}
@@ -15,7 +15,7 @@ use Rattle.dfu_device.specs.Errors.{IsMediumError, MediumFailed, MediumErrorsHav
 use Rattle.dfu_device.specs.RowForms.{EndsInNoMediumError}
 use Rattle.dfu_device.proofs.FaithfulPlans.{row_is_faithful, time_row_is_faithful}
 
--- If a plan ends in an error of the medium, it began in one, or the medium failed.
+-- If a performed plan ends in a medium error (errWRITE, errPROG or errVERIFY), the plan began in one, or the medium failed.
 medium_error_had_cause : (p : Plan) (len : ℕ) (w : DeviceView) (a : Answer) (out : List ℕ) (w' : DeviceView) →
     EndsInNoMediumError w.stage p
     → Done p len w a out w'
@@ -29,23 +29,23 @@ medium_error_had_cause (Commits taken reply stage bad) len w a out w' well (inl 
     h.stage_is broken))
 medium_error_had_cause (Commits taken reply stage bad) len w a out w' well (inr (fault, says, h)) broken = inr h.failed
 
--- A reset of the bus enters no error of the medium.
+-- A reset of the bus never leads to a medium error (errWRITE, errPROG or errVERIFY).
 reset_enters_no_medium_error : (st : Stage) → IsMediumError (reset_stage st) → ⊥
 reset_enters_no_medium_error (InAppDetach timer passed) x = x
 reset_enters_no_medium_error st x = x
 
--- The code of an objection is no error of the medium.
+-- The code of an objection is not a medium error, because it is errTARGET or errFILE.
 objection_is_no_medium_error : (why : Objection) → IsMediumError (InError (objection_code why)) → ⊥
 objection_is_no_medium_error Target x = x
 objection_is_no_medium_error File x = x
 
--- A stage after the refusal of an image is an error of the medium only if the stage before was one.
+-- If the device is in a medium error (errWRITE, errPROG or errVERIFY) after a refusal of an image, it was in one before.
 refusal_enters_no_medium_error : (why : Objection) (st : Stage) → IsMediumError (refuse_stage why st) → IsMediumError st
 refusal_enters_no_medium_error why (InManifestSync taken) x = absurd (objection_is_no_medium_error why x)
 refusal_enters_no_medium_error why (InManifest taken passed) x = absurd (objection_is_no_medium_error why x)
 refusal_enters_no_medium_error why st x = x
 
--- A row ends in an error of the medium only if it began in one or the medium failed.
+-- A row ends in a medium error (errWRITE, errPROG or errVERIFY) only if the row began in one, or the medium failed during the row.
 pub medium_errors_have_cause : MediumErrorsHaveCause
 medium_errors_have_cause w (Transfer setup body) a out w' (handled_by_reading p q reads asks done) broken =
     medium_error_had_cause (setup_plan w p q body) (asked_length q) w a out w'

@@ -1,4 +1,4 @@
--- Requests of the class, recognised by the first two bytes of a setup.
+-- Lemmas about class requests, recognised by the first two bytes of a setup packet.
 use Rattle.std.specs.Prelude.{◌≡◌, ℕ, ◌==◌, ◌&&◌, Bool, true, false, List, slice_index}
 use Rattle.std.proofs.Common.{sym, ap, ◌∙◌}
 use Rattle.std.proofs.lemmas.Bool.{eqb-true, false≢true, and_parts}
@@ -10,11 +10,11 @@ use Rattle.dfu_wire.specs.Request.{IsClassRequestSetup, SetupAsksFor}
 use Rattle.dfu_device.specs.Rows.{is_served}
 use Rattle.dfu_device.proofs.Cases.{bool_has_two_cases}
 
--- The setup begins with these two bytes: bmRequestType and bRequest.
+-- True if the setup packet begins with these two bytes: bmRequestType and bRequest.
 abbrev pub begins : ℕ → ℕ → List ℕ → Bool
 begins kind number setup = (slice_index setup 0 == kind) && (slice_index setup 1 == number)
 
--- The request is the one of the seven with this bmRequestType and bRequest.
+-- True if the request is the one of the seven DFU requests with this bmRequestType and bRequest.
 abbrev pub is_request_with_first_bytes : ℕ → ℕ → Asked → Bool
 is_request_with_first_bytes kind number (asked.Detach timeout) = (0x21 == kind) && (0 == number)
 is_request_with_first_bytes kind number (asked.Dnload block len) = (0x21 == kind) && (1 == number)
@@ -27,13 +27,12 @@ is_request_with_first_bytes kind number asked.OtherClass = false
 is_request_with_first_bytes kind number asked.NotDfu = false
 
 module _ (kind number : ℕ) (p : Setup) (setup : List ℕ) (reads : IsSetup p setup) where
-  -- A setup of the class with bmRequestType k and bRequest n begins with the bytes `kind` and `number` exactly if k is `kind` and n is
-  -- `number`.
+  -- A class request with bmRequestType k and bRequest n begins with the bytes `kind` and `number` exactly if k is `kind` and n is `number`.
   class_setup_begins_with_bytes : (k n : ℕ) → IsClassRequestSetup p k n → begins kind number setup ≡ (k == kind) && (n == number)
   class_setup_begins_with_bytes k n class = ap (λ (x : ℕ). (x == kind) && (slice_index setup 1 == number)) (sym reads.kind ∙ class.kind)
       ∙ ap (λ (x : ℕ). (k == kind) && (x == number)) (sym reads.request ∙ class.request)
 
-  -- A setup for interface 0 that begins with the two bytes is the request of the class that they encode.
+  -- If a setup packet for interface 0 begins with the bytes `kind` and `number`, it is the class request with these numbers.
   first_bytes_give_class_request : p.index ≡ 0 → begins kind number setup ≡ true → IsClassRequestSetup p kind number
   first_bytes_give_class_request index starts =
       let both : ((slice_index setup 0 == kind) ≡ true) × ((slice_index setup 1 == number) ≡ true) =
@@ -44,7 +43,8 @@ module _ (kind number : ℕ) (p : Setup) (setup : List ℕ) (reads : IsSetup p s
         index = index;
       }
 
-  -- A setup that the table serves begins with the two bytes of its request, provided that no unnamed request of the class has them.
+  -- If no other class request begins with the bytes `kind` and `number`, a setup packet that has a row in the table begins with them
+  -- exactly if its request is the one of the seven with these two bytes.
   pub setup_begins_as_request : (q : Asked) (body : List ℕ) → (IsClassRequestSetup p kind number → SetupAsksFor p asked.OtherClass → ⊥) →
       SetupAsksFor p q
       → is_served p q body ≡ true → begins kind number setup ≡ is_request_with_first_bytes kind number q

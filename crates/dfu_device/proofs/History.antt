@@ -1,4 +1,4 @@
--- Bytes that a history gathers: after one more step, after any number of steps, and their uniqueness.
+-- Lemmas about the bytes that a history gathers: after one more step, after any number of steps, and their uniqueness.
 use Rattle.std.specs.Prelude.{◌≡◌, ℕ, Bool, true, false, List, [], ◌∷◌, ◌++◌}
 use Rattle.std.proofs.Common.{refl, sym, ap, ◌∙◌, subst}
 use Rattle.std.proofs.lemmas.List.{append_assoc, append-nil}
@@ -7,25 +7,25 @@ use Rattle.dfu_device.specs.DeviceView.{DeviceView}
 use Rattle.dfu_device.specs.History.{HistoryStep, IsTableRow, IsHistory, joined_parts, AllStepsInside, Gathered, from_start, since}
 use Rattle.dfu_device.proofs.Cases.{bool_has_two_cases}
 
--- The steps after the first one.
+-- All steps of a history except the first.
 abbrev pub behind : List HistoryStep → List HistoryStep
 behind [] = []
 behind (s ∷ h) = h
 
 module _ (inside : HistoryStep → Bool) (part : HistoryStep → List ℕ) where
-  -- A history whose steps all end inside, extended by a step that ends inside, has only steps that end inside.
+  -- If `inside` is true for all steps of a history and for one more step, it is true for all steps of the longer history.
   inside_step_keeps_all_inside : (h : List HistoryStep) (s : HistoryStep) → AllStepsInside inside h → inside s ≡ true →
       AllStepsInside inside (h ++ s ∷ [])
   inside_step_keeps_all_inside [] s all on = (on, tt)
   inside_step_keeps_all_inside (x ∷ h) s all on = (all.0, inside_step_keeps_all_inside h s all.1 on)
 
-  -- The joined parts of a history with a further step are those of the history, followed by the part of the step.
+  -- The joined parts of a history with one more step are those of the history, followed by the part of the step.
   further_step_joins_its_part : (h : List HistoryStep) (s : HistoryStep) → joined_parts part (h ++ s ∷ []) ≡ joined_parts part h ++ part s
   further_step_joins_its_part [] s = append-nil (part s)
   further_step_joins_its_part (x ∷ h) s = ap (λ (l : List ℕ). part x ++ l) (further_step_joins_its_part h s)
       ∙ sym (append_assoc (part x) (joined_parts part h) (part s))
 
-  -- A further step that ends inside adds its part to the bytes that a history gathers.
+  -- If `inside` is true for one more step, the step adds its part to the bytes that a history gathers.
   inside_step_joins_gathered : (h : List HistoryStep) (s : HistoryStep) (t : List ℕ) → Gathered inside part h t → inside s ≡ true
       → Gathered inside part (h ++ s ∷ []) (t ++ part s)
   inside_step_joins_gathered h s t (from_start all is) on = from_start (inside_step_keeps_all_inside h s all on) (ap (λ (l : List ℕ). l
@@ -34,7 +34,7 @@ module _ (inside : HistoryStep → Bool) (part : HistoryStep → List ℕ) where
       since old last (recent ++ s ∷ []) (ap (λ (l : List HistoryStep). l ++ s ∷ []) split ∙ append_assoc old (last ∷ recent) (s ∷ [])) off
       (inside_step_keeps_all_inside recent s all on) (ap (λ (l : List ℕ). l ++ part s) is ∙ sym (further_step_joins_its_part recent s))
 
-  -- If one more step ends inside, the history gathers the step's part too; if the step ends outside, the history gathers no bytes.
+  -- If `inside` is true for one more step, the history also gathers the step's part; if it is false, the history gathers no bytes.
   pub one_more_step_gathers : (h : List HistoryStep) (s : HistoryStep) (t now : List ℕ) → Gathered inside part h t →
       (inside s ≡ true → now ≡ t ++ part s)
       → (inside s ≡ false → now ≡ []) → Gathered inside part (h ++ s ∷ []) now
@@ -43,7 +43,7 @@ module _ (inside : HistoryStep → Bool) (part : HistoryStep → List ℕ) where
       (λ yes. subst (λ (l : List ℕ). Gathered inside part (h ++ s ∷ []) l) (sym (on yes)) (inside_step_joins_gathered h s t gathered yes))
       (λ no. since h s [] refl no tt (off no))
 
-  -- If each row adds its part to the bytes `of` a device, a history adds the parts of its steps.
+  -- If each row keeps the bytes `of w` of a device equal to the bytes that its history gathers, any number of rows keeps them equal.
   pub history_gathers : (of : DeviceView → List ℕ)
       → ((h : List HistoryStep) (s : HistoryStep) → Gathered inside part h (of s.before) → IsTableRow s →
       Gathered inside part (h ++ s ∷ []) (of s.after))
@@ -57,14 +57,14 @@ module _ (inside : HistoryStep → Bool) (part : HistoryStep → List ℕ) where
       subst (λ (l : List HistoryStep). Gathered inside part l (of w')) (append_assoc g (s ∷ []) rest)
       (history_gathers of step (g ++ s ∷ []) rest s.after w' (step g s before row) more)
 
-  -- A history whose steps all end inside has no step that ends outside.
+  -- If `inside` is true for all steps of a history, it is false for none of them.
   inside_steps_have_no_outside : (old : List HistoryStep) (last : HistoryStep) (recent : List HistoryStep) → AllStepsInside inside (old
       ++ last ∷ recent) →
       inside last ≡ false → ⊥
   inside_steps_have_no_outside [] last recent all off = false≢true (sym off ∙ all.0)
   inside_steps_have_no_outside (x ∷ old) last recent all off = inside_steps_have_no_outside old last recent all.1 off
 
-  -- The steps after the last step that ends outside are the same in any two splits of a history.
+  -- In any two splits of a history, the steps after the last step for which `inside` is false are the same.
   recent_steps_are_unique : (old : List HistoryStep) (last : HistoryStep) (recent past : List HistoryStep) (end : HistoryStep) (late : List
       HistoryStep)
       → old ++ last ∷ recent ≡ past ++ end ∷ late → inside last ≡ false → inside end ≡ false → AllStepsInside inside recent
@@ -78,7 +78,7 @@ module _ (inside : HistoryStep → Bool) (part : HistoryStep → List ℕ) where
   recent_steps_are_unique (x ∷ old) last recent (y ∷ past) end late e off out all every =
       recent_steps_are_unique old last recent past end late (ap behind e) off out all every
 
-  -- A history gathers one list of bytes and no other.
+  -- A history gathers only one list of bytes.
   pub gathered_bytes_are_unique : (h : List HistoryStep) (a b : List ℕ) → Gathered inside part h a → Gathered inside part h b → a ≡ b
   gathered_bytes_are_unique h a b (from_start all is) (from_start every same) = is ∙ sym same
   gathered_bytes_are_unique h a b (from_start all is) (since old last recent split off every same) =

@@ -1,4 +1,4 @@
--- Use of the slot store by a row, and the image after it.
+-- Lemmas about the use of the slot store by a row, and the image after it.
 use Rattle.std.specs.Prelude.{◌≡◌, ◌⊎◌, ℕ, List, [], ◌∷◌, length}
 use Rattle.std.proofs.Common.{sym, ap, ◌∙◌, inl, inr, subst}
 use Rattle.dfu_wire.specs.declared.setups.Setup.{Setup}
@@ -18,11 +18,11 @@ use Rattle.dfu_device.specs.RowForms.{CallsStoreFor}
 use Rattle.dfu_device.proofs.FaithfulPlans.{row_is_faithful, time_row_is_faithful}
 use Rattle.dfu_device.specs.StoreUse.{StoreUse, RowsUseStore, ErrorRowsKeepStore}
 
--- Equal endings of broken calls have the same fault.
+-- If BrokenBy f equals BrokenBy g, the faults f and g are equal.
 broken_by_is_injective : {f g : WriteFault} → BrokenBy f ≡ BrokenBy g → f ≡ g
 broken_by_is_injective q = cc
 
--- A plan that was carried out uses the slot store only for the bytes taken.
+-- A performed plan uses the slot store only for the accepted bytes.
 done_plan_uses_store : (p : Plan) (len : ℕ) (w : DeviceView) (a : Answer) (out : List ℕ) (w' : DeviceView)
     → CallsStoreFor (written_bytes_in w.stage) (accepted_of (situation w)) p → Done p len w a out w' → StoreUse w w'
 done_plan_uses_store (Sure reply stage) len w a out w' only (says, is) = inl (inl (ap (λ (z : DeviceView). z.slots) is))
@@ -62,7 +62,7 @@ done_plan_uses_store (Commits taken reply stage bad) len w a out w' only (inr (f
   );
 }))
 
--- The plan of a setup calls the slot store only for the bytes taken.
+-- The plan of a setup packet calls the slot store only for the accepted bytes.
 setup_plan_calls_store_for : (w : DeviceView) (p : Setup) (q : Asked) (body : List ℕ)
     → CallsStoreFor (written_bytes_in w.stage) (accepted_of (situation w)) (setup_plan w p q body)
 setup_plan_calls_store_for w p q body =
@@ -70,7 +70,7 @@ setup_plan_calls_store_for w p q body =
     body) _ _
     (row_is_faithful (profile w) (image_of w.slots) w.stage (request_for_table q body)).0 tt
 
--- Each row uses the slot store for the bytes taken, or not at all; only a commit changes the image.
+-- In each row the device uses the slot store only for the accepted bytes, and only a commit changes the image.
 pub rows_use_store : RowsUseStore
 rows_use_store w (Transfer setup body) a out w' (handled_by_reading p q reads asks done) =
     done_plan_uses_store (setup_plan w p q body) (asked_length q) w a out w' (setup_plan_calls_store_for w p q body) done
@@ -83,14 +83,14 @@ rows_use_store w (RefusingClose setup why) a out w' (is, none, closes, same) = i
 rows_use_store w (Refusing why) a out w' (is, none, same) = inl (inl (ap (λ (z : DeviceView). z.slots) same))
 rows_use_store w PowerOn a out w' (is, none, same) = inl (inr (ap (λ (z : DeviceView). z.slots) same))
 
--- Plans that call nothing of the slot store.
+-- Lemmas about plans that don't call the slot store.
 
--- The plan calls nothing of the slot store.
+-- The plan doesn't call the slot store.
 abbrev pub CallsNoStore : Plan → Type 0
 CallsNoStore (Sure reply stage) = Unit {0}
 CallsNoStore p = ⊥
 
--- A plan that calls nothing leaves the slot store unchanged.
+-- A plan that doesn't call the slot store leaves it unchanged.
 storeless_plan_keeps_store : (p : Plan) (len : ℕ) (w : DeviceView) (a : Answer) (out : List ℕ) (w' : DeviceView) → CallsNoStore p →
     Done p len w a out w'
     → w'.slots ≡ w.slots
@@ -98,14 +98,14 @@ storeless_plan_keeps_store (Sure reply stage) len w a out w' sure (says, is) = a
 storeless_plan_keeps_store (Writes before block reply stage bad) len w a out w' sure done = absurd sure
 storeless_plan_keeps_store (Commits taken reply stage bad) len w a out w' sure done = absurd sure
 
--- In dfuERROR the plan of each request calls nothing of the slot store.
+-- In dfuERROR the plan of each request doesn't call the slot store.
 error_plan_calls_no_store : (c : Profile) (i : List ℕ) (code : Code) (r : Request) → CallsNoStore (plan c i (InError code) r)
 error_plan_calls_no_store c i code ClrStatus = tt
 error_plan_calls_no_store c i code GetStatus = tt
 error_plan_calls_no_store c i code GetState = tt
 error_plan_calls_no_store c i code r = tt
 
--- In dfuERROR each row leaves the slot store as it was, or opens it again on its medium.
+-- In dfuERROR each row leaves the slot store unchanged or opens it again on its medium.
 pub error_rows_keep_store : ErrorRowsKeepStore
 error_rows_keep_store code w (Transfer setup body) a out w' at (handled_by_reading p q reads asks done) =
     inl (storeless_plan_keeps_store (setup_plan w p q body) (asked_length q) w a out w'

@@ -19,21 +19,21 @@ use Rattle.dfu_device.proofs.SentRow.{row_form_sends_piece}
 use Rattle.dfu_device.proofs.FirstBytes.{is_request_with_first_bytes, setup_begins_as_request}
 use Rattle.dfu_device.proofs.RowGathers.{GatheringFacts}
 
--- Bytes that a setup sends.
+-- Lemmas about the bytes that a setup packet sends.
 
--- A setup that the table serves begins with the first two bytes of an UPLOAD exactly if its request is an UPLOAD.
+-- If a setup packet has a row in the table, it begins with the first two bytes of an UPLOAD exactly if its request is an UPLOAD.
 pub served_setup_is_upload : (p : Setup) (q : Asked) (setup body : List ℕ) → IsSetup p setup → SetupAsksFor p q → is_served p q body ≡ true
     → is_upload setup ≡ is_request_with_first_bytes 0xa1 2 q
 served_setup_is_upload p q setup body reads asks on = setup_begins_as_request 0xa1 2 p setup reads q body
     (λ class other. other.1 (asked.Upload p.value p.length) (class, refl, refl)) asks on
 
--- A setup that is not an UPLOAD sends no bytes of the image.
+-- A setup packet other than an UPLOAD sends no bytes of the image.
 other_setup_sends_no_piece : (setup body : List ℕ) (a : Answer) (out : List ℕ) → is_upload setup ≡ false →
     sent_piece (Transfer setup body) a out ≡ []
 other_setup_sends_no_piece setup body answer.Bytes out off = ap (λ (b : Bool). if b then out else []) off
 other_setup_sends_no_piece setup body a out off = refl
 
--- A reply to a setup that the table serves sends the bytes that the setup sends with its answer.
+-- If a setup packet has a row in the table, its reply sends the bytes that the packet and its answer add.
 upload_answer_joins_piece : (p : Setup) (q : Asked) (setup body t : List ℕ) (most len : ℕ) (reply : Reply) (a : Answer) (out : List ℕ) →
     IsSetup p setup
     → SetupAsksFor p q → is_served p q body ≡ true → ReplyMatches most reply (request_for_table q body) → ReplyAnswer len reply a out
@@ -47,12 +47,12 @@ upload_answer_joins_piece p (asked.Upload block count) setup body t most len rep
 upload_answer_joins_piece p q setup body t most len reply a out reads asks on fits says =
     ap (λ (l : List ℕ). t ++ l) (sym (other_setup_sends_no_piece setup body a out (served_setup_is_upload p q setup body reads asks on)))
 
--- No bytes count as sent outside dfuUPLOAD-IDLE, and there all of them count.
+-- If a device stays in its stage and sends no bytes, its sent bytes stay the same.
 none_sent_outside_upload : (i : List ℕ) (st : Stage) → sent_in i st ≡ sent_in_state (state_of st) (sent_in i st ++ [])
 none_sent_outside_upload i (InUploadIdle place number) = sym (append-nil (sent_in i (InUploadIdle place number)))
 none_sent_outside_upload i st = refl
 
--- After a reset of the bus no bytes count as sent.
+-- A reset of the bus leaves no sent bytes.
 reset_leaves_sent_bytes : (i bytes : List ℕ) (st : Stage) → sent_in i (reset_stage st) ≡ sent_in_state (state_of (reset_stage st)) bytes
 reset_leaves_sent_bytes i bytes (InAppDetach timer passed) = refl
 reset_leaves_sent_bytes i bytes st = refl
@@ -64,7 +64,7 @@ refusal_leaves_sent_bytes why i (InManifestSync taken) a out = refl
 refusal_leaves_sent_bytes why i (InManifest taken passed) a out = refl
 refusal_leaves_sent_bytes why i st a out = none_sent_outside_upload i st
 
--- The bytes sent before a reply, followed by those that the reply sends.
+-- Bytes sent before a reply, followed by those that the reply sends.
 abbrev pub joined : List ℕ → Request → Reply → List ℕ
 joined sent r reply = sent ++ piece_sent_by_reply r reply
 

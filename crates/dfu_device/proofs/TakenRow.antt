@@ -1,4 +1,4 @@
--- A row of the table takes the body that it acknowledges, also if the medium fails.
+-- In a row of the table the device accepts the body that it acknowledges, even if the medium fails.
 use Rattle.std.specs.Prelude.{◌≡◌, ℕ, List}
 use Rattle.std.proofs.Common.{refl, sym, ap, ◌∙◌}
 use Rattle.std.proofs.lemmas.List.{append-nil}
@@ -8,17 +8,17 @@ use Rattle.dfu_device.specs.Outcome.{Luck, plan_outcome}
 use Rattle.dfu_device.specs.AcceptedBytes.{accepted_in, accepted_of, accepted_after_reply, accepted_in_state, accepted_after}
 use Rattle.dfu_device.specs.RowForms.{IsQuietReply, counted, quiet_plan_gives_quiet_reply, RowForm, quiet, takes, closes, sends, ends}
 
--- After a plan the bytes taken are those before, followed by the body that the plan acknowledges, for any luck of the medium.
+-- After each outcome of a plan the accepted bytes are those before the plan, followed by the acknowledged body, or none outside a download.
 abbrev pub TakesBody : List ℕ → Stage → Request → Plan → Type 0
 TakesBody i st r p = (luck : Luck) → accepted_of (plan_outcome i p luck).after ≡ accepted_after (accepted_in i st) r (plan_outcome i p luck)
 
--- A quiet reply adds no bytes to those taken.
+-- A quiet reply adds no accepted bytes.
 quiet_reply_takes_nothing : (t : List ℕ) (r : Request) (reply : Reply) → IsQuietReply reply r → accepted_after_reply t r reply ≡ t
 quiet_reply_takes_nothing t (Dnload number body) Ack still = absurd still
 quiet_reply_takes_nothing t (Dnload number body) reply still = refl
 quiet_reply_takes_nothing t r reply still = refl
 
--- A row of each form takes the body that it acknowledges.
+-- In a row of each form the device accepts the body that it acknowledges.
 pub row_form_accepts_body : (c : Profile) (i : List ℕ) (st : Stage) (r : Request) (p : Plan) → RowForm c i st r p → TakesBody i st r p
 row_form_accepts_body c i st r p (quiet replies calls well counts) luck =
     (counted i st p luck counts).0

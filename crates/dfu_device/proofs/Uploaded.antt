@@ -1,4 +1,4 @@
--- The pieces of a complete upload are the active image.
+-- The pieces of a complete upload form the active image.
 use Rattle.std.specs.Prelude.{◌≡◌, ℕ, true, List, ◌++◌}
 use Rattle.std.proofs.Common.{sym, ap, ◌∙◌, subst}
 use Rattle.std.proofs.lemmas.Bool.{false≢true}
@@ -15,14 +15,14 @@ use Rattle.dfu_device.specs.PlanOutcomes.{PlanOutcome, setups_have_outcomes, not
 use Rattle.dfu_device.specs.RowForms.{ReplyMatches, row_form}
 use Rattle.dfu_device.specs.Sent.{sent_of, is_uploading, sent_in, is_upload, sent_piece}
 use Rattle.dfu_device.specs.Uploaded.{UploadIsImage, UploadsAreImages}
-use Rattle.dfu_device.proofs.Told.{bytes_answer_is_no_stall}
+use Rattle.dfu_device.proofs.ReportedStatus.{bytes_answer_is_no_stall}
 use Rattle.dfu_device.proofs.FirstBytes.{is_request_with_first_bytes}
 use Rattle.dfu_device.proofs.SentRow.{OutcomeCompletesImage, row_form_completes_upload}
 use Rattle.dfu_device.proofs.RowGathers.{served_reply_matches_request, history_from_start_gathers}
 use Rattle.dfu_device.proofs.SentHistory.{served_setup_is_upload, joined, gathering_of_sent_bytes}
 use Rattle.dfu_device.proofs.Cases.{bool_has_two_cases}
 
--- An UPLOAD that is answered with bytes has the data of those bytes as its reply.
+-- If an UPLOAD is answered with bytes, the reply is Data with those bytes.
 upload_answer_is_piece : (q : Asked) (body : List ℕ) (most len : ℕ) (reply : Reply) (a : Answer) (out : List ℕ) →
     is_request_with_first_bytes 0xa1 2 q ≡ true
     → a ≡ answer.Bytes → ReplyMatches most reply (request_for_table q body) → ReplyAnswer len reply a out → reply ≡ Data out
@@ -32,7 +32,7 @@ upload_answer_is_piece (asked.Upload number size) body most len Stall a out on i
 upload_answer_is_piece (asked.Upload number size) body most len reply a out on is fits says = absurd fits
 upload_answer_is_piece q body most len reply a out on is fits says = absurd (false≢true on)
 
--- An UPLOAD that the table serves with bytes and that enters dfuIDLE completes the image.
+-- If an UPLOAD has a row in the table, is answered with bytes and ends in dfuIDLE, the sent bytes are the complete image.
 served_upload_ends_with_image : (q : Asked) (body : List ℕ) (w : DeviceView) (a : Answer) (out : List ℕ) (w' : DeviceView) →
     is_request_with_first_bytes 0xa1 2 q ≡ true
     → a ≡ answer.Bytes → w'.stage ≡ InDfuIdle
@@ -46,7 +46,7 @@ served_upload_ends_with_image q body w a out w' on is idle x =
     out (upload_answer_is_piece q body (profile w).transfer (asked_length q) x.reply a out on is
     (served_reply_matches_request q body (asked_length q) w a out w' x) x.answers) idle
 
--- The row of an UPLOAD that is answered with bytes and enters dfuIDLE completes the image.
+-- If an UPLOAD is answered with bytes and its row ends in dfuIDLE, the sent bytes are the complete image.
 row_upload_ends_with_image : (setup body : List ℕ) (w : DeviceView) (a : Answer) (out : List ℕ) (w' : DeviceView) →
     Handles setup body w a out w'
     → is_upload setup ≡ true → a ≡ answer.Bytes → w'.stage ≡ InDfuIdle
@@ -59,13 +59,13 @@ row_upload_ends_with_image setup body w a out w' (handled_by_reading p q reads a
     (sym bytes ∙ (not_served_is_stalled p q setup body w a out w' reads asks off (handled_by_reading p q
     reads asks done)).0)))
 
--- The bytes sent before the last step of an upload, followed by its piece, are the active image.
+-- The bytes sent before the last step of an upload, followed by the piece of that step, are the active image.
 pub last_piece_completes_image : UploadIsImage
 last_piece_completes_image s row e =
     row_upload_ends_with_image e.setup e.body s.before s.answer s.out s.after
     (subst (λ (c : Cause). Row s.before c s.answer s.out s.after) e.cause row) e.upload e.answered e.ends
 
--- In a history of a device that had sent nothing, the last step of an upload completes the active image.
+-- If a device had sent nothing at first, the last step of an upload completes the active image.
 pub uploads_are_images : UploadsAreImages
 uploads_are_images h s w none run row e = (
   sent_of (situation s.before),

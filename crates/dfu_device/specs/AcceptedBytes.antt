@@ -1,4 +1,4 @@
--- The bytes that a download has taken: in a state, after a row, and after a whole history.
+-- The bytes that a device has accepted in a download: in a state, after a row, and after a whole history.
 use Rattle.std.specs.Prelude.{ℕ, ◌==◌, ◌&&◌, Bool, true, false, if◌then◌else◌, List, [], ◌++◌, slice_index}
 use Rattle.dfu_wire.specs.declared.states.State.{State}
 use Rattle.dfu_wire.specs.declared.states.State.TheVariants.{DownloadSync, DownloadBusy, DownloadIdle, ManifestSync, Manifest}
@@ -9,9 +9,9 @@ use Rattle.dfu_device.specs.Outcome.{Situation, Outcome}
 use Rattle.dfu_device.specs.Rows.{Cause, Transfer}
 use Rattle.dfu_device.specs.History.{HistoryStep, Gathered}
 
--- The bytes taken in a state.
+-- Definitions for the bytes accepted in a state.
 
--- A download is under way in dfuDNLOAD-SYNC, dfuDNBUSY, dfuDNLOAD-IDLE, dfuMANIFEST-SYNC and dfuMANIFEST.
+-- True in the states of a download: dfuDNLOAD-SYNC, dfuDNBUSY, dfuDNLOAD-IDLE, dfuMANIFEST-SYNC and dfuMANIFEST.
 abbrev pub is_downloading : State → Bool
 is_downloading DownloadSync = true
 is_downloading DownloadBusy = true
@@ -20,7 +20,7 @@ is_downloading ManifestSync = true
 is_downloading Manifest = true
 is_downloading state = false
 
--- Bytes taken so far in a stage: in dfuMANIFEST-SYNC, complete, the active image, and outside a download none.
+-- Bytes accepted so far in a stage. After manifestation, in dfuMANIFEST-SYNC, they are the active image; outside a download there are none.
 abbrev pub accepted_in : List ℕ → Stage → List ℕ
 accepted_in image (InDownloadSync before block number) = before ++ block
 accepted_in image (InDownloadSyncWritten taken number) = taken
@@ -31,44 +31,43 @@ accepted_in image InManifestSyncComplete = image
 accepted_in image (InManifest taken passed) = taken
 accepted_in image stage = []
 
--- Bytes taken so far in a situation.
 abbrev pub accepted_of : Situation → List ℕ
 accepted_of s = accepted_in s.image s.stage
 
--- The bytes taken by a row.
+-- Definitions for the bytes accepted by a row.
 
--- Bytes taken after a reply: an acknowledged DNLOAD adds its body, and nothing else adds any.
+-- Bytes accepted after a reply: an acknowledged DNLOAD adds its body, and any other request or reply adds nothing.
 abbrev pub accepted_after_reply : List ℕ → Request → Reply → List ℕ
 accepted_after_reply taken (Dnload number body) Ack = taken ++ body
 accepted_after_reply taken request reply = taken
 
--- Bytes taken that still count in a state: all of them in a download, and none outside one.
+-- Accepted bytes after a row that ends in a state: all of `taken` if a download is in progress there, otherwise none.
 abbrev pub accepted_in_state : State → List ℕ → List ℕ
 accepted_in_state state taken = if is_downloading state then taken else []
 
--- Bytes taken after a row with this request and outcome.
+-- Bytes accepted after a row with this request and outcome.
 abbrev pub accepted_after : List ℕ → Request → Outcome → List ℕ
 accepted_after taken request o = accepted_in_state (state_of o.after.stage) (accepted_after_reply taken request o.reply)
 
--- The bytes taken by a history.
+-- Definitions for the bytes accepted by a history.
 
--- The setup is a DNLOAD: bmRequestType is 21h and bRequest is 1.
+-- True if the setup packet is a DNLOAD: bmRequestType is 21h and bRequest is 1.
 abbrev pub is_dnload : List ℕ → Bool
 is_dnload setup = (slice_index setup 0 == 0x21) && (slice_index setup 1 == 1)
 
--- The body of a DNLOAD that was acknowledged; no bytes for any other cause or answer.
+-- Body of an acknowledged DNLOAD; no bytes for any other cause or answer.
 abbrev pub acknowledged_bytes : Cause → Answer → List ℕ
 acknowledged_bytes (Transfer setup body) answer.Ack = if is_dnload setup then body else []
 acknowledged_bytes cause a = []
 
--- The step ends in a state in which a download is under way.
+-- True if a download is in progress after the step.
 abbrev pub ends_in_download : HistoryStep → Bool
 ends_in_download s = is_downloading (state_of s.after.stage)
 
--- The body of the DNLOAD that a step acknowledged; no bytes for any other step.
+-- Body of the DNLOAD that a step acknowledged; no bytes for any other step.
 abbrev pub acknowledged_block : HistoryStep → List ℕ
 acknowledged_block s = acknowledged_bytes s.cause s.answer
 
--- The bytes taken by a history: the blocks acknowledged after the last step that ends outside a download.
+-- In the history the device accepted these bytes: the blocks acknowledged after the last step that ended outside a download.
 abbrev pub AcceptedBytes : List HistoryStep → List ℕ → Type 0
 AcceptedBytes h bytes = Gathered ends_in_download acknowledged_block h bytes

@@ -7,8 +7,8 @@ use Rattle.dfu_device.specs.declared.device_state.DeviceState.TheVariants as dev
 use Rattle.dfu_device.specs.Stage.{Stage, InDownloadIdle, InManifestSync, InManifest}
 use Rattle.dfu_device.specs.DeviceView.{DeviceView}
 
--- Bytes of the received image: all bytes taken, in dfuDNLOAD-IDLE, in dfuMANIFEST-SYNC before it is complete, and in dfuMANIFEST; else
--- None.
+-- Bytes of the received image: in dfuDNLOAD-IDLE, in dfuMANIFEST-SYNC before manifestation is complete, and in dfuMANIFEST all accepted
+-- bytes; None in other stages.
 abbrev pub candidate_in : Stage → Option (List ℕ)
 candidate_in (InDownloadIdle taken number) = Some taken
 candidate_in (InManifestSync taken) = Some taken
@@ -22,7 +22,7 @@ candidate_length (device_state.ManifestSync written) = Some written
 candidate_length (device_state.Manifest written passed) = Some written
 candidate_length m = None
 
--- The candidate is the received image: its bytes are those of the medium after the gate and the header of the spare slot, followed by the
+-- The candidate describes the received image: `stored` bytes of the medium from the beginning of the spare slot's data, followed by the
 -- bytes held back.
 pub record IsCandidate (w : DeviceView) (c : Candidate) : Type 0 where
   pub taken : List ℕ

@@ -1,4 +1,4 @@
--- Decision of the code on a row of the table, and the plan that the decision means.
+-- Decisions of the code on a row of the table, and the plan that corresponds to each decision.
 use Rattle.std.specs.Prelude.{◌≡◌, ◌⊎◌, ℕ, ◌+◌, ◌≤◌, nat_lt, Bool, IsTrue, if◌then◌else◌, List, [], ◌++◌, length, take, drop}
 use Rattle.dfu_wire.specs.declared.requests.Request.{Request as Asked}
 use Rattle.dfu_wire.specs.declared.requests.Request.TheVariants as asked
@@ -16,23 +16,23 @@ use Rattle.dfu_device.specs.DeviceView.{profile_of_values}
 use Rattle.dfu_device.specs.Parts.{stage_of, is_filled}
 use Rattle.dfu_device.specs.Rows.{request_for_table}
 
--- The profile that the table reads, from the `Profile` of the code.
+-- Profile of the table that corresponds to a `Profile` of the code.
 abbrev pub table_profile_of : ProfileRead → Profile
 table_profile_of p = profile_of_values p.functional p.least p.busy_ms p.manifest_ms p.pace p.capacity
 
--- Reply of the table for a reply of the code, with the status or the state of a stage.
+-- Reply of the table that corresponds to a reply of the code, with the status or the state of a stage.
 abbrev pub table_reply_of : Profile → Stage → ReplyRead → Reply
 table_reply_of c stage reply.Ack = Ack
 table_reply_of c stage reply.Status = status_of c stage
 table_reply_of c stage reply.State = StateOf (state_of stage)
 table_reply_of c stage reply.Stall = Stall
 
--- The stage after a block was written. If it was `late`, because time passed, the host has to ask for the status once more.
+-- Stage after a block was written. If `late` is true, the busy time ended, and the host must request the status once more.
 abbrev pub written_stage : (late : Bool) → (taken : List ℕ) → (number : ℕ) → Stage
 written_stage late taken number = if late then InDownloadSyncWritten taken number else InDownloadIdle taken number
 
--- The plan that a decision means for a device with this image, these bytes in the spare slot and this unwritten block, after a request with
--- this body.
+-- Plan that corresponds to a decision, after a request with this body. The device has this active image, these bytes in the spare slot and
+-- this unwritten block.
 abbrev pub plan_of : Profile → (image spare block body : List ℕ) → Decision → Plan
 plan_of c image spare block body (decision.Sure r m) =
     let stage = stage_of m spare block in Sure (table_reply_of c stage r) stage
@@ -48,7 +48,8 @@ plan_of c image spare block body (decision.Commits r written m) =
     let next = stage_of m [] [] in
     Commits (take written spare) (table_reply_of c next r) next (λ fault. table_reply_of c (InError (commit_code fault)) r)
 
--- The decision replies with an acknowledgement, whatever the medium does. Time without an answer has this reply, too.
+-- The decision replies with an acknowledgement, even if a write fails. Every decision on elapsed time has this reply, because the device
+-- sends nothing then.
 abbrev pub IsAcknowledgingDecision : Decision → Type 0
 IsAcknowledgingDecision (decision.Sure r m) = r ≡ reply.Ack
 IsAcknowledgingDecision (decision.Holds m) = Unit {0}
@@ -56,41 +57,41 @@ IsAcknowledgingDecision (decision.Sends place size number) = ⊥
 IsAcknowledgingDecision (decision.Writes r written number late) = r ≡ reply.Ack
 IsAcknowledgingDecision (decision.Commits r written m) = r ≡ reply.Ack
 
--- In dfuDNLOAD-IDLE the spare slot has all the bytes that count as written. True in every other mode.
+-- In dfuDNLOAD-IDLE the spare slot holds all `written` bytes. True in every other mode.
 abbrev pub HasWrittenBytes : DeviceState → (spare : List ℕ) → Type 0
 HasWrittenBytes (device_state.DownloadIdle written number) spare = length (take written spare) ≡ written
 HasWrittenBytes m spare = Unit {0}
 
--- Facts that the decision on elapsed time needs: in dfuDNBUSY and dfuMANIFEST the spare slot has the bytes that count as written, and in
--- dfuDNBUSY the block has n bytes. True in every other mode.
+-- Facts that a decision on elapsed time requires: in dfuDNBUSY and dfuMANIFEST the spare slot holds all `written` bytes, and in dfuDNBUSY
+-- the block has n bytes. True in every other mode.
 abbrev pub HasTimeInputs : DeviceState → ℕ → (spare block : List ℕ) → Type 0
 HasTimeInputs (device_state.DownloadBusy written number passed) n spare block = (length (take written spare) ≡ written) × (length block ≡ n)
 HasTimeInputs (device_state.Manifest written passed) n spare block = length (take written spare) ≡ written
 HasTimeInputs m n spare block = Unit {0}
 
--- The body of a DNLOAD has wLength bytes. True of every other request.
+-- The body of a DNLOAD has wLength bytes. True for every other request.
 abbrev pub HasBodyLength : Asked → (body : List ℕ) → Type 0
 HasBodyLength (asked.Dnload block len) body = length body ≡ len
 HasBodyLength q body = Unit {0}
 
--- The decision on a request in a mode means the plan of the request's row, for each body of wLength bytes and each spare slot with the
--- bytes that count as written.
+-- The decision d on a request in a mode corresponds to the plan of the request's row, for each body of wLength bytes and each spare slot
+-- that holds the `written` bytes.
 abbrev pub DecidesRequest : ProfileRead → DeviceState → Asked → Decision → Type 0
 DecidesRequest p m q d = (image spare block body : List ℕ) → HasWrittenBytes m spare → HasBodyLength q body
     → plan_of (table_profile_of p) image spare block body d
     ≡ plan (table_profile_of p) image (stage_of m spare block) (request_for_table q body)
 
--- The decision on `ms` milliseconds, in a mode with a block of n bytes, means the plan of the time's row, if the facts of `HasTimeInputs`
--- hold.
+-- The decision on `ms` milliseconds, in a mode with a block of n bytes, corresponds to the plan of the row for that time.
 abbrev pub DecidesTime : ProfileRead → DeviceState → (n ms : ℕ) → Decision → Type 0
 DecidesTime p m n ms d = (image spare block : List ℕ) → HasTimeInputs m n spare block
     → plan_of (table_profile_of p) image spare block [] d ≡ time_plan (table_profile_of p) (stage_of m spare block) ms
 
--- The mode after a commit: dfuIDLE, dfuMANIFEST-SYNC complete or dfuMANIFEST-WAIT-RESET. Each keeps no bytes of a download.
+-- The mode may follow a commit: dfuIDLE, dfuMANIFEST-SYNC complete or dfuMANIFEST-WAIT-RESET. In these modes the device keeps no bytes of a
+-- download.
 abbrev pub IsModeAfterCommit : DeviceState → Type 0
 IsModeAfterCommit m = (m ≡ device_state.DfuIdle) ⊎ (m ≡ device_state.ManifestSyncComplete) ⊎ (m ≡ device_state.ManifestWaitReset)
 
--- The decision can be carried out with a kept block of `block` bytes and a body of `body` bytes, if `transfer` is the transfer size.
+-- The decision can be performed with a kept block of `block` bytes and a body of `body` bytes, if `transfer` is the transfer size.
 abbrev pub IsPossibleDecision : (transfer block body : ℕ) → SlotsState → Decision → Type 0
 IsPossibleDecision transfer block body s (decision.Sure r m) = IsTrue (is_filled m block s)
 IsPossibleDecision transfer block body s (decision.Holds m) = (body ≤ transfer) × IsTrue (is_filled m body s)
@@ -100,11 +101,11 @@ IsPossibleDecision transfer block body s (decision.Writes r written number late)
 IsPossibleDecision transfer block body s (decision.Commits r written m) =
     IsTrue (is_filled (device_state.ManifestSync written) block s) × IsModeAfterCommit m
 
--- The decision in a mode can be carried out with a body of `body` bytes, and with each kept block and store that fit the mode.
+-- The decision in a mode can be performed with a body of `body` bytes, and with each block and store that agree with the mode.
 abbrev pub AllowsDecision : ProfileRead → DeviceState → (body : ℕ) → Decision → Type 0
 AllowsDecision p m body d = (block : ℕ) (s : SlotsState) → room_of s ≡ p.capacity → IsTrue (is_filled m block s)
     → IsPossibleDecision p.functional.transfer block body s d
 
--- The decision on a request in a mode can be carried out with each body of wLength bytes.
+-- The decision on a request in a mode can be performed with each body of wLength bytes.
 abbrev pub AllowsRequest : ProfileRead → DeviceState → Asked → Decision → Type 0
 AllowsRequest p m q d = (body : List ℕ) → HasBodyLength q body → AllowsDecision p m (length body) d

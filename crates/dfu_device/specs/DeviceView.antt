@@ -1,4 +1,4 @@
--- A device as contracts see it.
+-- State of a device, in the form that contracts use.
 use Rattle.std.specs.Prelude.{◌≡◌, ℕ, List, [], length, take}
 use Rattle.dfu_wire.specs.declared.functionals.Functional.{Functional}
 use Rattle.dfu_slots.specs.Medium.{MediumState}
@@ -8,17 +8,17 @@ use Rattle.dfu_device.specs.declared.config.Pace.{Pace}
 use Rattle.dfu_device.specs.Setting.{Setting}
 use Rattle.dfu_device.specs.Outcome.{Situation}
 
--- A device: its setting, its slot store with the medium, and its stage.
+-- State of a device: its settings, its slot store with the medium, and its stage.
 pub record DeviceView : Type 0 where
   pub config : Setting
   pub slots : SlotsState
   pub stage : Stage
 
--- A device that was just powered on: in appIDLE, with no bytes put in its spare slot.
+-- A device directly after power-on: in appIDLE, with no bytes put into its spare slot.
 abbrev pub powered_on_device : Setting → MediumState → DeviceView
 powered_on_device config m = record { config = config; slots = store_on m; stage = InAppIdle }
 
--- The profile of a device from its functional descriptor, its other settings and its room for images.
+-- Profile of a device with this functional descriptor, these other settings and this capacity.
 abbrev pub profile_of_values : Functional → (least busy manifest : ℕ) → Pace → (capacity : ℕ) → Profile
 profile_of_values f least busy manifest pace capacity = record {
   can_download = f.can_download;
@@ -34,19 +34,19 @@ profile_of_values f least busy manifest pace capacity = record {
   capacity = capacity;
 }
 
--- The profile of a device from its setting and its room for images in bytes.
+-- Profile of a device with these settings whose slots hold images of up to `room` bytes.
 abbrev pub profile_of : Setting → ℕ → Profile
 profile_of s room = profile_of_values s.functional s.least s.busy_ms s.manifest_ms s.pace room
 
--- The profile of a device.
+-- Profile of a device, with the capacity of its slot store.
 abbrev pub profile : DeviceView → Profile
 profile w = profile_of w.config (room_of w.slots)
 
--- The situation of a device: its active image and its stage.
+-- Situation of a device: its active image and its stage.
 abbrev pub situation : DeviceView → Situation
 situation w = record { image = image_of w.slots; stage = w.stage }
 
--- The bytes taken that are written to the spare slot and not yet put in place; none after manifestation.
+-- Accepted bytes that are already written to the spare slot; none before a download and after manifestation.
 abbrev pub written_bytes_in : Stage → List ℕ
 written_bytes_in (InDownloadSync before block number) = before
 written_bytes_in (InDownloadSyncWritten taken number) = taken
@@ -56,6 +56,6 @@ written_bytes_in (InManifestSync taken) = taken
 written_bytes_in (InManifest taken passed) = taken
 written_bytes_in stage = []
 
--- The written bytes are at the front of the spare slot's data.
+-- The spare slot's data begins with the written bytes.
 abbrev pub HasWrittenBytesInSpare : DeviceView → Type 0
 HasWrittenBytesInSpare w = take (length (written_bytes_in w.stage)) (spare_of w.slots) ≡ written_bytes_in w.stage

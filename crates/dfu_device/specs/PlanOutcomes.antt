@@ -1,4 +1,4 @@
--- Laws by which a row of a device leads to the outcome of its plan, for some luck of the medium.
+-- Each row of a device leads to an outcome of its plan. The medium's writes (Luck) determine which one.
 use Rattle.std.specs.Prelude.{◌≡◌, ℕ, ◌≤◌, true, false, List, [], ◌∷◌, length}
 use Rattle.std.proofs.Common.{refl, sym, ap, ◌∙◌, inl, inr, subst, arith}
 use Rattle.std.proofs.lemmas.List.{take_all}
@@ -23,12 +23,12 @@ use Rattle.dfu_device.specs.Outcome.{Luck, Works, FailsOld, FailsNew, Outcome, p
 use Rattle.dfu_device.specs.DeviceView.{DeviceView, profile_of, profile, situation}
 use Rattle.dfu_device.specs.Rows.{request_for_table, asked_length, ReplyAnswer, block_calls, Done, Elapses, is_close, IsCloseSetup, is_served, setup_plan, Handles, handled_by_reading}
 
--- The luck fits the medium: a write had a fault only if the count of failures rose.
+-- The luck agrees with the medium: a write had a fault only if the count of failures rose or is at its maximum.
 abbrev pub IsLuckOfMedium : Luck → DeviceView → DeviceView → Type 0
 IsLuckOfMedium Works w w' = Unit {0}
 IsLuckOfMedium luck w w' = CountRose w.slots.medium.failures w'.slots.medium.failures
 
--- A plan led to its outcome for some luck of the medium. If the fuse is whole, each write worked, and the fuse stays whole.
+-- A plan leads to one of its outcomes. If the fuse is `Whole`, each write works, and the fuse stays `Whole`.
 pub record PlanOutcome (p : Plan) (len : ℕ) (w : DeviceView) (a : Answer) (out : List ℕ) (w' : DeviceView) : Type 0 where
   pub luck : Luck
   pub reply : Reply
@@ -38,22 +38,21 @@ pub record PlanOutcome (p : Plan) (len : ℕ) (w : DeviceView) (a : Answer) (out
   pub is_luck_of_medium : IsLuckOfMedium luck w w'
   pub unarmed : w.slots.medium.fuse ≡ Whole → (luck ≡ Works) × (w'.slots.medium.fuse ≡ Whole)
 
--- Devices with the same configuration and room have the same profile.
+-- Devices with the same settings and capacity have the same profile.
 equal_configs_have_equal_profile : (w w' : DeviceView) → w'.config ≡ w.config → room_of w'.slots ≡ room_of w.slots → profile w' ≡ profile w
 equal_configs_have_equal_profile w w' config room = λ k. profile_of (config k) (room k)
 
--- An outcome with the image and the stage of a device has the situation of that device.
+-- If the image and the stage of an outcome are those of a device, the outcome's situation is that of the device.
 outcome_fits_device_view : (reply : Reply) (w' : DeviceView) (image : List ℕ) (stage : Stage) → image_of w'.slots ≡ image → w'.stage ≡ stage
     → ◌≡◌ {A = Outcome} (record { reply = reply; after = record { image = image; stage = stage } })
     (record { reply = reply; after = situation w' })
 outcome_fits_device_view reply w' image stage i s = λ k. record { reply = reply; after = record { image = sym i k; stage = sym s k } }
 
--- Each plan that was carried out led to its outcome.
+-- Each plan that the device performs leads to one of its outcomes.
 abbrev pub PlansHaveOutcomes : Type 0
 PlansHaveOutcomes = (p : Plan) (len : ℕ) (w : DeviceView) (a : Answer) (out : List ℕ) (w' : DeviceView) → Done p len w a out w'
     → PlanOutcome p len w a out w'
 
--- Each plan that was carried out led to its outcome.
 pub came : PlansHaveOutcomes
 came (Sure reply stage) len w a out w' (says, is) = record {
   luck = Works;
@@ -112,7 +111,7 @@ came (Commits taken reply stage bad) len w a out w' (inr (fault, says, h)) = eli
   }
 ]
 
--- If the reading of a setup is known, the row of the setup follows that reading.
+-- If a setup packet encodes the request q, the device performs the plan of q.
 abbrev pub RowByReading : Type 0
 RowByReading = (p : Setup) (q : Asked) (setup body : List ℕ) (w : DeviceView) (a : Answer) (out : List ℕ) (w' : DeviceView) →
     IsSetup p setup
@@ -120,7 +119,7 @@ RowByReading = (p : Setup) (q : Asked) (setup body : List ℕ) (w : DeviceView) 
     → Handles setup body w a out w'
     → Done (setup_plan w p q body) (asked_length q) w a out w'
 
--- The row of a setup follows the known reading, because a setup has only one.
+-- The row of a setup packet is that of its request q, because the packet encodes only one request.
 pub row_follows_reading : RowByReading
 row_follows_reading p q setup body w a out w' reads asks (handled_by_reading p2 q2 reads2 asks2 done) =
     let same : p2 ≡ p = bytes_encode_one_setup p2 p setup reads2 reads in
@@ -128,7 +127,7 @@ row_follows_reading p q setup body w a out w' reads asks (handled_by_reading p2 
     subst (λ (y : Asked). Done (setup_plan w p y body) (asked_length y) w a out w') one
     (subst (λ (x : Setup). Done (setup_plan w x q2 body) (asked_length q2) w a out w') same done)
 
--- The row of each setup that the table serves led to the outcome of its plan.
+-- Each setup packet that has a row in the table leads to an outcome of the row's plan.
 abbrev pub SetupsHaveOutcomes : Type 0
 SetupsHaveOutcomes = (p : Setup) (q : Asked) (setup body : List ℕ) (w : DeviceView) (a : Answer) (out : List ℕ) (w' : DeviceView)
     → IsSetup p setup
@@ -137,13 +136,12 @@ SetupsHaveOutcomes = (p : Setup) (q : Asked) (setup body : List ℕ) (w : Device
     → Handles setup body w a out w' → PlanOutcome (plan (profile w) (image_of w.slots) w.stage (request_for_table q body))
     (asked_length q) w a out w'
 
--- The row of each setup that the table serves led to the outcome of its plan.
 pub setups_have_outcomes : SetupsHaveOutcomes
 setups_have_outcomes p q setup body w a out w' reads asks on h =
     let row = row_follows_reading p q setup body w a out w' reads asks h in
     came (plan (profile w) (image_of w.slots) w.stage (request_for_table q body)) (asked_length q) w a out w' (rw on at row)
 
--- A setup that the table does not serve is stalled and changes nothing.
+-- A setup packet without a row in the table is stalled and changes nothing.
 abbrev pub NotServedIsStalled : Type 0
 NotServedIsStalled = (p : Setup) (q : Asked) (setup body : List ℕ) (w : DeviceView) (a : Answer) (out : List ℕ) (w' : DeviceView) →
     IsSetup p setup
@@ -151,7 +149,6 @@ NotServedIsStalled = (p : Setup) (q : Asked) (setup body : List ℕ) (w : Device
     → is_served p q body ≡ false
     → Handles setup body w a out w' → (a ≡ answer.Stall) × (w' ≡ w)
 
--- A setup that the table does not serve is stalled and changes nothing.
 pub not_served_is_stalled : NotServedIsStalled
 not_served_is_stalled p q setup body w a out w' reads asks off h =
     let row : Done (setup_plan w p q body) (asked_length q) w a out w' = row_follows_reading p q setup body w a out w' reads asks h in
@@ -160,21 +157,19 @@ not_served_is_stalled p q setup body w a out w' reads asks off h =
     stalled : Done (Sure Stall w.stage) (asked_length q) w a out w' → (a ≡ answer.Stall) × (w' ≡ w)
     stalled x = (x.0.0, x.1)
 
--- The row of each elapsed time led to the outcome of its plan.
+-- Each elapsed time leads to an outcome of the plan of its row.
 abbrev pub TimesHaveOutcomes : Type 0
 TimesHaveOutcomes = (ms : ℕ) (w w' : DeviceView) → Elapses ms w w' → PlanOutcome (time_plan (profile w) w.stage ms) 0 w answer.Ack [] w'
 
--- The row of each elapsed time led to the outcome of its plan.
 pub times_have_outcomes : TimesHaveOutcomes
 times_have_outcomes ms w w' row = came (time_plan (profile w) w.stage ms) 0 w answer.Ack [] w' row
 
--- An answer to a GETSTATUS of at least six bytes decodes to the status that was sent.
+-- An answer to a GETSTATUS with wLength 6 or more decodes to the status of the reply.
 abbrev pub StatusReadBack : Type 0
 StatusReadBack = (len : ℕ) (code : Code) (poll : ℕ) (state : State) (a : Answer) (out : List ℕ) → 6 ≤ len
     → ReplyAnswer len (StatusOf code poll state) a out
     → (a ≡ answer.Bytes) × IsStatus (record { code = code; poll_ms = poll; state = state }) out
 
--- The six bytes of an answered status decode to that status.
 pub status_read_back : StatusReadBack
 status_read_back len code poll state a out room (is, bytes, status, string, front) = (
   is,
@@ -182,7 +177,7 @@ status_read_back len code poll state a out room (is, bytes, status, string, fron
       (sym (front ∙ take_all len bytes (omega (arith, room, status.length)))) status,
 )
 
--- Every reading of a setup that closes a download is a DNLOAD with wLength 0.
+-- If IsCloseSetup holds for a setup packet, each request that it encodes is a DNLOAD with wLength 0.
 pub close_setup_asks_for_close : (setup : List ℕ) (p : Setup) (q : Asked) → IsSetup p setup → SetupAsksFor p q → IsCloseSetup setup →
     is_close q ≡ true
 close_setup_asks_for_close setup p q reads asks (p2, q2, reads2, asks2, close) =

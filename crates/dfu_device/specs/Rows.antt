@@ -18,10 +18,10 @@ use Rattle.dfu_device.specs.Table.{Plan, Sure, Writes, Commits, write_code, comm
 use Rattle.dfu_device.specs.Setting.{Setting}
 use Rattle.dfu_device.specs.DeviceView.{DeviceView, profile}
 
--- Bytes of an answer.
+-- Definition of the bytes of an answer.
 
--- The answer and its bytes are those of a reply to a request for `len` bytes: the first `len` of the six bytes of a status, or of the one
--- byte of a state; of a piece of the image all bytes.
+-- The answer and its bytes are those of a reply to a request with wLength `len`. A status of six bytes or a state of one byte is cut to
+-- `len` bytes; a piece of the image is never cut.
 abbrev pub ReplyAnswer : ℕ → Reply → Answer → List ℕ → Type 0
 ReplyAnswer len Ack a out = (a ≡ answer.Ack) × (out ≡ [])
 ReplyAnswer len Stall a out = (a ≡ answer.Stall) × (out ≡ [])
@@ -31,9 +31,9 @@ ReplyAnswer len (StatusOf code poll state) a out =
     (a ≡ answer.Bytes) × (bytes : List ℕ) × IsStatus (record { code = code; poll_ms = poll; state = state }) bytes
     × (slice_index bytes 5 ≡ 0) × (out ≡ take len bytes)
 
--- Effects on the device, and on its medium.
+-- Definitions for the effects of a row on the device and its medium.
 
--- Calls that write a block: one `put` after the bytes written before; before the first block a `begin`.
+-- Calls of the slot store that write a block: a `begin` if it is the first block, and one `put` after the bytes written before.
 abbrev pub block_calls : List ℕ → List ℕ → List StoreCall
 block_calls before block = if length before == 0 then Begin ∷ Put 0 block ∷ [] else Put (length before) block ∷ []
 
@@ -54,7 +54,7 @@ pub record FailedBlock (fault : WriteFault) (before block : List ℕ) (config : 
   pub image : image_of w'.slots ≡ image_of s
   pub failed : CountRose s.medium.failures w'.slots.medium.failures
 
--- The bytes taken were put in place: they are the image now, and the device enters a stage.
+-- The commit worked: the accepted bytes are the active image, and the device enters a stage.
 pub record Committed (taken : List ℕ) (config : Setting) (s : SlotsState) (stage : Stage) (w' : DeviceView) : Type 0 where
   pub config_is : w'.config ≡ config
   pub room : room_of w'.slots ≡ room_of s
@@ -62,7 +62,7 @@ pub record Committed (taken : List ℕ) (config : Setting) (s : SlotsState) (sta
   pub calls : CallsEnd s (Commit (length taken) ∷ []) AllWorked w'.slots
   pub image : image_of w'.slots ≡ taken
 
--- A write of the commit had a fault: the image is the old one or the bytes taken, and the device enters dfuERROR with the fault's code.
+-- A write of the commit had a fault: the image is the old one or the accepted bytes, and the device enters dfuERROR with the fault's code.
 pub record FailedCommit (fault : WriteFault) (taken : List ℕ) (config : Setting) (s : SlotsState) (w' : DeviceView) : Type 0 where
   pub config_is : w'.config ≡ config
   pub room : room_of w'.slots ≡ room_of s
@@ -71,8 +71,7 @@ pub record FailedCommit (fault : WriteFault) (taken : List ℕ) (config : Settin
   pub image : (image_of w'.slots ≡ image_of s) ⊎ (image_of w'.slots ≡ taken)
   pub failed : CountRose s.medium.failures w'.slots.medium.failures
 
--- A plan was carried out: without a call of the slot store, or with the calls of a block or of a commit, which worked or of which a write
--- had a fault.
+-- A plan was performed: without a call of the slot store, or with the calls for a block or a commit, which worked or had a fault.
 abbrev pub Done : Plan → ℕ → DeviceView → Answer → List ℕ → DeviceView → Type 0
 Done (Sure reply stage) len w a out w' = ReplyAnswer len reply a out × (w' ≡ record w { stage = stage })
 Done (Writes before block reply stage bad) len w a out w' =
@@ -82,9 +81,9 @@ Done (Commits taken reply stage bad) len w a out w' =
     (ReplyAnswer len reply a out × Committed taken w.config w.slots stage w')
     ⊎ ((fault : WriteFault) × ReplyAnswer len (bad fault) a out × FailedCommit fault taken w.config w.slots w')
 
--- Rules by which a setup reaches the table.
+-- Definitions for setup packets that have a row in the table.
 
--- A request of the wire with its body, as the table reads it.
+-- Request of the table that corresponds to a request on the bus, with its body.
 abbrev pub request_for_table : Asked → List ℕ → Request
 request_for_table (asked.Detach timeout) body = Detach timeout
 request_for_table (asked.Dnload block len) body = Dnload block body
@@ -96,53 +95,53 @@ request_for_table asked.Abort body = Abort
 request_for_table asked.OtherClass body = OtherRequest
 request_for_table asked.NotDfu body = OtherRequest
 
--- Number of bytes of a status or a state that a request asks for: wLength; 0 for any other request.
+-- wLength of a GETSTATUS or GETSTATE; 0 for any other request.
 abbrev pub asked_length : Asked → ℕ
 asked_length (asked.GetStatus len) = len
 asked_length (asked.GetState len) = len
 asked_length q = 0
 
--- Number of bytes in the body of a setup: wLength if bmRequestType is 21h, so that the host sends, else 0.
+-- Number of bytes in the body of a setup packet: wLength if bmRequestType is 21h, because the host then sends, otherwise 0.
 abbrev pub body_length : Setup → ℕ
 body_length p = if p.kind == 0x21 then p.length else 0
 
--- The table serves the request: it is one of the class, and its body has the length that the setup gives.
+-- True if the request has a row in the table: it is one of the DFU class, and its body has the length that the setup packet requires.
 abbrev pub is_served : Setup → Asked → List ℕ → Bool
 is_served p asked.NotDfu body = false
 is_served p q body = length body == body_length p
 
--- The plan of a setup: that of its row if the table serves it, else a stall that changes nothing.
+-- Plan of a setup packet: that of its row in the table, or a stall that changes nothing if there is no row.
 abbrev pub setup_plan : DeviceView → Setup → Asked → List ℕ → Plan
 setup_plan w p q body =
     if is_served p q body then plan (profile w) (image_of w.slots) w.stage (request_for_table q body) else Sure Stall w.stage
 
--- Rows of the device table.
+-- Definitions of the rows of the device table.
 
--- The row of a setup with its body, for the request that its eight bytes encode.
+-- The row of a setup packet with its body, for the request that its eight bytes encode.
 pub data Handles (setup body : List ℕ) (w : DeviceView) (a : Answer) (out : List ℕ) (w' : DeviceView) : Type 0 where
   handled_by_reading : (p : Setup) (q : Asked) → IsSetup p setup → SetupAsksFor p q →
       Done (setup_plan w p q body) (asked_length q) w a out w'
       → Handles setup body w a out w'
 
--- The row of an elapsed time of `ms` milliseconds.
+-- Row of the table for `ms` elapsed milliseconds.
 abbrev pub Elapses : ℕ → DeviceView → DeviceView → Type 0
 Elapses ms w w' = Done (time_plan (profile w) w.stage ms) 0 w answer.Ack [] w'
 
--- The request is a DNLOAD with wLength 0.
+-- True if the request is a DNLOAD with wLength 0.
 abbrev pub is_close : Asked → Bool
 is_close (asked.Dnload number len) = len == 0
 is_close q = false
 
--- The eight bytes are the setup of a request that closes a download: a DNLOAD with wLength 0.
+-- The eight bytes are the setup packet of a DNLOAD with wLength 0, which closes a download.
 abbrev pub IsCloseSetup : List ℕ → Type 0
 IsCloseSetup setup = (p : Setup) × (q : Asked) × IsSetup p setup × SetupAsksFor p q × (is_close q ≡ true)
 
--- The setup closes the download of the device.
+-- The setup packet closes the download of the device: it is a DNLOAD with wLength 0, and may_close is true.
 abbrev pub ClosesDownload : List ℕ → DeviceView → Type 0
 ClosesDownload setup w = IsCloseSetup setup × (may_close w.config.least w.stage ≡ true)
 
--- Cause of a row: a setup with its body, milliseconds that passed, a reset of the bus, a refusal of the image that a setup closes, a
--- refusal of the closed image, or a power cycle.
+-- Cause of a row: a setup packet with its body, elapsed milliseconds, a reset of the bus, a refusal of an image when the host closes its
+-- download, a refusal after the close, or a power cycle.
 pub data Cause : Type 0 where
   Transfer : (setup body : List ℕ) → Cause
   Passing : (ms : ℕ) → Cause
@@ -151,8 +150,8 @@ pub data Cause : Type 0 where
   Refusing : (why : Objection) → Cause
   PowerOn : Cause
 
--- A row of the device table: a cause leads from a device to an answer and the device afterwards. Only a setup is answered; a cause without
--- an answer has Ack here. A program that refuses an image writes nothing, and a power cycle leaves the medium unchanged.
+-- Row of the device table: a cause leads from a device to an answer and the device afterwards. Only a setup packet is answered; the answer
+-- of every other cause except RefusingClose is written as Ack. A refusal writes nothing, and a power cycle leaves the medium unchanged.
 abbrev pub Row : DeviceView → Cause → Answer → List ℕ → DeviceView → Type 0
 Row w (Transfer setup body) a out w' = Handles setup body w a out w'
 Row w (Passing ms) a out w' = (a ≡ answer.Ack) × (out ≡ []) × Elapses ms w w'

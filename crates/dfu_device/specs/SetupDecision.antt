@@ -1,4 +1,4 @@
--- Decision on a setup with its body: its row if the table serves it, else a stall.
+-- Decision on a setup packet with its body: that of the packet's row in the table, or a stall if there is no row.
 use Rattle.std.specs.Prelude.{◌≡◌, ℕ, List, if◌then◌else◌}
 use Rattle.dfu_wire.specs.declared.setups.Setup.{Setup}
 use Rattle.dfu_wire.specs.declared.requests.Request.{Request as Asked}
@@ -13,8 +13,8 @@ use Rattle.dfu_device.specs.Parts.{stage_of}
 use Rattle.dfu_device.specs.Rows.{request_for_table, asked_length, is_served}
 use Rattle.dfu_device.specs.Decision.{table_profile_of, plan_of, HasWrittenBytes}
 
--- The decision on a setup with its body in a mode means the plan of the request that its eight bytes encode, if the table serves it, else a
--- stall that changes nothing. `asked` is the number of bytes of a status or a state that the setup asks for.
+-- The decision on a setup packet with its body corresponds to the plan of the request that the eight bytes encode, if the request has a row
+-- in the table, otherwise to a stall that changes nothing. `asked` is wLength if the request is GETSTATUS or GETSTATE.
 pub record DecidesSetup (p : ProfileRead) (m : DeviceState) (setup body : List ℕ) (d : Decision) (asked : ℕ) : Type 0 where
   pub read : Setup
   pub request : Asked

@@ -1,4 +1,4 @@
--- Use of the slot store by a row, and the image after it.
+-- Laws of the use of the slot store by a row, and of the image after it.
 use Rattle.std.specs.Prelude.{◌≡◌, ◌⊎◌, ℕ, List, [], ◌∷◌, ◌++◌, length}
 use Rattle.dfu_wire.specs.declared.codes.Code.{Code}
 use Rattle.dfu_slots.specs.declared.fault.WriteFault.{WriteFault}
@@ -10,8 +10,7 @@ use Rattle.dfu_device.specs.DeviceView.{DeviceView, situation, written_bytes_in}
 use Rattle.dfu_device.specs.Rows.{block_calls, Cause, Row}
 use Rattle.dfu_device.specs.AcceptedBytes.{accepted_of}
 
--- The last block was written after the bytes before it, which were already written. The image stays, and the status code reports a fault
--- of a write.
+-- The device wrote the last block after the bytes written before. The image stays. If a write failed, the status code reports its fault.
 pub record WroteLastBlock (w w' : DeviceView) : Type 0 where
   pub before : List ℕ
   pub block : List ℕ
@@ -22,8 +21,8 @@ pub record WroteLastBlock (w w' : DeviceView) : Type 0 where
   pub image : image_of w'.slots ≡ image_of w.slots
   pub failed : (fault : WriteFault) → ending ≡ BrokenBy fault → w'.stage ≡ InError (write_code fault)
 
--- The bytes taken were committed: if all writes worked they are the image, and if a write had a fault the status code reports it, and the
--- image is the old one or the bytes taken.
+-- The device committed the accepted bytes. If all writes worked, they are the image. If a write failed, the status code reports its fault,
+-- and the image is the old one or the accepted bytes.
 pub record CommittedBytesTaken (w w' : DeviceView) : Type 0 where
   pub ending : Ending
   pub calls : CallsEnd w.slots (Commit (length (accepted_of (situation w))) ∷ []) ending w'.slots
@@ -31,20 +30,20 @@ pub record CommittedBytesTaken (w w' : DeviceView) : Type 0 where
   pub failed : (fault : WriteFault) → ending ≡ BrokenBy fault → (w'.stage ≡ InError (commit_code fault))
       × ((image_of w'.slots ≡ image_of w.slots) ⊎ (image_of w'.slots ≡ accepted_of (situation w)))
 
--- The slot store stays as it was, or was opened again on its medium.
+-- The slot store is unchanged, or it was opened again on its medium.
 abbrev pub StoreStaysOrReopens : DeviceView → DeviceView → Type 0
 StoreStaysOrReopens w w' = (w'.slots ≡ w.slots) ⊎ (w'.slots ≡ store_on w.slots.medium)
 
--- Use of the slot store by a row: no call, or a new opening on its medium, so that the image stays; or a write of the last block taken; or
--- a commit of the bytes taken.
+-- In a row the device makes no call of the slot store or reopens it, so the image stays; or the device writes the last block; or it commits
+-- the accepted bytes.
 abbrev pub StoreUse : DeviceView → DeviceView → Type 0
 StoreUse w w' = StoreStaysOrReopens w w' ⊎ WroteLastBlock w w' ⊎ CommittedBytesTaken w w'
 
--- Each row calls the slot store for the bytes taken or not at all, and only a commit of them changes the image.
+-- In each row the device calls the slot store only for the accepted bytes, and only a commit of these bytes changes the image.
 abbrev pub RowsUseStore : Type 0
 RowsUseStore = (w : DeviceView) (cause : Cause) (a : Answer) (out : List ℕ) (w' : DeviceView) → Row w cause a out w' → StoreUse w w'
 
--- In dfuERROR each row leaves the slot store as it was, or opens it again on its medium, so the image stays.
+-- In dfuERROR each row leaves the slot store unchanged or opens it again on its medium, so the image stays.
 abbrev pub ErrorRowsKeepStore : Type 0
 ErrorRowsKeepStore = (code : Code) (w : DeviceView) (cause : Cause) (a : Answer) (out : List ℕ) (w' : DeviceView) → w.stage ≡ InError code
     → Row w cause a out w' → StoreStaysOrReopens w w'

@@ -1,4 +1,4 @@
--- The pieces of a complete upload are the active image.
+-- The pieces of a complete upload form the active image.
 use Rattle.std.specs.Prelude.{◌≡◌, ℕ, List, [], ◌++◌}
 use Rattle.dfu_slots.specs.StoreView.{image_of}
 use Rattle.dfu_device.specs.DeviceView.{DeviceView, situation}

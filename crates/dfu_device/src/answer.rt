@@ -1,4 +1,4 @@
-//! Answers of a device to a setup, and their bytes in the buffer of the caller.
+//! Answers of a device to a setup packet. Their bytes go into a buffer of the caller.
 
 ghost use Rattle.std.specs.Prelude.{◌≡◌, ◌≤◌, ◌<◌, ◌+◌, ◌++◌, ◌∷◌, ◌^◌, max, ℕ, List, [], length, take, drop, slice_range, IfSome, IfNone};
 ghost use Rattle.dfu_wire.specs.State.{state_byte};
@@ -14,36 +14,33 @@ use crate::device_state::status_in;
 use arrayvec::ArrayVec;
 use dfu_slots::{Medium, Slots};
 
-/// Answer of a device to a setup. The bytes of an answer are in the buffer that the caller gave.
+/// Answer of a device to a request. The buffer that the caller provided contains its bytes.
 #[derive(Clone, Copy)]
 pub enum Answer {
-    /// Acknowledges the request; there are no bytes.
+    /// Acknowledges the request, without bytes.
     Ack,
-    /// The request is answered with the bytes in the buffer, which may be none.
+    /// Answers the request with the bytes in the buffer; there may be none.
     Bytes,
-    /// Stalls the request; there are no bytes.
+    /// Stalls the request, without bytes.
     Stall,
 }
 
-/// An answer before its bytes are in a buffer, with no byte made or copied. A status and a state are
-/// those of the core after the row.
+/// An answer whose bytes are not in a buffer yet. A status or a state is that of the device after the request.
 ///
-/// `asked` is wLength, the most bytes that are sent.
+/// `asked` is wLength: at most this many bytes are sent.
 #[derive(Clone, Copy)]
 pub(crate) enum PendingAnswer {
-    /// The request is acknowledged.
     Ack,
-    /// The request is answered with the status.
+    /// Answers GETSTATUS with the status.
     Status { asked: u16 },
-    /// The request is answered with the state.
+    /// Answers GETSTATE with the state.
     State { asked: u16 },
-    /// The request is answered with the bytes of the active image from `place` on.
+    /// Answers with the bytes of the active image from offset `place` on.
     Piece { place: u32, asked: u16 },
-    /// The request is stalled.
     Stall,
 }
 
-/// Returns the pending answer of a reply to a request for `asked` bytes.
+/// Returns the pending answer for `reply` to a request with wLength `asked`.
 pub(crate) fn pending_answer_of(reply: Reply, asked: u16) -> PendingAnswer
     ensures { result ≡ pending_answer_of asked reply }
 {
@@ -65,7 +62,7 @@ impl<M: Medium> DeviceCore<M> {
     ) -> Answer
         ensures row { Handles setup.now body.now (view_of_core self.old) result out.new.items (view_of_core self.new) }
     {
-        // Calls `transfer` for its clause `fits`, which `give` needs.
+        // The result is not used: the postcondition `at_most_4096` of `transfer` proves that the answer fits into `out`.
         let _ = self.config.transfer();
         let pending_answer = self.pending_answer(setup, body);
         out.clear();
@@ -102,20 +99,20 @@ impl<M: Medium> DeviceCore<M> {
         }
     }
 
-    /// Returns how many bytes the image has from `place` on, at most `len`.
+    /// Returns the number of bytes of the image from offset `place` on, at most `len`.
     #[inline(never)]
     pub(crate) fn piece_len(&self, place: u32, len: u16) -> u16
         ensures count { result ≡ length (take len (drop place (image_of self.now.slots))) }
         ensures bytes { slice_range (image_of self.now.slots) place (place + result) ≡ take len (drop place (image_of self.now.slots)) }
         ensures within { 0 < result → place + result ≤ length (image_of self.now.slots) }
-        ensures fits { 0 < result → place + result ≤ 2 ^ 24 }
+        ensures end_in_24_bits { 0 < result → place + result ≤ 2 ^ 24 }
     {
         let rest = self.slots.active_len().saturating_sub(place);
         rest.min(len as u32) as u16
     }
 }
 
-/// Copies `count` bytes of the active image, from `place` on.
+/// Copies `count` bytes of the active image, from offset `place` on, to the empty buffer `out`.
 fn copy_image<M: Medium>(slots: &Slots<M>, place: u32, count: u16, out: &mut ArrayVec<u8, 4096>)
     requires within { place + count ≤ length (image_of slots.now) }
     requires most { count ≤ 4096 }

@@ -1,4 +1,4 @@
-//! Core of a device: its parts, and how a decision changes them.
+//! Core of a device: its parts, and the changes that a decision makes to them.
 
 ghost use Rattle.std.specs.Prelude.{◌≡◌, ◌<◌, ◌≤◌, ◌+◌, length, take, drop, nat_lt, ℕ, List, [], IsTrue, if◌then◌else◌};
 ghost use Rattle.dfu_slots.specs.StoreView.{image_of, spare_of, room_of};
@@ -20,7 +20,7 @@ use crate::{Answer, Config};
 use arrayvec::ArrayVec;
 use dfu_slots::{Medium, Slots};
 
-// Makes `bytes` the bytes of the block.
+// Replaces the content of `block` by `bytes`.
 fn hold(block: &mut ArrayVec<u8, 4096>, bytes: &[u8])
     requires { length bytes.now ≤ 4096 }
     ensures { block.new.items ≡ bytes.now }
@@ -29,7 +29,7 @@ fn hold(block: &mut ArrayVec<u8, 4096>, bytes: &[u8])
     let _ = block.try_extend_from_slice(bytes);
 }
 
-/// The core of a device: its fixed settings, its slot store, its mode, and the block that is not written yet.
+/// Core of a device: its fixed settings, its slot store, its mode, and the memory of a block that is not written yet.
 #[derive(Drop)]
 pub struct DeviceCore<M: Medium> {
     pub config: Config,
@@ -42,11 +42,11 @@ pub struct DeviceCore<M: Medium> {
 impl<M: Medium> DeviceCore<M> {
     ghost use Rattle.dfu_device.specs.inside.View.{view_of_core};
 
-    /// Returns a core with `config` in appIDLE, on `slots`, with the memory of `block`.
+    /// Returns a core with `config` in appIDLE, on `slots`. It uses `block` as the memory for blocks.
     pub(crate) fn start(config: Config, slots: Slots<M>, block: ArrayVec<u8, 4096>) -> DeviceCore<M>
         ensures { view_of_core result ≡ record { config = config; slots = slots; stage = InAppIdle } }
     {
-        // Calls `capacity` for its clauses, by which the store has the shape that the core must keep.
+        // The result is not used: its postconditions prove the invariant `sound`.
         let _ = slots.capacity();
         DeviceCore {
             config,
@@ -56,7 +56,7 @@ impl<M: Medium> DeviceCore<M> {
         }
     }
 
-    /// Returns the settings that the table reads.
+    /// Returns the settings that the device table reads.
     fn profile(&self) -> Profile
         ensures profile { table_profile_of result ≡ profile (view_of_core self.now) }
         ensures capacity { result.capacity ≡ room_of self.now.slots }
@@ -65,17 +65,17 @@ impl<M: Medium> DeviceCore<M> {
         self.config.profile(u64::from(self.slots.capacity()))
     }
 
-    /// Returns the answer to `setup` with its `body`: that of its row if the table serves it, else a stall.
+    /// Returns the answer to `setup` with its `body`. A request without a row in the device table is stalled.
     pub(crate) fn pending_answer(&mut self, setup: &[u8; 8], body: &[u8]) -> PendingAnswer
         ensures row { HandledPending setup.now body.now (view_of_core self.old) result (view_of_core self.new) }
-        ensures fits { (a : Answer) (sent : List ℕ) → AnswersPending result (view_of_core self.new) a sent
+        ensures answer_fits { (a : Answer) (sent : List ℕ) → AnswersPending result (view_of_core self.new) a sent
             → length sent ≤ answer_room self.old.config }
     {
         let (decision, asked) = asked_row(&self.profile(), self.mode, setup, body);
         self.carry_out(decision, asked, body)
     }
 
-    /// Performs `decision`. `asked` is the number of bytes of a status or a state that the request asks for, and `body` is its body.
+    /// Performs `decision`. `asked` is wLength if the request is GETSTATUS or GETSTATE, and `body` is the data stage of the request.
     pub(crate) fn carry_out(&mut self, decision: Decision, asked: u16, body: &[u8]) -> PendingAnswer
         requires { IsPossibleDecision self.old.config.functional.transfer (length self.old.block.items)
             (length body.now) self.old.slots decision }
@@ -90,7 +90,7 @@ impl<M: Medium> DeviceCore<M> {
                 pending_answer_of(reply, asked)
             }
             Decision::Holds { mode } => {
-                // Calls `transfer` for its clause `fits`: the body of a block finds room.
+                // The result is not used: the postcondition `at_most_4096` of `transfer` proves that the body fits into the block.
                 let _ = self.config.transfer();
                 hold(&mut self.block, body);
                 self.mode = mode;
@@ -124,7 +124,7 @@ impl<M: Medium> DeviceCore<M> {
         }
     }
 
-    /// Returns the mode after a piece of the image is sent; a piece of fewer than `size` bytes is the last.
+    /// Returns the mode after a piece of the image is sent. A piece shorter than `size` bytes is the last one.
     fn after_piece(&self, place: u32, size: u16, number: u16) -> DeviceState
         ensures mode { let part = take size (drop place (image_of self.now.slots)) in
             result ≡ (if nat_lt (length part) size then DeviceState.DfuIdle else DeviceState.UploadIdle (place + size) number) }
@@ -138,7 +138,7 @@ impl<M: Medium> DeviceCore<M> {
         }
     }
 
-    /// Lets `ms` milliseconds pass.
+    /// Performs the row of `ms` elapsed milliseconds.
     pub(crate) fn elapse(&mut self, ms: u32)
         ensures row { Elapses ms (view_of_core self.old) (view_of_core self.new) }
     {

@@ -1,5 +1,5 @@
-//! Laws of the rows of a device. Each is the contract of a function with an empty body, which is proved
-//! and not to be called.
+//! Laws of the rows of a device. Each law is the contract of a function with an empty body; the contract is proved, and a call has no
+//! effect.
 
 ghost use Rattle.dfu_device.specs.PlanOutcomes.{PlansHaveOutcomes, RowByReading, SetupsHaveOutcomes, NotServedIsStalled, TimesHaveOutcomes, StatusReadBack};
 ghost use Rattle.dfu_device.specs.AcceptedHistory.{SetupAcceptsBody, TimeAcceptsNothing, RowAcceptsBody, StepAcceptsBody, HistoryAcceptsBodies, StartAcceptsBodies, AcceptedBytesUnique};
@@ -9,8 +9,8 @@ ghost use Rattle.dfu_device.specs.ReportLaws.{StatusReportMatches, StateReportMa
 ghost use Rattle.dfu_device.specs.StoreUse.{RowsUseStore, ErrorRowsKeepStore};
 ghost use Rattle.dfu_device.specs.Errors.{MediumErrorsHaveCause};
 
-/// Each row leads to the outcome of its plan, for some luck of the medium. The row of a setup follows its only reading; a setup that the
-/// table does not serve is stalled and changes nothing. An answer to a GETSTATUS of at least six bytes decodes to the status.
+/// Each row of the table leads to an outcome of its plan; the medium's writes determine which one. A setup packet determines its row. A
+/// setup packet without a row in the table is stalled and changes nothing. A GETSTATUS answer of at least six bytes decodes to the status.
 pub fn rows_come_to_outcomes()
     ensures plan { PlansHaveOutcomes }
     ensures row_follows_reading { RowByReading }
@@ -20,8 +20,7 @@ pub fn rows_come_to_outcomes()
     ensures status { StatusReadBack }
 {}
 
-/// The bytes taken: a row takes the body that it acknowledges, and a device has taken the bytes of
-/// its history, after one row or many. A history takes one list of bytes and no other.
+/// Received bytes: the device accepts exactly the bodies that it acknowledges, and a history of rows determines the bytes received.
 pub fn rows_take()
     ensures asked { SetupAcceptsBody }
     ensures time { TimeAcceptsNothing }
@@ -32,9 +31,8 @@ pub fn rows_take()
     ensures one { AcceptedBytesUnique }
 {}
 
-/// The bytes sent: a row sends the bytes with which it answers an UPLOAD, and a device has sent the
-/// bytes of its history, which sends one list of bytes and no other. At the end of an upload the
-/// pieces, joined, are the active image.
+/// Sent bytes: the device sends exactly its answers to UPLOAD, and a history of rows determines the bytes sent. At the end of an upload
+/// they are the active image.
 pub fn rows_send()
     ensures row { RowSendsPiece }
     ensures step { StepSendsPiece }
@@ -44,15 +42,16 @@ pub fn rows_send()
     ensures one { SentBytesUnique }
 {}
 
-/// An answer to GETSTATUS or GETSTATE reports the state that the device enters.
+/// An answer to GETSTATUS reports the status of the device after the row. An answer to GETSTATE reports its state, and the row keeps the
+/// stage.
 pub fn rows_tell()
     ensures status { StatusReportMatches }
     ensures state { StateReportMatches }
 {}
 
-/// A row calls nothing of the slot store, or writes the last block taken after the bytes written, or
-/// commits the bytes taken. Only a commit changes the image, and no row in dfuERROR does. errWRITE,
-/// errPROG and errVERIFY come only if the medium failed.
+/// In a row the device doesn't call the slot store, or it writes the last block after the bytes written before, or it commits the received
+/// bytes. Only a commit changes the image, and in dfuERROR the device never commits. A row enters errWRITE, errPROG or errVERIFY only if
+/// the medium failed during the row.
 pub fn rows_keep()
     ensures image { RowsUseStore }
     ensures error { ErrorRowsKeepStore }

@@ -1,6 +1,5 @@
-//! The device's side of USB device firmware upgrade (USB DFU 1.1): a machine that answers every
-//! setup with every body, allocates no memory, and never fails. Each of its steps is a row of the
-//! device table, `specs/Table.antt`.
+//! The device's side of USB Device Firmware Upgrade (USB DFU 1.1). The state machine answers every setup packet with every body, allocates
+//! no memory, and never fails. Each of its steps is a row of the device table, `specs/Table.antt`.
 #![tactic(auto)]
 
 mod answer;

@@ -1,6 +1,6 @@
-//! The device table as a function: the decision on a request, from the mode of a device and its fixed settings alone (USB DFU 1.1,
-//! appendix A). Nothing is carried out here. `specs/Table.antt` has the same rows in the same words. Before them come the rules by
-//! which a setup reaches the table.
+//! The device table as a function: its decision on a request depends only on the mode of a device and its fixed settings, and changes
+//! nothing (USB DFU 1.1, appendix A). `specs/Table.antt` defines the same rows. The first functions below check if a request has a row in
+//! the table.
 
 ghost use Rattle.std.specs.Prelude.{◌≡◌, ◌==◌, length};
 ghost use Rattle.dfu_device.specs.Rows.{body_length, asked_length, is_served};
@@ -13,7 +13,7 @@ use crate::device_state::DeviceState;
 use crate::plans::{ack, error, first, further, report, stall, tell, upload};
 use dfu_wire::{Code, Request, Setup};
 
-// Returns the number of bytes of a status or a state that a request asks for: wLength; 0 for any other request.
+// Returns wLength of a GETSTATUS or GETSTATE, and 0 for any other request.
 fn asked_length(request: Request) -> u16
     ensures { result ≡ asked_length request }
 {
@@ -23,7 +23,7 @@ fn asked_length(request: Request) -> u16
     }
 }
 
-// Returns whether a body fits its setup: wLength bytes if bmRequestType is 21h, so that the host sends, else none.
+// Returns true if the length of a body matches its setup packet: wLength if bmRequestType is 21h, because the host then sends, otherwise 0.
 fn goes_with(setup: &Setup, body: &[u8]) -> bool
     ensures { result ≡ (length body.now == body_length setup.now) }
 {
@@ -35,7 +35,7 @@ fn goes_with(setup: &Setup, body: &[u8]) -> bool
     body.len() == len
 }
 
-// Returns whether the table serves a request: one of the class, whose body fits its setup.
+// Returns true if a request has a row in the table: it is one of the DFU class, and its body matches the setup packet.
 fn is_served(setup: &Setup, request: Request, body: &[u8]) -> bool
     ensures { result ≡ is_served setup.now request body.now }
 {
@@ -45,7 +45,7 @@ fn is_served(setup: &Setup, request: Request, body: &[u8]) -> bool
     }
 }
 
-// appIDLE. The timer of appDETACH is the smaller of the host's timeout and the device's.
+// In appIDLE, DETACH starts the timer of appDETACH: the smaller of the host's timeout and the device's.
 fn in_app_idle(profile: &Profile, request: Request) -> Decision
     ensures row { DecidesRequest profile.now DeviceState.AppIdle request result }
     ensures possible { AllowsRequest profile.now DeviceState.AppIdle request result }
@@ -61,7 +61,7 @@ fn in_app_idle(profile: &Profile, request: Request) -> Decision
     }
 }
 
-// appDETACH. Any other request, a second DETACH too, is stalled and leads back to the application.
+// In appDETACH, any request other than GETSTATUS and GETSTATE, even a second DETACH, is stalled and leads back to appIDLE.
 fn in_app_detach(timer: u32, passed: u32, request: Request) -> Decision
     ensures row { (p : Profile) → DecidesRequest p (DeviceState.AppDetach timer passed) request result }
     ensures possible { (p : Profile) → AllowsRequest p (DeviceState.AppDetach timer passed) request result }
@@ -73,7 +73,8 @@ fn in_app_detach(timer: u32, passed: u32, request: Request) -> Decision
     }
 }
 
-// dfuIDLE. A device that can't download or upload treats DNLOAD or UPLOAD as any other request.
+// In dfuIDLE, a device without support for uploads stalls UPLOAD as it stalls any other request, and a device without support for downloads
+// stalls DNLOAD.
 fn in_dfu_idle(profile: &Profile, request: Request) -> Decision
     ensures row { DecidesRequest profile.now DeviceState.DfuIdle request result }
     ensures possible { AllowsRequest profile.now DeviceState.DfuIdle request result }
@@ -90,7 +91,7 @@ fn in_dfu_idle(profile: &Profile, request: Request) -> Decision
     }
 }
 
-// dfuDNLOAD-SYNC, block not written. With a busy time of 0 the block is written now.
+// In dfuDNLOAD-SYNC with an unwritten block, the device writes the block on GETSTATUS if the busy time is 0.
 fn in_download_sync(profile: &Profile, written: u32, number: u16, request: Request) -> Decision
     ensures row { DecidesRequest profile.now (DeviceState.DownloadSync written number) request result }
     ensures possible { AllowsRequest profile.now (DeviceState.DownloadSync written number) request result }
@@ -112,7 +113,7 @@ fn in_download_sync(profile: &Profile, written: u32, number: u16, request: Reque
     }
 }
 
-// dfuDNLOAD-SYNC, block written. GETSTATUS leads to dfuDNLOAD-IDLE.
+// In dfuDNLOAD-SYNC with a written block, GETSTATUS leads to dfuDNLOAD-IDLE.
 fn in_download_sync_written(written: u32, number: u16, request: Request) -> Decision
     ensures row { (p : Profile) → DecidesRequest p (DeviceState.DownloadSyncWritten written number) request result }
     ensures possible { (p : Profile) → AllowsRequest p (DeviceState.DownloadSyncWritten written number) request result }
@@ -124,7 +125,7 @@ fn in_download_sync_written(written: u32, number: u16, request: Request) -> Deci
     }
 }
 
-// dfuDNLOAD-IDLE. DNLOAD brings the next block or closes the download, and ABORT ends it.
+// In dfuDNLOAD-IDLE, DNLOAD sends the next block or closes the download, and ABORT cancels the download.
 fn in_download_idle(profile: &Profile, written: u32, number: u16, request: Request) -> Decision
     ensures row { DecidesRequest profile.now (DeviceState.DownloadIdle written number) request result }
     ensures possible { AllowsRequest profile.now (DeviceState.DownloadIdle written number) request result }
@@ -138,7 +139,7 @@ fn in_download_idle(profile: &Profile, written: u32, number: u16, request: Reque
     }
 }
 
-// dfuMANIFEST-SYNC, not complete. With a manifestation time of 0 the image is put in place now.
+// In dfuMANIFEST-SYNC before manifestation, the image becomes active on GETSTATUS if the manifestation time is 0.
 fn in_manifest_sync(profile: &Profile, written: u32, request: Request) -> Decision
     ensures row { DecidesRequest profile.now (DeviceState.ManifestSync written) request result }
     ensures possible { AllowsRequest profile.now (DeviceState.ManifestSync written) request result }
@@ -155,7 +156,7 @@ fn in_manifest_sync(profile: &Profile, written: u32, request: Request) -> Decisi
     }
 }
 
-// dfuMANIFEST-SYNC, complete. GETSTATUS leads to dfuIDLE.
+// In dfuMANIFEST-SYNC after manifestation, GETSTATUS leads to dfuIDLE.
 fn in_manifest_sync_complete(request: Request) -> Decision
     ensures row { (p : Profile) → DecidesRequest p DeviceState.ManifestSyncComplete request result }
     ensures possible { (p : Profile) → AllowsRequest p DeviceState.ManifestSyncComplete request result }
@@ -167,7 +168,7 @@ fn in_manifest_sync_complete(request: Request) -> Decision
     }
 }
 
-// dfuUPLOAD-IDLE. UPLOAD asks for the next bytes of the image, and ABORT ends the upload.
+// In dfuUPLOAD-IDLE, UPLOAD requests the next bytes of the image, and ABORT ends the upload.
 fn in_upload_idle(profile: &Profile, place: u32, number: u16, request: Request) -> Decision
     ensures row { DecidesRequest profile.now (DeviceState.UploadIdle place number) request result }
     ensures possible { AllowsRequest profile.now (DeviceState.UploadIdle place number) request result }
@@ -181,7 +182,7 @@ fn in_upload_idle(profile: &Profile, place: u32, number: u16, request: Request) 
     }
 }
 
-// dfuERROR. CLRSTATUS leads to dfuIDLE. Other requests but GETSTATUS and GETSTATE are stalled, and the device stays.
+// In dfuERROR, CLRSTATUS leads to dfuIDLE. GETSTATUS and GETSTATE don't change the state. Any other request is stalled.
 fn in_error(code: Code, request: Request) -> Decision
     ensures row { (p : Profile) → DecidesRequest p (DeviceState.Error code) request result }
     ensures possible { (p : Profile) → AllowsRequest p (DeviceState.Error code) request result }
@@ -194,10 +195,10 @@ fn in_error(code: Code, request: Request) -> Decision
     }
 }
 
-/// Returns the decision on `request`, one of the class, in `mode`: its row of the table. A DNLOAD must have a body of wLength bytes.
+/// Returns the table's decision on `request`, a request of the DFU class, in `mode`. The body of a DNLOAD must have wLength bytes.
 ///
-/// In dfuDNBUSY and dfuMANIFEST any request is an error, GETSTATUS too, and nothing is written. In dfuMANIFEST-WAIT-RESET any request is
-/// stalled, and the device stays.
+/// In dfuDNBUSY and dfuMANIFEST every request leads to dfuERROR, even GETSTATUS, and nothing is written. In dfuMANIFEST-WAIT-RESET every
+/// request is stalled, and the device stays in that state.
 #[rattlefmt::skip]
 pub fn decide(profile: &Profile, mode: DeviceState, request: Request) -> Decision
     ensures row { DecidesRequest profile.now mode request result }
@@ -220,9 +221,9 @@ pub fn decide(profile: &Profile, mode: DeviceState, request: Request) -> Decisio
     }
 }
 
-/// Returns the decision on `setup` with its `body` in `mode`, and the number of bytes of a status or of a state that it asks for. A
-/// request that is not one of the class for interface 0, or whose body does not fit it, is stalled and changes nothing; any other
-/// request has its row of the table (USB DFU 1.1, section 3 and appendix A).
+/// Returns the decision on `setup` with its `body` in `mode`, and wLength if the request is GETSTATUS or GETSTATE, otherwise 0. A request
+/// is stalled and changes nothing if it is not a DFU class request for interface 0, or if the length of its body is wrong. For any other
+/// request the decision is that of its row in the table (USB DFU 1.1, section 3 and appendix A).
 pub fn asked_row(
     profile: &Profile,
     mode: DeviceState,

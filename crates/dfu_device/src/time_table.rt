@@ -1,5 +1,5 @@
-//! The rows of time that passes, as decisions (USB DFU 1.1, appendix A): a call makes at most one change, and the rest of its time
-//! is dropped. A block and an image take the time of the erases and programs that are due for them.
+//! The rows of the device table for elapsed time, as decisions (USB DFU 1.1, appendix A). A call makes at most one transition, and drops
+//! the rest of the time. Writing a block or an image takes the time of its erases and programs.
 
 ghost use Rattle.std.specs.Prelude.{◌≡◌, ◌+◌, ◌*◌, ◌^◌, ◌≤◌, ◌<◌, ℕ, List};
 ghost use Rattle.dfu_device.specs.Pace.{sector_starts_from, erases_ms, programs_ms, writes_ms, block_ms, image_ms};
@@ -13,11 +13,11 @@ use crate::decision::{Decision, Reply};
 use crate::device_state::DeviceState;
 use crate::plans::ack;
 
-// Counts the sectors that begin in `count` bytes from `at` on.
+// Returns the number of sectors that begin in the range of `count` bytes from offset `at`.
 fn edges(sector: u32, at: u32, count: u32) -> u32
     requires { 0 < sector }
     ensures value { result ≡ sector_starts_from sector at count }
-    ensures most { result ≤ count }
+    ensures at_most_count { result ≤ count }
 {
     let behind = at % sector;
     let rest = if behind == 0 { 0 } else { sector - behind };
@@ -27,12 +27,13 @@ fn edges(sector: u32, at: u32, count: u32) -> u32
     (count - rest - 1) / sector + 1
 }
 
-// Returns the milliseconds to erase the sectors that begin in `count` bytes from `at` on, and `others` more; 0 without sectors.
+// Returns the milliseconds to erase `others` sectors and those that begin in the range of `count` bytes from offset `at`. Without sectors
+// the result is 0.
 fn erases_ms(pace: Pace, at: u32, count: u32, others: u32) -> u32
     requires count { count ≤ 4352 }
     requires others { others ≤ 2 }
     ensures value { result ≡ erases_ms pace (sector_starts_from pace.sector at count + others) }
-    ensures fits { result < 2 ^ 29 }
+    ensures in_29_bits { result < 2 ^ 29 }
 {
     if pace.sector == 0 {
         return 0;
@@ -44,28 +45,28 @@ fn erases_ms(pace: Pace, at: u32, count: u32, others: u32) -> u32
 fn programs_ms(pace: Pace, count: u32) -> u32
     requires { count ≤ 4864 }
     ensures value { result ≡ programs_ms pace count }
-    ensures fits { result < 2 ^ 29 }
+    ensures in_29_bits { result < 2 ^ 29 }
 {
     (count * u32::from(pace.program_ms) + 255) / 256
 }
 
-// Returns the milliseconds to write `count` bytes from `at` on in a slot's data, and `others` gates and headers, with `base` added; at most
-// what fits in bwPollTimeout.
+// Returns `base` plus the milliseconds to write `count` bytes from offset `at` of a slot's data and `others` gates and headers. The sum is
+// limited to 2^24 - 1, the maximum of bwPollTimeout.
 fn writes_ms(pace: Pace, base: u32, at: u32, count: u32, others: u32) -> u32
     requires count { count ≤ 4352 }
     requires others { others ≤ 2 }
     ensures value { result ≡ writes_ms pace base at count others }
-    ensures fits { result < 2 ^ 24 }
+    ensures in_24_bits { result < 2 ^ 24 }
 {
     let erases = erases_ms(pace, at, count, others);
     let programs = programs_ms(pace, count + 256 * others);
     base.saturating_add(erases + programs).min(0xff_ffff)
 }
 
-// Returns the milliseconds to write a block of `block_len` bytes after `written` bytes, with `base` added.
+// Returns `base` plus the milliseconds to write a block of `block_len` bytes after `written` bytes.
 fn block_ms(pace: Pace, base: u32, written: u32, block_len: usize) -> u32
     ensures value { result ≡ block_ms pace base written block_len }
-    ensures fits { result < 2 ^ 24 }
+    ensures in_24_bits { result < 2 ^ 24 }
 {
     let unit = pace.unit.size();
     let behind = written % unit;
@@ -74,10 +75,10 @@ fn block_ms(pace: Pace, base: u32, written: u32, block_len: usize) -> u32
     writes_ms(pace, base, written - behind, all - all % unit, others)
 }
 
-// Returns the milliseconds to put an image of `written` bytes in place, with `base` added.
+// Returns `base` plus the milliseconds to make an image of `written` bytes active.
 fn image_ms(pace: Pace, base: u32, written: u32) -> u32
     ensures value { result ≡ image_ms pace base written }
-    ensures fits { result < 2 ^ 24 }
+    ensures in_24_bits { result < 2 ^ 24 }
 {
     let unit = pace.unit.size();
     let behind = written % unit;
@@ -85,12 +86,12 @@ fn image_ms(pace: Pace, base: u32, written: u32) -> u32
     writes_ms(pace, base, written - behind, count, 2)
 }
 
-/// Returns the milliseconds that the host must wait in a mode with a block of `block_len` bytes (bwPollTimeout).
+/// Returns the milliseconds that the host must wait in `mode` with a block of `block_len` bytes (bwPollTimeout).
 pub fn poll_ms(config: &Config, mode: DeviceState, block_len: usize) -> u32
     ensures value { (room : ℕ) (spare block : List ℕ) → HasTimeInputs mode block_len spare block
         → result ≡ poll_of_stage (profile_of config.now room) (stage_of mode spare block) }
     ensures time { result ≡ wait_ms_of_mode config.now mode block_len }
-    ensures fits { result < 2 ^ 24 }
+    ensures in_24_bits { result < 2 ^ 24 }
 {
     match mode {
         DeviceState::DownloadBusy { written, .. } => {
@@ -103,7 +104,8 @@ pub fn poll_ms(config: &Config, mode: DeviceState, block_len: usize) -> u32
     }
 }
 
-// appDETACH: the timer runs out, or the device detaches by itself. A timer of 0 counts as 1.
+// In appDETACH, a device with bitWillDetach enters dfuIDLE once at least 1 ms has passed. Any other device returns to appIDLE after `timer`
+// milliseconds. A timer of 0 counts as 1.
 fn in_app_detach(profile: &Profile, timer: u32, passed: u32, ms: u32) -> Decision
     ensures row { (n : ℕ) → DecidesTime profile.now (DeviceState.AppDetach timer passed) n ms result }
     ensures possible { AllowsDecision profile.now (DeviceState.AppDetach timer passed) 0 result }
@@ -124,7 +126,7 @@ fn in_app_detach(profile: &Profile, timer: u32, passed: u32, ms: u32) -> Decisio
     }
 }
 
-// dfuDNBUSY: the block of `block_len` bytes is written once its time has passed.
+// In dfuDNBUSY, the block of `block_len` bytes is written once the busy time has passed.
 fn in_download_busy(
     profile: &Profile,
     written: u32,
@@ -154,7 +156,7 @@ fn in_download_busy(
     })
 }
 
-// dfuMANIFEST: the image is put in place once its time has passed. A device that is not tolerant of manifestation
+// In dfuMANIFEST, the image becomes active once the manifestation time has passed. A device that is not tolerant of manifestation then
 // waits for a reset.
 fn in_manifest(profile: &Profile, written: u32, passed: u32, ms: u32) -> Decision
     ensures row { (n : ℕ) → DecidesTime profile.now (DeviceState.Manifest written passed) n ms result }
@@ -181,8 +183,8 @@ fn in_manifest(profile: &Profile, written: u32, passed: u32, ms: u32) -> Decisio
     })
 }
 
-/// Returns the decision on `ms` milliseconds in a mode with a block of `block_len` bytes: their row of the table. Modes that count no time
-/// stay.
+/// Returns the table's decision for `ms` milliseconds that elapse in `mode` with a block of `block_len` bytes. In modes other than
+/// appDETACH, dfuDNBUSY and dfuMANIFEST, elapsed time changes nothing.
 pub fn decide_time(profile: &Profile, mode: DeviceState, block_len: usize, ms: u32) -> Decision
     ensures row { DecidesTime profile.now mode block_len ms result }
     ensures possible { AllowsDecision profile.now mode 0 result }

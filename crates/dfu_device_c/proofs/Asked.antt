@@ -1,4 +1,4 @@
--- Records after a setup with a body that is longer than a block.
+-- A lemma about records after a setup packet with a body that is longer than a block.
 use Rattle.std.proofs.Common.{◌≡◌, ℕ, List, [], refl}
 use Rattle.dfu_slots.specs.declared.layout.Unit.{Unit as WriteUnit}
 use Rattle.dfu_device.specs.declared.answer.Answer.TheVariants as answer
@@ -16,10 +16,10 @@ use Rattle.dfu_core.specs.declared.record.DfuRecord.{DfuRecord}
 use Rattle.dfu_core.specs.RecordMeaning.{AreConfigParts, with_memory}
 use Rattle.dfu_core.specs.Long.{RecordTakesTooLongRow}
 use Rattle.dfu_core.specs.Mode.{HasMode}
-use Rattle.dfu_device_c.proofs.Moved.{zero_work_has_no_writes, moved_record_is_device}
-use Rattle.dfu_device_c.proofs.Told.{record_device_is_in_mode}
+use Rattle.dfu_device_c.proofs.ModeChanges.{zero_work_has_no_writes, moved_record_is_device}
+use Rattle.dfu_device_c.proofs.RecordAnswers.{record_device_is_in_mode}
 
--- A record takes the row of a body that is too long, if it enters the mode to which that row leads.
+-- If the mode of a record changes as in the row of a setup packet whose body is too long, RecordTakesTooLongRow holds for the record.
 pub record_takes_too_long_row : (c : DfuConfig) (r r' : DfuRecord) {config : Setting} {unit : WriteUnit} {sector : Sector} (setup : List ℕ)
     (m m' : DeviceState) → AreConfigParts c config unit sector → ((x : DeviceState) → HasMode r x → m ≡ x) → r.work ≡ 0 → HasMode r' m'
     → r' ≡ record r { version = r'.version; mode = r'.mode; first = r'.first; second = r'.second; number = r'.number }

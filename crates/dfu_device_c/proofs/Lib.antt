@@ -1,8 +1,8 @@
-mod Found
+mod CallRefusals
 mod Split
-mod Handed
-mod Moved
-mod Told
+mod HandedWrites
+mod ModeChanges
+mod RecordAnswers
 mod Asked
 mod Refusals
 mod Powered

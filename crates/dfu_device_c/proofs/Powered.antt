@@ -1,9 +1,9 @@
--- Records of a device that just got power.
+-- Lemmas about the record of a device directly after power-on.
 use Rattle.std.proofs.Common.{◌≡◌, ◌⊎◌, inl, inr, Bool, ℕ, ℤ, List, [], pos, None, refl, sym, ap, ◌∙◌, subst, arith}
 use Rattle.dfu_slots.specs.StoreView.{store_on}
 use Rattle.dfu_slots.specs.Store.{IsStore}
 use Rattle.dfu_slots.specs.Image.{HasImage}
-use Rattle.dfu_slots.proofs.Seeing.{medium_makes_fresh_store}
+use Rattle.dfu_slots.proofs.VisibleStores.{medium_makes_fresh_store}
 use Rattle.dfu_device.specs.declared.device_state.DeviceState.{DeviceState}
 use Rattle.dfu_device.specs.declared.device_state.DeviceState.TheVariants as device_state
 use Rattle.dfu_device.specs.Setting.{Setting}
@@ -25,7 +25,7 @@ use Rattle.dfu_core.specs.Power.{PowerOutcome, RefusesPower}
 use Rattle.dfu_core.specs.Board.{CoreRestart, core_board}
 use Rattle.dfu_core.specs.Happens.{start_mode, CoreEventOutcome, IsCorePoweredOn}
 
--- The device at power-on, for which a new record is made.
+-- Device at power-on that a new record represents.
 abbrev device_at_power_on : Setting → WriteUnit → Sector → DeviceState → Noted → Asking
 device_at_power_on config unit sector m noted = record {
   config = config;
@@ -41,7 +41,7 @@ device_at_power_on config unit sector m noted = record {
   few = omega arith;
 }
 
--- The blank record, with a mode and the noted slot and header, stands for a device that just got power.
+-- The blank record with the noted slot and header represents a device directly after power-on in appIDLE.
 pub blank_record_powers_on : (c : DfuConfig) (flash : List ℕ) (config : Setting) (unit : WriteUnit) (sector : Sector) (noted : Noted)
     (r' : DfuRecord)
     → IsConfig c → AreConfigParts c config unit sector → IsNoteOfMedium noted (mapped_medium (grain_of unit sector) flash)
@@ -75,7 +75,7 @@ blank_record_powers_on c flash config unit sector noted r' allowed set_up is_not
           (sym (ap (λ (x : DfuRecord). x.mode) rest));
     }
 
--- The record of a device that just got power, with the number of dfuIDLE as its mode, stands for that device in dfuIDLE.
+-- If the mode number in the record of a device after power-on is set to 2, the record represents the device in dfuIDLE.
 pub powered_record_begins_in_dfu_idle : (c : DfuConfig) (flash : List ℕ) (r : DfuRecord) →
     PowerOutcome c device_state.AppIdle flash (pos 0) r
     → PowerOutcome c device_state.DfuIdle flash (pos 0) (record r { mode = 2 })
@@ -103,14 +103,15 @@ powered_record_begins_in_dfu_idle c flash r got = record {
   rest = ap (λ (x : DfuRecord). record x { mode = 2 }) got.rest;
 }
 
--- If a power-on returns 0, the device got power.
+-- If a power-on returns 0, it was not refused.
 zero_means_power_on : (c : DfuConfig) (m : DeviceState) (flash : List ℕ) (n : ℤ) (r r' : DfuRecord) → n ≡ pos 0
     → PowerOutcome c m flash n r' ⊎ (RefusesPower c flash n × (r' ≡ r)) → PowerOutcome c m flash (pos 0) r'
 zero_means_power_on c m flash n r r' zero (inl served) = subst (λ (x : ℤ). PowerOutcome c m flash x r') zero served
 zero_means_power_on c m flash n r r' zero (inr (inl (is, bad), same)) = absurd (cc)
 zero_means_power_on c m flash n r r' zero (inr (inr (is, config, none), same)) = absurd (cc)
 
--- A call powers a device on, or is refused, and returns n. If n is 0, the call is a step of a board in C, and the board just got power.
+-- A call powers a device on, or is refused, and returns n. If n is 0, the call is a step of a board in C, and the board was just powered
+-- on.
 pub record IsCoreRestartCall (c : DfuConfig) (in_dfu_mode : Bool) (flash : List ℕ) (n : ℤ) (r r' : DfuRecord) : Type
     0 where
   pub outcome : PowerOutcome c (start_mode in_dfu_mode) flash n r' ⊎ (RefusesPower c flash n × (r' ≡ r))
@@ -118,7 +119,7 @@ pub record IsCoreRestartCall (c : DfuConfig) (in_dfu_mode : Bool) (flash : List 
       → CoreEventOutcome (core_board c kept before flash) (CoreRestart in_dfu_mode) n [] (core_board c r' block flash)
   pub on : n ≡ pos 0 → (block : List ℕ) → IsCorePoweredOn (core_board c r' block flash)
 
--- A call that returns the number of a power-on, or of its refusal, is an `IsCoreRestartCall`.
+-- A call that returns the number of a power-on or of its refusal satisfies IsCoreRestartCall.
 pub power_number_is_restart_call : (c : DfuConfig) (in_dfu_mode : Bool) (flash : List ℕ) (n m : ℤ) (r r' : DfuRecord)
     → n ≡ m
     → PowerOutcome c (start_mode in_dfu_mode) flash m r' ⊎ (RefusesPower c flash m × (r' ≡ r)) →

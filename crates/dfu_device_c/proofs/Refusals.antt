@@ -1,4 +1,4 @@
--- Devices after their program refused an image.
+-- Lemmas about devices after their program refused an image.
 use Rattle.std.proofs.Common.{◌≡◌, ℕ, true, IsTrue, List, [], length, refl, sym, ap, ◌∙◌, subst}
 use Rattle.dfu_slots.specs.StoreView.{SlotsState, spare_of}
 use Rattle.dfu_device.specs.declared.answer.Answer.TheVariants as answer
@@ -8,7 +8,7 @@ use Rattle.dfu_device.specs.Parts.{stage_of, is_filled, are_device_parts}
 use Rattle.dfu_device.specs.Rows.{ClosesDownload, RefusingClose, Refusing, Row}
 use Rattle.dfu_device.specs.Stage.{InError}
 use Rattle.dfu_device.specs.Table.{objection_code, refuse_stage}
-use Rattle.dfu_device.proofs.Carried.{parts_have_mode_bytes}
+use Rattle.dfu_device.proofs.PlanRows.{parts_have_mode_bytes}
 use Rattle.dfu_asks.specs.Lent.{LentDevice}
 use Rattle.dfu_asks.specs.Asks.{flash_store, device_in, IsDevice}
 use Rattle.dfu_core.specs.declared.config.DfuConfig.{DfuConfig}
@@ -20,11 +20,11 @@ module _ (c : DfuConfig) (m m' : DeviceState) (why : Objection) (l : LentDevice)
   abbrev s : SlotsState
   s = flash_store l flash
 
-  -- The mode and the slot store are parts of the device.
+  -- The mode and the slot store satisfy the invariant of a device.
   sound : IsTrue (are_device_parts m (length l.block) s)
   sound = subst (λ (x : DeviceState). IsTrue (are_device_parts x (length l.block) s)) (sym mode) device.sound
 
-  -- The refusal of an image that was closed takes the row of `Refusing`, and the slot store has the bytes that the new mode needs.
+  -- A refusal of the image of a closed download is a row of Refusing, and the slot store agrees with the new mode.
   pub refused_image_takes_row : ((spare block : List ℕ) → stage_of m' spare block ≡ refuse_stage why (stage_of m spare block))
       → ((n : ℕ) (x : SlotsState) → is_filled m n x ≡ true → is_filled m' n x ≡ true)
       → IsTrue (is_filled m' (length l.block) s)
@@ -39,8 +39,7 @@ module _ (c : DfuConfig) (m m' : DeviceState) (why : Objection) (l : LentDevice)
     ),
   )
 
-  -- The refusal of the image that a setup closes takes the row of `RefusingClose`, and the slot store has the bytes that the new mode
-  -- needs.
+  -- A refusal of the image when the host closes its download is a row of RefusingClose, and the slot store agrees with the new mode.
   pub refused_close_takes_row : (setup : List ℕ) → ClosesDownload setup (device_in l flash)
       → ((spare block : List ℕ) → stage_of m' spare block ≡ InError (objection_code why))
       → ((n : ℕ) (x : SlotsState) → is_filled m' n x ≡ true)

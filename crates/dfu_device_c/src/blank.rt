@@ -1,4 +1,4 @@
-//! Test if a flash was ever written, by which a program can tell a new board from a damaged one.
+//! Tests if a flash was ever written, so that a program can distinguish a new board from a damaged one.
 ghost use Rattle.std.specs.Prelude.{◌⊎◌};
 ghost use Rattle.dfu_core.specs.Blank.{BlankResult, RefusesBlank};
 
@@ -6,10 +6,11 @@ use crate::tells::yes_no_number_of;
 use dfu_asks::Mapped;
 use dfu_core::{DfuConfig, settings_of};
 
-/// Returns 1 if `flash` was never written, as far as it shows: every byte of both slots' gates and headers is FFh, so there is no active
-/// image. Returns 0 if one of these bytes is not FFh.
+/// Returns 1 if every byte of both slots' gates and headers is FFh, as on a flash that was never written. Such a flash has no active image.
+/// Returns 0 if one of these bytes is not FFh.
 ///
-/// Refused with -2 if the configuration is not allowed; -3 if the flash has 2^32 bytes or more; -6 if its size does not allow two slots.
+/// Returns -2 if the configuration is not allowed; -3 if the flash has 2^32 bytes or more; -6 if the size of the flash doesn't allow two
+/// slots.
 #[unsafe(no_mangle)]
 pub extern "C" fn dfu_core_is_blank(config: &DfuConfig, flash: &[u8]) -> i32
     ensures outcome { BlankResult config.now flash.now result ⊎ RefusesBlank config.now flash.now result }

@@ -1,9 +1,10 @@
-//! Calls for a device that asks for its writes, as a program in C makes them. `include/dfu_core.h` describes them.
+//! Calls of a device that lets its program in C write the flash. `include/dfu_core.h` declares them, and `include/dfu_device.h` describes
+//! them.
 //!
-//! Every call is refused, in this order, with -12 if a format is due; -2 if the configuration is not allowed; -10 if the block's memory has
-//! less room than the transfer size and the unit together; -4 if the record stands for no device; -12 if writes are due; -3 if the header
-//! that the record notes is not in an open slot of the flash; -4 if the record or the memory are not as the last call left them on this
-//! flash.
+//! Every call returns one of these numbers if it is refused, in this order: -12 if a format is pending; -2 if the configuration is not
+//! allowed; -10 if the block's memory is smaller than the transfer size and a unit together; -4 if the record represents no device; -12 if
+//! writes are pending; -3 if no open slot of the flash has the header that is noted in the record; -4 if the record, the block's memory or
+//! the flash is not as the last call left it.
 ghost use Rattle.std.specs.Prelude.{◌≡◌, ◌⊎◌, ◌<◌, [], ℕ, List, pos, length, take};
 ghost use Rattle.dfu_slots.specs.Medium.{Torn};
 ghost use Rattle.dfu_device.specs.Borrowed.{answer_room};
@@ -16,10 +17,10 @@ ghost use Rattle.dfu_core.specs.Writes.{ask_step, WriteHandedOut, RefusesPiece, 
 
 use crate::tells::{NO_ROOM, kind_of, number_of, refused, room_for};
 use dfu_asks::{Reply, addressed};
-use dfu_core::{ASKS, DfuAsk, DfuConfig, DfuRecord, Refusal, found, keep};
+use dfu_core::{ASKS, CoreRefusal, DfuAsk, DfuConfig, DfuRecord, found, keep};
 
-// Writes the device into its record after a call, and returns the number of its reply; if the call was refused, writes nothing, and returns
-// the number of the refusal.
+// Writes the device into its record after a call, and returns the number of the reply. If the call was refused, only returns the number of
+// the refusal.
 macro_rules! reply {
     ($asking:ident, $device:ident, $called:expr, $answered:pat => $number:expr, $refusal:pat => $refused:expr) => {
         match $called {
@@ -36,10 +37,10 @@ macro_rules! reply {
     };
 }
 
-/// Answers a setup with its body, as `Asking::handle`. Returns the number of bytes of the answer, which are at the beginning of `out`; -1
-/// for a stall; or -11 if the request's writes are due now.
+/// Answers a setup packet with its body, as `Asking::handle` does. Returns the number of bytes of the answer, which are at the beginning of
+/// `out`; -1 for a stall; or -11 if the writes of the request are pending.
 ///
-/// Refused with -5 if `out` has less room than an answer may need; then like every call.
+/// Returns -5 if `out` is too small for an answer. Otherwise the refusals of every call apply.
 #[unsafe(no_mangle)]
 pub extern "C" fn dfu_core_handle(
     config: &DfuConfig,
@@ -50,9 +51,10 @@ pub extern "C" fn dfu_core_handle(
     body: &[u8],
     out: &mut [u8],
 ) -> i32
-    ensures step { CoreEventOutcome (core_board config.now device.old block.old flash.now) (CoreHandle setup.now body.now out.old) result out.new
+    ensures step { CoreEventOutcome (core_board config.now device.old block.old flash.now)
+        (CoreHandle setup.now body.now out.old) result out.new
         (core_board config.now device.new block.new flash.now) }
-    ensures short { length out.old < answer_room (config_setting config.now) → result ≡ NO_ROOM_NUMBER }
+    ensures no_room { length out.old < answer_room (config_setting config.now) → result ≡ NO_ROOM_NUMBER }
 {
     if out.len() < room_for(config) {
         return NO_ROOM;
@@ -69,7 +71,8 @@ pub extern "C" fn dfu_core_handle(
     )
 }
 
-/// Lets `ms` milliseconds pass, as `Asking::elapse`. Returns 0; or -11 if writes are due now. Refused like every call.
+/// Reports that `ms` milliseconds passed, as `Asking::elapse` does. Returns 0, or -11 if writes are pending. The refusals of every call
+/// apply.
 #[unsafe(no_mangle)]
 pub extern "C" fn dfu_core_elapse(
     config: &DfuConfig,
@@ -92,7 +95,7 @@ pub extern "C" fn dfu_core_elapse(
     )
 }
 
-/// Takes a reset of the bus, as `Asking::usb_reset`. Returns 0. Refused like every call.
+/// Reports a reset of the bus, as `Asking::usb_reset` does. Returns 0. The refusals of every call apply.
 #[unsafe(no_mangle)]
 pub extern "C" fn dfu_core_usb_reset(
     config: &DfuConfig,
@@ -114,11 +117,12 @@ pub extern "C" fn dfu_core_usb_reset(
     }
 }
 
-/// Takes the report, as `Asking::took`, that the write from `dfu_core_next` was carried out, or, if `failed` is not 0, that it failed.
-/// Returns -11 if the next write is due; or the answer of the call that asked for the writes. Of the block's memory only the bytes after
-/// the transfer size may change.
+/// Reports, as `Asking::took` does, that the program completed the write from `dfu_core_next` or, if `failed` is not 0, that the write
+/// failed. Returns -11 if another write is pending; otherwise the number of the answer to the call that required the writes, as
+/// `dfu_core_handle` or `dfu_core_elapse` returns it. Only the bytes of the block's memory after the transfer size may change.
 ///
-/// Refused with -5 if `out` has room for fewer than 6 bytes; then like every call up to the first -4, and with -4 if no write is due.
+/// The refusals are, in this order: -5 if `out` has fewer than 6 bytes; the refusals of every call, up to the first -4; -4 if no write is
+/// pending.
 #[unsafe(no_mangle)]
 pub extern "C" fn dfu_core_took(
     config: &DfuConfig,
@@ -131,7 +135,7 @@ pub extern "C" fn dfu_core_took(
     ensures step { CoreEventOutcome (core_board config.now device.old block.old flash.now) (CoreTook failed out.old) result out.new
         (core_board config.now device.new block.new flash.now) }
     ensures block { take (transfer_of config.now) block.new ≡ take (transfer_of config.now) block.old }
-    ensures short { length out.old < 6 → result ≡ NO_ROOM_NUMBER }
+    ensures no_room { length out.old < 6 → result ≡ NO_ROOM_NUMBER }
 {
     if out.len() < 6 {
         return NO_ROOM;
@@ -143,15 +147,15 @@ pub extern "C" fn dfu_core_took(
         device,
         asking.took(front, held, flash, failed != 0, out),
         Reply::Answered(answer, count) => number_of(answer, count),
-        _ => Refusal::NoDevice.number()
+        _ => CoreRefusal::NoDevice.number()
     )
 }
 
-/// Hands out the next write, as `Asking::next`. Returns 0, and `ask` has the write. Nothing else changes.
+/// Stores the next write in `ask`, as `Asking::next` does. Returns 0. Nothing else changes.
 ///
-/// Refused like every call up to the first -4; then with -4 if no write is due, the range of the write is not in the spare slot, the gate
-/// of that slot is open and no image is active, the write would erase less than a sector, or the flash has 2^32 bytes or more. If a call
-/// returned -11 and the writes before this one are on the flash, only the last cause is possible.
+/// The refusals of every call up to the first -4 apply. Then it returns -4 if no write is pending, if the range of the write is not in the
+/// spare slot, if the gate of that slot is open and no image is active, if an erase would not cover exactly one sector, or if the flash has
+/// 2^32 bytes or more. If a call returned -11 and all writes before this one are on the flash, only the last reason is possible.
 #[unsafe(no_mangle)]
 pub extern "C" fn dfu_core_next(
     config: &DfuConfig,
@@ -169,11 +173,11 @@ pub extern "C" fn dfu_core_next(
 {
     find!(asking, config, device, block.len());
     if flash.len() > 0xffff_ffff {
-        return Refusal::NoDevice.number();
+        return CoreRefusal::NoDevice.number();
     }
     let (front, held) = block.split_at(usize::from(config.transfer));
     let Some(piece) = asking.next(front, held, flash, &mut ask.bytes) else {
-        return Refusal::NoDevice.number();
+        return CoreRefusal::NoDevice.number();
     };
     hand_out!(piece, ask);
     0

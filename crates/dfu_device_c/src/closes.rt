@@ -1,4 +1,4 @@
-//! Test if a setup closes a download, before the setup is handed in, because the program must check the image itself then.
+//! Tests if a setup packet closes a download. The program must check the image itself before it passes such a packet to `dfu_core_handle`.
 ghost use Rattle.std.specs.Prelude.{◌≡◌, ◌⊎◌, pos};
 ghost use Rattle.dfu_asks.specs.Addressed.{addressed_setup};
 ghost use Rattle.dfu_core.specs.Closes.{CloseResult};
@@ -8,10 +8,10 @@ use crate::tells::yes_no_number_of;
 use dfu_asks::{addressed, mode_closes};
 use dfu_core::{DfuConfig, DfuRecord, idle_mode};
 
-/// Returns 1 if a setup closes a download, else 0. With 1, `dfu_core_handle` would acknowledge the setup, and the whole download would wait
-/// for its installation; with 0 that would not happen.
+/// Returns 1 if `setup` closes a download: `dfu_core_handle` would acknowledge it, and the downloaded image would then wait for its
+/// installation. Otherwise returns 0.
 ///
-/// Refused like `dfu_core_would_stall`.
+/// The refusals of `dfu_core_would_stall` apply.
 #[unsafe(no_mangle)]
 pub extern "C" fn dfu_core_closes(config: &DfuConfig, device: &DfuRecord, setup: &[u8; 8]) -> i32
     ensures outcome { (((result ≡ pos 0) ⊎ (result ≡ pos 1)) × IsIdleRecord config.now device.now

@@ -1,4 +1,4 @@
-//! Facts of a configuration and of the library, for a program in C.
+//! Facts about a configuration and the library, for a program in C.
 ghost use Rattle.std.specs.Prelude.{◌≡◌, ◌⊎◌, ◌<◌, IsTrue, not, pos, slice_index};
 ghost use Rattle.dfu_wire.specs.Functional.{IsFunctional};
 ghost use Rattle.dfu_core.specs.Config.{version, config_setting, IsConfig};
@@ -6,8 +6,8 @@ ghost use Rattle.dfu_core.specs.Numbers.{NO_CONFIG_NUMBER};
 
 use dfu_core::{DfuConfig, VERSION, functional_of, settings_of};
 
-// Returns true exactly if a configuration is allowed: it has the library's version, `Config::new` accepts its numbers, and its sizes are
-// those of a unit and of sectors.
+// Returns true exactly if a configuration is allowed: it has the library's version, `Config::new` accepts its numbers, and a unit and
+// sectors with its sizes exist.
 fn is_allowed(config: &DfuConfig) -> bool
     ensures yes { IsTrue result → IsConfig config.now }
     ensures no { IsTrue (not result) → ¬ IsConfig config.now }
@@ -19,7 +19,7 @@ fn is_allowed(config: &DfuConfig) -> bool
 }
 
 /// Writes the functional descriptor, 9 bytes, to `out`, and returns 9. Bits 4 to 7 of bmAttributes are 0 (USB DFU 1.1, section 4.1.3).
-/// Refused with -2 if the configuration is not allowed.
+/// Returns -2 if the configuration is not allowed.
 #[unsafe(no_mangle)]
 pub extern "C" fn dfu_core_functional(config: &DfuConfig, out: &mut [u8; 9]) -> i32
     ensures outcome { ((result ≡ pos 9) × IsConfig config.now × IsFunctional (config_setting config.now).functional out.new)
@@ -33,7 +33,7 @@ pub extern "C" fn dfu_core_functional(config: &DfuConfig, out: &mut [u8; 9]) -> 
     9
 }
 
-/// Returns the version of the library, with which each configuration and each record begins.
+/// Returns the version of the library. Each configuration and each record begins with this number.
 #[unsafe(no_mangle)]
 pub extern "C" fn dfu_core_version() -> i32
     ensures { result ≡ pos version }

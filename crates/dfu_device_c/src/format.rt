@@ -1,4 +1,5 @@
-//! Calls for a format that asks for its writes, as a program in C makes them. `include/dfu_core.h` describes them.
+//! Calls for a format that lets its program in C write the flash. `include/dfu_core.h` declares them, and `include/dfu_device.h` describes
+//! them.
 ghost use Rattle.std.specs.Prelude.{◌≡◌, ◌⊎◌, ◌==◌, not, ℕ, List, length};
 ghost use Rattle.dfu_asks.specs.Formats.{FormatPending};
 ghost use Rattle.dfu_core.specs.Formats.{FormatStarted, FormatStartRefused, FormatWriteHandedOut, RefusesFormat, FormatReportOutcome};
@@ -10,10 +11,10 @@ use dfu_core::{
 };
 use dfu_slots::FormatFault;
 
-/// Begins a format that asks for its writes, as `Formatting::start`. Returns -11, because its writes are due now.
+/// Begins a format, as `Formatting::start` does. Returns -11, because its writes are pending then.
 ///
-/// Refused with -2 if the configuration is not allowed; -3 if the flash has 2^32 bytes or more; -6 if its size does not allow two slots; -7
-/// if the image is too long.
+/// Returns -2 if the configuration is not allowed; -3 if the flash has 2^32 bytes or more; -6 if the size of the flash doesn't allow two
+/// slots; -7 if the image is too long.
 #[unsafe(no_mangle)]
 pub extern "C" fn dfu_core_format_start(
     config: &DfuConfig,
@@ -40,9 +41,9 @@ pub extern "C" fn dfu_core_format_start(
     }
 }
 
-/// Hands out the next write of a format, as `Formatting::next`. Returns 0, and `ask` has the write. Nothing else changes.
+/// Stores the next write of a format in `ask`, as `Formatting::next` does. Returns 0. Nothing else changes.
 ///
-/// Refused with -2 if the configuration is not allowed; -4 if no write of a format is due.
+/// Returns -2 if the configuration is not allowed; -4 if no write of a format is pending.
 #[unsafe(no_mangle)]
 pub extern "C" fn dfu_core_format_next(
     config: &DfuConfig,
@@ -68,11 +69,11 @@ pub extern "C" fn dfu_core_format_next(
     0
 }
 
-/// Takes the report, as `Formatting::took`, that the write from `dfu_core_format_next` was carried out, or, if `failed` is not 0, that it
-/// failed. Returns -11 if the next write is due; 0 if the image is the active one now; or -8 if the write failed or other bytes were read
+/// Reports, as `Formatting::took` does, that the program completed the write from `dfu_core_format_next` or, if `failed` is not 0, that the
+/// write failed. Returns -11 if another write is pending; 0 if the image is active now; or -8 if the write failed or other bytes were read
 /// back.
 ///
-/// Refused like `dfu_core_format_next`.
+/// The refusals of `dfu_core_format_next` apply.
 #[unsafe(no_mangle)]
 pub extern "C" fn dfu_core_format_took(
     config: &DfuConfig,

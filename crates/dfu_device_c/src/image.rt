@@ -1,4 +1,4 @@
-//! Places of two images: the active image, which a program runs, and a downloaded image that is not installed yet.
+//! Locations of two images: the active image, which a program runs, and a downloaded image that is not installed yet.
 ghost use Rattle.std.specs.Prelude.{◌≡◌, ◌⊎◌};
 ghost use Rattle.dfu_core.specs.Candidate.{CandidateResult, NoCandidateResult, RefusesCandidate};
 ghost use Rattle.dfu_core.specs.Power.{RefusesPower};
@@ -6,11 +6,11 @@ ghost use Rattle.dfu_core.specs.Image.{ImageResult};
 
 use crate::tells::refused;
 use dfu_asks::ImagePlace;
-use dfu_core::{DfuConfig, DfuPlace, DfuRecord, Refusal, found, settings_of};
+use dfu_core::{CoreRefusal, DfuConfig, DfuPlace, DfuRecord, found, settings_of};
 
-/// Finds the place of the active image in its flash. Returns 0, and `place` has the place.
+/// Finds the active image in its flash. Returns 0 and stores the offset and the length of the image in `place`.
 ///
-/// Refused like `dfu_core_power_on`.
+/// The refusals of `dfu_core_power_on` apply.
 #[unsafe(no_mangle)]
 pub extern "C" fn dfu_core_image(config: &DfuConfig, flash: &[u8], place: &mut DfuPlace) -> i32
     ensures outcome { ImageResult config.now flash.now result place.new
@@ -29,13 +29,14 @@ pub extern "C" fn dfu_core_image(config: &DfuConfig, flash: &[u8], place: &mut D
     }
 }
 
-// Most memory that a block needs, with the bytes that are held back.
+// Largest size of the memory for a block and the bytes that are held back.
 const BLOCK_MEMORY: usize = 4096 + 256;
 
-/// Finds the place of the downloaded image, as `Device::candidate`. Returns 0, and `place` has the place of its bytes in the flash. The
-/// last `held_length` bytes of the image are held back, after the transfer size in the block's memory.
+/// Finds the downloaded image, as `Device::candidate` does. Returns 0 and stores in `place` the offset of the image in the flash and the
+/// number of its bytes there. The last `held_length` bytes of the image are held back, after the transfer size in the block's memory.
 ///
-/// Refused like `dfu_core_elapse` with the most memory that a block needs; then with -20 without a downloaded image to refuse.
+/// The refusals of `dfu_core_elapse` apply, except those for the block's memory, which is not passed to the call. Then it returns -20 if
+/// there is no downloaded image to refuse.
 #[unsafe(no_mangle)]
 pub extern "C" fn dfu_core_candidate(
     config: &DfuConfig,

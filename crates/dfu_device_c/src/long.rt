@@ -1,4 +1,4 @@
-//! Setups with a body that is longer than a block.
+//! Setup packets with a body that is longer than a block.
 ghost use Rattle.std.specs.Prelude.{◌≡◌, ◌⊎◌, ◌≤◌, ℕ, List, [], length};
 ghost use Rattle.dfu_asks.specs.Addressed.{addressed_setup};
 ghost use Rattle.dfu_asks.specs.AfterLong.{IsLongerThanBlock};
@@ -13,9 +13,10 @@ ghost use Rattle.dfu_core.specs.Idle.{IsIdleRecord, RefusesUnlessIdle};
 use dfu_asks::{addressed, mode_after_long};
 use dfu_core::{DfuConfig, DfuRecord, idle_mode, set_mode};
 
-/// Answers a setup as `dfu_core_handle` does with a body of wLength bytes, longer than the transfer size. Returns -1.
+/// Answers `setup` as `dfu_core_handle` does with a body of wLength bytes, longer than the transfer size. Returns -1, the stall.
 ///
-/// Refused like `dfu_core_would_stall`; then with -9 if the setup does not announce such a long body.
+/// The refusals of `dfu_core_would_stall` apply. Then it returns -9 if `setup` doesn't announce a body that is longer than the transfer
+/// size.
 #[unsafe(no_mangle)]
 pub extern "C" fn dfu_core_too_long(
     config: &DfuConfig,

@@ -1,4 +1,4 @@
-//! Power-on of a device that asks for its writes.
+//! Power-on of a device that lets its program write the flash.
 ghost use Rattle.std.specs.Prelude.{◌≡◌, ◌⊎◌, true, false, ℕ, List, [], pos};
 ghost use Rattle.dfu_device.specs.declared.device_state.DeviceState.TheVariants.{AppIdle, DfuIdle};
 ghost use Rattle.dfu_core.specs.Board.{CoreRestart, core_board};
@@ -8,7 +8,7 @@ ghost use Rattle.dfu_core.specs.Power.{PowerOutcome, RefusesPower};
 use dfu_asks::Noted;
 use dfu_core::{DfuConfig, DfuRecord, blank, settings_of, slot_of};
 
-// Powers a device on in `mode`, 0 for appIDLE or 2 for dfuIDLE. Returns 0, or the number of the refusal, and then `device` is unchanged.
+// Powers a device on in `mode`: 0 for appIDLE or 2 for dfuIDLE. Returns 0, or the number of a refusal, which leaves `device` unchanged.
 fn start(config: &DfuConfig, device: &mut DfuRecord, flash: &[u8], mode: u32) -> i32
     ensures app { mode ≡ 0 → PowerOutcome config.now AppIdle flash.now result device.new
         ⊎ (RefusesPower config.now flash.now result × (device.new ≡ device.old)) }
@@ -31,9 +31,9 @@ fn start(config: &DfuConfig, device: &mut DfuRecord, flash: &[u8], mode: u32) ->
     }
 }
 
-/// Powers `device` on, as `Asking::power_on`. Returns 0, and `device` is in appIDLE. `device` may hold anything before.
+/// Powers `device` on in appIDLE, as `Asking::power_on` does. Returns 0. The old content of `device` doesn't matter.
 ///
-/// Refused with -2 if the configuration is not allowed; -3 if the flash has no active image, or 2^32 bytes or more.
+/// Returns -2 if the configuration is not allowed; -3 if the flash has no active image, or if it has 2^32 bytes or more.
 #[unsafe(no_mangle)]
 pub extern "C" fn dfu_core_power_on(config: &DfuConfig, device: &mut DfuRecord, flash: &[u8]) -> i32
     ensures outcome { PowerOutcome config.now AppIdle flash.now result device.new
@@ -41,12 +41,13 @@ pub extern "C" fn dfu_core_power_on(config: &DfuConfig, device: &mut DfuRecord, 
     ensures step { result ≡ pos 0 → (kept : DfuRecord) (before block : List ℕ) →
         CoreEventOutcome (core_board config.now kept before flash.now) (CoreRestart false) result []
         (core_board config.now device.new block flash.now) }
-    ensures on { result ≡ pos 0 → (block : List ℕ) → IsCorePoweredOn (core_board config.now device.new block flash.now) }
+    ensures powered_on { result ≡ pos 0 → (block : List ℕ) → IsCorePoweredOn (core_board config.now device.new block flash.now) }
 {
     start(config, device, flash, 0)
 }
 
-/// Powers `device` on in dfuIDLE, as by `dfu_core_power_on`, a DETACH and a reset of the bus. Refused like `dfu_core_power_on`.
+/// Powers `device` on in dfuIDLE: the result is the same as after `dfu_core_power_on`, a DETACH and a reset of the bus. The refusals of
+/// `dfu_core_power_on` apply.
 #[unsafe(no_mangle)]
 pub extern "C" fn dfu_core_begin(config: &DfuConfig, device: &mut DfuRecord, flash: &[u8]) -> i32
     ensures outcome { PowerOutcome config.now DfuIdle flash.now result device.new
@@ -54,7 +55,7 @@ pub extern "C" fn dfu_core_begin(config: &DfuConfig, device: &mut DfuRecord, fla
     ensures step { result ≡ pos 0 → (kept : DfuRecord) (before block : List ℕ) →
         CoreEventOutcome (core_board config.now kept before flash.now) (CoreRestart true) result []
         (core_board config.now device.new block flash.now) }
-    ensures on { result ≡ pos 0 → (block : List ℕ) → IsCorePoweredOn (core_board config.now device.new block flash.now) }
+    ensures powered_on { result ≡ pos 0 → (block : List ℕ) → IsCorePoweredOn (core_board config.now device.new block flash.now) }
 {
     start(config, device, flash, 2)
 }

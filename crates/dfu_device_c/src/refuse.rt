@@ -1,4 +1,4 @@
-//! Calls by which the program refuses an image. They need only the record.
+//! Calls with which the program refuses an image. They need only the configuration and the record.
 ghost use Rattle.std.specs.Prelude.{◌≡◌, ℕ, List, [], IfSome, IfNone};
 ghost use Rattle.dfu_asks.specs.Addressed.{addressed_setup};
 ghost use Rattle.dfu_core.specs.Board.{CoreRefuseClose, CoreRefuse, core_board};
@@ -21,9 +21,9 @@ fn objection_of(status: u32) -> Option<Objection>
     }
 }
 
-/// Refuses the image that was closed, as `Device::refuse`, with errTARGET (1) or errFILE (2). Returns 0.
+/// Refuses the image of a closed download, as `Device::refuse` does, with errTARGET (1) or errFILE (2). Returns 0.
 ///
-/// Refused like `dfu_core_would_stall`; then with -14 for any other status.
+/// The refusals of `dfu_core_would_stall` apply. Then it returns -14 for any other status.
 #[unsafe(no_mangle)]
 pub extern "C" fn dfu_core_refuse(config: &DfuConfig, device: &mut DfuRecord, status: u32) -> i32
     ensures outcome { RefuseOutcome config.now device.old status result device.new }
@@ -41,9 +41,10 @@ pub extern "C" fn dfu_core_refuse(config: &DfuConfig, device: &mut DfuRecord, st
     0
 }
 
-/// Refuses the image that a setup closes, as `Device::refuse_close`, with errTARGET (1) or errFILE (2). Returns -1.
+/// Refuses the image whose download `setup` closes, as `Device::refuse_close` does, with errTARGET (1) or errFILE (2). Returns -1, the
+/// stall.
 ///
-/// Refused like `dfu_core_refuse`; then with -13 if the setup closes no download.
+/// The refusals of `dfu_core_refuse` apply. Then it returns -13 if `setup` closes no download.
 #[unsafe(no_mangle)]
 pub extern "C" fn dfu_core_refuse_close(
     config: &DfuConfig,

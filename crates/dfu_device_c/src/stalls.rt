@@ -1,4 +1,4 @@
-//! Test if a device will stall a setup, before the setup's body is there.
+//! Tests if a device will stall a request, before the body of the request arrives.
 ghost use Rattle.std.specs.Prelude.{◌≡◌, ◌⊎◌, pos};
 ghost use Rattle.dfu_asks.specs.Addressed.{addressed_setup};
 ghost use Rattle.dfu_core.specs.Stalls.{StallResult};
@@ -8,10 +8,10 @@ use crate::tells::yes_no_number_of;
 use dfu_asks::{addressed, mode_stalls};
 use dfu_core::{DfuConfig, DfuRecord, idle_mode};
 
-/// Returns 1 if `dfu_core_handle` will stall a setup with every body of wLength bytes, 0 if with none. `size` is the size of the flash in
-/// bytes.
+/// Returns 1 if `dfu_core_handle` will stall `setup` with every body of wLength bytes, and 0 if it will stall it with no such body. `size`
+/// is the size of the flash in bytes.
 ///
-/// Refused with -2 if the configuration is not allowed; -4 if the record has no mode; -12 if writes are due.
+/// Returns -2 if the configuration is not allowed; -4 if the record has no mode; -12 if writes are pending.
 #[unsafe(no_mangle)]
 pub extern "C" fn dfu_core_would_stall(
     config: &DfuConfig,

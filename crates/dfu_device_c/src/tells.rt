@@ -1,4 +1,4 @@
-//! State, status code and due time of a record's device, and the numbers that calls return.
+//! State, status code and remaining time of a record's device, and the numbers that calls return.
 ghost use Rattle.std.specs.Prelude.{◌≡◌, ◌⊎◌, min, pos, List, ℕ, IfSome, IfNone, ◌≤◌, if◌then◌else◌};
 ghost use Rattle.dfu_wire.specs.Code.{code_byte};
 ghost use Rattle.dfu_wire.specs.State.{state_byte};
@@ -13,25 +13,25 @@ ghost use Rattle.dfu_core.specs.Numbers.{NO_DEVICE_NUMBER, answer_number, format
 ghost use Rattle.dfu_device.specs.Borrowed.{answer_room};
 
 use dfu_asks::mode_due;
-use dfu_core::{DfuConfig, DfuRecord, ERASE, PROGRAM, Refusal, has_mode, mode_in};
+use dfu_core::{CoreRefusal, DfuConfig, DfuRecord, ERASE, PROGRAM, has_mode, mode_in};
 use dfu_device::Answer;
 use dfu_slots::FormatFault;
 
 /// DFU_NO_ROOM: `out` is too short for the answer.
 pub(crate) const NO_ROOM: i32 = -5;
 
-/// Returns the refusal of a call in C for a refusal by dfu_asks.
-pub(crate) fn refused(refusal: dfu_asks::Refusal) -> Refusal
+/// Returns the refusal in C that corresponds to a refusal of dfu_asks.
+pub(crate) fn refused(refusal: dfu_asks::Refusal) -> CoreRefusal
     ensures { result ≡ core_refusal_of refusal }
 {
     match refusal {
-        dfu_asks::Refusal::Asked => Refusal::Asked,
-        dfu_asks::Refusal::NoMedium => Refusal::NoMedium,
-        _ => Refusal::NoDevice,
+        dfu_asks::Refusal::Asked => CoreRefusal::Asked,
+        dfu_asks::Refusal::NoMedium => CoreRefusal::NoMedium,
+        _ => CoreRefusal::NoDevice,
     }
 }
 
-/// Returns the number of `answer`: 0 for an acknowledgement, -1 for a stall, else `count`, the number of its bytes.
+/// Returns the number of `answer`: 0 for an acknowledgement, -1 for a stall, otherwise `count`, the number of its bytes.
 pub(crate) fn number_of(answer: Answer, count: usize) -> i32
     requires { count ≤ 65535 }
     ensures { result ≡ answer_number answer count }
@@ -43,7 +43,7 @@ pub(crate) fn number_of(answer: Answer, count: usize) -> i32
     }
 }
 
-/// Returns the number of `fault`, a fault of a format.
+/// Returns the number of a format's fault, -6 to -8.
 pub(crate) fn format_number(fault: FormatFault) -> i32
     ensures { result ≡ format_number fault }
 {
@@ -54,14 +54,14 @@ pub(crate) fn format_number(fault: FormatFault) -> i32
     }
 }
 
-/// Returns the number of `said`: 1 for true, 0 for false.
+/// Returns 1 for true and 0 for false.
 pub(crate) fn yes_no_number_of(said: bool) -> i32
     ensures { result ≡ yes_no_number said }
 {
     if said { 1 } else { 0 }
 }
 
-/// Returns the number of bytes that an answer may need in `out`: the transfer size, or 6 if that is more.
+/// Returns the size of `out` that any answer fits into: the transfer size, or 6 if that is more.
 pub(crate) fn room_for(config: &DfuConfig) -> usize
     ensures { result ≡ answer_room (config_setting config.now) }
 {
@@ -120,7 +120,7 @@ pub extern "C" fn dfu_core_code(device: &DfuRecord) -> i32
     }
 }
 
-// Returns the number of a due time: its milliseconds, at most 2,147,483,647; 0 if no time is due.
+// Returns the milliseconds `due`, limited to 2,147,483,647, or 0 for None.
 fn due_number(due: Option<u32>) -> i32
     ensures some { IfSome due (λ ms. result ≡ pos (min LONGEST_DUE ms)) }
     ensures none { IfNone due (result ≡ pos 0) }
@@ -131,10 +131,10 @@ fn due_number(due: Option<u32>) -> i32
     }
 }
 
-/// Returns the number of milliseconds after which `dfu_core_elapse` changes the state: at least 1; or 0 if no time changes it.
-/// Longer times give 2,147,483,647.
+/// Returns the number of milliseconds after which `dfu_core_elapse` changes the state: at least 1, or 0 if the state doesn't change with
+/// time. A number over 2,147,483,647 is returned as 2,147,483,647.
 ///
-/// Refused with -2 if the configuration is not allowed; -4 if the record has no mode.
+/// Returns -2 if the configuration is not allowed; -4 if the record has no mode.
 #[unsafe(no_mangle)]
 pub extern "C" fn dfu_core_due(config: &DfuConfig, device: &DfuRecord) -> i32
     ensures outcome { (IsConfig config.now × DueResult config.now device.now result) ⊎ RefusesConfigOrRecord config.now device.now result }

@@ -1,4 +1,5 @@
-//! A bootloader: it serves a USB stack, if it stays, until the application must run, and returns the device with the image to start.
+//! A bootloader. On request it passes the events of a USB stack to a device until the application must run. It returns the device with the
+//! image to start.
 
 ghost use Rattle.std.specs.Prelude.{◌≡◌, ◌<◌, ◌↔◌, ℕ, length, take, drop, IfOk, IfErr, OnErr, IfSome, None, false};
 ghost use Rattle.dfu_wire.specs.declared.states.State.TheVariants.{AppIdle};
@@ -23,26 +24,26 @@ const DETACH: [u8; 8] = [0x21, 0, 0, 0, 0, 0, 0, 0];
 pub enum Happened {
     /// The bus was reset.
     BusReset,
-    /// A control transfer came to the DFU interface.
+    /// A control transfer to the DFU interface arrived.
     Transfer,
     /// This many milliseconds passed since the last tick.
     Tick(u32),
 }
 
-/// A control transfer: the setup, and the bytes of a data stage that goes to the device. Without such a data stage, the body is empty.
+/// A control transfer: the setup packet, and the bytes of a data stage to the device. Without such a data stage the body is empty.
 #[derive(Drop)]
 pub struct Transfer {
     pub setup: [u8; 8],
     pub body: ArrayVec<u8, 4096>,
 }
 
-/// A USB device stack.
+/// A USB device stack, as the bootloader uses it.
 pub trait UsbDevice {
-    /// Waits for the next event. A control transfer is stored in `transfer`, with its whole data stage; a data stage that doesn't fit is
-    /// cut short, and the transfer is then stalled.
+    /// Waits for the next event. A control transfer is stored in `transfer`, with its whole data stage. A data stage that doesn't fit is
+    /// cut short, and the device then stalls the transfer.
     fn wait(&mut self, transfer: &mut Transfer) -> Happened;
 
-    /// Acknowledges the status stage of the last transfer.
+    /// Acknowledges the last transfer in its status stage.
     fn acknowledge(&mut self);
 
     /// Answers the last transfer with `bytes`, which may be empty.
@@ -52,16 +53,16 @@ pub trait UsbDevice {
     fn stall(&mut self);
 }
 
-/// Result of a bootloader: the device, with the image to start, and the length of that image.
+/// Result of a bootloader: the device, whose slot store holds the image to start, and the length of that image.
 #[derive(Drop)]
 pub struct Start<M: Medium> {
-    /// The device, whose slot store has the image to start. `load` copies it out.
+    /// The device. `load` copies the image to start from its slot store.
     pub device: Device<M>,
-    /// Length of that image in bytes.
+    /// Length of the image to start, in bytes.
     pub len: u32,
 }
 
-/// Passes an event to a device, and returns the device's answer. `setup` and `body` are read only for a transfer. For any other event, the
+/// Passes an event to a device, and returns the device's answer. `setup` and `body` are read only for a transfer. For any other event the
 /// answer is `Ack`, and `out` is empty.
 pub fn tell<M: Medium>(
     device: &mut Device<M>,
@@ -84,7 +85,8 @@ pub fn tell<M: Medium>(
     Answer::Ack
 }
 
-/// Passes a DETACH and a bus reset to a device, which start its upgrade, and serves a stack until the device is in appIDLE again.
+/// Passes a DETACH and a bus reset to a device, which start its upgrade, and then passes the events of `usb` to the device until it is in
+/// appIDLE again.
 pub fn serve<M: Medium, U: UsbDevice>(device: &mut Device<M>, usb: &mut U)
     ensures { state_of device.new.stage ≡ AppIdle }
 {
@@ -119,13 +121,13 @@ pub fn serve<M: Medium, U: UsbDevice>(device: &mut Device<M>, usb: &mut U)
     device.restart();
 }
 
-/// Powers a device on. If `stays` is true, for example because of a button or a mark of the application, the call serves a stack until the
-/// application must run; else it returns at once.
+/// Powers a device on. If `stays` is true, for example because a button is pressed, the call passes the events of `usb` to the device until
+/// the application must run; otherwise it returns at once.
 ///
 /// # Errors
 ///
-/// The faults of `Device::power_on`, in its order, exactly if the medium has no active image. The medium is returned unchanged, and the
-/// stack isn't served.
+/// The faults of `Device::power_on`, in the order of that function: the medium has no active image. The medium is returned unchanged, and
+/// no event of `usb` is read.
 pub fn boot<M: Medium, U: UsbDevice>(
     config: Config,
     medium: M,
@@ -147,7 +149,6 @@ pub fn boot<M: Medium, U: UsbDevice>(
     Ok(start_of_image(device))
 }
 
-// Returns the device, and the length of the image to start.
 fn start_of_image<M: Medium>(device: Device<M>) -> Start<M>
     ensures device { result.device ≡ device }
     ensures has_image { HasImage device.slots.medium }

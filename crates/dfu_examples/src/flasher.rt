@@ -1,4 +1,4 @@
-//! A flashing tool: it performs the actions of a host, until the session is over.
+//! A flashing tool: it performs the actions of a host until the session is over.
 
 ghost use Rattle.std.specs.Prelude.{◌≡◌};
 ghost use Rattle.dfu_host.specs.Host.{Act};
@@ -6,17 +6,17 @@ ghost use Rattle.dfu_host.specs.Budget.{remaining_results};
 
 use dfu_host::{Action, Host, Report, Seen};
 
-/// A USB host stack, with the interface of a device open.
+/// A USB host stack that has the interface of a device open.
 pub trait UsbHost {
-    /// Makes a control transfer to the interface, and returns its result: `Ack`; `Stall`; if the setup's first byte is A1h, the `Bytes`
-    /// received, at most as many as the setup's last two bytes say; `Nothing` if the transfer failed or timed out; or `Restarted` if the
-    /// device left the bus and came back in the meantime.
+    /// Makes a control transfer to the interface, and returns its result: `Ack`; `Stall`; if the first byte of `setup` is A1h, the `Bytes`
+    /// received, at most wLength; `Nothing` if the transfer failed or timed out; or `Restarted` if the device left the bus and returned in
+    /// the meantime.
     fn transfer(&mut self, setup: &[u8; 8], body: &[u8]) -> Seen<'_>;
 
     /// Waits for at least `ms` milliseconds.
     fn wait(&mut self, ms: u32);
 
-    /// Resets the bus, and opens the interface of the device that comes back.
+    /// Resets the bus, and opens the interface of the device that is connected afterwards.
     fn reset(&mut self);
 }
 

@@ -1,4 +1,4 @@
-//! An install of an image in one piece, and a restart of a device.
+//! Installs an image in one piece, and restarts a device.
 
 ghost use Rattle.std.specs.Prelude.{◌≡◌, ◌⊎◌, ◌≤◌, length, OnOk, OnErr};
 ghost use Rattle.dfu_slots.specs.StoreView.{image_of, store_on};
@@ -7,7 +7,7 @@ ghost use Rattle.dfu_device.specs.Stage.{InAppIdle};
 use dfu_device::Device;
 use dfu_slots::{Medium, PutFault, Slots};
 
-/// Installs `image`, of at most 4,096 bytes, in `slots`. After an error, the active image is the whole old one or the whole new one.
+/// Installs `image`, at most 4,096 bytes, in `slots`. After an error the active image is the whole old one or the whole new one.
 pub fn install<M: Medium>(slots: &mut Slots<M>, image: &[u8]) -> Result<(), PutFault>
     requires { length image.now ≤ 4096 }
     ensures installed { OnOk result (image_of slots.new ≡ image.now) }
@@ -19,8 +19,8 @@ pub fn install<M: Medium>(slots: &mut Slots<M>, image: &[u8]) -> Result<(), PutF
     slots.commit(image.len() as u32)
 }
 
-/// Restarts a device by a power cut. Power-on never fails, because the medium has an active image. Bytes that were put but not committed
-/// are lost.
+/// Restarts a device as a power cut does. Power-on never fails, because the medium has an active image. Bytes that were put but not
+/// committed are lost.
 pub fn restarted<M: Medium>(device: Device<M>) -> Device<M>
     ensures { result ≡ record { config = device.config; slots = store_on device.slots.medium; stage = InAppIdle } }
 {

@@ -1,5 +1,5 @@
-//! Callers to copy: a medium on a chip or on flash, a bootloader and a flashing tool, each over a trait for a driver; an install and a
-//! restart over any medium; and a session over a link in memory.
+//! Examples to copy: a medium on a chip or on flash, a bootloader and a flashing tool, each on top of a driver trait; an installation and a
+//! restart on any medium; and a session over a link in memory.
 #![tactic(auto)]
 
 mod bootloader;

@@ -9,11 +9,11 @@ use dfu_slots::{Failed, Medium, Unit};
 
 /// A driver of NOR flash with sectors of one size.
 ///
-/// A driver has few duties: `read` must return the bytes in the flash, and neither a `program` nor an `erase` may change a byte outside its
-/// range, even if the power fails during it. The driver need not check that the bytes were written, because the store reads them back. The
-/// store erases each sector before it programs in it, and programs no unit twice between two erases.
+/// A driver must meet two conditions: `read` returns the bytes in the flash, and neither a `program` nor an `erase` changes a byte outside
+/// its range, even if the power fails during it. The driver need not check that the bytes were written, because the store reads them back.
+/// The store erases each sector before it programs in it, and programs no unit twice between two erases.
 pub trait Flash: Drop {
-    /// The bytes in the flash.
+    /// The bytes in the flash. Only contracts use this value.
     ghost cells: { Self → List ℕ };
 
     /// The grain of the flash: the unit in which it is programmed, and the size of the sectors in which it is erased.
@@ -27,18 +27,18 @@ pub trait Flash: Drop {
     fn unit(&self) -> Unit
         ensures { result ≡ (grain self.now).unit };
 
-    /// Returns the size of a sector in bytes. The store takes multiples of 256 up to 262,144.
+    /// Returns the size of a sector in bytes. The store supports multiples of 256 up to 262,144.
     fn sector(&self) -> u32
         ensures { result ≡ (grain self.now).sector };
 
-    /// Reads the bytes from `at` on. The range must lie within the size.
+    /// Reads `out.len()` bytes, the first one at offset `at`. The range must lie within the flash.
     fn read(&self, at: u32, out: &mut [u8])
         requires { at + length out.old ≤ length (cells self.now) }
         ensures { out.new ≡ slice_range (cells self.now) at (at + length out.old) };
 
-    /// Programs whole units from `at` on. The range must lie within the size, and, if the flash has sectors, each of its bytes must be FFh,
-    /// erased since it was programmed. With any result, and any bytes in the range afterwards, all other bytes, the size, the unit and the
-    /// sector must be unchanged.
+    /// Programs whole units, the first one at offset `at`. The range must lie within the flash. If the flash has sectors, each byte of the
+    /// range must be FFh, and its sector must have been erased since the byte was last programmed. The range may hold any bytes afterwards,
+    /// even after Ok, but all other bytes, the size, the unit and the sector must be unchanged.
     fn program(&mut self, at: u32, bytes: &[u8]) -> Result<(), ChipFault>
         requires within { at + length bytes.now ≤ length (cells self.old) }
         requires place { IsMultiple (grain self.old).unit at }
@@ -48,7 +48,7 @@ pub trait Flash: Drop {
         ensures cells { ChangedWithin at (at + length bytes.now) (cells self.old) (cells self.new) }
         ensures grain { grain self.new ≡ grain self.old };
 
-    /// Erases the sector that begins at `at`, which must lie within the size. With any result, and any bytes in the sector afterwards,
+    /// Erases the sector that begins at `at` and must lie within the flash. The sector may hold any bytes afterwards, even after Ok, but
     /// everything else must be unchanged.
     fn erase(&mut self, at: u32) -> Result<(), ChipFault>
         requires within { at + (grain self.old).sector ≤ length (cells self.old) }
@@ -57,7 +57,7 @@ pub trait Flash: Drop {
         ensures grain { grain self.new ≡ grain self.old };
 }
 
-/// A medium on NOR flash.
+/// A medium on NOR flash, with the unit and the sectors of its driver.
 #[derive(Drop)]
 pub struct Nor<F: Flash> {
     pub flash: F,

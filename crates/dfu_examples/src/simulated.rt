@@ -1,4 +1,4 @@
-//! A list of events, played on a link in memory.
+//! Performs a list of events on a link in memory.
 
 ghost use Rattle.std.specs.Prelude.{◌≡◌, ℕ, List, IsTrue};
 ghost use Rattle.dfu_host.specs.declared.limits.Limits.{Limits};
@@ -12,9 +12,9 @@ use dfu_sim::{Event, World, run};
 use dfu_slots::Faulty;
 use std::alloc::Global;
 
-/// Plays a list of events, and returns true if all of them were played. If these are an offer of a file that the device can install, and
-/// the passes of a clean run, with or without verification, the file's payload is then the active image of a device in appIDLE, and the
-/// host has reported that.
+/// Performs a list of events, and returns true if all of them were performed. If the events offer a file that the device can install, and
+/// are then exactly the passes of a session without failures (`clean_passes`), true means success: the file's payload is the active image
+/// of the device, the device is in appIDLE, and the host's session is over.
 pub fn installs<'f, M: Faulty>(
     world: &mut World<'f, M>,
     alloc: Global,

@@ -1,4 +1,4 @@
--- Elements of a DfuSe file: bytes spell the elements that are read from them, and spelled elements are read back.
+-- The encoding of a DfuSe file's elements: reading returns the elements that were encoded, and only those.
 use Rattle.std.proofs.Common.{◌≡◌, ℕ, zero, suc, ◌+◌, ◌^◌, ◌≤◌, eqb, ltb, List, [], ◌∷◌, ◌++◌, length, take, drop, Result, Ok, refl, sym, ap, ◌∙◌, subst, arith, length-append, length-take}
 use Rattle.std.proofs.lemmas.Bool.{ltb-false, le-ltb}
 use Rattle.std.proofs.lemmas.List.{take-append-drop, take_at, drop_at}
@@ -12,13 +12,13 @@ use Rattle.dfu_formats.specs.dfuse.Grammar.{four_bytes_of, spelled_elements, Ele
 use Rattle.dfu_formats.proofs.FileSteps.{ok_sequence_has_ok_steps, passed_condition_is_false, false_condition_is_skipped, ok_values_equal, positive_number_is_not_zero, zero_test_false_means_positive}
 use Rattle.dfu_formats.proofs.FileFields.{place_spells_number, number_at_fits_32_bits, number_at_is_read_back}
 
--- The bytes `b` are the element of `s`, which is in range, spelled, and then the rest of `s`, which are bytes.
+-- `b` is the encoding of the element of `s`, followed by the rest of `s`. The element is in range, and all items of the rest are bytes.
 pub record BeginsWithElement (b : List ℕ) (s : SplitElement) : Type 0 where
   pub spelled : b ≡ four_bytes_of s.element.address ++ (four_bytes_of (length s.element.bytes) ++ (s.element.bytes ++ s.rest))
   pub fits : ElementInRange s.element
   pub bytes : AreBytes s.rest
 
--- The bytes begin with the element that `front_element` splits off them.
+-- If `front_element` splits an element off the bytes, they begin with the encoding of this element.
 pub read_element_is_spelled : (b : List ℕ) (s : SplitElement) → AreBytes b → front_element b ≡ Ok s → BeginsWithElement b s
 unfolding front_element
 read_element_is_spelled b s f h =
@@ -48,13 +48,13 @@ read_element_is_spelled b s f h =
       bytes = AreBytes-drop (drop 8 b) n (AreBytes-drop b 8 f);
     })
 
--- Split elements of equal addresses, bytes and rests are equal.
+-- Two split elements are equal if their addresses, bytes and rests are equal.
 split_elements_equal : (a c : ℕ) (d e r s : List ℕ) → a ≡ c → d ≡ e → r ≡ s →
     ◌≡◌ {A = SplitElement} (record { element = record { address = a; bytes = d }; rest = r })
     (record { element = record { address = c; bytes = e }; rest = s })
 split_elements_equal a c d e r s h0 h1 h2 = cc
 
--- `front_element` splits a spelled element, in range, off the bytes after it.
+-- If bytes begin with the encoding of an element in range, `front_element` splits this element off.
 pub spelled_element_is_read : (e : Piece) (rest : List ℕ) → ElementInRange e →
     front_element (four_bytes_of e.address ++ (four_bytes_of (length e.bytes) ++ (e.bytes ++ rest))) ≡ Ok
     (record { element = e; rest = rest })
@@ -81,25 +81,25 @@ spelled_element_is_read e rest h =
     (le-ltb (2 ^ 32) (number_at 0 b + number_at 4 b) (omega (arith, address, size, h.within)))
     (ap Ok (split_elements_equal _ _ _ _ _ _ address got left)))))
 
--- `b` spells the items of `xs`, `count` of them, one after the other, and all of them fit their fields.
+-- `b` is the encoding of the `count` items of `xs`, one after the other, and all of them fit their fields.
 pub record IsSpelledList {A : Type 0} (spelled_as : List A → List ℕ) (Fit : List A →
     Type 0) (count : ℕ) (b : List ℕ) (xs : List A) : Type 0 where
   pub spelled : b ≡ spelled_as xs
   pub number : length xs ≡ count
   pub fit : Fit xs
 
--- The empty list of bytes spells the empty list of items.
+-- The empty list of bytes is the encoding of the empty list of items that is read from it.
 pub no_bytes_spell_no_items : {A : Type 0} (spelled_as : List A → List ℕ) (Fit : List A → Type 0) (xs : List A) → [] ≡ spelled_as [] →
     Fit [] →
     ◌≡◌ {A = Result (List A) FileFault} (Ok []) (Ok xs) → IsSpelledList spelled_as Fit 0 [] xs
 no_bytes_spell_no_items spelled_as Fit xs spelled fit h =
     subst (λ zs. IsSpelledList spelled_as Fit 0 [] zs) (ok_values_equal [] xs h) (record { spelled = spelled; number = refl; fit = fit })
 
--- `b` spells these elements, `count` of them, each in range, and nothing else.
+-- `b` is the encoding of these `count` elements, each in range, and nothing more.
 abbrev pub AreSpelledElements : ℕ → List ℕ → List Piece → Type 0
 AreSpelledElements count b es = IsSpelledList spelled_elements ElementsInRange count b es
 
--- A first element, and bytes after it that spell `n` elements, spell `n + 1` elements.
+-- If a first element is followed by the encoding of `n` elements, both together are the encoding of `n + 1` elements.
 first_element_joins_spelled : (n : ℕ) (b : List ℕ) (s : SplitElement) (es : List Piece) → BeginsWithElement b s →
     AreSpelledElements n s.rest es
     → AreSpelledElements (suc n) b (s.element ∷ es)
@@ -112,7 +112,7 @@ first_element_joins_spelled n b s es h r = record {
   fit = (h.fits, r.fit);
 }
 
--- Bytes spell the elements that `elements_at` reads from them.
+-- The bytes that `elements_at` reads are the encoding of the elements that it returns.
 pub read_elements_are_spelled : (count : ℕ) (b : List ℕ) (es : List Piece) → AreBytes b → elements_at count b ≡ Ok es →
     AreSpelledElements count b es
 unfolding elements_at spelled_elements ElementsInRange
@@ -127,7 +127,7 @@ read_elements_are_spelled (suc n) b es f h =
     subst (λ (z : List Piece). AreSpelledElements (suc n) b z) (ok_values_equal _ es q.2) (first_element_joins_spelled n b s q.0 begins
     more)
 
--- `elements_at` reads back elements, in range, that are spelled one after the other.
+-- `elements_at` decodes the encoding of any list of elements in range.
 pub spelled_elements_are_read : (es : List Piece) → ElementsInRange es → elements_at (length es) (spelled_elements es) ≡ Ok es
 unfolding elements_at spelled_elements ElementsInRange
 spelled_elements_are_read [] h = refl

@@ -1,4 +1,4 @@
--- Fields of four bytes in a DfuSe file.
+-- Four-byte numbers in a DfuSe file.
 use Rattle.std.proofs.Common.{◌≡◌, ℕ, ◌+◌, ◌^◌, ◌<◌, ◌≤◌, ◌&&◌, Bool, true, eqb, List, ◌∷◌, ◌++◌, length, take, drop, refl, sym, ap, ◌∙◌, arith, length-take, length-drop, get_or}
 use Rattle.std.specs.Int.{w32, from_le_bytes}
 use Rattle.std.proofs.lemmas.Bool.{eqb-true, and_parts}
@@ -10,7 +10,7 @@ use Rattle.dfu_suffix.specs.Laws.{AreBytes}
 use Rattle.dfu_formats.specs.dfuse.Reading.{number_at}
 use Rattle.dfu_formats.specs.dfuse.Grammar.{four_bytes_of}
 
--- Six or more bytes are the first six and the bytes from index 6 on.
+-- Six or more bytes are the first six followed by those from index 6 on.
 pub six_bytes_precede_rest : (b : List ℕ) → 6 ≤ length b →
     b ≡ get_or b 0 0 ∷ get_or b 1 0 ∷ get_or b 2 0 ∷ get_or b 3 0 ∷ get_or b 4 0 ∷ get_or b 5 0 ∷ drop 6 b
 six_bytes_precede_rest b long =
@@ -22,7 +22,7 @@ six_bytes_precede_rest b long =
     let c5 : drop 5 b ≡ get_or b 5 0 ∷ drop 6 b = drop-cons b 5 0 (omega (arith, long)) in
     cc
 
--- If a test that compares four letters and asks for `more` is true, the bytes begin with the four letters, and `more` is true.
+-- If a test that compares four letters and also requires `more` is true, the bytes begin with these letters and `more` is true.
 pub true_test_finds_four_letters : (b : List ℕ) (l0 l1 l2 l3 : ℕ) (more : Bool)
     → (eqb (get_or b 0 0) l0 && (eqb (get_or b 1 0) l1 && (eqb (get_or b 2 0) l2 && (eqb (get_or b 3 0) l3 && more)))) ≡ true
     → (get_or b 0 0 ≡ l0) × (get_or b 1 0 ≡ l1) × (get_or b 2 0 ≡ l2) × (get_or b 3 0 ≡ l3) × (more ≡ true)
@@ -33,7 +33,7 @@ true_test_finds_four_letters b l0 l1 l2 l3 more h =
     let s3 = and_parts (eqb (get_or b 3 0) l3) more s2.1 in
     (eqb-true _ _ s0.0, eqb-true _ _ s1.0, eqb-true _ _ s2.0, eqb-true _ _ s3.0, s3.1)
 
--- The bytes from `place` on are the four bytes of the number there, and then the bytes from `next` on, four places later.
+-- The bytes from index `place` on are the four bytes of the number at `place`, followed by the bytes from `place + 4` on.
 pub place_spells_number : (place next : ℕ) (b : List ℕ) → AreBytes b → next ≡ place + 4 → next ≤ length b
     → drop place b ≡ four_bytes_of (number_at place b) ++ drop next b
 place_spells_number place next b f e h =
@@ -44,12 +44,12 @@ place_spells_number place next b f e h =
     let behind : drop 4 xs ≡ drop next b = drop-drop 4 place b ∙ ap (λ (k : ℕ). drop k b) (sym e) in
     sym (ap (λ (z : List ℕ). z ++ drop next b) here ∙ (ap (λ (z : List ℕ). take 4 xs ++ z) (sym behind) ∙ take-append-drop 4 xs))
 
--- The number in four bytes is below 2^32.
+-- A number of four bytes is below 2^32.
 pub number_at_fits_32_bits : (place : ℕ) (b : List ℕ) → AreBytes b → number_at place b < 2 ^ 32
 number_at_fits_32_bits place b f =
     let g = AreBytes-take 4 (drop place b) (AreBytes-drop b place f) in
     omega (arith, g 0, g 1, g 2, g 3)
 
--- If the four bytes of `n` are at `place`, the number there is `n`.
+-- If the four bytes of `n` begin at index `place`, the number at `place` is `n`.
 pub number_at_is_read_back : (n place : ℕ) (b rest : List ℕ) → n < 2 ^ 32 → drop place b ≡ four_bytes_of n ++ rest → number_at place b ≡ n
 number_at_is_read_back n place b rest h e = ap (λ (t : List ℕ). from_le_bytes w32 (take 4 t)) e ∙ from_le_bytes-to_le_bytes_4 n h

@@ -1,4 +1,4 @@
--- `file_at` reads the DfuSe files of the grammar, and no other bytes.
+-- `file_at` reads exactly the DfuSe files of the grammar.
 use Rattle.std.proofs.Common.{◌≡◌, ◌⊎◌, ℕ, ◌≤◌, ◌||◌, true, not, eqb, ltb, List, ◌∷◌, ◌++◌, length, take, drop, get_or, Result, Ok, IfOk, inl, inr, refl, sym, ap, ◌∙◌, subst, arith}
 use Rattle.std.proofs.lemmas.Bool.{eqb-true, eq-eqb, ltb-false, not-false, le-ltb, or_cases, or_left, or_right}
 use Rattle.std.proofs.lemmas.List.{append_assoc}
@@ -24,11 +24,11 @@ prefix_and_version_are_opening b long h v =
     let cells = six_bytes_precede_rest b long in
     cc
 
--- If the test for one of two numbers is true, `n` is one of them.
+-- If the test that `n` is `a` or `b` is true, `n` is `a` or `b`.
 number_is_one_of_two : (n a b : ℕ) → (eqb n a || eqb n b) ≡ true → (n ≡ a) ⊎ (n ≡ b)
 number_is_one_of_two n a b h = elim (or_cases (eqb n a) (eqb n b) h) [ inl e ↦ inl (eqb-true n a e) | inr e ↦ inr (eqb-true n b e) ]
 
--- A body spells the targets that `body_at` reads from it.
+-- If `body_at` reads targets from the bytes, the bytes are a body with these targets.
 read_body_is_spelled : (whole : ℕ) (b : List ℕ) (ts : List Target) → AreBytes b → body_at whole b ≡ Ok ts → IsBody ts whole b
 unfolding body_at
 read_body_is_spelled whole b ts f h =
@@ -57,12 +57,12 @@ read_body_is_spelled whole b ts f h =
       fit = are.fit;
     }
 
--- A number that is one of two passes the test for either.
+-- If `n` is `a` or `b`, the test that `n` is `a` or `b` is true.
 one_of_two_passes_test : (n a b : ℕ) → (n ≡ a) ⊎ (n ≡ b) → (eqb n a || eqb n b) ≡ true
 one_of_two_passes_test n a b (inl h) = or_left (eqb n a) (eqb n b) (eq-eqb n a h)
 one_of_two_passes_test n a b (inr h) = or_right (eqb n a) (eqb n b) (eq-eqb n b h)
 
--- A body that spells targets is read as those targets.
+-- From a body with targets, `body_at` reads these targets.
 spelled_body_is_read : (whole : ℕ) (b : List ℕ) (ts : List Target) → IsBody ts whole b → body_at whole b ≡ Ok ts
 unfolding body_at
 spelled_body_is_read whole b ts h =
@@ -87,12 +87,12 @@ spelled_body_is_read whole b ts h =
     )))
     (ap (λ (k : ℕ). targets_at k (drop 11 b)) count ∙ (ap (targets_at (length ts)) targets ∙ spelled_targets_are_read ts h.fit))))))
 
--- Each item of a payload at the front of bytes is a byte.
+-- If a list of bytes begins with a payload, every item of the payload is a byte.
 payload_items_are_bytes : (b rest : List ℕ) (s : PayloadAndIds) → AreBytes b → b ≡ s.payload ++ rest → AreBytes s.payload
 payload_items_are_bytes b rest s f h = subst AreBytes (ap (take (length s.payload)) h
     ∙ take-append_seam s.payload rest) (AreBytes-take (length s.payload) b f)
 
--- A file that was read is a DfuSe file of the grammar.
+-- If `file_at` reads a file from the bytes, they are an encoding of this file by the grammar.
 read_dfuse_file_is_spelled : (b : List ℕ) (f : DfuseContent) → AreBytes b → file_at b ≡ Ok f → IsDfuSe f b
 unfolding file_at
 read_dfuse_file_is_spelled b f bytes h =
@@ -104,11 +104,11 @@ read_dfuse_file_is_spelled b f bytes h =
     let body = read_body_is_spelled (length b) s.payload q.0 front q.1 in
     subst (λ (x : DfuseContent). IsDfuSe x b) (ok_values_equal _ f q.2) (record { payload = s.payload; suffix = e; body = body })
 
--- If a result equals that of `file_at`, and has no fault, its value is a DfuSe file of the grammar.
+-- If a result without a fault equals that of `file_at`, its value is the DfuSe file that the bytes contain.
 pub read_answer_is_dfuse_file : (r : Result DfuseContent FileFault) (b : List ℕ) → AreBytes b → r ≡ file_at b → IfOk r (λ f. IsDfuSe f b)
 read_answer_is_dfuse_file r b bytes h = each_value_gives_if_ok r _ (λ f e. read_dfuse_file_is_spelled b f bytes (sym h ∙ e))
 
--- Each DfuSe file of the grammar is read.
+-- `file_at` reads every DfuSe file that follows the grammar.
 pub spelled_dfuse_file_is_read : (b : List ℕ) (f : DfuseContent) → IsDfuSe f b → file_at b ≡ Ok f
 unfolding file_at
 spelled_dfuse_file_is_read b f h =

@@ -1,4 +1,4 @@
--- The text of a map spells the groups of pages that are read from it.
+-- If a group of pages is read from the text of a map, the text begins with this group.
 use Rattle.std.proofs.Common.{◌≡◌, ◌≢◌, ℕ, ◌+◌, ◌*◌, ◌^◌, ◌≤◌, ◌&&◌, Bool, true, false, cond, eqb, ltb, leb, List, [], ◌∷◌, ◌++◌, refl, sym, ap, ◌∙◌, subst, arith, Some, Result, Ok, Err, append_assoc}
 use Rattle.std.proofs.lemmas.Bool.{eq-eqb, ltb-false, leb-true, and_parts}
 use Rattle.dfu_formats.specs.declared.memory.fault.MapFault.{MapFault}
@@ -8,19 +8,19 @@ use Rattle.dfu_formats.specs.memory.Grammar.{IsNumber, IsUnit, IsGroup}
 use Rattle.dfu_formats.proofs.NumbersRead.{NumberSpelled, read_number_is_spelled}
 use Rattle.dfu_formats.proofs.MapSteps.{both_steps_ok, value_or_fault_was_some, nonzero_count_is_positive, byte_taken_was_first}
 
--- The text spells a count of at least 1, in one to five digits, `*`, and the rest.
+-- The text is a count of at least 1, in one to five digits, followed by `*` and the rest.
 record CountSpelled (c : NumberRead) (text : List ℕ) : Type 0 where
   digits : List ℕ
   text_is : text ≡ digits ++ 42 ∷ c.rest
   number_is : IsNumber 10 5 c.value digits
   some : 1 ≤ c.value
 
--- The text spells a number other than 0, in one to five digits, and then the rest.
+-- The text is a number other than 0, in one to five digits, followed by the rest.
 record PositiveNumberSpelled (fault : MapFault) (text : List ℕ) (n : NumberRead) : Type 0 where
   spelled : NumberSpelled 10 5 n text
   some : 1 ≤ n.value
 
--- A text spells the number other than 0 that is read from it.
+-- If a number other than 0 is read from a text, the text begins with its digits.
 number : (fault : MapFault) (text : List ℕ) (n : NumberRead)
     → (value_or_map_fault fault (map_number_at 10 5 text) >>= nonzero_count fault) ≡ Ok n →
     PositiveNumberSpelled fault text n
@@ -32,7 +32,7 @@ number fault text n h =
       some = subst (λ (m : NumberRead). 1 ≤ m.value) k.0 k.1;
     }
 
--- A text spells the count that `count_at` reads from it.
+-- If `count_at` reads a count from a text, the text begins with this count.
 read_count_is_spelled : (c : NumberRead) (text : List ℕ) → count_at text ≡ Ok c → CountSpelled c text
 unfolding count_at
 read_count_is_spelled c text h =
@@ -52,7 +52,7 @@ read_count_is_spelled c text h =
       some = subst (λ (v : ℕ). 1 ≤ v) value n.some;
     }
 
--- The text spells a unit or none, and then the rest. The value is `value` times the bytes of the unit.
+-- The text is an optional unit, followed by the rest. The value read is `value` times the number of bytes of the unit.
 record UnitSpelled (value : ℕ) (s : NumberRead) (text : List ℕ) : Type 0 where
   times : ℕ
   unit : List ℕ
@@ -61,7 +61,7 @@ record UnitSpelled (value : ℕ) (s : NumberRead) (text : List ℕ) : Type 0 whe
   value_is : s.value ≡ times * value
   some : 1 ≤ times
 
--- A text spells the unit that is read from it, by the test whether its first byte is one.
+-- For either result of the test for a unit, the text begins with the unit that was read, if there is one.
 unit_spelled_by_test : (value b : ℕ) (bs : List ℕ) (t : Bool) → eqb (unit_bytes b) 0 ≡ t →
     UnitSpelled value (cond t (record { value = value; rest = b ∷ bs }) (record { value = unit_bytes b * value; rest = bs })) (b ∷ bs)
 unit_spelled_by_test value b bs true e = record {
@@ -77,13 +77,13 @@ unit_spelled_by_test value b bs false e =
     let other : unit_bytes b ≢ 0 = λ z. let yes = eq-eqb (unit_bytes b) 0 z in cc in
     record { times = unit_bytes b; unit = b ∷ []; text_is = refl; unit_is = (refl, other); value_is = refl; some = omega (arith, other) }
 
--- A text spells the unit, or none, that `unit_at` takes off it.
+-- The text begins with the unit that `unit_at` reads from it, if there is one.
 read_unit_is_spelled : (value : ℕ) (text : List ℕ) → UnitSpelled value (unit_at value text) text
 unfolding unit_at
 read_unit_is_spelled value [] = record { times = 1; unit = []; text_is = refl; unit_is = refl; value_is = omega arith; some = omega arith }
 read_unit_is_spelled value (b ∷ bs) = unit_spelled_by_test value b bs (eqb (unit_bytes b) 0) refl
 
--- The text spells a size of at least 1: one to five digits, a unit or none, and the rest.
+-- The text is a size of at least 1, written as one to five digits and an optional unit, followed by the rest.
 record SizeSpelled (s : NumberRead) (text : List ℕ) : Type 0 where
   digits : List ℕ
   unit : List ℕ
@@ -98,7 +98,7 @@ record SizeSpelled (s : NumberRead) (text : List ℕ) : Type 0 where
 product_of_positives_positive : (a b : ℕ) → 1 ≤ a → 1 ≤ b → 1 ≤ a * b
 product_of_positives_positive a b h k = grind arith
 
--- A text spells the size that `size_at` reads from it.
+-- If `size_at` reads a size from a text, the text begins with this size.
 read_size_is_spelled : (s : NumberRead) (text : List ℕ) → size_at text ≡ Ok s → SizeSpelled s text
 unfolding size_at
 read_size_is_spelled s text h =
@@ -119,7 +119,7 @@ read_size_is_spelled s text h =
       some = omega (arith, u.value_is, product_of_positives_positive u.times (t.0).value u.some n.some);
     }
 
--- The text begins with a letter from a to g for the access to pages.
+-- The text begins with the letter for the access, from a to g.
 record AccessLetterSpelled (a : LetterRead) (text : List ℕ) : Type 0 where
   letter : ℕ
   text_is : text ≡ letter ∷ a.rest
@@ -127,7 +127,7 @@ record AccessLetterSpelled (a : LetterRead) (text : List ℕ) : Type 0 where
   to_g : letter ≤ 103
   access_is : a.access ≡ access_of letter
 
--- A text begins with the letter for the access that is read from it, by the test of that letter.
+-- If the test for a letter from a to g passes, the text begins with the letter of the access that was read.
 access_letter_by_test : (b : ℕ) (bs : List ℕ) (a : LetterRead) (t : Bool) → (leb 97 b && leb b 103) ≡ t →
     ◌≡◌ {A = Result LetterRead MapFault} (cond t (Ok (record { access = access_of b; rest = bs })) (Err BadType)) (Ok a) →
     AccessLetterSpelled a (b ∷ bs)
@@ -142,13 +142,13 @@ access_letter_by_test b bs a true e h =
     }
 access_letter_by_test b bs a false e h = cc
 
--- A text begins with the letter for the access that `access_at` reads from it.
+-- If `access_at` reads an access from a text, the text begins with its letter.
 read_access_is_spelled : (a : LetterRead) (text : List ℕ) → access_at text ≡ Ok a → AccessLetterSpelled a text
 unfolding access_at
 read_access_is_spelled a [] h = cc
 read_access_is_spelled a (b ∷ bs) h = access_letter_by_test b bs a (leb 97 b && leb b 103) refl h
 
--- A range without a fault ends within the addresses of 32 bits, by the test of its end.
+-- A range that passes the test of its end has only 32-bit addresses.
 page_range_by_end_test : (start count size : ℕ) (a : LetterRead) (g : RangeRead) (t : Bool) → ltb (2 ^ 32) (start + count * size) ≡ t →
     ◌≡◌ {A = Result RangeRead MapFault} (cond t (Err PastTheEnd)
     (Ok (record { pages = record { start = start; size = size; count = count; access = a.access }; rest = a.rest }))) (Ok g) →
@@ -156,23 +156,23 @@ page_range_by_end_test : (start count size : ℕ) (a : LetterRead) (g : RangeRea
 page_range_by_end_test start count size a g true e h = cc
 page_range_by_end_test start count size a g false e h = (ltb-false (2 ^ 32) (start + count * size) e, cc)
 
--- A range that `range_of_pages` returns ends within the addresses of 32 bits, and is the one of its start, count, size and access.
+-- A range that `range_of_pages` returns has the given start, count, size and access, and only 32-bit addresses.
 checked_page_range_fits : (start count size : ℕ) (a : LetterRead) (g : RangeRead) → range_of_pages start count size a ≡ Ok g →
     (start + count * size ≤ 2 ^ 32) × ◌≡◌ {A = RangeRead} (record { pages = record { start = start; size = size; count = count; access = a.access }; rest = a.rest }) g
 checked_page_range_fits start count size a g h = page_range_by_end_test start count size a g (ltb (2 ^ 32) (start + count * size)) refl h
 
--- The text spells a group of pages, and then the rest.
+-- The text is a group of pages, followed by the rest.
 pub record GroupSpelled (start : ℕ) (g : RangeRead) (text : List ℕ) : Type 0 where
   pub group : List ℕ
   pub text_is : text ≡ group ++ g.rest
   pub group_is : IsGroup start g.pages group
 
--- The text of a count, `*`, a size, a unit, a letter and the rest is the text of a group, and then the rest.
+-- A count, `*`, a size, a unit, a letter and the rest, joined one by one, are the text of a group, followed by the rest.
 group_parts_are_text : (cs ss us : List ℕ) (letter : ℕ) (rest : List ℕ) →
     cs ++ 42 ∷ (ss ++ (us ++ letter ∷ rest)) ≡ (cs ++ 42 ∷ (ss ++ (us ++ letter ∷ []))) ++ rest
 group_parts_are_text cs ss us letter rest = sym (simp append_assoc)
 
--- A spelled count, size and letter are a spelled group, if its pages end within the addresses of 32 bits.
+-- A text that begins with a count, a size and a letter begins with a group, if all its pages have 32-bit addresses.
 spelled_parts_make_group : (start : ℕ) (text : List ℕ) (c s : NumberRead) (a : LetterRead) → CountSpelled c text → SizeSpelled s c.rest →
     AccessLetterSpelled a s.rest →
     start + c.value * s.value ≤ 2 ^ 32 →
@@ -201,7 +201,7 @@ spelled_parts_make_group start text c s a cs ss ls ends = record {
   };
 }
 
--- A text spells the group that `group_at` reads from it.
+-- If `group_at` reads a group from a text, the text begins with this group.
 pub read_group_is_spelled : (start : ℕ) (g : RangeRead) (text : List ℕ) → group_at start text ≡ Ok g → GroupSpelled start g text
 unfolding group_at
 read_group_is_spelled start g text h =

@@ -1,4 +1,4 @@
--- `group_at` reads the groups of pages that a text spells.
+-- `group_at` reads every group of pages that follows the grammar.
 use Rattle.std.proofs.Common.{◌≡◌, ◌≢◌, ℕ, zero, suc, ◌+◌, ◌*◌, ◌^◌, ◌≤◌, leb, List, [], ◌∷◌, ◌++◌, refl, sym, ap, ◌∙◌, arith, Some, Ok, append_assoc}
 use Rattle.std.proofs.lemmas.Bool.{eq-eqb, le-ltb, ne_eqb, and_from, le-leb}
 use Rattle.std.proofs.lemmas.Bool.Decides.{nat_tests}
@@ -14,12 +14,12 @@ use Rattle.dfu_formats.proofs.NumbersRead.{HasNoDigitFirst, other_byte_has_no_di
 equal_numbers_read : (v w : ℕ) (r : List ℕ) → v ≡ w → ◌≡◌ {A = NumberRead} (record { value = v; rest = r }) (record { value = w; rest = r })
 equal_numbers_read v w r h = cc
 
--- A text that begins with the byte gives the text after it.
+-- If a text begins with the byte, `text_after_byte` returns the text after it.
 pub first_byte_is_taken : (b : ℕ) (rest : List ℕ) → text_after_byte b (b ∷ rest) ≡ Some rest
 unfolding text_after_byte
 first_byte_is_taken b rest = rw (eq-eqb b b refl) refl
 
--- `count_at` reads a spelled count of at least 1 before `*`.
+-- `count_at` reads a count of at least 1 that is followed by `*`.
 spelled_count_is_read : (n : ℕ) (ds rest : List ℕ) → IsNumber 10 5 n ds → 1 ≤ n →
     count_at (ds ++ 42 ∷ rest) ≡ Ok (record { value = n; rest = rest })
 unfolding count_at
@@ -31,11 +31,11 @@ spelled_count_is_read n ds rest h some =
       first_byte_is_taken 42 rest,
     ) refl
 
--- A byte from the letter a on is no unit of size.
+-- A byte that is not below the letter a is no unit of size.
 letter_is_no_unit : (letter : ℕ) → 97 ≤ letter → unit_bytes letter ≡ 0
 letter_is_no_unit letter h = grind (arith, nat_tests)
 
--- `unit_at` multiplies by a spelled unit before a letter, or by 1 without a unit.
+-- `unit_at` multiplies by the unit before a letter, or by 1 without a unit.
 spelled_unit_is_read : (times value : ℕ) (unit : List ℕ) (letter : ℕ) (rest : List ℕ) → IsUnit times unit → 97 ≤ letter →
     unit_at value (unit ++ letter ∷ rest) ≡ record { value = times * value; rest = letter ∷ rest }
 unfolding unit_at
@@ -51,14 +51,14 @@ letter_is_no_decimal_digit b h = grind (arith, nat_tests)
 unit_is_no_decimal_digit : (b : ℕ) → unit_bytes b ≢ 0 → 10 ≤ digit_value b
 unit_is_no_decimal_digit b h = grind (arith, nat_tests)
 
--- A unit and a letter, or the letter without a unit, begin with no decimal digit.
+-- The unit and the letter after a size don't begin with a decimal digit, even if there is no unit.
 unit_has_no_digit_first : (times : ℕ) (unit : List ℕ) (letter : ℕ) (rest : List ℕ) → IsUnit times unit → 97 ≤ letter →
     HasNoDigitFirst 10 (unit ++ letter ∷ rest)
 unit_has_no_digit_first times [] letter rest h a = other_byte_has_no_digit_first 10 letter rest (letter_is_no_decimal_digit letter a)
 unit_has_no_digit_first times (b ∷ []) letter rest h a = other_byte_has_no_digit_first 10 b (letter ∷ rest) (unit_is_no_decimal_digit b h.1)
 unit_has_no_digit_first times (a ∷ b ∷ bs) letter rest h c = absurd h
 
--- `size_at` reads a spelled size of at least 1, with its unit or none, before a letter.
+-- `size_at` reads a size of at least 1, with an optional unit, before a letter.
 spelled_size_is_read : (n times : ℕ) (ds unit : List ℕ) (letter : ℕ) (rest : List ℕ) → IsNumber 10 5 n ds → IsUnit times unit → 1 ≤ n →
     97 ≤ letter →
     size_at (ds ++ (unit ++ letter ∷ rest)) ≡ Ok (record { value = times * n; rest = letter ∷ rest })
@@ -77,7 +77,7 @@ spelled_access_is_read : (letter : ℕ) (rest : List ℕ) → 97 ≤ letter → 
 unfolding access_at
 spelled_access_is_read letter rest h k = rw (and_from (leb 97 letter) (leb letter 103) (le-leb 97 letter h) (le-leb letter 103 k)) refl
 
--- The number of a size that is at least 1 is at least 1.
+-- If a size with its unit is at least 1, its number is at least 1.
 size_has_positive_number : (size times number : ℕ) → size ≡ times * number → 1 ≤ size → 1 ≤ number
 size_has_positive_number size times zero e h = absurd (omega (arith, e, h))
 size_has_positive_number size times (suc n) e h = omega arith
@@ -95,7 +95,7 @@ grouped_ranges_equal : (p q : Pages) (rest : List ℕ) → p ≡ q →
     ◌≡◌ {A = RangeRead} (record { pages = p; rest = rest }) (record { pages = q; rest = rest })
 grouped_ranges_equal p q rest e = cc
 
--- `range_of_pages` returns a sound range, from its start, count, size and letter.
+-- `range_of_pages` returns each sound range, from its start, count, size and letter.
 sound_page_range_is_read : (start size : ℕ) (p : Pages) (letter : ℕ) (rest : List ℕ) → p.start ≡ start → p.size ≡ size → p.access
     ≡ access_of letter → IsRange p →
     range_of_pages start p.count size (record { access = access_of letter; rest = rest }) ≡ Ok (record { pages = p; rest = rest })
@@ -104,7 +104,7 @@ sound_page_range_is_read start size p letter rest s z a sound =
     rw (le-ltb (2 ^ 32) (start + p.count * size) (omega (arith, sound.ends, s, times)))
     (ap Ok (grouped_ranges_equal _ _ rest (page_ranges_equal p start size p.count (access_of letter) s z refl a)))
 
--- `group_at` reads a spelled group of pages, and returns the text after it too.
+-- `group_at` reads a group that follows the grammar, and returns the text after it.
 pub spelled_group_is_read : (start : ℕ) (p : Pages) (group rest : List ℕ) → IsGroup start p group → group_at start (group ++ rest)
     ≡ Ok (record { pages = p; rest = rest })
 unfolding group_at

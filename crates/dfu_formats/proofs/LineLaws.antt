@@ -1,4 +1,4 @@
--- Lines of a text: the first one, and the lines after it.
+-- A text is its first line followed by the other lines.
 use Rattle.std.proofs.Common.{◌≡◌, ℕ, zero, suc, ◌+◌, ◌<◌, ◌≤◌, Bool, true, false, cond, eqb, ltb, List, [], ◌∷◌, length, take, drop, refl, sym, ap, ◌∙◌, arith, Option, Some, None, MatchOption}
 use Rattle.std.proofs.lemmas.Bool.{ltb-true, ltb-false}
 use Rattle.std.specs.List.{position, position_or_len}
@@ -9,7 +9,7 @@ lines_of_no_bytes : lines [] ≡ [] ∷ []
 unfolding lines
 lines_of_no_bytes = refl
 
--- A line feed ends a line, and the other lines follow it.
+-- If a text begins with a line feed, its first line is empty, and the lines of the text after the line feed follow.
 pub line_feed_ends_line : (b : ℕ) (bs : List ℕ) → eqb b 10 ≡ true → lines (b ∷ bs) ≡ [] ∷ lines bs
 unfolding lines
 line_feed_ends_line b bs e = rw e refl
@@ -23,12 +23,12 @@ other_byte_joins_line b bs e = rw e refl
 line_feed_place_is_first : (b : ℕ) (bs : List ℕ) → eqb b 10 ≡ true → position_or_len is_line_feed (b ∷ bs) ≡ 0
 line_feed_place_is_first b bs e = rw e refl
 
--- Another byte in front moves the first line feed by one place.
+-- If a byte other than a line feed is added at the front, the index of the first line feed increases by one.
 line_feed_place_after_byte : (b : ℕ) (bs : List ℕ) → eqb b 10 ≡ false → position_or_len is_line_feed (b ∷ bs)
     ≡ 1 + position_or_len is_line_feed bs
 line_feed_place_after_byte b bs e = rw e refl
 
--- The first line ends at the first line feed, and the text after that has the other lines.
+-- The first line ends at the first line feed, and the text after it contains the other lines.
 first_line_ends_at_feed : (text : List ℕ) (n : ℕ) → position_or_len is_line_feed text ≡ n → n < length text
     → lines text ≡ take n text ∷ lines (drop (suc n) text)
 first_line_ends_at_feed [] n e h = absurd (omega (arith, h))
@@ -67,7 +67,7 @@ none_means_test_false : (t : Bool) (k : ℕ) → cond t (Some k) None ≡ None �
 none_means_test_false true k h = cc
 none_means_test_false false k h = refl
 
--- The text up to its first line feed is the first line, and the text after that has the other lines.
+-- The first line ends before the first line feed, and the text after the line feed contains the other lines.
 pub first_feed_splits_lines : (text : List ℕ) (n j : ℕ) → j ≡ suc n → position is_line_feed text ≡ Some n → lines text
     ≡ take n text ∷ lines (drop j text)
 first_feed_splits_lines text n j e h =
@@ -81,7 +81,7 @@ no_feed_leaves_one_line text h =
     text_without_feed_is_line text (ltb-false (position_or_len is_line_feed text) (length text)
     (none_means_test_false (ltb (position_or_len is_line_feed text) (length text)) (position_or_len is_line_feed text) h))
 
--- If a line is taken off the lines, with or without lines after it, it is the first of them.
+-- If `take_line` returns a line, with or without more text, this line is the first line of the text.
 pub lines_have_first_line : {A : Type 0} (o : Option A) (f : A → List (List ℕ)) (all : List (List ℕ)) (line : List ℕ) →
     MatchOption o (all ≡ line ∷ []) (λ rest. all ≡ line ∷ f rest) → (more : List (List ℕ)) × (all ≡ line ∷ more)
 lines_have_first_line None f all line h = ([], h)

@@ -1,4 +1,4 @@
--- A string spells the map that `map_at` reads from it.
+-- If `map_at` reads a map from a string, the string is a text of this map by the grammar.
 use Rattle.std.proofs.Common.{◌≡◌, ℕ, zero, suc, ◌+◌, ◌<◌, ◌≤◌, ◌&&◌, inl, inr, Bool, true, false, not, cond, eqb, ltb, List, [], ◌∷◌, ◌++◌, length, take, drop, refl, sym, ap, ◌∙◌, subst, arith, Option, Some, None, Result, Ok, Err, IfOk, append_assoc}
 use Rattle.std.specs.Prelude.{replicate}
 use Rattle.std.specs.List.{prefix_len, position}
@@ -16,7 +16,7 @@ use Rattle.dfu_formats.proofs.PlacesFound.{LeadsToNextRange, read_address_is_spe
 
 -- ---- ranges
 
--- The text spells the ranges, at most `most` of them.
+-- The text encodes these ranges, of which there are at most `most`. The first begins at `start`.
 record RangesSpelled (most start : ℕ) (ps : List Pages) (text : List ℕ) : Type 0 where
   are : AreRanges start ps text
   few : length ps ≤ most
@@ -62,7 +62,7 @@ more_ranges_are_spelled most start g (Some place) ps text s leads rest h =
     let t = both_steps_ok (ranges_at most place.value place.rest) (λ (ranges : List Pages). Ok (g.pages ∷ ranges)) ps h in
     further_range_is_spelled most start g place t.0 ps text s leads (rest place t.0 t.1) t.2
 
--- A text spells the ranges that `ranges_at` reads from it.
+-- If `ranges_at` reads ranges from a text, the text encodes these ranges.
 read_ranges_are_spelled : (most start : ℕ) (ps : List Pages) (text : List ℕ) → ranges_at most start text ≡ Ok ps →
     RangesSpelled most start ps text
 unfolding ranges_at
@@ -80,7 +80,7 @@ read_ranges_are_spelled (suc n) start ps text h =
 
 -- ---- the name
 
--- `bytes` are `kept` and spaces, and `kept` ends in no space.
+-- `bytes` is `kept` followed by spaces, and `kept` doesn't end in a space.
 record TrailingSpacesCut (kept bytes : List ℕ) : Type 0 where
   spaces : ℕ
   bytes_are : bytes ≡ kept ++ replicate spaces 32
@@ -116,7 +116,7 @@ trimmed_name_by_test b bs kept false e s = record {
   no_space = kept_byte_ends_in_no_space b kept e s.no_space;
 }
 
--- `trimmed_name` cuts the spaces at the end, and nothing else.
+-- `trimmed_name` removes exactly the spaces at the end.
 trimmed_name_cuts_spaces : (bytes : List ℕ) → TrailingSpacesCut (trimmed_name bytes) bytes
 unfolding trimmed_name
 trimmed_name_cuts_spaces [] = record { spaces = 0; bytes_are = refl; no_space = nothing_has_no_trailing_space }
@@ -157,7 +157,7 @@ first_slash_by_test b bs k false e h room =
       no_slash = next_byte_adds_no_slash b k bs (λ z. let yes = eq-eqb b 47 z in cc) s.no_slash;
     })
 
--- The number of bytes before any `/` is the index of the first one, if there is one.
+-- The number of bytes before the first `/` is its index.
 prefix_length_is_first_slash : (text : List ℕ) → prefix_len (λ (b : ℕ). not (is_slash b)) text < length text →
     FirstSlashAt (prefix_len (λ (b : ℕ). not (is_slash b)) text) text
 prefix_length_is_first_slash [] h = absurd (omega (arith, h))
@@ -171,19 +171,19 @@ slash_position_by_test text k n true e h p =
     subst (λ (m : ℕ). FirstSlashAt m text) same (h (ltb-true k (length text) e))
 slash_position_by_test text k n false e h p = cc
 
--- The position of `/` in a text is that of the first one.
+-- `position` returns the index of the first `/`.
 slash_position_is_first : (text : List ℕ) (n : ℕ) → position is_slash text ≡ Some n → FirstSlashAt n text
 slash_position_is_first text n h = slash_position_by_test text (prefix_len (λ (b : ℕ). not (is_slash b)) text) n
     (ltb (prefix_len (λ (b : ℕ). not (is_slash b)) text) (length text)) refl (prefix_length_is_first_slash text) h
 
--- The text spells `@`, a name without `/` or trailing spaces, then spaces, `/`, and the rest.
+-- The text is `@`, a name without `/` and without spaces at its end, then spaces, `/` and the rest.
 record NameSpelled (n : Named) (text : List ℕ) : Type 0 where
   spaces : ℕ
   text_is : text ≡ 64 ∷ (n.name ++ (replicate spaces 32 ++ 47 ∷ n.rest))
   no_slash : HasNoSlash n.name
   no_space : HasNoTrailingSpace n.name
 
--- `@` and a text spell the name that is cut at the first `/`.
+-- If the text after `@` is split at its first `/`, the part before it is the name and the spaces after the name.
 cut_name_is_spelled : (text : List ℕ) (o : Option ℕ) (n : Named) → ((k : ℕ) → o ≡ Some k → FirstSlashAt k text) →
     name_up_to_slash text o ≡ Some n
     → NameSpelled n (64 ∷ text)
@@ -200,7 +200,7 @@ cut_name_is_spelled text (Some k) n s h =
       no_space = t.no_space;
     })
 
--- A text spells the name that `map_name_at` reads from it.
+-- If `map_name_at` reads a name from a text, the text begins with `@` and this name.
 read_name_is_spelled : (n : Named) (text : List ℕ) → map_name_at text ≡ Ok n → NameSpelled n text
 unfolding map_name_at
 read_name_is_spelled n text h =
@@ -218,7 +218,7 @@ map_ranges_apart_by_test : (name : List ℕ) (ranges : List Pages) (m : MapConte
 map_ranges_apart_by_test name ranges m true e h = (e, cc)
 map_ranges_apart_by_test name ranges m false e h = cc
 
--- A string spells the map that `map_at` reads from it.
+-- If `map_at` reads a map from a string, the string is a text of this map by the grammar.
 pub read_map_is_spelled : (m : MapContent) (text : List ℕ) → map_at text ≡ Ok m → IsMap m text
 unfolding map_at
 read_map_is_spelled m text h =
@@ -244,7 +244,7 @@ read_map_is_spelled m text h =
       apart = p.0;
     })
 
--- `IfOk r P` holds if `P` holds of each value `x` with `r` equal to `Ok x`.
+-- `IfOk r P` holds if `P` holds for the value of `r` whenever `r` is `Ok`.
 pub ok_value_gives_fact : {T : Type 0} (r : Result T MapFault) (P : T → Type 0) → ((x : T) → r ≡ Ok x → P x) → IfOk r P
 ok_value_gives_fact (Ok x) P f = f x refl
 ok_value_gives_fact (Err fault) P f = tt

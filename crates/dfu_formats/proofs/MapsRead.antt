@@ -1,4 +1,4 @@
--- `map_at` reads the map that a string spells.
+-- `map_at` reads every map that follows the grammar.
 use Rattle.std.proofs.Common.{◌≡◌, ℕ, zero, suc, ◌+◌, ◌≤◌, not, List, [], ◌∷◌, ◌++◌, length, drop, refl, sym, ap, ◌∙◌, arith, Option, Some, Ok, append_assoc, length-append}
 use Rattle.std.specs.Prelude.{replicate}
 use Rattle.std.specs.List.{prefix_len, position}
@@ -15,7 +15,7 @@ use Rattle.dfu_formats.proofs.NameLaws.{trimmed_name_of_nothing, trimmed_name_of
 
 -- ---- ranges
 
--- `ranges_at` reads a group with nothing after it as one range.
+-- `ranges_at` reads a single group at the end of the text as one range.
 single_range_is_read : (n start : ℕ) (p : Pages) (group : List ℕ) → IsGroup start p group → ranges_at (suc n) start group ≡ Ok (p ∷ [])
 unfolding ranges_at
 single_range_is_read n start p group g =
@@ -23,14 +23,14 @@ single_range_is_read n start p group g =
     ap (group_at start) (sym (append-nil group)) ∙ spelled_group_is_read start p group [] g in
     rw (read, end_gives_no_next_place (end_of_range p)) refl
 
--- `ranges_at` reads a group and, from the place after it, the other ranges.
+-- `ranges_at` reads a group, and then the other ranges from the next start on.
 range_before_others_is_read : (n start place : ℕ) (p : Pages) (ps : List Pages) (group rest more : List ℕ) → IsGroup start p group →
     next_range_place (end_of_range p) rest ≡ Ok (Some (record { value = place; rest = more })) → ranges_at n place more ≡ Ok ps →
     ranges_at (suc n) start (group ++ rest) ≡ Ok (p ∷ ps)
 unfolding ranges_at
 range_before_others_is_read n start place p ps group rest more g e h = rw (spelled_group_is_read start p group rest g, e, h) refl
 
--- `ranges_at` reads the ranges that a text spells, if there are at most `n`.
+-- `ranges_at` reads the ranges of a text, if there are at most `n`.
 spelled_ranges_are_read : (n start : ℕ) (ps : List Pages) (text : List ℕ) → AreRanges start ps text → length ps ≤ n →
     ranges_at n start text ≡ Ok ps
 spelled_ranges_are_read zero start [] text x few = elim x [ ]
@@ -61,7 +61,7 @@ unfolding HasNoSlash
 spaces_have_no_slash zero = tt
 spaces_have_no_slash (suc n) = (λ e. absurd (omega (arith, e)), spaces_have_no_slash n)
 
--- The first `/` comes right after a text without `/`.
+-- The first `/` follows right after a text that contains none.
 slash_follows_slashless_text : (xs rest : List ℕ) → HasNoSlash xs → prefix_len (λ (b : ℕ). not (is_slash b)) (xs ++ 47 ∷ rest) ≡ length xs
 unfolding HasNoSlash
 slash_follows_slashless_text [] rest h = refl
@@ -76,13 +76,13 @@ slash_position_is_length xs rest h =
     (omega (arith, e, length-append xs (47 ∷ rest))) in
     rw room (ap Some e)
 
--- Nothing is left of spaces alone.
+-- A name that consists of spaces is empty once it is trimmed.
 trimmed_spaces_are_nothing : (n : ℕ) → trimmed_name (replicate n 32) ≡ []
 trimmed_spaces_are_nothing zero = trimmed_name_of_nothing
 trimmed_spaces_are_nothing (suc n) = trimmed_name_of_first 32 (replicate n 32)
     ∙ (ap (first_byte_before_kept 32) (trimmed_spaces_are_nothing n) ∙ trailing_space_is_cut 32 refl)
 
--- Of a name that ends in no space, and spaces after it, the name is left.
+-- If spaces follow a name that doesn't end in a space, `trimmed_name` returns the name.
 trimmed_name_keeps_name : (name : List ℕ) (n : ℕ) → HasNoTrailingSpace name → trimmed_name (name ++ replicate n 32) ≡ name
 unfolding HasNoTrailingSpace
 trimmed_name_keeps_name [] n h = trimmed_spaces_are_nothing n
@@ -99,7 +99,7 @@ named_texts_equal : (a b c d : List ℕ) → a ≡ b → c ≡ d → ◌≡◌ {
 }))
 named_texts_equal a b c d h e = cc
 
--- A name that is spelled before spaces and `/` is read.
+-- `name_up_to_slash` returns the name without the spaces before the `/`.
 spelled_name_is_cut : (name : List ℕ) (spaces : ℕ) (rest : List ℕ) → HasNoSlash name → HasNoTrailingSpace name →
     name_up_to_slash (name ++ (replicate spaces 32 ++ 47 ∷ rest)) (position is_slash (name ++ (replicate spaces 32 ++ 47 ∷ rest)))
     ≡ Some (record { name = name; rest = rest })
@@ -113,7 +113,7 @@ spelled_name_is_cut name spaces rest h k =
     rw (whole, at) (named_texts_equal _ _ _ _ (ap trimmed_name (take_at front (47 ∷ rest) (length front) refl)
     ∙ trimmed_name_keeps_name name spaces k) behind)
 
--- `map_name_at` reads a name that is spelled between `@` and spaces before `/`.
+-- `map_name_at` reads the name between `@` and `/`, without the spaces before the `/`.
 spelled_name_is_read : (name : List ℕ) (spaces : ℕ) (rest : List ℕ) → HasNoSlash name → HasNoTrailingSpace name →
     map_name_at (64 ∷ (name ++ (replicate spaces 32 ++ 47 ∷ rest))) ≡ Ok (record { name = name; rest = rest })
 unfolding map_name_at
@@ -123,7 +123,7 @@ spelled_name_is_read name spaces rest h k = rw (
   spelled_name_is_cut name spaces rest h k,
 ) refl
 
--- `map_at` reads the map that a string spells.
+-- `map_at` reads every map that follows the grammar.
 pub spelled_map_is_read : (m : MapContent) (text : List ℕ) → IsMap m text → map_at text ≡ Ok m
 unfolding map_at
 spelled_map_is_read m text h =

@@ -1,10 +1,10 @@
--- Names without the spaces at their end, for each prefix of the bytes.
+-- The loop that trims a name removes the spaces at the end of each prefix of its bytes.
 use Rattle.std.proofs.Common.{◌≡◌, ℕ, zero, suc, ◌<◌, ◌≤◌, ◌&&◌, cond, eqb, List, [], ◌∷◌, length, take, get_or, refl, sym, ap, ◌∙◌, arith, length-take}
 use Rattle.std.proofs.lemmas.Bool.{eq-eqb, ne_eqb, and_right, and_left}
 use Rattle.std.proofs.lemmas.List.{take_all}
 use Rattle.dfu_formats.specs.memory.Reading.{trimmed_name}
 
--- A byte is kept in front of kept bytes; in front of none it is kept unless it is a space.
+-- A byte is kept if bytes after it are kept. Otherwise it is kept unless it is a space.
 abbrev pub first_byte_before_kept : ℕ → List ℕ → List ℕ
 first_byte_before_kept b kept = cond (eqb b 32 && eqb (length kept) 0) [] (b ∷ kept)
 
@@ -16,19 +16,19 @@ pub trimmed_name_of_nothing : trimmed_name [] ≡ []
 unfolding trimmed_name
 trimmed_name_of_nothing = refl
 
--- Each byte is kept in front of at least one kept byte.
+-- A byte that precedes a kept byte is kept.
 pub byte_stays_before_kept : (b : ℕ) (kept : List ℕ) → 1 ≤ length kept → first_byte_before_kept b kept ≡ b ∷ kept
 byte_stays_before_kept b kept h = rw (and_right (eqb b 32) (eqb (length kept) 0) (ne_eqb (length kept) 0 (λ z. omega (arith, h, z)))) refl
 
--- A byte that is no space is kept.
+-- A byte other than a space is kept.
 pub nonspace_byte_stays : (b : ℕ) (kept : List ℕ) → (b ≡ 32 → ⊥) → first_byte_before_kept b kept ≡ b ∷ kept
 nonspace_byte_stays b kept h = rw (and_left (eqb b 32) (eqb (length kept) 0) (ne_eqb b 32 h)) refl
 
--- A space with no kept byte after it is cut.
+-- A space with no kept byte after it is removed.
 pub trailing_space_is_cut : (b : ℕ) → b ≡ 32 → first_byte_before_kept b [] ≡ []
 trailing_space_is_cut b h = rw (eq-eqb b 32 h) refl
 
--- A further space leaves the trimmed name as it is.
+-- Appending a space leaves the trimmed name unchanged.
 trimmed_name_skips_space : (xs : List ℕ) (i : ℕ) → i < length xs → get_or xs i 0 ≡ 32 → trimmed_name (take (suc i) xs)
     ≡ trimmed_name (take i xs)
 trimmed_name_skips_space [] i h e = absurd (omega (arith, h))
@@ -38,7 +38,7 @@ trimmed_name_skips_space (x ∷ xs) (suc i) h e =
     trimmed_name_of_first x (take (suc i) xs) ∙ (ap (first_byte_before_kept x) (trimmed_name_skips_space xs i (omega (arith, h)) e)
     ∙ sym (trimmed_name_of_first x (take i xs)))
 
--- A further byte that is no space is kept, with all bytes before it.
+-- A byte other than a space is kept, and so are all bytes before it.
 trimmed_name_keeps_byte : (xs : List ℕ) (i : ℕ) → i < length xs → (get_or xs i 0 ≡ 32 → ⊥) → trimmed_name (take (suc i) xs)
     ≡ take (suc i) xs
 trimmed_name_keeps_byte [] i h e = absurd (omega (arith, h))
@@ -48,12 +48,13 @@ trimmed_name_keeps_byte (x ∷ xs) (suc i) h e =
     trimmed_name_of_first x (take (suc i) xs) ∙ (ap (first_byte_before_kept x) (trimmed_name_keeps_byte xs i (omega (arith, h)) e)
     ∙ byte_stays_before_kept x (take (suc i) xs) (omega (arith, h, length-take (suc i) xs)))
 
--- A space after the first `i` bytes, of which `end` are kept, leaves `end` bytes kept.
+-- If the first `i` bytes without their trailing spaces are the first `end` bytes, and byte `i` is a space, the first `i + 1` bytes without
+-- their trailing spaces are the first `end` bytes too.
 pub trimmed_name_after_space : (xs : List ℕ) (i j end : ℕ) → j ≡ suc i → i < length xs → get_or xs i 0 ≡ 32 →
     trimmed_name (take i xs) ≡ take end xs → trimmed_name (take j xs) ≡ take end xs
 trimmed_name_after_space xs i j end e h s t = ap (λ (k : ℕ). trimmed_name (take k xs)) e ∙ (trimmed_name_skips_space xs i h s ∙ t)
 
--- If byte `i` is no space, the first `i + 1` bytes are kept.
+-- If byte `i` is not a space, trimming removes nothing from the first `i + 1` bytes.
 pub trimmed_name_after_byte : (xs : List ℕ) (i j : ℕ) → j ≡ suc i → i < length xs → (get_or xs i 0 ≡ 32 → ⊥) → trimmed_name (take j xs)
     ≡ take j xs
 trimmed_name_after_byte xs i j e h s =
@@ -62,7 +63,7 @@ trimmed_name_after_byte xs i j e h s =
 pub trimmed_name_of_no_bytes : (xs : List ℕ) → trimmed_name (take 0 xs) ≡ take 0 xs
 trimmed_name_of_no_bytes xs = trimmed_name_of_nothing
 
--- Once all bytes are passed, the bytes that are kept are the trimmed name.
+-- After the last byte, the kept bytes are the trimmed name.
 pub trimmed_name_of_whole : (xs : List ℕ) (i end : ℕ) → length xs ≤ i → trimmed_name (take i xs) ≡ take end xs → take end xs
     ≡ trimmed_name xs
 trimmed_name_of_whole xs i end h t = sym (sym (ap trimmed_name (take_all i xs h)) ∙ t)

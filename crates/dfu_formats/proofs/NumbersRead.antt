@@ -1,4 +1,4 @@
--- Numbers of a map: spelled numbers are read, and a text spells the numbers that are read from it.
+-- `map_number_at` reads each number of the grammar, and only those.
 use Rattle.std.proofs.Common.{◌≡◌, ℕ, zero, suc, ◌≤◌, ◌||◌, Bool, true, false, cond, eqb, ltb, List, [], ◌∷◌, ◌++◌, length, take, drop, refl, sym, ap, ◌∙◌, arith, Option, Some, None, length-take}
 use Rattle.std.proofs.lemmas.Bool.{ltb-true, ltb-false, or_parts, le-ltb, ne_eqb, or_from}
 use Rattle.std.proofs.lemmas.List.{take-append-drop, take_at, drop_at}
@@ -12,12 +12,11 @@ unfoldable pub HasNoDigitFirst : (base : ℕ) → List ℕ → Type 0
 HasNoDigitFirst base [] = Unit {0}
 HasNoDigitFirst base (b ∷ bs) = base ≤ digit_value b
 
--- A text whose first byte is no digit begins with no digit.
 pub other_byte_has_no_digit_first : (base b : ℕ) (bs : List ℕ) → base ≤ digit_value b → HasNoDigitFirst base (b ∷ bs)
 unfolding HasNoDigitFirst
 other_byte_has_no_digit_first base b bs h = h
 
--- All digits before a text that begins with no digit are counted.
+-- If digits are followed by a text that doesn't begin with a digit, all these digits are counted.
 spelled_digits_are_counted : (base : ℕ) (ds rest : List ℕ) → AreDigits base ds → HasNoDigitFirst base rest → digits_in base (ds ++ rest)
     ≡ length ds
 unfolding AreDigits HasNoDigitFirst
@@ -30,7 +29,7 @@ equal_parts_equal_numbers : (v w : ℕ) (r s : List ℕ) → v ≡ w → r ≡ s
     ◌≡◌ {A = Option NumberRead} (Some (record { value = v; rest = r })) (Some (record { value = w; rest = s }))
 equal_parts_equal_numbers v w r s h e = cc
 
--- `map_number_at` reads a number that is spelled before a text that begins with no digit.
+-- `map_number_at` reads a number that is followed by a text without a leading digit.
 pub spelled_number_is_read : (base most n : ℕ) (ds rest : List ℕ) → IsNumber base most n ds → HasNoDigitFirst base rest →
     map_number_at base most (ds ++ rest) ≡ Some (record { value = n; rest = rest })
 unfolding map_number_at
@@ -43,7 +42,7 @@ spelled_number_is_read base most n ds rest h stop =
     ∙ sym h.digits_make_number)
     (drop_at ds rest (digits_in base (ds ++ rest)) (sym k)))
 
--- The digits at the front of a text are digits, by the test of the first byte, if those after it are.
+-- For either result of the digit test, the bytes that `digits_in` counts are digits, if those after the first byte are.
 digits_by_first_test : (base b : ℕ) (bs : List ℕ) (t : Bool) → ltb (digit_value b) base ≡ t → AreDigits base (take (digits_in base bs) bs) →
     AreDigits base (take (cond t (suc (digits_in base bs)) 0) (b ∷ bs))
 unfolding AreDigits
@@ -55,36 +54,36 @@ unfolding AreDigits
 nothing_is_digits base zero = tt
 nothing_is_digits base (suc n) = tt
 
--- Each byte that digits_in counts is a digit of the base.
+-- Each byte that `digits_in` counts is a digit of the base.
 are_digits : (base : ℕ) (text : List ℕ) → AreDigits base (take (digits_in base text) text)
 unfolding digits_in
 are_digits base [] = nothing_is_digits base 0
 are_digits base (b ∷ bs) = digits_by_first_test base b bs (ltb (digit_value b) base) refl (are_digits base bs)
 
--- A first byte, digit or not, keeps the count of digits within the text.
+-- For either result of the digit test, the count of digits is at most the length of the text.
 digit_count_within_by_test : (n : ℕ) (b : ℕ) (bs : List ℕ) (t : Bool) → n ≤ length bs → cond t (suc n) 0 ≤ length (b ∷ bs)
 digit_count_within_by_test n b bs true h = omega (arith, h)
 digit_count_within_by_test n b bs false h = omega arith
 
--- A text has no more digits at its front than bytes.
+-- A text has at most as many leading digits as bytes.
 digit_count_within_text : (base : ℕ) (text : List ℕ) → digits_in base text ≤ length text
 unfolding digits_in
 digit_count_within_text base [] = omega arith
 digit_count_within_text base (b ∷ bs) = digit_count_within_by_test (digits_in base bs) b bs (ltb (digit_value b) base)
     (digit_count_within_text base bs)
 
--- If a value is given where a true test gives none, the test is false, and the value is the one given then.
+-- If a condition that selects None or a value selects a value, the condition is false, and the value is the one in its other branch.
 some_if_test_false : (t : Bool) (x y : NumberRead) → cond t None (Some x) ≡ Some y → (t ≡ false) × (x ≡ y)
 some_if_test_false true x y h = cc
 some_if_test_false false x y h = (refl, cc)
 
--- The text spells a number of at most `most` digits, and then the rest.
+-- The text is a number of at most `most` digits, followed by the rest.
 pub record NumberSpelled (base most : ℕ) (n : NumberRead) (text : List ℕ) : Type 0 where
   pub digits : List ℕ
   pub text_is : text ≡ digits ++ n.rest
   pub number_is : IsNumber base most n.value digits
 
--- A text spells the number that `map_number_at` reads from it.
+-- If `map_number_at` reads a number from a text, the text begins with its digits.
 pub read_number_is_spelled : (base most : ℕ) (n : NumberRead) (text : List ℕ) → map_number_at base most text ≡ Some n →
     NumberSpelled base most n text
 unfolding map_number_at

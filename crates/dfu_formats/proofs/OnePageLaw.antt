@@ -10,7 +10,7 @@ use Rattle.dfu_formats.specs.memory.Ranges.{IsRange, end_of_range}
 use Rattle.dfu_formats.specs.memory.Lookups.{range_has, range_at, page_in, end_of_page, AddressOnOnePage}
 use Rattle.dfu_formats.proofs.OneRange.{found_range_has_its_addresses, lookup_here_or_later, no_range_in_empty_map, range_has_addresses}
 
--- A range that `range_at` returns is sound, and has the address.
+-- A range that `range_at` returns is sound, and contains the address.
 found_range_is_sound : (a : ℕ) (p : Pages) (ranges : List Pages) → All IsRange ranges → range_at a ranges ≡ Some p → IsRange p
     × (range_has a p ≡ true)
 found_range_is_sound a p [] s f = absurd (no_range_in_empty_map a p f)
@@ -28,21 +28,21 @@ bounds_determine_quotient x n k h low high =
     let down : x / n < suc k = (div-lt_iff_lt-mul {k = n} {x = x} {y = suc k} (omega (arith, h))).1 (omega (arith, high, next)) in
     omega (arith, up, down)
 
--- A page of `n` bytes that has an address of a range of `c` pages ends by the end of the range.
+-- A page that contains an address of a range ends within this range, which has `c` pages of `n` bytes.
 page_ends_within_range : (x n k c : ℕ) → 1 ≤ n → k ≡ x / n → x < c * n → k * n + n ≤ c * n
 page_ends_within_range x n k c h e room = grind arith
 
--- A page that is found is that of a range that is found.
+-- If `page_at` returns a page, it belongs to the range that `range_at` returns.
 found_page_is_of_found_range : (o : Option Pages) (a : ℕ) (page : Page) → option_map (page_in a) o ≡ Some page → (p : Pages) × (o ≡ Some p)
     × (page_in a p ≡ page)
 found_page_is_of_found_range None a page h = cc
 found_page_is_of_found_range (Some p) a page h = (p, refl, cc)
 
--- A range that has an address begins at it or before, and ends after it.
+-- A range that contains an address begins at or before it, and ends after it.
 range_test_bounds_address : (a : ℕ) (p : Pages) → range_has a p ≡ true → (p.start ≤ a) × (a < end_of_range p)
 range_test_bounds_address a p h = grind (arith, nat_tests)
 
--- If `a` is in the range, and `b` on the page of `a`, `b` is in the range too, and on the same page.
+-- If `a` is in the range, and `b` is on the page of `a`, then `b` is in the range and on the same page.
 addresses_share_page : (p : Pages) (a b : ℕ) → IsRange p → p.start ≤ a → a < end_of_range p → (page_in a p).start ≤ b →
     b < end_of_page (page_in a p) →
     (range_has b p ≡ true) × (page_in b p ≡ page_in a p)
@@ -58,7 +58,7 @@ addresses_share_page p a b s from to low high =
       ap (λ (k : ℕ). let page : Page = record { start = p.start + k * p.size; size = p.size; access = p.access } in page) same,
     )
 
--- All addresses of a page that is found are found on that page.
+-- If sound ranges share no address and `page_at` returns a page, it returns the same page for each address of this page.
 pub one_page : AddressOnOnePage
 one_page ranges a b page s apart h low high =
     let f = found_page_is_of_found_range (range_at a ranges) a page h in

@@ -7,23 +7,23 @@ use Rattle.dfu_formats.specs.declared.memory.pages.Pages.{Pages}
 use Rattle.dfu_formats.specs.memory.Ranges.{end_of_range, ranges_are_apart, is_apart_from, are_apart}
 use Rattle.dfu_formats.specs.memory.Lookups.{range_has, range_at, access_grants, IsGranted, AllGranted}
 
--- A look-up returns the first range if its test is true, and otherwise a later one.
+-- A lookup returns the first range if its test is true, and otherwise a later one.
 found_by : (t : Bool) (q p : Pages) (o : Option Pages) → cond t (Some q) o ≡ Some p → ((t ≡ true) × (q ≡ p)) ⊎ ((t ≡ false) × (o ≡ Some p))
 found_by true q p o h = inl (refl, cc)
 found_by false q p o h = inr (refl, h)
 
--- A look-up returns the first range, if it has the address, or else the result among the others.
+-- A lookup returns the first range if it contains the address, and otherwise the result for the other ranges.
 pub lookup_here_or_later : (x : ℕ) (q p : Pages) (qs : List Pages) → range_at x (q ∷ qs) ≡ Some p →
     ((range_has x q ≡ true) × (q ≡ p)) ⊎ ((range_has x q ≡ false) × (range_at x qs ≡ Some p))
 unfolding range_at
 lookup_here_or_later x q p qs h = found_by (range_has x q) q p (range_at x qs) h
 
--- A look-up returns the first range if that has the address.
+-- If the first range contains the address, the lookup returns it.
 range_is_found_here : (x : ℕ) (q : Pages) (qs : List Pages) → range_has x q ≡ true → range_at x (q ∷ qs) ≡ Some q
 unfolding range_at
 range_is_found_here x q qs h = rw h refl
 
--- A look-up goes on to the other ranges if the first doesn't have the address.
+-- If the first range doesn't contain the address, the lookup continues with the other ranges.
 range_is_found_later : (x : ℕ) (q : Pages) (qs : List Pages) → range_has x q ≡ false → range_at x (q ∷ qs) ≡ range_at x qs
 unfolding range_at
 range_is_found_later x q qs h = rw h refl
@@ -32,7 +32,7 @@ pub no_range_in_empty_map : (x : ℕ) (p : Pages) → range_at x [] ≡ Some p �
 unfolding range_at
 no_range_in_empty_map x p h = cc
 
--- If `q` is apart from all ranges of a list, it is apart from the range that a look-up returns.
+-- If `q` overlaps no range of a list, it doesn't overlap the range that a lookup returns.
 apart_from_found_range : (x : ℕ) (q p : Pages) (qs : List Pages) → is_apart_from q qs ≡ true → range_at x qs ≡ Some p →
     ranges_are_apart q p ≡ true
 apart_from_found_range x q p [] h f = absurd (no_range_in_empty_map x p f)
@@ -44,11 +44,11 @@ apart_from_found_range x q p (r ∷ rs) h f =
           w.1
     ]
 
--- A range has no address of a range that it is apart from.
+-- If two ranges don't overlap, an address of one is not in the other.
 apart_ranges_share_no_address : (y : ℕ) (q p : Pages) → ranges_are_apart q p ≡ true → range_has y p ≡ true → range_has y q ≡ false
 apart_ranges_share_no_address y q p h k = grind (arith, nat_tests)
 
--- If the look-up of `x` returns `p`, the look-up of each address of `p` returns `p`.
+-- If ranges share no address, and the lookup of `x` returns `p`, the lookup of each address of `p` returns `p`.
 pub found_range_has_its_addresses : (x y : ℕ) (p : Pages) (ranges : List Pages) → are_apart ranges ≡ true → range_at x ranges ≡ Some p →
     range_has y p ≡ true →
     range_at y ranges ≡ Some p
@@ -61,11 +61,12 @@ found_range_has_its_addresses x y p (q ∷ qs) a f h =
           ∙ found_range_has_its_addresses x y p qs both.1 w.1 h
     ]
 
--- A range has each address from its start to before its end.
+-- A range contains each address from its start to before its end.
 pub range_has_addresses : (y : ℕ) (p : Pages) → p.start ≤ y → y < end_of_range p → range_has y p ≡ true
 range_has_addresses y p h k = grind (arith, nat_tests)
 
--- If the look-up of `at` returns `p`, which grants the access, a grant up to `at` extends to the end of `p`.
+-- If the lookup of `at` returns `p`, which grants the access, and each address from `start` to before `at` is in a range that grants the
+-- access, each address from `start` to before the end of `p` is in such a range.
 pub grant_extends_to_range_end : (wanted : Access) (start at : ℕ) (p : Pages) (ranges : List Pages) → are_apart ranges ≡ true →
     AllGranted wanted start at ranges → range_at at ranges ≡ Some p → p.start ≤ at → at < end_of_range p
     → access_grants p.access wanted ≡ true →

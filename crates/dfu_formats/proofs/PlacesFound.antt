@@ -1,4 +1,4 @@
--- The text of a map spells the addresses that are read from it.
+-- If `address_at` or `next_range_place` reads an address from a text, the text contains this address.
 use Rattle.std.proofs.Common.{◌≡◌, ℕ, ◌&&◌, ◌||◌, ◌⊎◌, inl, inr, Bool, true, false, cond, eqb, List, [], ◌∷◌, ◌++◌, refl, sym, ap, ◌∙◌, subst, Option, Some, None, Result, Ok, Err, append_assoc}
 use Rattle.std.proofs.lemmas.Bool.{eqb-true, and_parts, or_cases}
 use Rattle.dfu_formats.specs.declared.memory.fault.MapFault.{MapFault}
@@ -8,7 +8,7 @@ use Rattle.dfu_formats.specs.memory.Grammar.{IsNumber, IsPrefix, IsAddress}
 use Rattle.dfu_formats.proofs.NumbersRead.{read_number_is_spelled}
 use Rattle.dfu_formats.proofs.MapSteps.{both_steps_ok, value_or_fault_was_some, byte_taken_was_first}
 
--- The text is a hexadecimal prefix or none, and then the rest.
+-- The text is an optional hexadecimal prefix, followed by the rest.
 record HexPrefixSpelled (rest text : List ℕ) : Type 0 where
   prefix : List ℕ
   text_is : text ≡ prefix ++ rest
@@ -17,7 +17,7 @@ record HexPrefixSpelled (rest text : List ℕ) : Type 0 where
 x_test_means_either_case : (b : ℕ) → (eqb b 120 || eqb b 88) ≡ true → (b ≡ 120) ⊎ (b ≡ 88)
 x_test_means_either_case b h = elim (or_cases (eqb b 120) (eqb b 88) h) [ inl e ↦ inl (eqb-true b 120 e) | inr e ↦ inr (eqb-true b 88 e) ]
 
--- The text before the rest is a prefix or none, by the test of the first two bytes.
+-- For either result of the test for `0x` and `0X`, the text is an optional prefix, followed by the rest.
 hex_prefix_by_test : (a b : ℕ) (bs : List ℕ) (t : Bool) → (eqb a 48 && (eqb b 120 || eqb b 88)) ≡ t →
     HexPrefixSpelled (cond t bs (a ∷ b ∷ bs)) (a ∷ b ∷ bs)
 hex_prefix_by_test a b bs true e =
@@ -25,20 +25,20 @@ hex_prefix_by_test a b bs true e =
     record { prefix = a ∷ b ∷ []; text_is = refl; prefix_is = (eqb-true a 48 both.0, x_test_means_either_case b both.1) }
 hex_prefix_by_test a b bs false e = record { prefix = []; text_is = refl; prefix_is = tt }
 
--- A text is a prefix or none, and then the text that `text_after_prefix` leaves.
+-- A text is an optional prefix, followed by the text that `text_after_prefix` returns.
 hex_prefix_precedes_rest : (text : List ℕ) → HexPrefixSpelled (text_after_prefix text) text
 unfolding text_after_prefix
 hex_prefix_precedes_rest [] = record { prefix = []; text_is = refl; prefix_is = tt }
 hex_prefix_precedes_rest (a ∷ []) = record { prefix = []; text_is = refl; prefix_is = tt }
 hex_prefix_precedes_rest (a ∷ b ∷ bs) = hex_prefix_by_test a b bs (eqb a 48 && (eqb b 120 || eqb b 88)) refl
 
--- The text spells an address, `/`, and the rest.
+-- The text is an address, `/` and the rest.
 pub record AddressSpelled (n : NumberRead) (text : List ℕ) : Type 0 where
   pub address : List ℕ
   pub text_is : text ≡ address ++ 47 ∷ n.rest
   pub address_is : IsAddress n.value address
 
--- A text spells the address that `address_at` reads from it.
+-- If `address_at` reads an address from a text, the text begins with this address and `/`.
 pub read_address_is_spelled : (n : NumberRead) (text : List ℕ) → address_at text ≡ Ok n → AddressSpelled n text
 unfolding address_at
 read_address_is_spelled n text h =
@@ -67,7 +67,8 @@ read_address_is_spelled n text h =
       };
     }
 
--- Text after a range that ends at `end`: nothing, for no next range; `,`, for one at `end`; or an address between two `/`, for one there.
+-- The text after a range that ends at `end`. Without a next range it is empty. It begins with `,` if the next range begins at `end`, or
+-- with an address between two `/` if the next range begins at this address.
 unfoldable pub LeadsToNextRange : (end : ℕ) → Option NumberRead → List ℕ → Type 0
 LeadsToNextRange end None text = text ≡ []
 LeadsToNextRange end (Some p) text = ((text ≡ 44 ∷ p.rest) × (p.value ≡ end)) ⊎ ((more : List ℕ) × (text ≡ 47 ∷ more)
@@ -99,7 +100,7 @@ next_range_after_slash end b bs (Some p) e h =
     let same : s.0 ≡ p = cc in
     inr (bs, ap (λ (k : ℕ). k ∷ bs) e, read_address_is_spelled p bs (s.1 ∙ ap Ok same))
 
--- The text leads to the place of the next range that is read, by the tests for `,` and `/`.
+-- If the tests for `,` and `/` find the next range, the text leads to the start of this range.
 next_range_by_tests : (end b : ℕ) (bs : List ℕ) (o : Option NumberRead) (t u : Bool) → eqb b 44 ≡ t → eqb b 47 ≡ u →
     cond t (Ok (Some (record { value = end; rest = bs }))) (cond u (place_as_option (address_at bs)) (Err Trailing)) ≡ Ok o →
     LeadsToNextRange end o (b ∷ bs)
@@ -107,7 +108,7 @@ next_range_by_tests end b bs o true u e f h = next_range_after_comma end b bs o 
 next_range_by_tests end b bs o false true e f h = next_range_after_slash end b bs o (eqb-true b 47 f) h
 next_range_by_tests end b bs o false false e f h = cc
 
--- A text leads to the place of the next range that is read from it.
+-- If `next_range_place` reads the start of the next range from a text, the text leads to this start.
 pub read_next_place_is_spelled : (end : ℕ) (o : Option NumberRead) (text : List ℕ) → next_range_place end text ≡ Ok o →
     LeadsToNextRange end o text
 unfolding next_range_place

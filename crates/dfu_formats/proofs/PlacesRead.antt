@@ -1,4 +1,4 @@
--- `address_at` reads the addresses that a text spells.
+-- `address_at` reads each address of the grammar.
 use Rattle.std.proofs.Common.{◌≡◌, ℕ, ◌<◌, ◌≤◌, ◌&&◌, ◌⊎◌, inl, inr, true, false, cond, eqb, List, [], ◌∷◌, ◌++◌, length, refl, ap, ◌∙◌, arith, Some, None, Ok, append_assoc}
 use Rattle.std.proofs.lemmas.Bool.{ne_eqb}
 use Rattle.dfu_formats.specs.memory.Reading.{text_after_prefix, address_at, next_range_place, digit_value}
@@ -8,12 +8,12 @@ use Rattle.dfu_formats.proofs.GroupsRead.{first_byte_is_taken}
 
 -- ---- reading of the parts of an address
 
--- `0x` or `0X` is skipped.
+-- `text_after_prefix` skips `0x` and `0X`.
 hex_prefix_is_skipped : (b : ℕ) (rest : List ℕ) → (b ≡ 120) ⊎ (b ≡ 88) → text_after_prefix (48 ∷ b ∷ rest) ≡ rest
 unfolding text_after_prefix
 hex_prefix_is_skipped b rest h = elim h [ inl e ↦ rw e refl | inr e ↦ rw e refl ]
 
--- A text whose second byte is neither x nor X has no prefix, and stays as it is.
+-- A text whose second byte is neither x nor X has no prefix, and `text_after_prefix` returns all of it.
 other_byte_is_no_prefix : (a b : ℕ) (rest : List ℕ) → (b ≡ 120 → ⊥) → (b ≡ 88 → ⊥) → text_after_prefix (a ∷ b ∷ rest) ≡ a ∷ b ∷ rest
 unfolding text_after_prefix
 other_byte_is_no_prefix a b rest h k = rw (ne_eqb b 120 h, ne_eqb b 88 k) (elim (eqb a 48) as (λ t. cond (t && false) rest (a ∷ b ∷ rest) ≡
@@ -22,7 +22,7 @@ other_byte_is_no_prefix a b rest h k = rw (ne_eqb b 120 h, ne_eqb b 88 k) (elim 
 digit_is_no_x : (b : ℕ) → digit_value b < 16 → (b ≡ 120 → ⊥) × (b ≡ 88 → ⊥)
 digit_is_no_x b h = (λ e. absurd (omega (arith, h, ap digit_value e)), λ e. absurd (omega (arith, h, ap digit_value e)))
 
--- Digits before `/` are no prefix, and stay.
+-- `text_after_prefix` returns all of a text that begins with digits and `/`.
 digits_without_prefix_stay : (ds rest : List ℕ) → AreDigits 16 ds → 1 ≤ length ds → text_after_prefix (ds ++ 47 ∷ rest) ≡ ds ++ 47 ∷ rest
 unfolding AreDigits
 digits_without_prefix_stay [] rest a h = absurd (omega (arith, h))
@@ -31,7 +31,7 @@ digits_without_prefix_stay (d ∷ []) rest a h = other_byte_is_no_prefix d 47 re
 digits_without_prefix_stay (d ∷ e ∷ ds) rest a h = other_byte_is_no_prefix d e (ds
     ++ 47 ∷ rest) (digit_is_no_x e a.1.0).0 (digit_is_no_x e a.1.0).1
 
--- The text after a prefix, or after none, begins with the digits of the address.
+-- The text after the prefix, if any, begins with the digits of the address.
 digits_follow_prefix : (prefix ds rest : List ℕ) → IsPrefix prefix → AreDigits 16 ds → 1 ≤ length ds → text_after_prefix (prefix ++ (ds
     ++ 47 ∷ rest)) ≡ ds ++ 47 ∷ rest
 digits_follow_prefix [] ds rest p a h = digits_without_prefix_stay ds rest a h
@@ -40,7 +40,7 @@ digits_follow_prefix (x ∷ y ∷ []) ds rest p a h = ap (λ (k : ℕ). text_aft
     ∙ hex_prefix_is_skipped y (ds ++ 47 ∷ rest) p.1
 digits_follow_prefix (x ∷ y ∷ z ∷ zs) ds rest p a h = absurd p
 
--- An address that is spelled before `/` is read.
+-- `address_at` reads an address that is followed by `/`.
 pub spelled_address_is_read : (place : ℕ) (address rest : List ℕ) → IsAddress place address → address_at (address ++ 47 ∷ rest)
     ≡ Ok (record { value = place; rest = rest })
 unfolding address_at

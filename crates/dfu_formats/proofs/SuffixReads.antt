@@ -1,4 +1,4 @@
--- Each suffix with bcdDFU 011Ah is read.
+-- `suffix_at` reads each suffix with bcdDFU 011Ah and the right CRC.
 use Rattle.std.proofs.Common.{◌≡◌, ℕ, true, false, List, drop, Option, Some, Ok, Err, ap, ◌∙◌, arith}
 use Rattle.std.specs.Prelude.{find}
 use Rattle.std.proofs.lemmas.Bool.{eq-eqb, cond-false, cond-true}
@@ -11,7 +11,7 @@ use Rattle.dfu_formats.specs.declared.dfuse.fault.FileFault.TheVariants.{BadCrc}
 use Rattle.dfu_formats.specs.dfuse.Reading.{PayloadAndIds, payload_and_ids_of, suffix_by_fault, suffix_at}
 use Rattle.dfu_formats.specs.dfuse.Grammar.{SuffixedFile}
 
--- With the fault `DfuSe` and the right CRC, the payload and the identifiers are read.
+-- If the fault is `DfuSe` and the CRC is right, the result is the payload and the identifiers.
 dfuse_fault_reads_suffix : (o : Option SuffixFault) (b : List ℕ) (x : PayloadAndIds) → o ≡ Some suffix.DfuSe → has_fault b suffix.BadCrc
     ≡ false → payload_and_ids_of b ≡ x →
     suffix_by_fault o b ≡ Ok x
@@ -19,11 +19,11 @@ unfolding suffix_by_fault
 dfuse_fault_reads_suffix o b x e crc is =
     ap (λ (p : Option SuffixFault). suffix_by_fault p b) e ∙ (cond-false (has_fault b suffix.BadCrc) (Err BadCrc) (Ok (payload_and_ids_of b)) crc ∙ ap Ok is)
 
--- Payload and identifiers of a content.
+-- Payload and identifiers of a suffixed file's content.
 abbrev payload_and_ids_of_content : Content → PayloadAndIds
 payload_and_ids_of_content c = record { payload = c.payload; ids = c.ids }
 
--- Each suffix of a DfuSe file is read.
+-- `suffix_at` reads the suffix of each DfuSe file.
 pub spelled_suffix_is_read : (b : List ℕ) (x : PayloadAndIds) → SuffixedFile b x → suffix_at b ≡ Ok x
 spelled_suffix_is_read b x h =
     let r = parts_are_read x.payload x.ids 0x011A h.extra b h.spelled h.device_fits h.product_fits h.vendor_fits (omega arith) h.small in

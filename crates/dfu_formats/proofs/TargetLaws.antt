@@ -1,4 +1,4 @@
--- Targets of a DfuSe file: bytes spell the targets that are read from them, and spelled targets are read back.
+-- The encoding of a DfuSe file's targets: reading returns the targets that were encoded, and only those.
 use Rattle.std.proofs.Common.{◌≡◌, ℕ, zero, suc, ◌^◌, ◌<◌, ◌≤◌, ◌&&◌, true, not, eqb, ltb, List, [], ◌∷◌, ◌++◌, length, take, drop, get_or, Result, Ok, refl, sym, ap, ◌∙◌, subst, arith, length-append, length-take, length-drop}
 use Rattle.std.proofs.lemmas.Bool.{eqb-true, ltb-false, not-false, and_parts, le-ltb}
 use Rattle.std.proofs.lemmas.List.{take-append-drop, take_at, drop_at, drop-drop}
@@ -14,13 +14,13 @@ use Rattle.dfu_formats.proofs.FileSteps.{ok_sequence_has_ok_steps, passed_condit
 use Rattle.dfu_formats.proofs.FileFields.{place_spells_number, true_test_finds_four_letters, number_at_fits_32_bits, number_at_is_read_back, six_bytes_precede_rest}
 use Rattle.dfu_formats.proofs.ElementLaws.{IsSpelledList, no_bytes_spell_no_items, read_elements_are_spelled, spelled_elements_are_read}
 
--- Bytes of a heading: the target from its letters on, and the bytes after it.
+-- Encoding of a heading: the fields of the target, its content, and the bytes after the target.
 abbrev spelled_heading : Heading → List ℕ
 spelled_heading h =
     target_letters ++ (h.setting ∷ (four_bytes_of h.named ++
     (h.name ++ (four_bytes_of (length h.content) ++ (four_bytes_of h.count ++ (h.content ++ h.rest))))))
 
--- `b` is the spelled heading `h`, whose fields fit, and whose elements and rest are bytes.
+-- `b` is the encoding of heading `h`. The fields of `h` fit, and all items of its content and of its rest are bytes.
 record BeginsWithTarget (b : List ℕ) (h : Heading) : Type 0 where
   pub spelled : b ≡ spelled_heading h
   pub setting_fits : h.setting < 256
@@ -41,7 +41,7 @@ target_test_finds_letters b long h =
     let cells = six_bytes_precede_rest b long in
     cc
 
--- Bytes spell the heading that `heading_at` reads from them.
+-- If `heading_at` reads a heading from bytes, they begin with its encoding.
 read_heading_is_spelled : (b : List ℕ) (h : Heading) → AreBytes b → heading_at b ≡ Ok h → BeginsWithTarget b h
 unfolding heading_at
 read_heading_is_spelled b h f e =
@@ -85,14 +85,14 @@ headings_equal : (a a' n n' k k' : ℕ) (m m' e e' r r' : List ℕ) → a ≡ a'
     (record { setting = a'; named = n'; name = m'; count = k'; content = e'; rest = r' })
 headings_equal a a' n n' k k' m m' e e' r r' h0 h1 h2 h3 h4 h5 = cc
 
--- Each field of a heading but the setting fits the bytes that the format gives it.
+-- Each field of a heading, except the setting, fits in the number of bytes that the format reserves for it.
 record HeadingFits (h : Heading) : Type 0 where
   pub named_fits : h.named < 2 ^ 32
   pub name_fits : length h.name ≡ 255
   pub size_fits : length h.content < 2 ^ 32
   pub count_fits : h.count < 2 ^ 32
 
--- `heading_at` reads a spelled heading whose fields fit.
+-- `heading_at` reads the encoding of a heading whose fields fit.
 spelled_heading_is_read : (h : Heading) → HeadingFits h → heading_at (spelled_heading h) ≡ Ok h
 unfolding heading_at
 spelled_heading_is_read h fits =
@@ -124,18 +124,19 @@ spelled_heading_is_read h fits =
     (le-ltb (length (drop 274 b)) (number_at 266 b) (omega (arith, ap length d274, length-append h.content h.rest, size)))
     (ap Ok (headings_equal _ _ _ _ _ _ _ _ _ _ _ _ refl named name count content rest))))
 
--- `b` spells these targets, `count` of them, each in range, and nothing else.
+-- `b` is the encoding of these `count` targets, each in range, and nothing more.
 abbrev pub AreSpelledTargets : ℕ → List ℕ → List Target → Type 0
 AreSpelledTargets count b ts = IsSpelledList spelled_targets TargetsInRange count b ts
 
--- If the content of a heading spells its elements, and the rest the other targets, the heading spells all targets.
+-- If the content of a heading is the encoding of its elements, and its rest is the encoding of the other targets, the encoded heading is
+-- the encoding of all targets.
 heading_spells_target : (h : Heading) (es : List Piece) (ts : List Target) → h.content ≡ spelled_elements es → length es ≡ h.count →
     h.rest ≡ spelled_targets ts →
     spelled_heading h ≡ spelled_targets (target_with_elements h es ∷ ts)
 unfolding spelled_targets
 heading_spells_target h es ts content count rest = cc
 
--- A first target with its elements, and bytes after it that spell `n` targets, spell `n + 1` targets.
+-- If a first target with its elements is followed by the encoding of `n` targets, both together are the encoding of `n + 1` targets.
 first_target_joins_spelled : (n : ℕ) (b : List ℕ) (h : Heading) (es : List Piece) (ts : List Target) → BeginsWithTarget b h →
     h.content ≡ spelled_elements es →
     length es ≡ h.count → ElementsInRange es → AreSpelledTargets n h.rest ts → AreSpelledTargets (suc n) b (target_with_elements h es ∷ ts)
@@ -156,7 +157,7 @@ first_target_joins_spelled n b h es ts heads content count fit r = record {
   );
 }
 
--- Bytes spell the targets that `targets_at` reads from them.
+-- The bytes that `targets_at` reads are the encoding of the targets that it returns.
 pub read_targets_are_spelled : (count : ℕ) (b : List ℕ) (ts : List Target) → AreBytes b → targets_at count b ≡ Ok ts →
     AreSpelledTargets count b ts
 unfolding targets_at spelled_targets TargetsInRange
@@ -184,7 +185,7 @@ heading_of_target t rest = record {
   rest = rest;
 }
 
--- `targets_at` reads back targets, in range, that are spelled one after the other.
+-- `targets_at` decodes the encoding of any list of targets in range.
 pub spelled_targets_are_read : (ts : List Target) → TargetsInRange ts → targets_at (length ts) (spelled_targets ts) ≡ Ok ts
 unfolding targets_at spelled_targets TargetsInRange
 spelled_targets_are_read [] h = refl

@@ -1,7 +1,7 @@
 //! Formats of firmware files, and memory maps of DfuSe devices.
 //!
-//! `images` reads the files that builds produce, and recognises the format of a file without a suffix; `dfuse` reads DfuSe files, and
-//! `memory` the memory maps of devices. The crate opens no file.
+//! `images` reads the files that builds produce, and recognises the format of a file without a suffix. `dfuse` reads DfuSe files. `memory`
+//! reads the memory maps of devices. The crate opens no file.
 #![tactic(auto)]
 
 pub mod dfuse;

@@ -1,4 +1,4 @@
--- A DFU file with changed identifiers is a DFU file again.
+-- A DFU file is still a valid DFU file after its identifiers are changed.
 use Rattle.std.proofs.Common.{◌≡◌, ℕ, ◌+◌, ◌-◌, ◌^◌, ◌<◌, ◌∙◌, List, ◌++◌, length, take, Err, sym, ap, subst, arith, length-append}
 use Rattle.std.proofs.lemmas.List.{append_assoc, take_at}
 use Rattle.std.specs.Int.{w32, to_le_bytes}
@@ -10,7 +10,7 @@ use Rattle.dfu_wire.specs.declared.ids.Ids.{Ids}
 use Rattle.dfu_fs.specs.declared.changing.Change.{Change}
 use Rattle.dfu_fs.specs.Changing.{ChangesFile, IsChangedFile, changed_ids, with_check_sum, suffix_fields}
 
--- If bytes have a first fault, this fault is a right result of each change of them.
+-- If `fault` is the first fault of a file, a change of the file may return this fault.
 pub fault_refuses_change : (change : Change) (old : List ℕ) (fault : SuffixFault) → First fault old → ChangesFile change old (Err fault)
 fault_refuses_change change old fault.TooShort h = h
 fault_refuses_change change old fault.NoSignature h = h
@@ -23,7 +23,7 @@ fault_refuses_change change old fault.NoMemory h = tt
 fault_refuses_change change old fault.Read h = h
 fault_refuses_change change old fault.Write h = h
 
--- All but the last 16 bytes of a file are its payload and its extra bytes.
+-- Without its last 16 bytes, a file consists of its payload and its extra bytes.
 front_is_payload_and_extra : (payload : List ℕ) (ids : Ids) (dfu : ℕ) (extra old : List ℕ) → IsFile payload ids dfu extra old →
     (take (length old - 16) old ≡ payload ++ extra) × (length old ≡ length (payload ++ extra) + 16)
 front_is_payload_and_extra payload ids dfu extra old h =
@@ -35,7 +35,7 @@ front_is_payload_and_extra payload ids dfu extra old h =
     let same : length (payload ++ extra) ≡ length old - 16 = omega (arith, len) in
     (ap (take (length old - 16)) whole ∙ take_at (payload ++ extra) (f ++ c) (length old - 16) same, len)
 
--- Rewriting the fields and the register of a file with other identifiers gives the changed file.
+-- A file whose fields and CRC are rewritten with other identifiers is the changed file.
 pub rewritten_file_is_changed : (change : Change) (payload extra old new front : List ℕ) (ids now : Ids) (dfu suffix : ℕ) →
     IsFile payload ids dfu extra old → suffix ≡ 16 + length extra → front ≡ take (length old - 16) old → now ≡ changed_ids change ids →
     now.device < 2 ^ 16 → now.product < 2 ^ 16 → now.vendor < 2 ^ 16 → new ≡ with_check_sum (front ++ suffix_fields now dfu suffix) →

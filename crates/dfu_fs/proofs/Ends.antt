@@ -1,4 +1,4 @@
--- Ends of the words and the lists of a line.
+-- Ends of the words and lists in a line.
 use Rattle.std.specs.Prelude.{◌≡◌, ℕ, ◌+◌, ◌<◌, ◌≤◌, nat_eq, nat_lt, not, Bool, true, false, Some, None, List, [], ◌∷◌, length, drop, codes}
 use Rattle.std.specs.List.{position, position_or_len, starts_with}
 use Rattle.std.proofs.Common.{refl, arith, ap, sym, ◌∙◌, suc, drop-cons}
@@ -8,11 +8,11 @@ use Rattle.std.proofs.lemmas.List.Sums.{prefix_len-le-length}
 use Rattle.std.proofs.lemmas.Option.{cond_some, none-some}
 use Rattle.dfu_fs.specs.Parts.{list_length}
 
--- A position that is found is that of the first element that passes.
+-- If a position is found, it is that of the first element that passes the test.
 pub found_place_is_first : {X : Type 0} (p : X → Bool) (xs : List X) (at : ℕ) → position p xs ≡ Some at → at ≡ position_or_len p xs
 found_place_is_first p xs at e = sym (cond_some (nat_lt (position_or_len p xs) (length xs)) (position_or_len p xs) at e).1
 
--- If no element passes, the position is the length of the list.
+-- If no element passes the test, the position is the length of the list.
 pub missing_place_is_end : {X : Type 0} (p : X → Bool) (xs : List X) → position p xs ≡ None → length xs ≡ position_or_len p xs
 missing_place_is_end p xs e =
     let at = position_or_len p xs in
@@ -28,14 +28,14 @@ list_goes_past_byte : (b : ℕ) (bs : List ℕ) → starts_with nat_eq (b ∷ bs
 unfolding list_length
 list_goes_past_byte b bs h = rw h refl
 
--- From ` events ` on, a list has no bytes.
+-- A list that would begin at ` events ` is empty.
 pub list_length_is_0_at_events : (xs : List ℕ) (i : ℕ) (rest : List ℕ) → rest ≡ drop i xs → i < length xs
     → starts_with nat_eq rest (codes " events ") ≡ true → list_length (drop i xs) ≡ 0
 list_length_is_0_at_events xs i rest is lt h =
     let e = drop-cons xs i 0 lt in
     ap list_length e ∙ list_ends_at_events _ _ (ap (λ (ys : List ℕ). starts_with nat_eq ys (codes " events ")) (sym e ∙ sym is) ∙ h)
 
--- From a byte on at which ` events ` doesn't begin, a list is one byte longer than from the next byte on.
+-- If ` events ` doesn't begin at a byte, the list from this byte on is one byte longer than the list from the next byte on.
 pub list_length_counts_byte : (xs : List ℕ) (i : ℕ) (rest : List ℕ) → rest ≡ drop i xs → i < length xs
     → starts_with nat_eq rest (codes " events ") ≡ false → list_length (drop i xs) ≡ list_length (drop (i + 1) xs) + 1
 list_length_counts_byte xs i rest is lt h =
@@ -48,6 +48,6 @@ list_length_of_nothing_is_0 : list_length [] ≡ 0
 unfolding list_length
 list_length_of_nothing_is_0 = refl
 
--- From the end of the line on, a list has no bytes.
+-- A list that would begin at the end of the line is empty.
 pub list_length_is_0_at_line_end : (xs : List ℕ) (i : ℕ) → length xs ≤ i → list_length (drop i xs) ≡ 0
 list_length_is_0_at_line_end xs i le = ap list_length (drop_all i xs le) ∙ list_length_of_nothing_is_0

@@ -1,9 +1,9 @@
--- Texts of the elements of a list, joined in order.
+-- Texts of the elements of a list, joined in their order.
 use Rattle.std.proofs.Common.{◌≡◌, ◌∙◌, ◌+◌, ◌<◌, ◌++◌, ℕ, List, length, take, get_or, sym, ap}
 use Rattle.std.specs.List.{flat_map}
 use Rattle.std.proofs.lemmas.List.{flat_map_more, take_more}
 
--- A text with the texts of the first `n` elements has those of the first `n + 1` once the text of the next is added.
+-- Adding the next text to the texts of the first `n` elements gives the texts of the first `n + 1`.
 pub next_element_extends_text : {X : Type 0} (text : X → List ℕ) (xs : List X) (n : ℕ) (d : X) (start before after : List ℕ) → n < length xs
     → before ≡ start ++ flat_map text (take n xs) → after ≡ before ++ text (get_or xs n d)
     → after ≡ start ++ flat_map text (take (n + 1) xs)

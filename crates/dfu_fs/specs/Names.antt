@@ -1,9 +1,9 @@
--- Texts of the words of printed lines, and of the keys of objects.
+-- Texts of the words in printed lines and of the keys in JSON objects.
 use Rattle.std.specs.Prelude.{ℕ, List, codes}
 use Rattle.dfu_fs.specs.declared.json.name.Name.{Name}
 use Rattle.dfu_fs.specs.declared.json.name.Name.TheVariants as name
 
--- The text of a word or a key.
+-- Text of a word or key.
 abbrev pub name_text : Name → List ℕ
 name_text name.Allowed = codes "allowed"
 name_text name.Alternate = codes "alternate"

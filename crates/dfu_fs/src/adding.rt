@@ -16,16 +16,16 @@ use std::alloc::{AllocError, Global};
 use std::io::{self, Read};
 use std::rt::Files;
 
-/// Options of `dfu add`: the format in which FILE is read, and the byte that fills the gaps of its image.
+/// Options of `dfu add`: the format in which FILE is read, and the byte that fills gaps in its image.
 #[derive(Clone, Copy)]
 pub struct AddOptions {
-    /// Format of FILE, by `--format`.
+    /// Format of FILE, from `--format`.
     pub taken: FormatChoice,
-    /// Byte for gaps, by `--fill`.
+    /// Byte that fills gaps, from `--fill`.
     pub fill: Option<u8>,
 }
 
-/// Names of FILE and OUT, and the identifiers.
+/// Names of FILE and OUT, and the identifiers for the suffix.
 #[derive(Clone, Copy)]
 struct Added<'w> {
     file: &'w str,
@@ -33,8 +33,8 @@ struct Added<'w> {
     ids: Ids,
 }
 
-/// Returns a hint if `file` looks like something other than an image, by its first bytes, `head`, and its name; None for text, which boards
-/// may take, and if there is no memory.
+/// Returns a hint if `file` looks like something other than a raw image by its first bytes, `head`, and its name. Returns None for text,
+/// which some boards accept, or if memory runs out.
 fn hint(alloc: Global, file: &str, head: &[u8]) -> Option<String> {
     let why = match look_at(head, file.as_bytes()).looks {
         Looks::Of(format) => looks_like_hint(alloc, format),
@@ -47,8 +47,8 @@ fn hint(alloc: Global, file: &str, head: &[u8]) -> Option<String> {
     }
 }
 
-/// Adds a suffix to the bytes of a reader, and makes OUT only if that succeeds; `behind` is then printed after the line. The outcome has
-/// the reason of a fault.
+/// Adds a suffix to the bytes of a reader, and creates OUT only if that succeeds. Then it prints `behind` after the line. After a fault,
+/// the outcome contains the reason.
 fn add_from_reader<'w, R: Files + Print + AllocGlobal, S: Read + Drop>(
     rt: &'w R,
     added: Added<'w>,
@@ -83,7 +83,7 @@ where
     }
 }
 
-/// Writes `line`, which refuses `file`, and returns the outcome with the reason `why`.
+/// Writes `line`, the refusal of `file`, and returns the outcome with the reason `why`.
 fn refuse_file<R: Print + AllocGlobal>(
     rt: &R,
     file: &str,
@@ -103,7 +103,7 @@ fn refuse_file<R: Print + AllocGlobal>(
     }
 }
 
-/// Writes the line of `fault`, which keeps `file` of `format` from giving an image, and returns the outcome with its reason.
+/// Writes the line for `fault`, because of which no image of `format` can be read from `file`. Returns the outcome with the reason.
 fn refuse_image<R: Print + AllocGlobal>(
     rt: &R,
     file: &str,
@@ -133,7 +133,7 @@ where
     add_from_reader(rt, added, &mut RecordingReader::new(given), behind)
 }
 
-/// Adds a suffix to the image in `bytes`, a file of `format`; or refuses the file if it gives no image.
+/// Adds a suffix to the image in `bytes`, a file of `format`. Refuses the file if no image can be read from it.
 fn add_image_of<R: Files + Input + Print + AllocGlobal>(
     rt: &R,
     added: Added<'_>,
@@ -159,8 +159,8 @@ fn has_suffix(bytes: &[u8]) -> bool {
     matches!(read(bytes), Ok(_) | Err(SuffixFault::DfuSe))
 }
 
-/// Adds a suffix to the image in a file, of the format that an option names or that the file looks like; or to the file as it is, if
-/// nothing speaks against a raw image. A file that has a suffix already is refused.
+/// Adds a suffix to the image in a file. The format is that of `--format`, or the one that the file looks like. A file without a known
+/// format is read as a raw image. A file that already has a suffix is refused.
 fn add_image<R: Files + Input + Print + AllocGlobal>(
     rt: &R,
     added: Added<'_>,
@@ -191,9 +191,9 @@ where
     }
 }
 
-/// Adds a suffix to a file, or to standard input if its name is `-`, and makes file `to` only if that succeeds. For an image, a second line
-/// gives its format and the address of its first byte. The outcome has the reason of a fault; or, without `--format`, a hint if the file
-/// looks like one of a format.
+/// Adds a suffix to a file, or to standard input if the name is `-`, and creates file `to` only if that succeeds. For an image, a second
+/// line shows its format and the address of its first byte. After a fault, the outcome contains the reason. Without `--format`, it contains
+/// a hint if the file looks like something other than a raw image.
 pub fn add_file<R: Files + Input + Print + AllocGlobal>(
     rt: &R,
     file: &str,

@@ -7,18 +7,18 @@ use dfu_suffix::{Crc, SuffixFault, read};
 use dfu_wire::Ids;
 use std::alloc::{AllocError, Global};
 
-/// New identifiers; None keeps the old one.
+/// Identifiers to set; None keeps the old one.
 #[derive(Clone, Copy)]
 pub struct Change {
-    /// New idVendor.
+    /// New idVendor, or None.
     pub vendor: Option<u16>,
-    /// New idProduct.
+    /// New idProduct, or None.
     pub product: Option<u16>,
-    /// New bcdDevice.
+    /// New bcdDevice, or None.
     pub device: Option<u16>,
 }
 
-/// Returns the identifiers after `change`: the new one if it is given, or else that of `ids`.
+/// Returns the identifiers after `change`: the new one if `change` contains it, and the one of `ids` otherwise.
 fn new_ids(change: &Change, ids: Ids) -> Ids
     ensures { result ≡ changed_ids change.now ids }
 {
@@ -29,7 +29,7 @@ fn new_ids(change: &Change, ids: Ids) -> Ids
     }
 }
 
-/// Returns the bytes before the last 16; none if there are no more than 16.
+/// Returns the bytes before the last 16, or none if there are at most 16 bytes.
 fn front_of(bytes: &[u8]) -> &[u8]
     ensures { result.now ≡ take (length bytes.now - 16) bytes.now }
 {
@@ -37,7 +37,7 @@ fn front_of(bytes: &[u8]) -> &[u8]
     front
 }
 
-/// Returns `front`, the fields of a suffix with `ids`, bcdDFU `dfu` and bLength `suffix`, and the check sum of both together.
+/// Returns `front`, the fields of a suffix with `ids`, bcdDFU `dfu` and bLength `suffix`, and the CRC of all these bytes.
 #[tactic(auto, using(std::proofs::lemmas::List::append_assoc))]
 fn rewritten_file(
     alloc: Global,
@@ -61,11 +61,11 @@ fn rewritten_file(
     Ok(text)
 }
 
-/// Returns the file `bytes` with the identifiers of `change`, and with their check sum. The payload, bcdDFU and the extra bytes stay.
+/// Returns the file `bytes` with the identifiers of `change` and a new CRC. The payload, bcdDFU and the extra bytes stay unchanged.
 ///
 /// # Errors
 ///
-/// The first fault of the bytes, as `read` of dfu_suffix returns it; NoMemory if an allocation was refused.
+/// The first fault of the bytes, as `read` of dfu_suffix returns it; NoMemory if an allocation failed.
 pub fn with_ids(alloc: Global, bytes: &[u8], change: &Change) -> Result<Vec<u8>, SuffixFault>
     ensures { ChangesFile change.now bytes.now result }
 {

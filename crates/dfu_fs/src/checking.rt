@@ -9,8 +9,8 @@ use std::fs;
 use std::io::{self, Read};
 use std::rt::Files;
 
-/// Checks the bytes of `reader`, which reads `file`. The outcome has the reason of a refusal if `explain` is set. The line is a JSON object
-/// if `json` is set.
+/// Checks the bytes of `reader`, which reads `file`. If `explain` is set, the outcome contains the reason of a refusal. If `json` is set,
+/// the line is a JSON object.
 fn check_given<R: Print + AllocGlobal, S: Read + Drop>(
     rt: &R,
     file: &str,
@@ -30,8 +30,8 @@ fn check_given<R: Print + AllocGlobal, S: Read + Drop>(
     Outcome { exit, reason }
 }
 
-/// Checks a file, or standard input if the name is `-`. Each has a type of its own, because a common type would include the 8,192 bytes of
-/// standard input's buffer, which would be cleared and moved for a file too.
+/// Checks a file, or standard input if the name is `-`. File and standard input have separate reader types, because a common type would
+/// contain the 8,192-byte buffer of standard input. This buffer would be cleared and moved in vain for a file.
 fn check_file<R: Files + Input + Print + AllocGlobal>(
     rt: &R,
     file: &str,
@@ -70,9 +70,9 @@ fn check_named<R: Files + Input + Print + AllocGlobal>(
     }
 }
 
-/// Checks files, or standard input if a name is `-`. The outcome has the reason of each refusal if `explain` is set. If `json` is set, each
-/// line is a JSON object with the name as its member `file`; if not, and there is more than one file, each line begins with its name. The
-/// exit is the worst of the files.
+/// Checks files, or standard input for the name `-`. If `explain` is set, the outcome contains the reason of each refusal. If `json` is
+/// set, each line is a JSON object with the name of the file as its member `file`. Otherwise, if there are several files, each line begins
+/// with the name of its file. The exit is the worst of all files.
 pub fn check_files<R: Files + Input + Print + AllocGlobal>(
     rt: &R,
     files: &[String],

@@ -1,4 +1,4 @@
-//! Lookup of OUT: the file that is to be made or replaced, at the end of its symbolic links.
+//! Lookup of OUT: the file to create or to replace, after its symbolic links have been followed.
 
 use dfu_suffix::check;
 use std::alloc::{AllocError, Global};
@@ -10,14 +10,14 @@ use std::rt::Files;
 /// Largest number of symbolic links that are followed, as in Linux.
 const MAX_LINKS: u32 = 40;
 
-/// Largest number of lookups of OUT while somebody else replaces it.
+/// Largest number of lookups of OUT while another process replaces it.
 const MAX_LOOKS: u32 = 10;
 
-/// Name that is no symbolic link, and the file of this name.
+/// Name that isn't a symbolic link, and the file with this name.
 #[derive(Drop)]
 pub(crate) struct Destination {
     pub name: String,
-    /// The regular file; None if there is none.
+    /// The regular file, or None if the name doesn't exist.
     pub file: Option<Metadata>,
 }
 
@@ -32,7 +32,7 @@ pub(crate) fn beside(alloc: Global, name: &str, other: &str) -> Result<String, A
     Ok(text)
 }
 
-/// Returns the file that the lookup `look` found; None if nothing is there, which is no fault.
+/// Returns the file that the lookup `look` found. Returns None if the name doesn't exist, which isn't an error.
 fn found(look: io::Result<Metadata>) -> io::Result<Option<Metadata>> {
     match look {
         Ok(file) => Ok(Some(file)),
@@ -54,7 +54,7 @@ fn is_link(file: &Option<Metadata>) -> bool {
     }
 }
 
-/// Returns the name to which the symbolic link `link` points; a relative one is taken from the folder of the link.
+/// Returns the name to which the symbolic link `link` points. A relative name is taken relative to the folder of the link.
 fn next_name<R: Files + AllocGlobal>(rt: &R, link: &str) -> io::Result<String> {
     let text = fs::read_link(rt, link)?;
     let next = text.as_path().as_str();
@@ -64,7 +64,7 @@ fn next_name<R: Files + AllocGlobal>(rt: &R, link: &str) -> io::Result<String> {
     Ok(beside(rt.alloc(), link, next)?)
 }
 
-/// Follows the symbolic links from `out`, and returns the place at their end.
+/// Follows the symbolic links from `out`, and returns the destination at their end.
 ///
 /// # Errors
 ///
@@ -81,7 +81,7 @@ fn end_of_links<R: Files + AllocGlobal>(rt: &R, out: &str) -> io::Result<Destina
     Err(io::Error::from(ErrorKind::FilesystemLoop))
 }
 
-/// Returns true if OUT can be `file`: a regular file, or none.
+/// Returns true if OUT may be `file`: it must be a regular file or not exist.
 fn may_be_out(file: &Option<Metadata>) -> bool {
     match file {
         Some(file) => file.is_file(),
@@ -89,7 +89,7 @@ fn may_be_out(file: &Option<Metadata>) -> bool {
     }
 }
 
-/// Returns true if the lookups `look` and `other` both found nothing, or both the same file.
+/// Returns true if both lookups found the same file, or if neither found one.
 fn is_same_file(look: &Option<Metadata>, other: &Option<Metadata>) -> bool {
     match (look, other) {
         (None, None) => true,
@@ -98,14 +98,14 @@ fn is_same_file(look: &Option<Metadata>, other: &Option<Metadata>) -> bool {
     }
 }
 
-/// Returns the place of `out`, at the end of its symbolic links.
+/// Returns the destination of `out`, at the end of its symbolic links.
 ///
 /// # Errors
 ///
-/// `out` is no regular file, its links form a loop, or a lookup fails; or somebody else replaces `out` again and again.
+/// `out` isn't a regular file, its links form a loop, a lookup fails, or another process replaces `out` again and again.
 pub(crate) fn place_of<R: Files + AllocGlobal>(rt: &R, out: &str) -> io::Result<Destination> {
-    // The system's own lookup comes first, because the system may refuse to follow a link that someone else made; the place must be the
-    // file that it found. If it is another file, OUT may have been replaced between the two lookups, so both are repeated.
+    // The system's own lookup comes first, because the system may refuse to follow a link that another user made. The destination must be
+    // the file that this lookup found. If it isn't, OUT may have been replaced between the two lookups, so both are repeated.
     for _ in 0..MAX_LOOKS {
         let seen = found(fs::metadata(rt, out))?;
         let place = end_of_links(rt, out)?;
@@ -121,8 +121,8 @@ pub(crate) fn place_of<R: Files + AllocGlobal>(rt: &R, out: &str) -> io::Result<
     Err(io::Error::new(ErrorKind::InvalidInput, why))
 }
 
-/// Returns true if the file at `place` may be replaced: it is FILE itself, it is empty, or it is a DFU file, as `dfu add` makes; or there
-/// is none. Any other file stays, because somebody may have typed the name of an input for OUT.
+/// Returns true if the file at `place` may be replaced: it doesn't exist, it is empty, it is FILE itself, or it is a DFU file, as `dfu add`
+/// writes it. Any other file is protected, because the user may have typed the name of an input for OUT.
 fn may_be_replaced<R: Files>(rt: &R, file: &str, place: &Destination) -> io::Result<bool> {
     let Some(old) = &place.file else {
         return Ok(true);
@@ -130,18 +130,18 @@ fn may_be_replaced<R: Files>(rt: &R, file: &str, place: &Destination) -> io::Res
     if old.len() == 0 {
         return Ok(true);
     }
-    // Standard input has no name to look up.
+    // The name `-` stands for standard input, which has no file to look up.
     if file != "-" && is_same_file(&found(fs::metadata(rt, file))?, &place.file) {
         return Ok(true);
     }
     Ok(check(fs::open(rt, place.name.as_str())?).is_ok())
 }
 
-/// Returns the place of `out`, OUT of `dfu add`, at the end of its symbolic links.
+/// Returns the destination of `out`, OUT of `dfu add`, at the end of its symbolic links.
 ///
 /// # Errors
 ///
-/// Those of `place_of`; or the file there may not be replaced, or can't be examined.
+/// The errors of `place_of`; AlreadyExists if the file there may not be replaced; or the error of examining that file.
 pub(crate) fn place_for_add<R: Files + AllocGlobal>(
     rt: &R,
     file: &str,

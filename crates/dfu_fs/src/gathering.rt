@@ -1,4 +1,4 @@
-//! Reading of whole files, and the outcomes for files that can't be read or are refused.
+//! Reading of whole files, and outcomes for files that can't be read or are refused.
 
 use crate::given::{Given, RecordingReader, open};
 use crate::reasons::{error_reason, found_reason, reader_reason};
@@ -7,13 +7,14 @@ use dfu_suffix::{Findings, GatherFault, SuffixFault, check_with, gather};
 use std::io;
 use std::rt::Files;
 
-/// Largest size of a file, in bytes.
+/// Largest size of a file in bytes.
 pub(crate) const MAX_FILE: usize = 16_777_216;
 
-/// The bytes of a file, or of standard input if its name is `-`, and the reader, which recorded the details for a reason.
+/// Bytes of a file, or of standard input if the name is `-`, and the reader, which has recorded its first bytes and its last error for the
+/// reason of a refusal.
 pub(crate) type Gathered<F, I> = (Vec<u8>, RecordingReader<Given<F, I>>);
 
-/// Reads a whole file, or standard input if its name is `-`. If that fails, returns the outcome of the command.
+/// Reads a whole file, or standard input if the name is `-`. Returns the outcome of the command if reading fails.
 pub(crate) fn gathered<R: Files + Input + Print + AllocGlobal>(
     rt: &R,
     file: &str,
@@ -37,7 +38,7 @@ pub(crate) fn unread<R: Print + AllocGlobal>(rt: &R, file: &str, error: &io::Err
     }
 }
 
-/// Writes the line of `fault` for `file`, which can't be read whole, or for whose result there is no memory, and returns the outcome.
+/// Writes the line for `fault`, and returns the outcome. `file` couldn't be read completely, or there was no memory for the result.
 pub(crate) fn refused<R: Print + AllocGlobal, S>(
     rt: &R,
     file: &str,
@@ -51,7 +52,7 @@ pub(crate) fn refused<R: Print + AllocGlobal, S>(
 }
 
 /// Writes the line for `file`, whose `bytes` are refused because of `fault`, and returns the outcome. If `explain` is set, the bytes are
-/// checked again, to find the reason.
+/// checked again, because the reason for a wrong CRC or length contains numbers from the check.
 pub(crate) fn refused_bytes<R: Print + AllocGlobal>(
     rt: &R,
     file: &str,
@@ -69,7 +70,7 @@ pub(crate) fn refused_bytes<R: Print + AllocGlobal>(
     }
 }
 
-/// Converts `fault`, at which reading a whole file stopped, to a fault of a suffix.
+/// Returns the `SuffixFault` for `fault`, at which reading a whole file stopped.
 pub fn gather_fault(fault: GatherFault) -> SuffixFault {
     match fault {
         GatherFault::TooLarge => SuffixFault::TooLarge,

@@ -1,4 +1,5 @@
-//! Input of a command: a file, standard input, or bytes in memory; and a reader that records the details for a reason.
+//! Input of a command: a file, standard input, or bytes in memory. A recording reader keeps the bytes and the error that the reason of a
+//! refusal contains.
 
 use std::fs;
 use std::io::{self, IsTerminal, Read};
@@ -28,7 +29,7 @@ impl Read for Held {
     }
 }
 
-/// An open file, standard input, or bytes in memory. One type has all three, so that the code that reads is compiled once.
+/// An open file, standard input, or bytes in memory. A single type for all three lets the reading code be compiled once.
 #[derive(Drop)]
 pub enum Given<F, I> {
     /// An open file.
@@ -59,7 +60,7 @@ impl<F: IsTerminal, I: IsTerminal> IsTerminal for Given<F, I> {
     }
 }
 
-/// Reader that records its first 64 bytes, and the error at which it failed last.
+/// Reader that records its first 64 bytes, and the error of the last failed read.
 #[derive(Drop)]
 pub(crate) struct RecordingReader<R> {
     reader: R,
@@ -79,12 +80,12 @@ impl<R> RecordingReader<R> {
         }
     }
 
-    /// Returns the first 64 bytes that were read, or all if there were fewer.
+    /// Returns the first 64 bytes that were read, or fewer if there were fewer.
     pub(crate) fn head(&self) -> &[u8] {
         self.head.get(..self.held).unwrap_or(&[])
     }
 
-    /// Records the first of `bytes`, as far as there is room for them.
+    /// Records the first of `bytes`, as many as there is room for.
     fn keep(&mut self, bytes: &[u8]) {
         for byte in bytes {
             match self.head.get_mut(self.held) {

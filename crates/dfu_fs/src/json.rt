@@ -1,4 +1,4 @@
-//! The lines that `dfu check`, `dfu show` and `dfu judge` print, as JSON objects (RFC 8259), one for each line.
+//! The lines that `dfu check`, `dfu show` and `dfu judge` print, as JSON objects (RFC 8259). Each line becomes one object.
 
 mod arrays;
 mod filling;

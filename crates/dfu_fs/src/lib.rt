@@ -1,6 +1,6 @@
-//! The files that the commands of `dfu` open, the files that they make, and printed lines as JSON objects.
+//! The files that the commands of `dfu` read and write, and printed lines as JSON objects.
 //!
-//! The commands work over the library's traits for files, input and printing, so that tests run them on a machine in memory.
+//! The commands use the library's traits for files, input and printing, so that tests can run them on a simulated machine in memory.
 #![tactic(auto)]
 
 mod adding;

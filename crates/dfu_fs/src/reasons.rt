@@ -1,4 +1,4 @@
-//! Reasons for failing to read, write or accept a file.
+//! Reasons why a file can't be read or written, or is refused.
 
 ghost use Rattle.std.specs.Prelude.{◌≡◌, ◌≢◌, [], IfOk, IfSome, List, ℕ, codes};
 ghost use Rattle.std.specs.String.{string_bytes};
@@ -11,7 +11,7 @@ use dfu_suffix::{Findings, SuffixFault};
 use std::alloc::{AllocError, Global};
 use std::io;
 
-/// Returns the words for a file in a reason: its name, or standard input for the name `-`.
+/// Returns the name of a file for a reason: `standard input` for the name `-`, and the name itself otherwise.
 fn name_in_reason(name: &str) -> &str
     ensures input { name.now ≡ codes "-" → result.now ≡ codes "standard input" }
     ensures file { name.now ≢ codes "-" → result.now ≡ name.now }
@@ -19,7 +19,7 @@ fn name_in_reason(name: &str) -> &str
     if name == "-" { "standard input" } else { name }
 }
 
-/// Returns the line that says `why` file `name` is refused, or standard input if `name` is `-`; None if memory ran out for the line.
+/// Returns the line with the reason `why` for file `name`, or for standard input if `name` is `-`. Returns None if memory runs out.
 pub fn file_reason(alloc: Global, name: &str, why: &str) -> Option<String>
     ensures input { name.now ≡ codes "-" → IfSome result (λ t. string_bytes t ≡ reason_line [] (codes "standard input") why.now) }
     ensures file { name.now ≢ codes "-" → IfSome result (λ t. string_bytes t ≡ reason_line [] name.now why.now) }
@@ -30,8 +30,8 @@ pub fn file_reason(alloc: Global, name: &str, why: &str) -> Option<String>
     }
 }
 
-/// Returns the line with the error, in the system's words, of a call on file `name`, or on standard input if `name` is `-`; None if memory
-/// ran out for the line.
+/// Returns the line with the system's text for `error` on file `name`, or on standard input if `name` is `-`. Returns None if memory runs
+/// out.
 pub fn error_reason(alloc: Global, name: &str, error: &io::Error) -> Option<String>
     ensures input { name.now ≡ codes "-" →
         IfSome result (λ t. (why : List ℕ) × (string_bytes t ≡ reason_line [] (codes "standard input") why)) }
@@ -43,7 +43,7 @@ pub fn error_reason(alloc: Global, name: &str, error: &io::Error) -> Option<Stri
     }
 }
 
-/// Returns the line that says `why` file `name` is refused; None if there was no memory for `why`, or there is none for the line.
+/// Returns the line with the reason `why` for file `name`. Returns None if there is no memory for `why` or for the line.
 fn made_reason(alloc: Global, name: &str, why: Result<String, AllocError>) -> Option<String> {
     match why {
         Ok(why) => file_reason(alloc, name, &why),
@@ -51,7 +51,7 @@ fn made_reason(alloc: Global, name: &str, why: Result<String, AllocError>) -> Op
     }
 }
 
-/// Returns the reason for a wrong check sum: the sum in the suffix, and that of the bytes before it.
+/// Returns the reason for a wrong CRC: the CRC in the suffix and the one of the bytes before it.
 #[tactic(auto, unfolding(crate::specs::SuffixReasons::sums_why))]
 fn sums_why(alloc: Global, written: u32, found: u32) -> Result<String, AllocError>
     ensures { IfOk result (λ t. string_bytes t ≡ sums_why written found) }
@@ -61,7 +61,7 @@ fn sums_why(alloc: Global, written: u32, found: u32) -> Result<String, AllocErro
     )
 }
 
-/// Returns the reason for a wrong length of a suffix: the length in the suffix, and the number of bytes of the file.
+/// Returns the reason for a wrong length of a suffix: the length in the suffix and the number of bytes in the file.
 #[tactic(auto, unfolding(crate::specs::SuffixReasons::length_why))]
 fn length_why(alloc: Global, said: u8, count: u32) -> Result<String, AllocError>
     ensures { IfOk result (λ t. string_bytes t ≡ length_why said count) }
@@ -71,7 +71,7 @@ fn length_why(alloc: Global, said: u8, count: u32) -> Result<String, AllocError>
     )
 }
 
-/// Explains a fault of a file in words, and says what a user can do; None for BadLength, BadCrc, Read and Write.
+/// Returns an explanation of a fault of a file, and advice for the user. Returns None for BadLength, BadCrc, Read and Write.
 fn fault_why(fault: SuffixFault) -> Option<&'static str> {
     match fault {
         SuffixFault::TooShort => {
@@ -96,8 +96,8 @@ fn fault_why(fault: SuffixFault) -> Option<&'static str> {
     }
 }
 
-/// Returns the reason for refusing the bytes of a file because of `fault`, with the numbers that their check found. None for Read and
-/// Write, or if there is no memory.
+/// Returns the reason for refusing the bytes of a file because of `fault`, with the numbers that the check found. Returns None for Read and
+/// Write, or if memory runs out.
 pub(crate) fn found_reason(
     alloc: Global,
     name: &str,
@@ -122,7 +122,7 @@ pub(crate) fn found_reason(
     }
 }
 
-/// Returns the reason for refusing the bytes of a reader because of `fault`; for Read, it is the error at which the reader failed.
+/// Returns the reason for refusing the bytes of a reader because of `fault`. For Read, it is the error of the failed read.
 pub(crate) fn reader_reason<R>(
     alloc: Global,
     name: &str,

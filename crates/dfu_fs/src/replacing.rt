@@ -1,4 +1,4 @@
-//! Replacement of a file as a whole.
+//! Replacement of a file in a single step, so that a power cut leaves the old file or the new one.
 
 ghost use Rattle.std.specs.Prelude.{◌≤◌, length, IfOk};
 
@@ -9,22 +9,22 @@ use dfu_suffix::{SuffixFault, write_whole};
 use std::io::{self, ErrorKind, Write};
 use std::rt::Files;
 
-/// New file that replaces OUT, or the file to which OUT leads, as a whole. Its bytes are written into a file beside that one, the part,
-/// which takes its name at the end, so that a power cut leaves the old file or the new one. Until then the old file is unchanged. The part
-/// is made at the first write, so that OUT isn't looked up if nothing is written.
+/// New file that replaces OUT in a single step, or the file at the end of the links if OUT is a symbolic link. The bytes of the new file
+/// are written into the part, a second file in the same folder, which gets the name of the old file at the end. A power cut therefore
+/// leaves the old file or the new one. The part is created at the first write, so OUT isn't looked up if nothing is written.
 #[derive(Drop)]
 pub(crate) struct Replacement<'a, R: Files> {
     rt: &'a R,
-    // FILE of `dfu add`, because `dfu add` may not replace every file.
+    // FILE of `dfu add`, for the check if OUT may be replaced, or None for other commands.
     file: Option<&'a str>,
     out: &'a str,
     part: Option<TempFile<R::File>>,
-    /// Last error at which making or writing the part failed; None if there was none.
+    /// Last error in creating or writing the part, or None.
     pub error: Option<io::Error>,
 }
 
 impl<'a, R: Files> Replacement<'a, R> {
-    /// Returns a new file for `out`, without a part so far. For `dfu add`, `file` is FILE.
+    /// Returns a new file for `out`, whose part doesn't exist yet. For `dfu add`, `file` is FILE.
     pub(crate) fn new(rt: &'a R, file: Option<&'a str>, out: &'a str) -> Self {
         Replacement {
             rt,
@@ -35,7 +35,7 @@ impl<'a, R: Files> Replacement<'a, R> {
         }
     }
 
-    /// Replaces OUT by the part. If that fails, the old file is unchanged, and the part is removed.
+    /// Replaces OUT by the part. If that fails, the old file stays unchanged, and the part is removed.
     pub(crate) fn finish(self) -> io::Result<()> {
         let Some(part) = &self.part else {
             return Err(io::Error::from(ErrorKind::NotFound));
@@ -47,7 +47,7 @@ impl<'a, R: Files> Replacement<'a, R> {
         placed
     }
 
-    /// Removes the part, if there is one, and leaves OUT unchanged.
+    /// Removes the part if it exists, and leaves OUT unchanged.
     pub(crate) fn abandon(self) {
         if let Some(part) = &self.part {
             remove(self.rt, part);
@@ -59,7 +59,7 @@ impl<R: Files + AllocGlobal> Replacement<'_, R>
 where
     R::File: Owned,
 {
-    /// Makes the part, unless it exists.
+    /// Creates the part unless it exists.
     fn make(&mut self) -> io::Result<()> {
         if self.part.is_none() {
             self.part = Some(begin(self.rt, self.file, self.out)?);
@@ -67,7 +67,7 @@ where
         Ok(())
     }
 
-    /// Makes the part, even if no byte is to be written, and returns true; or records the error, and returns false.
+    /// Creates the part even if there is no byte to write, and returns true. If that fails, records the error and returns false.
     fn try_make(&mut self) -> bool {
         match self.make() {
             Ok(()) => true,
@@ -78,7 +78,7 @@ where
         }
     }
 
-    /// Makes the part, unless it exists, and writes `buf` to it. Returns the number of bytes that the part took.
+    /// Creates the part unless it exists, and writes `buf` to it. Returns the number of bytes written.
     fn put(&mut self, buf: &[u8]) -> io::Result<usize>
         ensures { IfOk result (λ n. n ≤ length buf.now) }
     {
@@ -110,7 +110,7 @@ where
     }
 }
 
-/// Replaces OUT by the part, and writes `line`; or, if that fails, the line `fault Write`. The outcome has the reason of the error.
+/// Replaces OUT by the part, and writes `line`. If that fails, writes the line `fault Write`, and the outcome contains the reason.
 pub(crate) fn finish<R: Files + Print + AllocGlobal>(
     rt: &R,
     to: &str,
@@ -130,7 +130,8 @@ pub(crate) fn finish<R: Files + Print + AllocGlobal>(
     }
 }
 
-/// Replaces OUT by a file of `text`, and writes `line`; or, if that fails, the line `fault Write`. The outcome has the reason of the error.
+/// Replaces OUT by a file with `text`, and writes `line`. If that fails, writes the line `fault Write`, and the outcome contains the
+/// reason.
 pub(crate) fn replace<'a, R: Files + Print + AllocGlobal>(
     rt: &'a R,
     to: &'a str,

@@ -1,4 +1,4 @@
-//! `dfu extract` and `dfu set`: the payload of a DFU file, and its identifiers.
+//! `dfu extract`, which copies the payload of a DFU file, and `dfu set`, which changes its identifiers.
 
 use crate::changing::{Change, with_ids};
 use crate::gathering::{gathered, refused, refused_bytes};
@@ -8,8 +8,8 @@ use dfu_output::{Exit, Outcome, check_text, wrote_line};
 use dfu_suffix::{SuffixFault, read};
 use std::rt::Files;
 
-/// Writes the payload of `file`, or of standard input if its name is `-`, to file `to`, only if `file` is a DFU file. The outcome has the
-/// reason of a fault; a wrong check sum or length is looked up for it only if `explain` is set.
+/// Writes the payload of `file`, or of standard input if the name is `-`, to file `to`, if the input is a DFU file. After a fault, the
+/// outcome contains the reason; for a wrong CRC or length, the numbers in the reason are right only if `explain` is set.
 pub fn extract_file<R: Files + Input + Print + AllocGlobal>(
     rt: &R,
     file: &str,
@@ -35,8 +35,8 @@ where
     }
 }
 
-/// Changes the identifiers of a file, which is replaced as a whole, and prints the line of a check of the new file. The outcome has the
-/// reason of a fault; a wrong check sum or length is looked up for it only if `explain` is set.
+/// Replaces a file by one with other identifiers, and prints the line of `dfu check` for the new file. After a fault, the outcome contains
+/// the reason; for a wrong CRC or length, the numbers in the reason are right only if `explain` is set.
 pub fn set_file<R: Files + Input + Print + AllocGlobal>(
     rt: &R,
     file: &str,

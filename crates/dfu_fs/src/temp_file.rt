@@ -1,4 +1,4 @@
-//! Part: a new file beside the file that it is to replace.
+//! Part: a new file in the same folder as the file that it replaces.
 
 ghost use Rattle.std.specs.Prelude.{◌≡◌, ◌*◌, true, false, bit_and, bit_or};
 
@@ -12,9 +12,9 @@ use std::rt::Files;
 /// Largest number of names that are tried for the part.
 const MAX_PARTS: u32 = 1000;
 
-/// An open file whose owner can be set.
+/// Open file whose owner can be set.
 pub trait Owned {
-    /// Sets the owner of the file to `user` and `group`.
+    /// Sets the owner and the group of the file.
     fn set_owner(&self, user: u32, group: u32) -> io::Result<()>;
 }
 
@@ -24,7 +24,7 @@ impl Owned for File {
     }
 }
 
-/// Part: a new file beside the file that it is to replace.
+/// Part: a new file in the same folder as the file that it replaces.
 #[derive(Drop)]
 pub(crate) struct TempFile<F> {
     name: String,
@@ -32,8 +32,8 @@ pub(crate) struct TempFile<F> {
     pub file: F,
 }
 
-/// Returns the rights of a new file for `place`, before the system's mask. If the new file replaces another one, only its own user has any
-/// right until it gets the rights of the other one.
+/// Returns the permissions of a new file for `place`, before the umask is applied. If the new file replaces another one, only its owner has
+/// access until it gets the permissions of the old file.
 fn initial_rights(place: &Destination) -> u32 {
     match place.file {
         Some(_) => 0o600,
@@ -41,14 +41,14 @@ fn initial_rights(place: &Destination) -> u32 {
     }
 }
 
-/// Returns the name of part number `number` for file `name`.
+/// Returns the name of the part with this number for file `name`.
 fn part_name(alloc: Global, name: &str, number: u32) -> Result<String, AllocError> {
     let mut part = beside(alloc, name, ".dfu-part-")?;
     part.push_str(&number.to_string(alloc)?)?;
     Ok(part)
 }
 
-/// Makes a part, under the first of its names that isn't taken.
+/// Creates a part with the first name from `.dfu-part-0` to `.dfu-part-999` that isn't taken.
 fn new_part<R: Files + AllocGlobal>(rt: &R, place: Destination) -> io::Result<TempFile<R::File>> {
     let mut how = OpenOptions::new();
     how.write(true)
@@ -69,9 +69,9 @@ fn new_part<R: Files + AllocGlobal>(rt: &R, place: Destination) -> io::Result<Te
     Err(io::Error::new(ErrorKind::AlreadyExists, why))
 }
 
-/// Returns the rights of a file that replaces one with `mode`, without setuid, setgid and sticky. If `is_kept` is set, the owner and the
-/// group are kept, and the rights are the same; else the group has the rights of all others. In octal, the masks of the clauses are 777,
-/// 707 and 7.
+/// Returns the permissions of a file that replaces one with `mode`, without setuid, setgid and sticky. If `is_kept` is set, the new file
+/// has the owner and group of the old one, so it keeps the permissions. Otherwise its group gets the permissions of all others. The masks
+/// 511, 455 and 7 of the clauses are 777, 707 and 7 in octal.
 pub fn rights_after(mode: u32, is_kept: bool) -> u32
     ensures kept { is_kept ≡ true → result ≡ bit_and mode 511 }
     ensures given { is_kept ≡ false → result ≡ bit_or (bit_and mode 455) (bit_and mode 7 * 8) }
@@ -83,7 +83,7 @@ pub fn rights_after(mode: u32, is_kept: bool) -> u32
     (mode & 0o707) | (others * 8)
 }
 
-/// Gives the new file the owner and the group of the old one, if the system allows it, and the rights of `rights_after`.
+/// Gives the new file the owner and group of the old one, if the system allows it, and the permissions from `rights_after`.
 fn copy_rights<F: OpenFile + Owned>(file: &F, old: &Metadata) -> io::Result<()> {
     let is_kept = file.set_owner(old.uid(), old.gid()).is_ok();
     let rights = rights_after(old.mode(), is_kept);
@@ -95,7 +95,8 @@ pub(crate) fn remove<R: Files>(rt: &R, part: &TempFile<R::File>) {
     let _ = fs::remove_file(rt, part.name.as_str());
 }
 
-/// Makes the part for OUT, with its rights set before it has any byte. For `dfu add`, `file` is FILE.
+/// Creates the part for OUT. If the part replaces a file, it gets the owner and permissions from `copy_rights` before it has any byte. For
+/// `dfu add`, `file` is FILE.
 pub(crate) fn begin<R: Files + AllocGlobal>(
     rt: &R,
     file: Option<&str>,
@@ -122,7 +123,7 @@ where
     }
 }
 
-/// Writes the part to the disk, and then gives it the name of the file that it replaces.
+/// Flushes the part to the disk, and then gives it the name of the file that it replaces.
 pub(crate) fn put<R: Files>(rt: &R, part: &TempFile<R::File>) -> io::Result<()> {
     part.file.sync_all()?;
     fs::rename(rt, part.name.as_str(), part.place.name.as_str())

@@ -1,4 +1,4 @@
--- Range of each due operation, which lies in the first slot, and the active image, which the operation keeps.
+-- Each due operation lies in the first slot, and the active image stays active after it.
 use Rattle.std.proofs.Common.{◌≡◌, inl, inr, ℕ, ◌+◌, ◌-◌, ◌*◌, ◌%◌, ◌≤◌, ◌<◌, List, length, get_or, drop, slice_index, Option, sym, ◌∙◌, ap, subst, arith}
 use Rattle.std.proofs.lemmas.List.{get_or-take, get_or-drop}
 use Rattle.dfu_slots.specs.Units.{gate_size}
@@ -6,7 +6,7 @@ use Rattle.dfu_slots.specs.Medium.{MediumState}
 use Rattle.dfu_slots.specs.Layout.{slot_size}
 use Rattle.dfu_slots.specs.Image.{gate_of, capacity_of, Active}
 use Rattle.dfu_slots.proofs.Stands.{ActiveAt, active_image_at_its_place}
-use Rattle.dfu_slots.proofs.Seeing.{active_on_same_size}
+use Rattle.dfu_slots.proofs.VisibleStores.{active_on_same_size}
 use Rattle.dfu_slots.proofs.Sectors.{gate_room_at_least_16, gate_room_is_a_sector, first_byte_is_edge, gate_room_ends_at_edge, edge_sum_is_edge}
 use Rattle.dfu_slots.proofs.Parts.{data_length}
 use Rattle.dfu_boot.specs.install.Area.{RangeIsBlank}
@@ -16,8 +16,8 @@ use Rattle.dfu_home.specs.declared.due.Due.TheVariants.{Refuse, Home, Erase, Pro
 use Rattle.dfu_home.specs.Places.{first_of, away_image, last_in_data}
 use Rattle.dfu_home.specs.Next.{IsCopying, IsByteCopyDue, ErasesForCopy, ProgramsForCopy}
 use Rattle.dfu_home.specs.Laws.{ImageStays, WritesTheFirstSlot}
-use Rattle.dfu_home.proofs.Away.{image_second_if_first_closed, image_second_if_found_second}
-use Rattle.dfu_home.proofs.Staying.{image_stays_as_gate_closes, image_stays_as_data_fills, image_stays_as_gate_opens}
+use Rattle.dfu_home.proofs.SecondSlotImage.{image_second_if_first_closed, image_second_if_found_second}
+use Rattle.dfu_home.proofs.UnchangedImage.{image_stays_as_gate_closes, image_stays_as_data_fills, image_stays_as_gate_opens}
 
 module _ (m : MediumState) (c : IsCopying m) where
   abbrev g : ℕ
@@ -38,7 +38,7 @@ module _ (m : MediumState) (c : IsCopying m) where
   pub first_data_fills_capacity : length (first_of m).data_bytes ≡ capacity_of m
   first_data_fills_capacity = data_length g m.bytes 0 (omega (arith, c.sized.even)) (omega (arith, c.sized.room))
 
-  -- A sector of the data that is erased lies in the first slot, and begins at a multiple of the sector size.
+  -- A data sector that the copy erases lies in the first slot, and begins at a multiple of the sector size.
   data_erase_within_slot : (last : Option ℕ) (at d : ℕ) → at ≡ 2 * g + d → IsByteCopyDue m last (fill.Erase d)
       → (at + sector ≤ half) × (at % sector ≡ 0)
   data_erase_within_slot last at d is does =
@@ -57,7 +57,7 @@ module _ (m : MediumState) (c : IsCopying m) where
   copy_erase_within_slot last at (inr (inr (due, is, old))) =
       (omega (arith, is, gate_room_is_one_sector, c.sized.room), ap (λ (k : ℕ). k % sector) is ∙ first_byte_is_edge sector c.sectors)
 
-  -- A byte of the first slot's data is the byte of the medium at its place.
+  -- Byte i of the medium, after the gate and the header of the first slot, is byte i - 2 * g of that slot's data.
   data_byte_is_medium_byte : (i : ℕ) → 2 * g ≤ i → i < half → slice_index (first_of m).data_bytes (i - 2 * g) ≡ slice_index m.bytes i
   data_byte_is_medium_byte i low high =
       let e : 0 + 2 * g + (i - 2 * g) ≡ i = omega (arith, low) in
@@ -98,7 +98,7 @@ writes_the_first_slot m p (Erase at) (may, inl (away, is_open, some, is)) =
 writes_the_first_slot m p (Erase at) (may, inr (c, erases)) = copy_erase_within_slot m c p.last at erases
 writes_the_first_slot m p (Program at len) (may, c, programs) = copy_program_within_blank m c p.last at len programs
 
--- A medium of unchanged bytes keeps its active image.
+-- A medium whose bytes are unchanged has the same active image.
 unchanged_medium_keeps_image : (m now : MediumState) (image : List ℕ) → Active m image → now.bytes ≡ m.bytes → now.grain ≡ m.grain →
     Active now image
 unchanged_medium_keeps_image m now image a bytes grain =

@@ -1,4 +1,4 @@
--- Operations of a copy, as the ones that are due next.
+-- The next operation of a copy is the operation that is due next.
 use Rattle.std.proofs.Common.{◌≡◌, inr, Bool, false, not, IsTrue, arith}
 use Rattle.std.proofs.lemmas.Grind.{common_steps}
 use Rattle.dfu_slots.specs.Medium.{MediumState}
@@ -8,14 +8,13 @@ use Rattle.dfu_home.specs.declared.due.Progress.{Progress}
 use Rattle.dfu_home.specs.Places.{IsActiveAway}
 use Rattle.dfu_home.specs.Next.{IsCopying, HasOperationLeft, IsCopyDue, IsNextDue}
 
--- The active image is in the second slot if the test did not find it in the first.
+-- If the result of `is_home` is false, the active image is in the second slot.
 pub image_not_first_is_second : (m : MediumState) (home : Bool) → home ≡ false → (IsTrue (not home) → IsActiveAway m) → IsActiveAway m
 image_not_first_is_second m home is away = away (there home is)
   where
     there : (b : Bool) → b ≡ false → IsTrue (not b)
     there b e = grind (arith, common_steps)
 
--- The next operation of a copy is the operation that is due next.
 pub copy_due_is_next_due : (m : MediumState) (p : Progress) (due : Due) → HasOperationLeft m p → IsCopying m → IsCopyDue m p.last due
     → IsNextDue m p due
 copy_due_is_next_due m p (Refuse refusal) may c due = absurd due

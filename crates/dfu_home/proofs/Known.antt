@@ -1,4 +1,4 @@
--- First slot after an operation: it is as it was, or is closed, or shows the active image.
+-- After an operation, the first slot is unchanged or closed, or contains the active image.
 use Rattle.std.proofs.Common.{◌≡◌, inl, inr, ℕ, ◌+◌, ◌≤◌, ap, arith}
 use Rattle.dfu_slots.specs.Units.{Grain, gate_room}
 use Rattle.dfu_slots.specs.Medium.{MediumState}
@@ -8,11 +8,11 @@ use Rattle.dfu_slots.proofs.Sectors.{gate_room_at_least_16, gate_room_is_a_secto
 use Rattle.dfu_home.specs.declared.due.Due.TheVariants.{Refuse, Home, Erase, Program}
 use Rattle.dfu_home.specs.Places.{first_of}
 use Rattle.dfu_home.specs.Laws.{FirstSlotIsKnown}
-use Rattle.dfu_home.proofs.Away.{image_second_if_first_closed, image_second_if_found_second}
-use Rattle.dfu_home.proofs.Staying.{first_slot_stays_if_open, first_slot_stays_shut, copied_slot_shows_image}
+use Rattle.dfu_home.proofs.SecondSlotImage.{image_second_if_first_closed, image_second_if_found_second}
+use Rattle.dfu_home.proofs.UnchangedImage.{first_slot_stays_if_open, first_slot_stays_shut, copied_slot_shows_image}
 use Rattle.dfu_home.proofs.Allowing.{gate_room_is_one_sector, copy_erase_within_slot, copy_program_within_blank}
 
--- A medium of unchanged bytes keeps its first slot.
+-- A medium whose bytes are unchanged has the same first slot.
 unchanged_medium_keeps_slot : (m now : MediumState) → now.bytes ≡ m.bytes → now.grain ≡ m.grain → first_of now ≡ first_of m
 unchanged_medium_keeps_slot m now bytes grain = λ i. slot (gate_room (grain i)) (bytes i) 0
 

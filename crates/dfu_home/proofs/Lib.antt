@@ -1,6 +1,6 @@
-mod Away
+mod SecondSlotImage
 mod Units
 mod Asked
-mod Staying
+mod UnchangedImage
 mod Allowing
 mod Known

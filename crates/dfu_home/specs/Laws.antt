@@ -1,4 +1,4 @@
--- Facts of each due operation, also if it fails, lies or is cut.
+-- Laws of each due operation, even if it fails, reports a false success or is cut off.
 use Rattle.std.specs.Prelude.{◌≡◌, ◌⊎◌, ℕ, ◌+◌, ◌%◌, ◌≤◌, List, take}
 use Rattle.dfu_slots.specs.Medium.{MediumState, ChangedWithin}
 use Rattle.dfu_slots.specs.Layout.{slot_size, HasOpenGate, header_length}
@@ -10,21 +10,22 @@ use Rattle.dfu_home.specs.declared.due.Progress.{Progress}
 use Rattle.dfu_home.specs.Places.{first_of, IsActiveHome}
 use Rattle.dfu_home.specs.Next.{IsNextDue}
 
--- Place at which the range of an operation begins.
+-- Offset of the first byte in an operation's range.
 abbrev pub place_of : Due → ℕ
 place_of (Erase at) = at
 place_of (Program at len) = at
 place_of (Refuse refusal) = 0
 place_of Home = 0
 
--- Place at which the range of an operation ends, behind its last byte; if none is due the range is empty.
+-- Offset after the last byte in an operation's range. If no operation is due, the range is empty.
 abbrev pub end_of_due : ℕ → Due → ℕ
 end_of_due sector (Erase at) = at + sector
 end_of_due sector (Program at len) = at + len
 end_of_due sector (Refuse refusal) = 0
 end_of_due sector Home = 0
 
--- An operation that was due is carried out, and works, fails, lies or is cut: its range has any bytes, and elsewhere nothing changes.
+-- An operation that was due is carried out, with any outcome: afterwards its range contains any bytes, and all other bytes are unchanged.
+-- So it may succeed, fail, report a false success or be cut off.
 pub record HomeOperationOutcome (m : MediumState) (due : Due) (now : MediumState) : Type 0 where
   pub bytes : ChangedWithin (place_of due) (end_of_due m.grain.sector due) m.bytes now.bytes
   pub grain : now.grain ≡ m.grain
@@ -36,7 +37,7 @@ ImageStays =
     HomeOperationOutcome m due now →
     Active now image
 
--- An operation lies in the first slot, and erases a whole sector or programs blank bytes; if none is due there is no condition.
+-- An operation lies in the first slot, and erases a whole sector or programs blank bytes. True if no operation is due.
 abbrev pub IsFirstSlotOperation : MediumState → Due → Type 0
 IsFirstSlotOperation m (Erase at) = (at + m.grain.sector ≤ slot_size m.bytes) × (at % m.grain.sector ≡ 0)
 IsFirstSlotOperation m (Program at len) = (at + len ≤ slot_size m.bytes) × RangeIsBlank m.bytes at (at + len)
@@ -47,11 +48,11 @@ IsFirstSlotOperation m Home = Unit {0}
 abbrev pub WritesTheFirstSlot : Type 0
 WritesTheFirstSlot = (m : MediumState) (p : Progress) (due : Due) → IsNextDue m p due → IsFirstSlotOperation m due
 
--- As long as the active image is in the first slot, the second one is the spare slot, in which each operation of a download lies.
+-- While the active image is in the first slot, the second slot is the spare slot, which a download writes.
 abbrev pub SecondIsSpare : Type 0
 SecondIsSpare = (m : MediumState) → IsActiveHome m → spare_at (gate_of m) m.bytes ≡ slot_size m.bytes
 
--- For any outcome of the due operation: if the gate of the first slot is open afterwards, the slot is as it was before, or shows the active
+-- For any outcome of the due operation: if the gate of the first slot is open afterwards, the slot is unchanged, or contains the active
 -- image.
 abbrev pub FirstSlotIsKnown : Type 0
 FirstSlotIsKnown =

@@ -1,4 +1,4 @@
--- Content of the two slots of a medium while the image of the second is copied into the first.
+-- Contents of the two slots of a medium while the image of the second is copied into the first.
 use Rattle.std.specs.Prelude.{◌≡◌, ℕ, ◌+◌, ◌-◌, ◌/◌, List, length, take, Option, Some, None, nat_lt, if◌then◌else◌}
 use Rattle.dfu_suffix.specs.Register.{register}
 use Rattle.dfu_slots.specs.Units.{gate_size}
@@ -7,11 +7,9 @@ use Rattle.dfu_slots.specs.Layout.{Slot, slot_size, generation, next_generation,
 use Rattle.dfu_slots.specs.Image.{gate_of, slot_of, HasImage, active_at}
 use Rattle.dfu_boot.specs.install.Area.{RangeIsBlank}
 
--- First slot of a medium.
 abbrev pub first_of : MediumState → Slot
 first_of m = slot_of m 0
 
--- Second slot of a medium.
 abbrev pub second_slot_of : MediumState → Slot
 second_slot_of m = slot_of m (slot_size m.bytes)
 
@@ -29,7 +27,7 @@ pub record IsActiveAway (m : MediumState) : Type 0 where
 abbrev pub away_image : MediumState → List ℕ
 away_image m = take (header_length (second_slot_of m)) (second_slot_of m).data_bytes
 
--- Header of the copy of the image in the second slot: one generation newer, in version 2.
+-- Header, in version 2, of the copy of the image in the second slot. The copy has the next generation after that of the second slot.
 abbrev pub copy_header : MediumState → List ℕ
 copy_header m = header 2 (next_generation (generation (second_slot_of m))) (header_length (second_slot_of m)) (register (away_image m))
 
@@ -41,11 +39,11 @@ HasCopiedBytes m = take (length (away_image m)) (first_of m).data_bytes ≡ away
 abbrev pub HasCopyHeader : MediumState → Type 0
 HasCopyHeader m = (first_of m).header ≡ copy_header m
 
--- The last operation worked at the place, and a gate unit from the place on reads FFh, as after the erase of its sector.
+-- The last operation succeeded at this offset, and the gate unit there reads FFh, because its sector was erased.
 abbrev pub IsErasedByLast : MediumState → Option ℕ → ℕ → Type 0
 IsErasedByLast m last at = (last ≡ Some at) × RangeIsBlank m.bytes at (at + gate_size m.grain.unit)
 
--- Place of the last operation, counted from the first slot's data, which begins at `gates`; None without one, and before the data.
+-- Offset of the last operation in the first slot's data, which begins at `gates`. None if there was no operation or it lay before the data.
 abbrev pub last_in_data : ℕ → Option ℕ → Option ℕ
 last_in_data gates None = None
 last_in_data gates (Some at) = if nat_lt at gates then None else Some (at - gates)

@@ -3,7 +3,7 @@ ghost use Rattle.std.specs.Prelude.{◌≡◌, ◌↔◌, ◌≤◌, ◌-◌, �
 
 use dfu_slots::flash_byte_at;
 
-/// Returns whether bytes of flash equal a slice of the same length. (A loop is less code than `==`.)
+/// Returns true if bytes of flash equal a slice of the same length. A loop takes less code than `==`.
 pub(crate) fn are_same(one: &[u8], other: &[u8]) -> bool
     requires { length one.now ≡ length other.now }
     ensures { IsTrue result ↔ (one.now ≡ other.now) }

@@ -1,4 +1,4 @@
--- Each `take` spends one action of a host's budget, so the host is done in time, and then stays done.
+-- Each `take` spends one action of a host's budget, so the host is done in time, and stays done.
 use Rattle.std.proofs.Common.{◌≡◌, ◌↔◌, ℕ, zero, suc, pred, ◌≤◌, max, Bool, true, false, if◌then◌else◌, IsTrue, List, [], ◌∷◌, length, refl, sym, ◌∙◌, subst, arith}
 use Rattle.dfu_host.specs.declared.action.Action.{Action}
 use Rattle.dfu_host.specs.declared.action.Action.TheVariants as action
@@ -11,7 +11,7 @@ use Rattle.dfu_host.specs.Wire.{SpellsDeed}
 use Rattle.dfu_host.specs.Host.{HostState, IsOverPhase, phase_in_budget, host_after_restart, host_after_leaving, host_after_result, host_after_phase, Act, HostRow, HostRows, seen_all, sees}
 use Rattle.dfu_host.specs.Budget.{most_results_in, remaining_results, is_done, FinishesInTime, FinishedHostIsStable}
 
--- No result in a phase in which a host is done changes the host.
+-- A result doesn't change a host that is done.
 finished_host_stays : (h : HostState) (phase : Phase) (heard : Heard) → IsOverPhase phase → host_after_phase h phase heard ≡ h
 finished_host_stays h (Over r) heard over = refl
 finished_host_stays h (OverUploaded kept) heard over = refl
@@ -21,14 +21,13 @@ finished_host_stays h phase heard over = elim over [ ]
 pub row_keeps_finished_host : (h h' : HostState) (seen : Seen) → HostRow h seen h' → IsOverPhase h.phase → h' ≡ h
 row_keeps_finished_host h h' seen step over = step.same ∙ finished_host_stays h h.phase step.heard over
 
--- A host that is done stays done.
 pub finished_host_is_stable : FinishedHostIsStable
 finished_host_is_stable h h' [] seen_all over = refl
 finished_host_is_stable h h' (seen ∷ more) (sees {mid = mid} step rows) over =
     let e : mid ≡ h = row_keeps_finished_host h mid seen step over in
     finished_host_is_stable mid h' more rows (subst (λ (z : HostState). IsOverPhase z.phase) (sym e) over) ∙ e
 
--- After the budget check a host with `left` actions may take at most `left` more results.
+-- After the budget check, a host with `left` actions may take at most `left` more results.
 spent_action_bounds_inputs : (left : ℕ) (phase : Phase) → most_results_in (phase_in_budget left phase) left ≤ left
 spent_action_bounds_inputs left (Over r) = omega arith
 spent_action_bounds_inputs left (OverUploaded kept) = omega arith
@@ -36,7 +35,7 @@ spent_action_bounds_inputs zero phase = omega arith
 spent_action_bounds_inputs (suc left) Find = omega arith
 spent_action_bounds_inputs (suc left) phase = omega arith
 
--- After a restart a host may take at most as many results as it has actions left.
+-- After a restart, a host may take at most as many results as it has actions left.
 restart_lowers_inputs : (h : HostState) (phase : Phase) (restarts : ℕ) → remaining_results (host_after_restart h phase restarts)
     ≤ pred h.actions
 restart_lowers_inputs h GiveUp restarts = omega arith
@@ -49,14 +48,14 @@ leaving_lowers_remaining_inputs : (h : HostState) (phase : Phase) (behind : Bool
 leaving_lowers_remaining_inputs h phase true = spent_action_bounds_inputs (pred h.actions) (host_row h.task (Last Unconfirmed) WasReset)
 leaving_lowers_remaining_inputs h phase false = restart_lowers_inputs h phase h.restarts
 
--- After any result a live host may take at most as many results as it has actions left.
+-- After any result, a live host may take at most as many results as it has actions left.
 heard_result_lowers_inputs : (h : HostState) (phase : Phase) (heard : Heard) → remaining_results (host_after_result h phase heard)
     ≤ pred h.actions
 heard_result_lowers_inputs h phase Restarted = restart_lowers_inputs h phase h.restarts
 heard_result_lowers_inputs h phase Left = leaving_lowers_remaining_inputs h phase (is_behind_close h.task.goal phase)
 heard_result_lowers_inputs h phase heard = spent_action_bounds_inputs (pred h.actions) (host_row h.task phase heard)
 
--- Each result uses up one of the results that a host in a phase may still take.
+-- Each result in a phase lowers the number of results that a host may still take by at least one, unless it is 0.
 phase_lowers_inputs : (h : HostState) (phase : Phase) (heard : Heard) → most_results_in phase h.actions ≡ remaining_results h
     → remaining_results (host_after_phase h phase heard) ≤ pred (most_results_in phase h.actions)
 phase_lowers_inputs h (Over r) heard e = omega (arith, e)
@@ -64,7 +63,7 @@ phase_lowers_inputs h (OverUploaded kept) heard e = omega (arith, e)
 phase_lowers_inputs h Find heard e = omega (arith, heard_result_lowers_inputs h Find heard)
 phase_lowers_inputs h phase heard e = omega (arith, heard_result_lowers_inputs h phase heard)
 
--- Each `take` uses up one of the results that a host may still take.
+-- Each `take` lowers the number of results that a host may still take by at least one, unless it is 0.
 pub row_uses_up_one_input : (h h' : HostState) (seen : Seen) → HostRow h seen h' → remaining_results h' ≤ pred (remaining_results h)
 row_uses_up_one_input h h' seen step = rw step.same (phase_lowers_inputs h h.phase step.heard refl)
 
@@ -82,7 +81,7 @@ most_inputs_are_bounded (OverUploaded kept) actions = omega arith
 most_inputs_are_bounded Find actions = omega arith
 most_inputs_are_bounded phase actions = omega arith
 
--- After as many results as it may take, a host may take no more.
+-- After at least as many results as a host may still take, it may take no more.
 rows_use_up_inputs : (h h' : HostState) (seens : List Seen) → HostRows h seens h' → remaining_results h ≤ length seens →
     remaining_results h' ≡ 0
 rows_use_up_inputs h h' [] seen_all l = omega (arith, l)
@@ -93,7 +92,7 @@ rows_use_up_inputs h h' (seen ∷ more) (sees {mid = mid} step rows) l = rows_us
       mid seen step,
 ))
 
--- A host is done once it took as many results as it has actions left, or one if it has none left, or more.
+-- A host is done after as many results as it has actions left, or after one if it has none left.
 pub done_in_time : FinishesInTime
 done_in_time h h' seens rows l =
     no_inputs_left_is_over h'.phase h'.actions (rows_use_up_inputs h h' seens rows (omega (
@@ -103,12 +102,12 @@ done_in_time h h' seens rows l =
           h.actions,
     )))
 
--- The deed is Done, which carries the report.
+-- True if the deed is Done, which contains the report.
 abbrev pub tells : Deed → Bool
 tells (Done r) = true
 tells d = false
 
--- An action is Done exactly if the deed that it spells is Done.
+-- An action is Done exactly if its deed is Done.
 spelled_deed_is_done : (d : Deed) (a : Action) → SpellsDeed d a → is_done a ≡ tells d
 spelled_deed_is_done (Done r) (action.Done given) h = refl
 spelled_deed_is_done (Wait ms) (action.Wait given) h = refl
@@ -116,7 +115,7 @@ spelled_deed_is_done Reset action.Reset h = refl
 spelled_deed_is_done (Send q body) (action.Send setup given) h = refl
 spelled_deed_is_done d a h = elim h [ ]
 
--- The deed of phase Enter, a wait or a reset, is never Done.
+-- The deed of phase Enter is a wait or a reset, so it is not Done.
 enter_deed_is_never_done : (b : Bool) (ms : ℕ) → tells (if b then Wait ms else Reset) ≡ false
 enter_deed_is_never_done true ms = refl
 enter_deed_is_never_done false ms = refl

@@ -1,4 +1,4 @@
--- The blocks of a payload as the code counts and cuts them.
+-- The code counts and cuts the same blocks of a payload as the specification.
 use Rattle.std.proofs.Common.{◌≡◌, ◌⊎◌, ℕ, suc, ◌+◌, ◌-◌, ◌*◌, ◌/◌, ◌<◌, ◌≤◌, ◌==◌, nat_le, min, true, false, List, [], length, take, drop, slice_index_or, refl, sym, ap, ◌∙◌, arith, inl, inr}
 use Rattle.std.proofs.Math.Nat.{suc-mul, lt-div-mul-add, div-mul-le_self, eq-or-lt_of_le}
 use Rattle.std.proofs.lemmas.Bool.{cases_lt, eqb-false, eq-eqb, le-leb, lt-leb, ne_eqb}
@@ -30,7 +30,7 @@ payload_has_first_block goal.Fetch t other (inl e) some = absurd cc
 payload_has_first_block goal.Fetch t other (inr e) some = absurd cc
 
 module _ (p : List ℕ) (t : ℕ) where
-  -- For t over 0, block n is the bytes of the payload from `start` on, at most t of them; it is empty at the payload's end.
+  -- For t over 0, block n is up to t bytes of the payload from `start` on, where `start` is n times t or the payload's end.
   pub block_is_slice_of_rest : (n start m : ℕ) → 0 < t → start ≡ min (n * t) (length p)
       → m ≡ min t (length (take (length p - start) (drop start p)))
       → take m (take (length p - start) (drop start p)) ≡ slice_index_or (blocks p t) n []
@@ -39,7 +39,7 @@ module _ (p : List ℕ) (t : ℕ) where
       ap (λ z. take z rest) e ∙ take_min t rest ∙ ap (take t) (take_rest p start)
       ∙ ap (λ z. take t (drop z p)) begins ∙ ap (take t) (drop_min (n * t) p) ∙ sym (nth_block_is_slice p t n ht)
 
-  -- For t over 0, block n equals the payload's bytes from n times t on, as many as the block has.
+  -- For t over 0, the payload's bytes from n times t on begin with block n.
   pub block_is_prefix_from_place : (n : ℕ) (block : List ℕ) → 0 < t → block ≡ slice_index_or (blocks p t) n []
       → block ≡ take (length block) (drop (n * t) p)
   block_is_prefix_from_place n block ht is =
@@ -47,7 +47,7 @@ module _ (p : List ℕ) (t : ℕ) where
       let e : block ≡ take t rest = is ∙ nth_block_is_slice p t n ht in
       e ∙ sym (ap (λ z. take z rest) (ap length e ∙ length-take t rest) ∙ take_min t rest)
 
-  -- If block n begins within the payload, it is the last one exactly if at most t bytes of the payload are left at its first byte.
+  -- If block n begins within the payload, it is the last one exactly if at most t bytes of the payload are left at its beginning.
   pub rest_tells_last_block : (n : ℕ) → 0 < t → n * t < length p → nat_le (length p - n * t) t ≡ (suc n == length (blocks p t))
   rest_tells_last_block n ht h = elim (cases_lt t (length p - n * t)) [
     | inl more ↦
@@ -77,7 +77,7 @@ module _ (p : List ℕ) (t : ℕ) where
         | inr less ↦ absurd (omega (arith, counted_block_starts_in_payload p t (suc q) less, suc-mul q t, high, h))
       ]
 
-  -- If block n begins within the payload and is not the last, block n + 1 begins within the payload.
+  -- If block n begins within the payload and is not the last one, block n + 1 begins within the payload too.
   pub next_block_starts_in_payload : (n : ℕ) → 0 < t → n * t < length p → (suc n == length (blocks p t)) ≡ false → (n + 1) * t < length p
   next_block_starts_in_payload n ht h e =
       let some : suc n < length (blocks p t) = elim (eq-or-lt_of_le (started_block_is_counted p t n ht h)) [

@@ -1,4 +1,4 @@
--- Results of a session that fetches an image: its parts, taken or refused.
+-- Parts of an image that a session fetches, and their meanings for the host.
 use Rattle.std.proofs.Common.{◌≡◌, ◌⊎◌, ℕ, ◌%◌, ◌<◌, IsTrue, List, length, refl, sym, ap, subst, arith, inl, inr}
 use Rattle.std.proofs.Math.Nat.{mod-eq_of_lt}
 use Rattle.dfu_wire.specs.declared.requests.Request.TheVariants as request
@@ -21,14 +21,13 @@ use Rattle.dfu_host.specs.Goals.{goal_of, IsFetch}
 use Rattle.dfu_host.specs.InParts.{phase_of}
 use Rattle.dfu_host.specs.inside.View.{meaning_of_heard, part_of, task_of_session, host_of_progress}
 
--- A goal Fetch of the code is FetchGoal in the table.
 fetch_goal_is_of_table : (g : Goal) → IsFetch g → goal_of g ≡ table.FetchGoal
 fetch_goal_is_of_table (goal.Load payload) is = elim is [ ]
 fetch_goal_is_of_table goal.Fetch is = refl
 fetch_goal_is_of_table (goal.Verify payload) is = elim is [ ]
 fetch_goal_is_of_table (goal.Compare payload) is = elim is [ ]
 
--- A part, or NoRoom for a part that needs memory, is a meaning of the bytes that answer the UPLOAD.
+-- The bytes that answer an UPLOAD may mean a part, or NoRoom if the part needs memory.
 pub part_answers_upload : (t : Task) (k : ℕ) (part : List ℕ) (word : Heard) → k < 65535 → (word ≡ heard.Part (length part)) ⊎ (word
     ≡ heard.NoRoom)
     → NoRoomOnlyIfNeeded t (phase.Fetch k) part word
@@ -39,7 +38,7 @@ part_answers_upload t k part word less (inr e) room =
     let same : k ≡ k % 65536 = sym (mod-eq_of_lt (omega (arith, less))) in
     inr (ap (meaning_of_heard part) e, subst (λ (n : ℕ). NeedsRoom t.transfer n (length part)) same needs.1)
 
--- A host that hears NoRoom only if it must takes the part that it asked for as that part, or as NoRoom.
+-- A host that fetches a part takes it as that part, or as NoRoom if the part needs memory.
 pub part_is_taken_or_refused : (memory : List ℕ) (t : Task) (p : Progress) (what : Seen) (word : Heard) (h' : HostState)
     → SeenMeaning (table.deed (task_of_session t) (phase_of memory p.phase)) what (meaning_of_heard (part_of what) word)
     → NoRoomOnlyIfNeeded t p.phase (part_of what) word → h' ≡ after (host_of_progress memory t p) (meaning_of_heard (part_of what) word)
@@ -57,7 +56,7 @@ part_is_taken_or_refused memory t p what word h' hears room same = by_phase p.ph
     by_phase (phase.Fetch k) (seen.Bytes bytes) word (inr (e, needs)) room same = absurd cc
     by_phase phase what word hears room same = tt
 
--- A host hears NoRoom only in a phase that needs memory.
+-- The meaning NoRoom occurs only in a phase that needs memory.
 pub no_room_needs_memory : (t : Task) (p : Phase) (part : List ℕ) (word : Heard) (memory : List ℕ) → NoRoomOnlyIfNeeded t p part word
     → meaning_of_heard part word ≡ table.NoRoom → IsTrue (wants_memory (phase_of memory p))
 no_room_needs_memory t p part heard.NoRoom memory room e = by_phase p room

@@ -1,5 +1,5 @@
--- From a phase without that report, only a tolerant device that confirms the install leads to Installed, and only a device that gives the
--- last part of the payload back to Verified.
+-- Only a tolerant device that confirms the install leads to Installed, and only a device that returns the last part of the payload leads to
+-- Verified.
 use Rattle.std.proofs.Common.{◌⊎◌, ℕ, suc, nat_lt, ◌==◌, List, length, subst, inl, inr}
 use Rattle.dfu_host.specs.declared.report.Report.{Report}
 use Rattle.dfu_host.specs.declared.report.Report.TheVariants as report
@@ -9,32 +9,32 @@ use Rattle.dfu_host.specs.CommonPhases.{IsDownloading, DownloadInvariant}
 use Rattle.dfu_host.specs.RowLaws.{choice_gives_property, compared_part_gives_property, reset_has_property, download_phase_gives_property}
 use Rattle.dfu_host.specs.Installing.{IsInstalledReport, IsVerifiedReport, IsEndingPhase, DfuIdleReported, InstalledOnlyIfConfirmed, LastPartMatched, VerifiedOnlyIfMatched}
 
--- A report other than Installed and Verified.
+-- The report is neither Installed nor Verified.
 abbrev IsNotInPlaceReport : Report → Type 0
 IsNotInPlaceReport report.Installed = ⊥
 IsNotInPlaceReport report.Verified = ⊥
 IsNotInPlaceReport r = Unit {0}
 
--- Laws of the reports P, each of which is Installed or Verified.
+-- Laws for a class P of reports that contains no report other than Installed and Verified.
 module _ (P : Report → Type 0) (none : (r : Report) → IsNotInPlaceReport r → P r → ⊥) (task : Task) where
-  -- The phase neither is about to end with a report of P nor has ended with one.
+  -- The session is neither about to end with a report that satisfies P, nor has it ended with one.
   abbrev IsNotEndingPhase : Phase → Type 0
   IsNotEndingPhase phase = IsEndingPhase P phase → ⊥
 
-  -- The first phase of the work doesn't end with a report of P.
+  -- The first phase of the work doesn't end with a report that satisfies P.
   first_phase_is_not_ending : (goal : Goal) → IsNotEndingPhase (work_start goal)
   first_phase_is_not_ending (LoadGoal payload) h = h
   first_phase_is_not_ending FetchGoal h = h
   first_phase_is_not_ending (VerifyGoal payload) h = h
   first_phase_is_not_ending (CompareGoal payload) h = h
 
-  -- No phase of a download up to its last reset ends with a report of P.
+  -- No phase of a download before its last reset ends with a report that satisfies P.
   download_phase_is_not_ending : (phase : Phase) → IsDownloading phase → IsNotEndingPhase phase
   download_phase_is_not_ending (Last r) d = elim d [ ]
   download_phase_is_not_ending (Over r) d = elim d [ ]
   download_phase_is_not_ending phase d = λ h. h
 
-  -- Any claim about reports of P holds in the phases of a download, because none of them ends with such a report.
+  -- Any claim about reports that satisfy P holds in the phases of a download, because no such phase ends with one of these reports.
   any_claim_is_download_invariant : (Q : Type 0) → DownloadInvariant task (λ phase. IsEndingPhase P phase → Q)
   any_claim_is_download_invariant Q = record {
     holds_in_each_phase = λ phase d h. absurd (download_phase_is_not_ending phase d h);
@@ -44,7 +44,7 @@ module _ (P : Report → Type 0) (none : (r : Report) → IsNotInPlaceReport r �
     unconfirmed = λ h. absurd (none report.Unconfirmed tt h);
   }
 
-  -- The phase after a part of an upload doesn't end with a report of P.
+  -- The phase after a part of an upload doesn't end with a report that satisfies P.
   phase_after_part_is_not_ending : (t k : ℕ) (kept : List ℕ) (heard : Heard) → IsNotEndingPhase (on_part t k kept heard)
   phase_after_part_is_not_ending t k kept (Part bytes) =
       choice_gives_property IsNotEndingPhase (length bytes == t) _ _
@@ -53,19 +53,19 @@ module _ (P : Report → Type 0) (none : (r : Report) → IsNotInPlaceReport r �
   phase_after_part_is_not_ending t k kept NoRoom = none report.NoMemory tt
   phase_after_part_is_not_ending t k kept heard = λ h. h
 
-  -- The last reset leads to a report of P only if the session was about to end with that report.
+  -- The last reset leads to a report that satisfies P only if the session was about to end with that report.
   last_reset_keeps_its_report : (goal : Goal) (r : Report) (heard : Heard) → IsEndingPhase P (on_reset heard (after_last goal r) (Last r))
       → P r
   last_reset_keeps_its_report (VerifyGoal payload) r WasReset h = absurd h
   last_reset_keeps_its_report goal r WasReset h = h
   last_reset_keeps_its_report goal r heard h = h
 
-  -- The phase has a report of P already, or the device confirms Installed, or the last matching part leads to Verified.
+  -- The phase ends with a report that satisfies P already, or the device confirms the install, or returns the last matching part.
   abbrev ReportHasCause : Phase → Heard → Type 0
   ReportHasCause phase heard = (IsEndingPhase P phase)
       ⊎ ((P report.Installed × DfuIdleReported task phase heard) ⊎ (P report.Verified × LastPartMatched task phase heard))
 
-  -- A row leads to a report of P only for a cause in `ReportHasCause`.
+  -- A row leads to a report that satisfies P only for a cause in `ReportHasCause`.
   row_ends_only_with_cause : (phase : Phase) (heard : Heard) → IsEndingPhase P (host_row task phase heard) → ReportHasCause phase heard
   row_ends_only_with_cause (Compare k) heard h = compared_part_gives_property task (λ next. IsEndingPhase P next →
       ReportHasCause (Compare k) heard) k heard (λ f. absurd f)
@@ -81,15 +81,12 @@ module _ (P : Report → Type 0) (none : (r : Report) → IsNotInPlaceReport r �
       ReportHasCause phase heard) (any_claim_is_download_invariant (ReportHasCause phase heard))
       phase heard tt (λ confirmed installed. inr (inl (installed, confirmed))) h
 
--- A report other than Installed and Verified is not Installed.
 other_report_is_not_installed : (r : Report) → IsNotInPlaceReport r → IsInstalledReport r → ⊥
 other_report_is_not_installed r o i = subst IsNotInPlaceReport i o
 
--- A report other than Installed and Verified is not Verified.
 other_report_is_not_verified : (r : Report) → IsNotInPlaceReport r → IsVerifiedReport r → ⊥
 other_report_is_not_verified r o i = subst IsNotInPlaceReport i o
 
--- A row leads to Installed only if the phase had that report already, or if a tolerant device confirms the install.
 pub installed_only_if_confirmed : InstalledOnlyIfConfirmed
 installed_only_if_confirmed task phase heard h =
     elim (row_ends_only_with_cause IsInstalledReport other_report_is_not_installed task phase heard
@@ -99,7 +96,6 @@ installed_only_if_confirmed task phase heard h =
       | inr (inr (verified, matched)) ↦ absurd cc
     ]
 
--- A row leads to Verified only if the phase had that report already, or if the device gives the last part of the payload back.
 pub verified_only_if_matched : VerifiedOnlyIfMatched
 verified_only_if_matched task phase heard h =
     elim (row_ends_only_with_cause IsVerifiedReport other_report_is_not_verified task phase heard h) [

@@ -1,4 +1,4 @@
--- A device that left by itself: after the close it counts as reset for the last time, before the close as restarted.
+-- A device that leaves by itself after the close counts as reset for the last time; before the close, it counts as restarted.
 use Rattle.std.proofs.Common.{◌≡◌, pred, true, false, IsTrue, sym, ap, ◌∙◌, refl}
 use Rattle.dfu_host.specs.declared.report.Report.TheVariants as report
 use Rattle.dfu_host.specs.declared.seen.Seen.TheVariants as seen
@@ -8,14 +8,14 @@ use Rattle.dfu_host.specs.BehindClose.{is_behind_close}
 use Rattle.dfu_host.specs.Host.{HostState, HostRow, phase_in_budget, host_after_leaving, host_after_phase, after}
 use Rattle.dfu_host.specs.Departure.{CloseIsDone, NothingConfirmsAfterClose, CompareFollowsClose, LeavingBeforeCloseIsRestart}
 
--- After the close, a device that left counts as reset for the last time.
+-- After the close, a device that leaves counts as reset for the last time.
 leaving_after_close_is_reset : (h : HostState) (phase : Phase) → IsTrue (is_behind_close h.task.goal phase)
     → host_after_phase h phase Left ≡ host_after_leaving h phase true
 leaving_after_close_is_reset h (Over r) is = absurd cc
 leaving_after_close_is_reset h (OverUploaded kept) is = absurd cc
 leaving_after_close_is_reset h phase is = ap (host_after_leaving h phase) is
 
--- Before the close, a device that left counts as restarted.
+-- Before the close, a device that leaves counts as restarted.
 leaving_before_close_is_restart : (h : HostState) (phase : Phase) → is_behind_close h.task.goal phase ≡ false
     → host_after_phase h phase Left ≡ host_after_phase h phase Restarted
 leaving_before_close_is_restart h (Over r) e = refl
@@ -31,13 +31,13 @@ host_after_last_reset h goal = record {
   restarts = h.restarts;
 }
 
--- After the close, a device that left takes the host through its last reset.
+-- After the close, a device that leaves has the same effect on the host as the last reset.
 leaving_is_last_reset : (h h' : HostState) (goal : Goal) → h.task.goal ≡ goal → CloseIsDone h → HostRow h seen.Left h' → h'
     ≡ host_after_last_reset h goal
 leaving_is_last_reset h h' goal e behind step =
     step.same ∙ ap (after h) step.hears ∙ leaving_after_close_is_reset h h.phase behind ∙ ap (host_after_last_reset h) e
 
--- After the close, a device that left ends a download as Unconfirmed.
+-- After the close, a device that leaves ends a download as Unconfirmed.
 pub nothing_confirms_after_close : NothingConfirmsAfterClose
 nothing_confirms_after_close payload h h' e behind step =
     leaving_is_last_reset h h' _ e behind step
@@ -47,11 +47,11 @@ nothing_confirms_after_close payload h h' e behind step =
       actions = pred h.actions;
     }) (sym e)
 
--- After the close, a device that left sends a verified download back to Find to compare, or ends it if no action is left.
+-- After the close, a device that leaves returns a verified download to Find to compare, or ends the session if no action is left.
 pub compare_follows_close : CompareFollowsClose
 compare_follows_close payload h h' e behind step = leaving_is_last_reset h h' _ e behind step
 
--- In each phase before the close is done, a device that left by itself counts as restarted.
+-- Before the close is done, a device that leaves by itself counts as restarted, in every phase.
 pub restart_before_close : LeavingBeforeCloseIsRestart
 restart_before_close h h' e step = record {
   heard = Restarted;

@@ -1,4 +1,4 @@
--- A session that verifies keeps its payload, and ends only with one of the reports of `IsVerifyReport`.
+-- A session that verifies keeps its payload, and is over only with a report that satisfies `IsVerifyReport`.
 use Rattle.std.proofs.Common.{◌≡◌, ◌⊎◌, ℕ, IsTrue, List, refl, sym, subst, inl, inr}
 use Rattle.dfu_host.specs.declared.report.Report.{Report}
 use Rattle.dfu_host.specs.declared.report.Report.TheVariants as report
@@ -11,12 +11,12 @@ use Rattle.dfu_host.specs.HostLaws.{IsEarlyEndReport, RowsPreserve, host_rows_pr
 use Rattle.dfu_host.specs.Verifying.{IsVerifyReport, IsInstallingPhase, IsComparingPhase, VerifyEndsWithVerifyReport}
 
 -- The goal and the phase belong to a session that verifies the payload p.
-abbrev GoalVerifiesPayload : List ℕ → Goal → Phase → Type 0
-GoalVerifiesPayload p g phase = ((g ≡ VerifyGoal p) × IsInstallingPhase phase) ⊎ ((g ≡ CompareGoal p) × IsComparingPhase phase)
+abbrev IsVerifySession : List ℕ → Goal → Phase → Type 0
+IsVerifySession p g phase = ((g ≡ VerifyGoal p) × IsInstallingPhase phase) ⊎ ((g ≡ CompareGoal p) × IsComparingPhase phase)
 
--- Phases while the session installs.
+-- Laws of a session that still installs the payload.
 module _ (p : List ℕ) (task : Task) (is : task.goal ≡ VerifyGoal p) where
-  -- Every phase of a download up to its last reset is an installing phase.
+  -- Every phase of a download before its last reset is an installing phase.
   download_phase_installs : (phase : Phase) → IsDownloading phase → IsInstallingPhase phase
   download_phase_installs (Fetch k kept) c = elim c [ ]
   download_phase_installs (LastUploaded kept) c = elim c [ ]
@@ -25,7 +25,7 @@ module _ (p : List ℕ) (task : Task) (is : task.goal ≡ VerifyGoal p) where
   download_phase_installs (OverUploaded kept) c = elim c [ ]
   download_phase_installs phase c = tt
 
-  -- `IsInstallingPhase` is an invariant of a download's phases.
+  -- `IsInstallingPhase` is an invariant of the phases of a download.
   installing_is_download_invariant : DownloadInvariant task IsInstallingPhase
   installing_is_download_invariant = record {
     holds_in_each_phase = download_phase_installs;
@@ -35,16 +35,16 @@ module _ (p : List ℕ) (task : Task) (is : task.goal ≡ VerifyGoal p) where
     unconfirmed = tt;
   }
 
-  -- The row of the last reset after an install leads to a phase of a session that verifies the payload.
+  -- The last reset after an install leads to a phase of a session that verifies the payload.
   verify_reset_keeps_payload : (r : Report) (heard : Heard)
-      → GoalVerifiesPayload p (goal_after (VerifyGoal p) (Last r) heard) (on_reset heard (after_last (VerifyGoal p) r) (Last r))
+      → IsVerifySession p (goal_after (VerifyGoal p) (Last r) heard) (on_reset heard (after_last (VerifyGoal p) r) (Last r))
   verify_reset_keeps_payload r WasReset = inr (refl, tt)
   verify_reset_keeps_payload r heard = inl (refl, tt)
 
-  -- From each installing phase the row leads to a phase of a session that verifies the payload.
+  -- From each installing phase, the row leads to a phase of a session that verifies the payload.
   installing_row_keeps_payload : (phase : Phase) (heard : Heard) → IsInstallingPhase phase →
-      GoalVerifiesPayload p (goal_after task.goal phase heard) (host_row task phase heard)
-  installing_row_keeps_payload (Last r) heard h = subst (λ (g : Goal). GoalVerifiesPayload p (goal_after g (Last r) heard) (on_reset heard
+      IsVerifySession p (goal_after task.goal phase heard) (host_row task phase heard)
+  installing_row_keeps_payload (Last r) heard h = subst (λ (g : Goal). IsVerifySession p (goal_after g (Last r) heard) (on_reset heard
       (after_last g r) (Last r)))
       (sym is) (verify_reset_keeps_payload r heard)
   installing_row_keeps_payload (Fetch k kept) heard h = elim h [ ]
@@ -58,7 +58,7 @@ module _ (p : List ℕ) (task : Task) (is : task.goal ≡ VerifyGoal p) where
         heard tt (λ confirmed. tt),
   )
 
--- Phases while the session compares.
+-- Laws of a session that compares the payload.
 module _ (p : List ℕ) (task : Task) (is : task.goal ≡ CompareGoal p) where
   -- Every common phase is a comparing phase.
   common_phase_compares : (phase : Phase) → IsCommonPhase phase → IsComparingPhase phase
@@ -76,21 +76,21 @@ module _ (p : List ℕ) (task : Task) (is : task.goal ≡ CompareGoal p) where
     aborted = tt;
   }
 
-  -- The row of the last reset after the comparison leads to a phase of a session that verifies the payload.
+  -- The last reset after the comparison leads to a phase of a session that verifies the payload.
   compare_reset_keeps_payload : (r : Report) (heard : Heard) → IsVerifyReport r
-      → GoalVerifiesPayload p (goal_after (CompareGoal p) (Last r) heard) (on_reset heard (after_last (CompareGoal p) r) (Last r))
+      → IsVerifySession p (goal_after (CompareGoal p) (Last r) heard) (on_reset heard (after_last (CompareGoal p) r) (Last r))
   compare_reset_keeps_payload r WasReset h = inr (refl, h)
   compare_reset_keeps_payload r heard h = inr (refl, h)
 
-  -- From each comparing phase the row leads to a phase of a session that verifies the payload.
+  -- From each comparing phase, the row leads to a phase of a session that verifies the payload.
   comparing_row_keeps_payload : (phase : Phase) (heard : Heard) → IsComparingPhase phase →
-      GoalVerifiesPayload p (goal_after task.goal phase heard) (host_row task phase heard)
+      IsVerifySession p (goal_after task.goal phase heard) (host_row task phase heard)
   comparing_row_keeps_payload (Compare k) heard h = inr (
     is,
     compared_part_gives_property task IsComparingPhase k heard tt tt tt tt (λ matched.
         tt),
   )
-  comparing_row_keeps_payload (Last r) heard h = subst (λ (g : Goal). GoalVerifiesPayload p (goal_after g (Last r) heard) (on_reset heard
+  comparing_row_keeps_payload (Last r) heard h = subst (λ (g : Goal). IsVerifySession p (goal_after g (Last r) heard) (on_reset heard
       (after_last g r) (Last r)))
       (sym is) (compare_reset_keeps_payload r heard h)
   comparing_row_keeps_payload (Over r) heard h = inr (is, h)
@@ -101,7 +101,7 @@ module _ (p : List ℕ) (task : Task) (is : task.goal ≡ CompareGoal p) where
   )
 
 module _ (p : List ℕ) where
-  -- No comparing phase is after the close.
+  -- No comparing phase is a phase after the close.
   comparing_is_not_behind_close : (from : Phase) → IsTrue (is_behind_close (CompareGoal p) from) → IsComparingPhase from → ⊥
   comparing_is_not_behind_close Manifest behind c = c
   comparing_is_not_behind_close (WaitManifest poll) behind c = c
@@ -109,38 +109,38 @@ module _ (p : List ℕ) where
   comparing_is_not_behind_close from behind c = absurd cc
 
   -- From each phase of a session that verifies the payload, the row leads to another such phase.
-  row_keeps_verified_payload : (task : Task) (phase : Phase) (heard : Heard) → GoalVerifiesPayload p task.goal phase
-      → GoalVerifiesPayload p (goal_after task.goal phase heard) (host_row task phase heard)
+  row_keeps_verified_payload : (task : Task) (phase : Phase) (heard : Heard) → IsVerifySession p task.goal phase
+      → IsVerifySession p (goal_after task.goal phase heard) (host_row task phase heard)
   row_keeps_verified_payload task phase heard (inl h) = installing_row_keeps_payload p task h.0 phase heard h.1
   row_keeps_verified_payload task phase heard (inr h) = comparing_row_keeps_payload p task h.0 phase heard h.1
 
-  -- A report by the budget, the restarts or the caller is one of `IsVerifyReport`.
+  -- If the budget, the restarts or an abort end a session, its report satisfies `IsVerifyReport`.
   cut_short_report_is_verify_report : (report : Report) → IsEarlyEndReport report → IsVerifyReport report
   cut_short_report_is_verify_report report.GaveUp is = tt
   cut_short_report_is_verify_report report.RestartsSpent is = tt
   cut_short_report_is_verify_report report.Aborted is = tt
   cut_short_report_is_verify_report report is = elim is [ ]
 
-  -- Back in phase Find, a session still verifies its payload.
-  find_verifies_payload : (g : Goal) (from : Phase) → GoalVerifiesPayload p g from → GoalVerifiesPayload p g Find
+  -- A session that returns to phase Find still verifies its payload.
+  find_verifies_payload : (g : Goal) (from : Phase) → IsVerifySession p g from → IsVerifySession p g Find
   find_verifies_payload g from (inl h) = inl (h.0, tt)
   find_verifies_payload g from (inr h) = inr (h.0, tt)
 
-  -- A session that ended with a report of `IsVerifyReport` still counts as one that verifies its payload.
-  verify_end_keeps_payload : (g : Goal) (from : Phase) (r : Report) → IsVerifyReport r → GoalVerifiesPayload p g from →
-      GoalVerifiesPayload p g (Over r)
+  -- A session that ended with a report that satisfies `IsVerifyReport` still counts as one that verifies its payload.
+  verify_end_keeps_payload : (g : Goal) (from : Phase) (r : Report) → IsVerifyReport r → IsVerifySession p g from →
+      IsVerifySession p g (Over r)
   verify_end_keeps_payload g from r own (inl h) = inl (h.0, own)
   verify_end_keeps_payload g from r own (inr h) = inr (h.0, own)
 
   -- If the device leaves after the close, the session was still installing, so it still verifies its payload.
-  unconfirmed_end_keeps_payload : (g : Goal) (from : Phase) → IsTrue (is_behind_close g from) → GoalVerifiesPayload p g from →
-      GoalVerifiesPayload p g (Last report.Unconfirmed)
+  unconfirmed_end_keeps_payload : (g : Goal) (from : Phase) → IsTrue (is_behind_close g from) → IsVerifySession p g from →
+      IsVerifySession p g (Last report.Unconfirmed)
   unconfirmed_end_keeps_payload g from behind (inl h) = inl (h.0, tt)
   unconfirmed_end_keeps_payload g from behind (inr h) = absurd (comparing_is_not_behind_close from (subst (λ (x : Goal). IsTrue
       (is_behind_close x from)) h.0 behind) h.1)
 
-  -- A session that verifies the payload stays one through all rows, restarts and early ends.
-  rows_preserve_verified_payload : RowsPreserve (λ task phase. GoalVerifiesPayload p task.goal phase)
+  -- Rows, restarts and early ends preserve a session that verifies the payload.
+  rows_preserve_verified_payload : RowsPreserve (λ task phase. IsVerifySession p task.goal phase)
   rows_preserve_verified_payload = record {
     next = row_keeps_verified_payload;
     anew = λ task phase f. find_verifies_payload task.goal phase f;
@@ -148,7 +148,6 @@ module _ (p : List ℕ) where
     leaves = λ task phase behind f. unconfirmed_end_keeps_payload task.goal phase behind f;
   }
 
--- Through any results, a session that verifies keeps its payload, and is over only with one of the reports of `IsVerifyReport`.
 pub verify_ends_with_verify_report : VerifyEndsWithVerifyReport
-verify_ends_with_verify_report p h h' seens f rows = host_rows_preserve_property (λ task phase. GoalVerifiesPayload p task.goal phase)
+verify_ends_with_verify_report p h h' seens f rows = host_rows_preserve_property (λ task phase. IsVerifySession p task.goal phase)
     (rows_preserve_verified_payload p) h h' seens rows f

@@ -1,16 +1,16 @@
--- The phases of a session after the close: the device took the whole payload, and must put it in place.
+-- The phases of a session after the close, in which the device has the whole payload and must install it.
 use Rattle.std.specs.Prelude.{Bool, true, false}
 use Rattle.dfu_host.specs.Phases.{Goal, LoadGoal, FetchGoal, VerifyGoal, CompareGoal, Phase}
 use Rattle.dfu_host.specs.PhaseClasses.{Common, Sending, Closing, Manifesting, Fetching, Comparing, Ending, EndingUpload, Ended, EndedUpload, class_of}
 
--- A session with this goal still has to install a payload.
+-- True if a session with this goal still has to install a payload.
 abbrev pub goal_installs : Goal → Bool
 goal_installs (LoadGoal payload) = true
 goal_installs FetchGoal = false
 goal_installs (VerifyGoal payload) = true
 goal_installs (CompareGoal payload) = false
 
--- The close is done: the session asks or waits for the new image, or is about to do the last reset of a download.
+-- True if the close is done: the host requests the status of the new image or waits for it, or is about to do the last reset of a download.
 abbrev pub is_behind_close : Goal → Phase → Bool
 is_behind_close goal phase = elim (class_of phase) [
   | Common ↦ false

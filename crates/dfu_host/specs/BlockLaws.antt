@@ -31,7 +31,7 @@ no_bytes_have_no_blocks : (turns t : ℕ) → blocks_in_turns turns t [] ≡ []
 no_bytes_have_no_blocks zero t = refl
 no_bytes_have_no_blocks (suc turns) t = refl
 
--- For t over 0 and at least as many turns as the payload has bytes, the cut blocks joined are the payload.
+-- For t over 0, joining the blocks gives the payload, if the number of turns is at least the length of the payload.
 enough_turns_give_payload : (turns t : ℕ) (p : List ℕ) → 0 < t → length p ≤ turns → joined (blocks_in_turns turns t p) ≡ p
 enough_turns_give_payload zero t [] ht h = refl
 enough_turns_give_payload zero t (x ∷ xs) ht h = absurd (omega arith)
@@ -41,20 +41,20 @@ enough_turns_give_payload (suc turns) t (x ∷ xs) ht h =
     enough_turns_give_payload turns t (drop t (x ∷ xs)) ht (omega (arith, length-drop t (x ∷ xs))) in
     ap (λ r. take t (x ∷ xs) ++ r) e ∙ take-append-drop t (x ∷ xs)
 
--- A full piece put before full pieces gives full pieces; the new piece may be short only if it is the only one.
+-- Adding a full piece before full pieces gives full pieces. The added piece may be short only if it is the only one.
 full_front_keeps_full_blocks : (t : ℕ) (piece : List ℕ) (pieces : List (List ℕ)) → 0 < length piece → length piece ≤ t →
     (0 < length pieces → length piece ≡ t)
     → AreFullBlocks t pieces → AreFullBlocks t (piece ∷ pieces)
 full_front_keeps_full_blocks t piece [] some small whole full = (some, small)
 full_front_keeps_full_blocks t piece (next ∷ pieces) some small whole full = (whole (omega arith), full)
 
--- A payload of which a block was cut has at least one byte.
+-- A payload with at least one block has at least one byte.
 payload_with_block_has_byte : (turns t : ℕ) (p : List ℕ) → 0 < length (blocks_in_turns turns t p) → 0 < length p
 payload_with_block_has_byte zero t p h = absurd (omega arith)
 payload_with_block_has_byte (suc turns) t [] h = absurd (omega arith)
 payload_with_block_has_byte (suc turns) t (x ∷ xs) h = omega arith
 
--- For t over 0 the cut blocks have t bytes each, except the last, which has 1 to t.
+-- For t over 0, the cut blocks have t bytes each, except the last, which has 1 to t.
 blocks_in_turns_are_full : (turns t : ℕ) (p : List ℕ) → 0 < t → AreFullBlocks t (blocks_in_turns turns t p)
 blocks_in_turns_are_full zero t p ht = tt
 blocks_in_turns_are_full (suc turns) t [] ht = tt
@@ -64,7 +64,7 @@ blocks_in_turns_are_full (suc turns) t (x ∷ xs) ht =
     (λ h. omega (arith, size, payload_with_block_has_byte turns t (drop t (x ∷ xs)) h, length-drop t (x ∷ xs)))
     (blocks_in_turns_are_full turns t (drop t (x ∷ xs)) ht)
 
--- For t over 0 full pieces equal the blocks that are cut in enough turns from their joined bytes.
+-- For t over 0, joining full pieces and cutting the result in enough turns gives the pieces again.
 full_blocks_are_cut_blocks : (t : ℕ) (pieces : List (List ℕ)) (turns : ℕ) → 0 < t → AreFullBlocks t pieces → length (joined pieces) ≤ turns
     → pieces ≡ blocks_in_turns turns t (joined pieces)
 full_blocks_are_cut_blocks t [] turns ht full h = sym (no_bytes_have_no_blocks turns t)
@@ -112,7 +112,7 @@ cut_block_starts_in_payload (suc turns) t (x ∷ xs) zero h = omega arith
 cut_block_starts_in_payload (suc turns) t (x ∷ xs) (suc n) h =
     omega (arith, suc-mul n t, length-drop t (x ∷ xs), cut_block_starts_in_payload turns t (drop t (x ∷ xs)) n (le_of_suc-le-suc h))
 
--- For t over 0 and enough turns, if the payload has more than n times t bytes, block n is among the cut blocks.
+-- For t over 0 and enough turns, block n is cut if the payload has more than n times t bytes.
 nth_block_is_counted : (turns t : ℕ) (p : List ℕ) (n : ℕ) → 0 < t → length p ≤ turns → n * t < length p →
     n < length (blocks_in_turns turns t p)
 nth_block_is_counted zero t p n ht l h = absurd (omega arith)
@@ -124,19 +124,19 @@ nth_block_is_counted (suc turns) t (x ∷ xs) (suc n) ht l h =
     (omega (arith, h, suc-mul n t, length-drop t (x ∷ xs))) in
     omega (arith, i)
 
--- Past the last piece, a look-up by number gives the empty list.
+-- Reading a piece beyond the last one gives the empty list.
 no_piece_past_end : (pieces : List (List ℕ)) (n : ℕ) → length pieces ≤ n → slice_index_or pieces n [] ≡ []
 no_piece_past_end [] n h = refl
 no_piece_past_end (x ∷ xs) zero h = absurd (omega arith)
 no_piece_past_end (x ∷ xs) (suc n) h = no_piece_past_end xs n (le_of_suc-le-suc h)
 
 module _ (p : List ℕ) (t : ℕ) where
-  -- For t over 0 the blocks joined are the payload.
+  -- For t over 0, the joined blocks are the payload.
   pub blocks_join_to_payload : 0 < t → joined (blocks p t) ≡ p
   unfolding blocks
   blocks_join_to_payload ht = enough_turns_give_payload (length p) t p ht (omega arith)
 
-  -- For t over 0 the cut blocks are blocks of the payload.
+  -- For t over 0, the blocks that are cut satisfy `Blocks`.
   pub cut_blocks_are_blocks : 0 < t → Blocks p t (blocks p t)
   unfolding blocks
   cut_blocks_are_blocks ht = record {
@@ -145,7 +145,7 @@ module _ (p : List ℕ) (t : ℕ) where
         p) t p ht;
   }
 
-  -- For t over 0 a payload has no blocks other than the cut ones.
+  -- For t over 0, a payload has no blocks other than the cut ones.
   pub blocks_are_unique : (pieces : List (List ℕ)) → 0 < t → Blocks p t pieces → pieces ≡ blocks p t
   unfolding blocks
   blocks_are_unique pieces ht b =
@@ -158,11 +158,11 @@ module _ (p : List ℕ) (t : ℕ) where
       ++ slice_index_or (blocks p t) n []
   next_block_extends_first n h = next_piece_joins_first (blocks p t) n h
 
-  -- For t over 0 the first blocks joined, as many as there are, are the payload.
+  -- For t over 0, all blocks joined are the payload.
   pub all_first_blocks_are_payload : 0 < t → first_blocks p t (length (blocks p t)) ≡ p
   all_first_blocks_are_payload ht = ap joined (take_all _ (blocks p t) (omega arith)) ∙ blocks_join_to_payload ht
 
-  -- For t over 0 the first n blocks have at most as many bytes as the payload.
+  -- For t over 0, the first n blocks have at most as many bytes as the payload.
   pub first_blocks_are_not_longer : (n : ℕ) → 0 < t → length (first_blocks p t n) ≤ length p
   first_blocks_are_not_longer n ht =
       let e : length (joined (blocks p t)) ≡ length p = ap length (blocks_join_to_payload ht) in omega (
@@ -182,12 +182,12 @@ module _ (p : List ℕ) (t : ℕ) where
   unfolding blocks
   counted_block_starts_in_payload n h = cut_block_starts_in_payload (length p) t p n h
 
-  -- For t over 0, if the payload has more than n times t bytes, block n exists.
+  -- For t over 0, block n exists if the payload has more than n times t bytes.
   pub started_block_is_counted : (n : ℕ) → 0 < t → n * t < length p → n < length (blocks p t)
   unfolding blocks
   started_block_is_counted n ht h = nth_block_is_counted (length p) t p n ht (omega arith) h
 
-  -- For t over 0 block n is the t bytes from n times t on, or fewer at the payload's end; past the last block it is empty.
+  -- For t over 0, block n is the t bytes from n times t on, or fewer at the payload's end. Beyond the last block, it is empty.
   pub nth_block_is_slice : (n : ℕ) → 0 < t → slice_index_or (blocks p t) n [] ≡ take t (drop (n * t) p)
   nth_block_is_slice n ht = elim (cases_lt n (length (blocks p t))) [
     | inl is ↦ block_is_slice n is
@@ -199,7 +199,7 @@ module _ (p : List ℕ) (t : ℕ) where
         no_piece_past_end (blocks p t) n past ∙ sym (ap (take t) (drop_of_length-le p end) ∙ take-nil t)
   ]
 
-  -- Block n, if it exists, is as long as the t bytes from n times t on, or shorter at the payload's end.
+  -- Block n, if it exists, has as many bytes as the payload has from n times t on, but at most t.
   pub block_size : (n : ℕ) → n < length (blocks p t) → length (slice_index_or (blocks p t) n []) ≡ length (take t (drop (n * t) p))
   block_size n h = ap length (block_is_slice n h)
 
@@ -207,7 +207,7 @@ module _ (p : List ℕ) (t : ℕ) where
   pub nth_block_is_bounded : (n : ℕ) → n < length (blocks p t) → length (slice_index_or (blocks p t) n []) ≤ t
   nth_block_is_bounded n h = omega (arith, block_size n h, length-take t (drop (n * t) p))
 
-  -- Block n, if it exists, has at least one byte, for t over 0.
+  -- For t over 0, block n has at least one byte if it exists.
   pub nth_block_has_byte : (n : ℕ) → 0 < t → n < length (blocks p t) → 0 < length (slice_index_or (blocks p t) n [])
   nth_block_has_byte n ht h = omega (
     arith,
@@ -227,11 +227,11 @@ full_block_extends_first p t n some = next_block_extends_first p t n (within (bl
     within (x ∷ xs) zero h = omega arith
     within (x ∷ xs) (suc n) h = omega (arith, within xs n h)
 
--- For t over 0, if the payload has no block n, its first n blocks joined are the payload.
+-- For t over 0, the first n blocks joined are the whole payload if block n doesn't exist.
 pub past_blocks_are_payload : (p : List ℕ) (t n : ℕ) → 0 < t → length (blocks p t) ≤ n → first_blocks p t n ≡ p
 past_blocks_are_payload p t n ht h = ap joined (take_all n (blocks p t) h) ∙ blocks_join_to_payload p t ht
 
--- If block n has fewer than t bytes, or is past the last block, the first n blocks joined and block n make the payload.
+-- If block n has fewer than t bytes or doesn't exist, joining the first n blocks and block n gives the payload.
 pub short_block_ends_payload : (p : List ℕ) (t n : ℕ) → 0 < t → length (slice_index_or (blocks p t) n []) < t
     → first_blocks p t n ++ slice_index_or (blocks p t) n [] ≡ p
 short_block_ends_payload p t n ht short = elim (cases_lt n (length (blocks p t))) [
@@ -255,11 +255,10 @@ short_block_ends_payload p t n ht short = elim (cases_lt n (length (blocks p t))
       ap (λ z. first_blocks p t n ++ z) none ∙ append-nil (first_blocks p t n) ∙ past_blocks_are_payload p t n ht past
 ]
 
--- A payload has one list of blocks of a size over 0.
+-- For a block size over 0, a payload has exactly one list of blocks.
 abbrev pub BlockCutUnique : Type 0
 BlockCutUnique = (payload : List ℕ) (t : ℕ) (pieces : List (List ℕ)) → 0 < t → Blocks payload t pieces ↔ (pieces ≡ blocks payload t)
 
--- A payload is cut into blocks of a size over 0 in one way.
 pub one_cut : BlockCutUnique
 one_cut payload t pieces ht = (
   blocks_are_unique payload t pieces ht,

@@ -17,14 +17,14 @@ most_results_in phase actions = max 1 actions
 abbrev pub remaining_results : HostState → ℕ
 remaining_results h = most_results_in h.phase h.actions
 
--- The action is Done.
+-- True if the action is Done.
 abbrev pub is_done : Action → Bool
 is_done (action.Done report) = true
 is_done (action.Send setup body) = false
 is_done (action.Wait ms) = false
 is_done action.Reset = false
 
--- A host is done once it took as many results as it has actions left, or one if it has none left, or more; the results may be any.
+-- For any results, a host is done after as many results as it has actions left, or after one if it has no actions left.
 abbrev pub FinishesInTime : Type 0
 FinishesInTime =
     (h h' : HostState) (seens : List Seen) → HostRows h seens h' → max 1 h.actions ≤ length seens → IsOverPhase h'.phase

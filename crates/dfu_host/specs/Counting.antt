@@ -1,4 +1,4 @@
--- Size of the bytes that an upload keeps: k full parts while part k is fetched, and fewer bytes than 65,535 full parts at the end. No other
+-- Number of bytes that an upload keeps: k full parts while part k is fetched, and fewer bytes than 65,535 full parts at the end. No other
 -- session keeps bytes or ends as Uploaded.
 use Rattle.std.specs.Prelude.{◌≡◌, ◌*◌, ◌<◌, List, length}
 use Rattle.dfu_host.specs.declared.report.Report.{Report}
@@ -8,7 +8,7 @@ use Rattle.dfu_host.specs.Phases.{FetchGoal, Task, Phase}
 use Rattle.dfu_host.specs.PhaseClasses.{Common, Sending, Closing, Manifesting, Fetching, Comparing, Ending, EndingUpload, Ended, EndedUpload, class_of}
 use Rattle.dfu_host.specs.Host.{HostState, HostRows}
 
--- A report without bytes: any but Uploaded.
+-- The report is any but Uploaded, and so has no bytes.
 abbrev pub ReportsNoBytes : Report → Type 0
 ReportsNoBytes report.Uploaded = ⊥
 ReportsNoBytes report.Installed = Unit {0}
@@ -22,8 +22,8 @@ ReportsNoBytes report.NoMemory = Unit {0}
 ReportsNoBytes report.Verified = Unit {0}
 ReportsNoBytes report.Different = Unit {0}
 
--- The kept bytes have the right count: k full parts of an upload while part k is fetched, and at the end fewer bytes than 65,535 full
--- parts. No other phase ends as Uploaded.
+-- The number of kept bytes matches the phase: k full parts of an upload while part k is fetched, and at the end fewer bytes than 65,535
+-- full parts. No other phase ends as Uploaded.
 abbrev pub KeptBytesAreCounted : Task → Phase → Type 0
 KeptBytesAreCounted task phase = elim (class_of phase) [
   | Common ↦ Unit {0}
@@ -38,8 +38,8 @@ KeptBytesAreCounted task phase = elim (class_of phase) [
   | EndedUpload kept ↦ (task.goal ≡ FetchGoal) × (length kept < 65535 * task.transfer)
 ]
 
--- Any results leave the kept bytes of a host counted, if they were counted before and the transfer size is over 0. A session begins with
--- counted bytes, and has them after an abort.
+-- If the number of kept bytes matches the phase and the transfer size is over 0, the number also matches the phase after any results. It
+-- matches at the beginning of a session and after an abort.
 abbrev pub KeptBytesStayCounted : Type 0
 KeptBytesStayCounted =
     (h h' : HostState) (seens : List Seen) → 0 < h.task.transfer → KeptBytesAreCounted h.task h.phase → HostRows h seens h'

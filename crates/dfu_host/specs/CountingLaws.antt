@@ -1,4 +1,4 @@
--- Laws of the bytes that an upload keeps: every result leaves them counted.
+-- After every result, the number of bytes that an upload keeps matches its phase.
 use Rattle.std.proofs.Common.{◌≡◌, ℕ, suc, ◌*◌, ◌<◌, ◌≤◌, nat_lt, ◌==◌, List, length, refl, arith, length-append}
 use Rattle.std.proofs.Math.Nat.{suc-mul, mul-le-mul_right}
 use Rattle.std.proofs.lemmas.Bool.{eqb-true, eqb-false, ltb-true}
@@ -12,14 +12,14 @@ use Rattle.dfu_host.specs.RowLaws.{choice_gives_property, reset_has_property, co
 use Rattle.dfu_host.specs.HostLaws.{IsEarlyEndReport, RowsPreserve, heard_result_preserves_property, host_rows_preserve_property}
 use Rattle.dfu_host.specs.Counting.{ReportsNoBytes, KeptBytesAreCounted, KeptBytesStayCounted}
 
--- The first phase of the work has counted bytes.
+-- In the first phase of the work, the number of kept bytes matches the phase.
 work_start_is_counted : (task : Task) (goal : Goal) → task.goal ≡ goal → KeptBytesAreCounted task (work_start goal)
 work_start_is_counted task (LoadGoal payload) e = tt
 work_start_is_counted task FetchGoal e = (e, omega arith, omega arith)
 work_start_is_counted task (VerifyGoal payload) e = tt
 work_start_is_counted task (CompareGoal payload) e = tt
 
--- Every phase of a download up to its last reset has counted bytes.
+-- In every phase of a download before its last reset, the number of kept bytes matches the phase.
 download_phase_is_counted : (task : Task) (phase : Phase) → IsDownloading phase → KeptBytesAreCounted task phase
 download_phase_is_counted task (Fetch k kept) h = elim h [ ]
 download_phase_is_counted task (LastUploaded kept) h = elim h [ ]
@@ -28,7 +28,7 @@ download_phase_is_counted task (Over r) h = elim h [ ]
 download_phase_is_counted task (OverUploaded kept) h = elim h [ ]
 download_phase_is_counted task phase h = tt
 
--- `KeptBytesAreCounted` is an invariant of a download's phases.
+-- `KeptBytesAreCounted` is an invariant of the phases of a download.
 counted_is_download_invariant : (task : Task) → DownloadInvariant task (KeptBytesAreCounted task)
 counted_is_download_invariant task = record {
   holds_in_each_phase = download_phase_is_counted task;
@@ -38,7 +38,7 @@ counted_is_download_invariant task = record {
   unconfirmed = tt;
 }
 
--- If the bytes are counted before a part is fetched, the phase after the part has counted bytes.
+-- If the number of kept bytes matches part k before the part is fetched, it also matches the phase after the part.
 phase_after_part_is_counted : (task : Task) (k : ℕ) (kept : List ℕ) (heard : Heard) → 0 < task.transfer →
     KeptBytesAreCounted task (Fetch k kept)
     → KeptBytesAreCounted task (on_part task.transfer k kept heard)
@@ -58,12 +58,12 @@ phase_after_part_is_counted task k kept (Part bytes) some c =
     (λ long. tt))
 phase_after_part_is_counted task k kept heard some c = tt
 
--- The phase after the last reset has counted bytes, if the report is not Uploaded.
+-- If the report is not Uploaded, the number of kept bytes matches the phase after the last reset.
 phase_after_last_is_counted : (task : Task) (goal : Goal) (r : Report) → ReportsNoBytes r → KeptBytesAreCounted task (after_last goal r)
 phase_after_last_is_counted task (VerifyGoal payload) r c = tt
 phase_after_last_is_counted task goal r c = c
 
--- If the bytes are counted in a phase, the phase to which its row leads has counted bytes.
+-- If the number of kept bytes matches a phase, it also matches the phase after the row.
 phase_after_row_is_counted : (task : Task) (phase : Phase) (heard : Heard) → 0 < task.transfer → KeptBytesAreCounted task phase
     → KeptBytesAreCounted (task_after task phase heard) (host_row task phase heard)
 phase_after_row_is_counted task (Fetch k kept) heard some c = phase_after_part_is_counted task k kept heard some c
@@ -78,18 +78,18 @@ phase_after_row_is_counted task (OverUploaded kept) heard some c = c
 phase_after_row_is_counted task phase heard some c = download_phase_gives_property task (KeptBytesAreCounted task)
     (counted_is_download_invariant task) phase heard tt (λ confirmed. tt)
 
--- A report by the budget, the restarts or the caller is not Uploaded.
+-- If the budget, the restarts or an abort end a session, its report is not Uploaded.
 cut_short_report_has_no_bytes : (report : Report) → IsEarlyEndReport report → ReportsNoBytes report
 cut_short_report_has_no_bytes report.GaveUp is = tt
 cut_short_report_has_no_bytes report.RestartsSpent is = tt
 cut_short_report_has_no_bytes report.Aborted is = tt
 cut_short_report_has_no_bytes report is = elim is [ ]
 
--- The kept bytes are counted, and the transfer size is over 0.
+-- The number of kept bytes matches the phase, and the transfer size is over 0.
 abbrev PartsAreCounted : Task → Phase → Type 0
 PartsAreCounted task phase = (0 < task.transfer) × KeptBytesAreCounted task phase
 
--- Rows, restarts and early ends leave the kept bytes counted.
+-- After rows, restarts and early ends, the number of kept bytes still matches the phase.
 rows_preserve_counted_parts : RowsPreserve PartsAreCounted
 rows_preserve_counted_parts = record {
   next = λ task phase heard c. (c.0, phase_after_row_is_counted task phase heard c.0 c.1);
@@ -98,12 +98,11 @@ rows_preserve_counted_parts = record {
   leaves = λ task phase behind c. (c.0, tt);
 }
 
--- A result leaves the kept bytes of a host counted, if its transfer size is over 0.
+-- If the transfer size of a host is over 0, the number of its kept bytes still matches its phase after a result.
 pub heard_host_stays_counted : (h : HostState) (heard : Heard) → 0 < h.task.transfer → KeptBytesAreCounted h.task h.phase
     → KeptBytesAreCounted (after h heard).task (after h heard).phase
 heard_host_stays_counted h heard some c = (heard_result_preserves_property PartsAreCounted rows_preserve_counted_parts h heard (some, c)).1
 
--- Any list of results leaves the kept bytes of a host counted, if its transfer size is over 0.
 pub kept_bytes_stay_counted : KeptBytesStayCounted
 kept_bytes_stay_counted h h' seens some c rows = (host_rows_preserve_property PartsAreCounted rows_preserve_counted_parts h h' seens rows
     (some, c)).1

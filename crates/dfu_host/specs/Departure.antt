@@ -16,7 +16,7 @@ NothingConfirmsAfterClose =
     (payload : List ℕ) (h h' : HostState) → h.task.goal ≡ LoadGoal payload → CloseIsDone h → HostRow h seen.Left h'
     → h' ≡ record h { phase = Over report.Unconfirmed; actions = pred h.actions }
 
--- If the device leaves after the close, a verified download goes back to Find to compare, with the restarts that it had, or gives up if no
+-- If the device leaves after the close, a verified download returns to Find to compare, with the restarts that it had, or gives up if no
 -- action is left.
 abbrev pub CompareFollowsClose : Type 0
 CompareFollowsClose =

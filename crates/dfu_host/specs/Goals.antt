@@ -5,7 +5,7 @@ use Rattle.dfu_host.specs.declared.goal.Goal.TheVariants as goal
 use Rattle.dfu_host.specs.Table as table
 use Rattle.std.specs.Borrow.{Bor}
 
--- The table's goal for a goal of the code.
+-- Goal in the table that corresponds to a goal of the code.
 abbrev pub goal_of : Goal → table.Goal
 goal_of (goal.Load payload) = table.LoadGoal payload.now
 goal_of goal.Fetch = table.FetchGoal
@@ -19,7 +19,7 @@ payload_of goal.Fetch = []
 payload_of (goal.Verify payload) = payload.now
 payload_of (goal.Compare payload) = payload.now
 
--- Size of the goal in bytes: the payload's, or 1 for an upload, whose image has a size not known yet.
+-- Size of the payload in bytes, or 1 for an upload, because the size of its image is not known yet.
 abbrev pub size_of : Goal → ℕ
 size_of (goal.Load payload) = length payload.now
 size_of goal.Fetch = 1

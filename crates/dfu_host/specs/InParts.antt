@@ -1,4 +1,4 @@
--- Sessions of the code as parts, and the table's host of those parts and an upload's kept bytes.
+-- The parts of a session in the code, and the table's host with these parts and an upload's kept bytes.
 use Rattle.std.specs.Prelude.{◌≡◌, ℕ, zero, suc, ◌*◌, ◌<◌, List, [], length, take, drop}
 use Rattle.dfu_host.specs.declared.goal.Goal.{Goal}
 use Rattle.dfu_host.specs.declared.phase.Phase.{Phase}
@@ -11,12 +11,12 @@ use Rattle.dfu_host.specs.PhaseClasses.{Common, Sending, Closing, Manifesting, F
 use Rattle.dfu_host.specs.Table as table
 use Rattle.dfu_host.specs.Host.{HostState}
 
--- Bytes of the memory that are kept when part k is asked for: none before the first part.
+-- Bytes of the memory that are kept when part k is requested: none before the first part.
 abbrev pub bytes_kept_for_part : ℕ → List ℕ → List ℕ
 bytes_kept_for_part zero memory = []
 bytes_kept_for_part (suc k) memory = memory
 
--- The table's phase for a phase of the code, with the bytes kept in memory.
+-- Phase in the table that corresponds to a phase of the code, with the bytes kept in memory.
 abbrev pub phase_of : List ℕ → Phase → table.Phase
 phase_of memory phase.Find = table.Find
 phase_of memory phase.FindAgain = table.FindAgain
@@ -44,13 +44,13 @@ phase_of memory phase.GiveUp = table.GiveUp
 phase_of memory (phase.Over report) = table.Over report
 phase_of memory phase.OverUploaded = table.OverUploaded memory
 
--- The table's phase is this phase of the code, with some memory for an upload's bytes.
+-- `is` is the phase in the table that corresponds to this phase of the code, for some memory with an upload's bytes.
 pub record IsTablePhase (is : table.Phase) (phase : Phase) : Type 0 where
   pub memory : List ℕ
   pub same : is ≡ phase_of memory phase
 
--- The session has what its phase needs: block n to send, a payload of at least one byte to close, an upload and a part number below 65,535
--- to fetch, such a number to compare, or nothing.
+-- The session has what its phase needs: block n to send it, a payload of at least one byte to close, an upload and a part number below
+-- 65,535 to fetch, and such a number to compare. Other phases need nothing.
 abbrev pub HasPhaseNeeds : Goal → (transfer : ℕ) → Phase → Type 0
 HasPhaseNeeds goal t phase = elim (class_of (phase_of [] phase)) [
   | Common ↦ Unit {0}
@@ -65,13 +65,13 @@ HasPhaseNeeds goal t phase = elim (class_of (phase_of [] phase)) [
   | EndedUpload kept ↦ Unit {0}
 ]
 
--- The parts are a session's: its goal is not empty, its transfer size is over 0, and the phase has what it needs.
+-- The parts form a session: a payload has at least one byte, the transfer size is over 0, and the phase has what it needs.
 pub record ArePartsOfSession (p : Parts) : Type 0 where
   pub some : 0 < size_of p.goal
   pub transfers : 0 < p.transfer
   pub within : HasPhaseNeeds p.goal p.transfer p.phase
 
--- The table's host of a session's parts, with the bytes kept in memory.
+-- Host in the table that corresponds to a session's parts, with the bytes kept in memory.
 abbrev pub host_of : List ℕ → Parts → HostState
 host_of memory p = record {
   task = record {
@@ -86,7 +86,7 @@ host_of memory p = record {
   restarts = p.restarts;
 }
 
--- Offset in the payload of the body of a phase's request: the first byte of the phase's block, and 0 in a phase whose request has no body.
+-- Offset in the payload of the body of a phase's request: that of the phase's block, or 0 if the request has no body.
 abbrev pub body_offset : (t : ℕ) → Phase → ℕ
 body_offset t (phase.Block n) = n * t
 body_offset t other = 0

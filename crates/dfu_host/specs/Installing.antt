@@ -8,15 +8,13 @@ use Rattle.dfu_host.specs.Phases.{Task, Phase, Manifest, Compare, Heard, Status,
 use Rattle.dfu_host.specs.PhaseClasses.{Common, Sending, Closing, Manifesting, Fetching, Comparing, Ending, EndingUpload, Ended, EndedUpload, class_of}
 use Rattle.dfu_host.specs.Table.{session_blocks, host_row}
 
--- The report is Installed.
 abbrev pub IsInstalledReport : Report → Type 0
 IsInstalledReport r = r ≡ report.Installed
 
--- The report is Verified.
 abbrev pub IsVerifiedReport : Report → Type 0
 IsVerifiedReport r = r ≡ report.Verified
 
--- The session is about to end with a report of P, or has ended with one.
+-- The session is about to end with a report that satisfies P, or has ended with one.
 abbrev pub IsEndingPhase : (Report → Type 0) → Phase → Type 0
 IsEndingPhase P phase = elim (class_of phase) [
   | Common ↦ ⊥
@@ -45,7 +43,7 @@ InstalledOnlyIfConfirmed =
     → IsEndingPhase IsInstalledReport (host_row task phase heard) →
     (IsEndingPhase IsInstalledReport phase) ⊎ DfuIdleReported task phase heard
 
--- In a comparison the device gave the last part of the payload back: the shorter last block, or no byte after the last full block.
+-- In a comparison, the device returned the last part of the payload: the shorter last block, or no byte after a full last block.
 pub record LastPartMatched (task : Task) (phase : Phase) (heard : Heard) : Type 0 where
   pub k : ℕ
   pub bytes : List ℕ
@@ -54,7 +52,7 @@ pub record LastPartMatched (task : Task) (phase : Phase) (heard : Heard) : Type 
   pub same : bytes ≡ slice_index_or (session_blocks task) k []
   pub last : length bytes < task.transfer
 
--- A row leads to Verified only if the phase had that report already, or if the device gives the last part of the payload back in this row.
+-- A row leads to Verified only if the phase had that report already, or if the device returns the last part of the payload in this row.
 abbrev pub VerifiedOnlyIfMatched : Type 0
 VerifiedOnlyIfMatched =
     (task : Task) (phase : Phase) (heard : Heard)

@@ -3,7 +3,8 @@ use Rattle.std.specs.Prelude.{ℕ, List}
 use Rattle.dfu_host.specs.declared.report.Report.{Report}
 use Rattle.dfu_host.specs.Phases.{Phase, Find, FindAgain, Detach, Enter, Clear, Quit, WaitFind, ResetFind, Block, Ask, Poll, WaitPoll, Close, AskLast, Manifest, WaitManifest, WaitLast, Trouble, Fetch, LastUploaded, Compare, Last, GiveUp, Over, OverUploaded}
 
--- The part of a session to which a phase belongs, with the bytes or numbers of the phase. Every session has the common part.
+-- Class of a phase: the part of a session to which it belongs, with the phase's bytes or numbers. The class Common belongs to every
+-- session.
 pub data PhaseClass : Type 0 where
   Common : PhaseClass
   Sending : (n : ℕ) → PhaseClass
@@ -16,7 +17,6 @@ pub data PhaseClass : Type 0 where
   Ended : Report → PhaseClass
   EndedUpload : (kept : List ℕ) → PhaseClass
 
--- The class of each phase: the part of a session to which it belongs.
 abbrev pub class_of : Phase → PhaseClass
 class_of Find = Common
 class_of FindAgain = Common

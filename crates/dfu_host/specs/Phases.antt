@@ -21,7 +21,8 @@ pub record Task : Type 0 where
   pub will_detach : Bool
   pub detach_ms : ℕ
 
--- The phases of a session. Block, Ask, Poll and Compare count blocks from 0; Fetch has the number of the part and the bytes kept so far.
+-- The phases of a session. Block, Ask, Poll and Compare contain a block number, counted from 0; Fetch contains the number of the part and
+-- the bytes kept so far.
 pub data Phase : Type 0 where
   Find : Phase
   FindAgain : Phase
@@ -49,15 +50,15 @@ pub data Phase : Type 0 where
   Over : Report → Phase
   OverUploaded : (kept : List ℕ) → Phase
 
--- Deed of a host: it sends a request with its body, waits, resets the bus, or is done. `Action` is the code's form of it, with the bytes of
--- the setup.
+-- Deed of a host: it sends a request with its body, waits, resets the bus, or is done. `Action` is the form of a deed in the code, with the
+-- bytes of the setup packet.
 pub data Deed : Type 0 where
   Send : (request : Request) (body : List ℕ) → Deed
   Wait : (ms : ℕ) → Deed
   Reset : Deed
   Done : Report → Deed
 
--- Meaning of a result for a host. NoRoom is a part of an upload for which there is no memory; Left is a device that left by itself.
+-- Meaning of a result for a host. NoRoom: no memory for a part of an upload. Left: the device left the bus or returned reset by itself.
 pub data Heard : Type 0 where
   Acked : Heard
   Status : Code → (poll : ℕ) → State → Heard

@@ -3,7 +3,7 @@ use Rattle.std.specs.Prelude.{ℕ, List, codes}
 use Rattle.dfu_host.specs.declared.report.Report.{Report}
 use Rattle.dfu_host.specs.declared.report.Report.TheVariants as report
 
--- Name of a report, in small letters; the name of Refused has no code.
+-- Name of a report, in lowercase letters. The name of Refused is without its status code.
 abbrev pub report_name : Report → List ℕ
 report_name report.Installed = codes "installed"
 report_name report.Unconfirmed = codes "unconfirmed"

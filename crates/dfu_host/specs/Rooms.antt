@@ -1,4 +1,4 @@
--- Parts of an upload in a room of fixed size, so that the upload takes no memory.
+-- Parts of an upload that its caller keeps in a room of fixed size.
 use Rattle.std.specs.Prelude.{◌≡◌, ◌↔◌, ℕ, ◌+◌, nat_lt, ◌&&◌, Bool, if◌then◌else◌, IsTrue, List, length}
 use Rattle.std.specs.Borrow.{Bor}
 use Rattle.dfu_host.specs.declared.report.Report.TheVariants as report
@@ -9,7 +9,7 @@ use Rattle.dfu_host.specs.PhaseClasses.{Common, Sending, Closing, Manifesting, F
 use Rattle.dfu_host.specs.Wire.{is_part_to_be_kept}
 use Rattle.dfu_host.specs.Host.{HostState, after}
 
--- Part k overflows the room: the part is to be kept, and with the bytes kept before it exceeds the room's size.
+-- True if part k overflows the room: the part must be kept, but the kept bytes and the part have more bytes than the room.
 abbrev pub part_overflows : (room t k : ℕ) → (kept part : List ℕ) → Bool
 part_overflows room t k kept part = is_part_to_be_kept t k (length part) && nat_lt room (length kept + length part)
 
@@ -17,7 +17,7 @@ part_overflows room t k kept part = is_part_to_be_kept t k (length part) && nat_
 abbrev pub heard_in : (room t k : ℕ) → (kept part : List ℕ) → Heard
 heard_in room t k kept part = if part_overflows room t k kept part then NoRoom else Part part
 
--- Bytes for part k are taken as NoRoom if the part overflows the room, else as the part. Other results are not constrained here.
+-- A host takes the bytes of part k as NoRoom if the part overflows the room, else as the part. Other results are not constrained here.
 abbrev pub PartResultIn : (room : ℕ) → HostState → (k : ℕ) → (kept : List ℕ) → Seen → HostState → Type 0
 PartResultIn room h k kept (seen.Bytes bytes) h' = h' ≡ after h (heard_in room h.task.transfer k kept bytes.now)
 PartResultIn room h k kept seen.Ack h' = Unit {0}
@@ -28,7 +28,8 @@ PartResultIn room h k kept seen.WasReset h' = Unit {0}
 PartResultIn room h k kept seen.Restarted h' = Unit {0}
 PartResultIn room h k kept seen.Left h' = Unit {0}
 
--- A result in a phase that fetches part k is taken as `PartResultIn` says of a room of `room` bytes. Other phases are not constrained here.
+-- In a phase that fetches part k, a host takes a result as `PartResultIn` requires for a room of `room` bytes. Other phases are not
+-- constrained here.
 abbrev pub FetchResultIn : (room : ℕ) → HostState → Phase → Seen → HostState → Type 0
 FetchResultIn room h phase seen h' = elim (class_of phase) [
   | Common ↦ Unit {0}
@@ -43,7 +44,7 @@ FetchResultIn room h phase seen h' = elim (class_of phase) [
   | EndedUpload kept ↦ Unit {0}
 ]
 
--- An upload that gets a part ends with NoMemory exactly if that part overflows the room.
+-- An upload that receives a part ends with NoMemory exactly if that part overflows the room.
 abbrev pub NoMemoryExactlyOnOverflow : Type 0
 NoMemoryExactlyOnOverflow = (room : ℕ) (h h' : HostState) (k : ℕ) (kept : List ℕ) (bytes : Bor (List ℕ))
     → h.phase ≡ Fetch k kept → FetchResultIn room h h.phase (seen.Bytes bytes) h'

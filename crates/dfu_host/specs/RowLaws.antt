@@ -1,4 +1,4 @@
--- Laws of the table's rows: a property that holds in each phase to which a row may lead holds after the row.
+-- If a property holds in each phase to which a row may lead, it holds after the row.
 use Rattle.std.proofs.Common.{◌≡◌, ℕ, zero, suc, nat_lt, ◌==◌, Bool, true, false, cond, [], length, slice_index_or, refl, ◌∙◌}
 use Rattle.std.specs.Str.{bytes_eq}
 use Rattle.std.proofs.lemmas.Bool.{ltb-true}
@@ -14,7 +14,7 @@ use Rattle.dfu_host.specs.CommonPhases.{NoKnownFact, IsCommonPhase, IsDownloadin
 use Rattle.dfu_host.specs.Installing.{DfuIdleReported, LastPartMatched}
 
 module _ (P : Phase → Type 0) where
-  -- The property holds after a test, if it holds on each branch that the test may take.
+  -- The property holds after a test if it holds on each branch that the test may take.
   pub choice_gives_property : (b : Bool) (x y : Phase) → (b ≡ true → P x) → (b ≡ false → P y) → P (cond b x y)
   choice_gives_property true x y p q = p refl
   choice_gives_property false x y p q = q refl
@@ -26,17 +26,17 @@ module _ (P : Phase → Type 0) where
   ack_gives_property Stalled acked stalled nothing p q r = q
   ack_gives_property heard acked stalled nothing p q r = r
 
-  -- The property holds after a wait, if it holds in both phases that may follow.
+  -- The property holds after a wait if it holds in both phases that may follow.
   pub wait_gives_property : (heard : Heard) (waited again : Phase) → P waited → P again → P (on_waited heard waited again)
   wait_gives_property Waited waited again p q = p
   wait_gives_property heard waited again p q = q
 
-  -- The property holds after a reset of the bus, if it holds in both phases that may follow.
+  -- The property holds after a reset of the bus if it holds in both phases that may follow.
   pub reset_has_property : (heard : Heard) (done again : Phase) → P done → P again → P (on_reset heard done again)
   reset_has_property WasReset done again p q = p
   reset_has_property heard done again p q = q
 
-  -- The property holds after GETSTATUS, if it holds in each phase that may follow; facts `Known` of the result may be used.
+  -- The property holds after GETSTATUS if it holds in each phase that may follow. The proof may use the fact `Known` about the result.
   pub status_gives_property : (Known : Heard → Type 0) (heard : Heard) (told : Code → ℕ → State → Phase) (stalled nothing : Phase)
       → ((c : Code) (poll : ℕ) (s : State) → Known (Status c poll s) → P (told c poll s)) → P stalled → P nothing → Known heard
       → P (on_status heard told stalled nothing)
@@ -44,7 +44,7 @@ module _ (P : Phase → Type 0) where
   status_gives_property Known Stalled told stalled nothing p q r k = q
   status_gives_property Known heard told stalled nothing p q r k = r
 
-  -- The property holds after GETSTATE, if it holds in each phase that may follow; facts `Known` of the result may be used.
+  -- The property holds after GETSTATE if it holds in each phase that may follow. The proof may use the fact `Known` about the result.
   pub state_gives_property : (Known : Heard → Type 0) (heard : Heard) (told : State → Phase) (stalled nothing : Phase)
       → ((s : State) → Known (StateIs s) → P (told s)) → P stalled → P nothing → Known heard → P (on_state heard told stalled nothing)
   state_gives_property Known (StateIs s) told stalled nothing p q r k = p s k
@@ -52,7 +52,7 @@ module _ (P : Phase → Type 0) where
   state_gives_property Known heard told stalled nothing p q r k = r
 
 module _ (task : Task) (P : Phase → Type 0) (Known : Heard → Type 0) (holds : CommonInvariant task P Known) where
-  -- An invariant of the common phases holds in the phase that follows a status by the device's state.
+  -- An invariant of the common phases holds in the phase that the device's state in a status selects.
   state_of_status_gives_property : (c : Code) (poll : ℕ) (s : State) → Known (Status c poll s) →
       P (phase_after_status (work_start task.goal) s poll)
   state_of_status_gives_property c poll state.DfuIdle k = holds.begins c poll k
@@ -105,7 +105,7 @@ module _ (task : Task) (P : Phase → Type 0) (holds : DownloadInvariant task P)
   common_phase_is_download_phase (OverUploaded kept) c = c
   common_phase_is_download_phase phase c = tt
 
-  -- A property that holds through a download holds through its common phases.
+  -- An invariant of the phases of a download is an invariant of the common phases.
   pub download_invariant_is_common : CommonInvariant task P NoKnownFact
   download_invariant_is_common = record {
     holds_in_each_phase = λ phase c. holds.holds_in_each_phase phase (common_phase_is_download_phase phase c);
@@ -114,20 +114,20 @@ module _ (task : Task) (P : Phase → Type 0) (holds : DownloadInvariant task P)
     aborted = holds.aborted;
   }
 
-  -- An invariant of a download's phases holds after the state that says if a block arrived.
+  -- An invariant of the phases of a download holds after the GETSTATE that checks for the arrival of a block.
   ask_gives_property : (n : ℕ) (s : State) → P (asked_phase n s)
   ask_gives_property n state.DownloadSync = holds.holds_in_each_phase (Poll n) tt
   ask_gives_property zero state.DfuIdle = holds.holds_in_each_phase (Block zero) tt
   ask_gives_property (suc n) state.DownloadIdle = holds.holds_in_each_phase (Block (suc n)) tt
   ask_gives_property n s = holds.holds_in_each_phase Trouble tt
 
-  -- An invariant of a download's phases holds after the state that says if the close arrived.
+  -- An invariant of the phases of a download holds after the GETSTATE that checks for the arrival of the close.
   ask_last_gives_property : (s : State) → P (asked_last_phase s)
   ask_last_gives_property state.ManifestSync = holds.holds_in_each_phase Manifest tt
   ask_last_gives_property state.DownloadIdle = holds.holds_in_each_phase Close tt
   ask_last_gives_property s = holds.holds_in_each_phase Trouble tt
 
-  -- An invariant of a download's phases holds after the status of a block.
+  -- An invariant of the phases of a download holds after the host polls the status of a block.
   poll_gives_property : (blocks n : ℕ) (c : Code) (poll : ℕ) (s : State) → P (polled_phase (work_start task.goal) blocks n c poll s)
   poll_gives_property blocks n c poll state.DownloadSync = holds.holds_in_each_phase (WaitPoll n poll) tt
   poll_gives_property blocks n c poll state.DownloadBusy = holds.holds_in_each_phase (WaitPoll n poll) tt
@@ -135,7 +135,7 @@ module _ (task : Task) (P : Phase → Type 0) (holds : DownloadInvariant task P)
       (λ e. holds.holds_in_each_phase Close tt) (λ e. holds.holds_in_each_phase (Block (suc n)) tt)
   poll_gives_property blocks n c poll s = trouble_gives_property task P NoKnownFact download_invariant_is_common c poll s tt
 
-  -- An invariant of a download's phases holds after a status in Manifest, if it holds in the last reset of a confirmed install.
+  -- An invariant of the phases of a download holds after a status in Manifest, if it holds in the last reset of a confirmed install.
   manifest_gives_property : (tolerant : Bool) (c : Code) (poll : ℕ) (s : State)
       → (tolerant ≡ true → Status c poll s ≡ Status code.Ok poll state.DfuIdle → P (Last Installed))
       → P (manifest_phase (work_start task.goal) tolerant c poll s)
@@ -149,7 +149,7 @@ module _ (task : Task) (P : Phase → Type 0) (holds : DownloadInvariant task P)
   manifest_gives_property false c poll state.ManifestWaitReset confirmed = holds.unconfirmed
   manifest_gives_property false c poll s confirmed = trouble_gives_property task P NoKnownFact download_invariant_is_common c poll s tt
 
-  -- An invariant of a download's phases holds after the row of each of them, if it holds in the last reset of a confirmed install.
+  -- An invariant of the phases of a download holds after the row of each of them, if it holds in the last reset of a confirmed install.
   pub download_phase_gives_property : (phase : Phase) (heard : Heard) → IsDownloading phase → (DfuIdleReported task phase heard →
       P (Last Installed))
       → P (host_row task phase heard)
@@ -193,7 +193,7 @@ module _ (task : Task) (P : Phase → Type 0) (holds : DownloadInvariant task P)
   download_phase_gives_property phase heard d confirmed = common_phase_gives_property task P NoKnownFact download_invariant_is_common phase
       heard tt (λ x. tt)
 
--- The property holds after a compared part, if it holds in each phase that may follow; Verified follows only the last matching part.
+-- The property holds after a compared part if it holds in each phase that may follow. Only the last matching part leads to Verified.
 pub compared_part_gives_property : (task : Task) (P : Phase → Type 0) (k : ℕ) (heard : Heard) → P Find → P (Last Different)
     → P (Over TooManyBlocks) → P (Compare (suc k)) → (LastPartMatched task (Compare k) heard → P (Last Verified))
     → P (host_row task (Compare k) heard)

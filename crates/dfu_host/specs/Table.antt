@@ -61,7 +61,7 @@ pub use Rattle.dfu_host.specs.Phases.{
   Left,
 }
 
--- The phase in which the work begins once the device is in dfuIDLE.
+-- The first phase of the work, once the device is in dfuIDLE.
 abbrev pub work_start : Goal → Phase
 work_start (LoadGoal payload) = Block 0
 work_start FetchGoal = Fetch 0 []
@@ -83,15 +83,14 @@ session_blocks task = blocks_of task.goal task.transfer
 abbrev pub get_status : Deed
 get_status = Send (request.GetStatus 6) []
 
--- Deed that sends GETSTATE, for one byte, the state.
+-- Deed that sends GETSTATE, for the one byte of the state.
 abbrev pub get_state : Deed
 get_state = Send (request.GetState 1) []
 
--- Deed that sends a DNLOAD with a block: the block's number modulo 65,536, its length and its bytes.
+-- Deed that sends block `n` by a DNLOAD. wBlockNum is n modulo 65,536.
 abbrev pub download : ℕ → List ℕ → Deed
 download n body = Send (request.Dnload (n % 65536) (length body)) body
 
--- The deed of each phase.
 abbrev pub deed : Task → Phase → Deed
 deed task Find = get_status
 deed task FindAgain = get_status
@@ -119,7 +118,7 @@ deed task GiveUp = Send request.Abort []
 deed task (Over report) = Done report
 deed task (OverUploaded kept) = Done report.Uploaded
 
--- Phase after a status, by the device's state; in dfuIDLE the work starts.
+-- Phase after a status, which depends on the device's state. In dfuIDLE the work starts.
 abbrev pub phase_after_status : Phase → State → ℕ → Phase
 phase_after_status start state.AppIdle poll = Detach
 phase_after_status start state.AppDetach poll = Enter
@@ -133,7 +132,7 @@ phase_after_status start state.ManifestWaitReset poll = ResetFind
 phase_after_status start state.UploadIdle poll = Quit
 phase_after_status start state.Error poll = Clear
 
--- Phase after a status in Trouble: dfuERROR with a code other than OK and errSTALLEDPKT ends the session as Refused; any other status leads
+-- Phase after a status in Trouble. dfuERROR with a code other than OK and errSTALLEDPKT ends the session as Refused; any other status leads
 -- to the phase for its state.
 abbrev pub phase_in_trouble : Phase → Code → ℕ → State → Phase
 phase_in_trouble start code.Ok poll s = phase_after_status start s poll
@@ -141,15 +140,17 @@ phase_in_trouble start code.StalledPkt poll s = phase_after_status start s poll
 phase_in_trouble start c poll state.Error = Over (report.Refused c)
 phase_in_trouble start c poll s = phase_after_status start s poll
 
--- Phase after a status in Poll: a wait, or Close or the next block once block n is written; any other state is trouble.
+-- Phase after a status in Poll. The host waits while block n is being written; then it sends the next block, or the close after the last
+-- one. Any other state is handled as in Trouble.
 abbrev pub polled_phase : Phase → (blocks n : ℕ) → Code → ℕ → State → Phase
 polled_phase start blocks n c poll state.DownloadSync = WaitPoll n poll
 polled_phase start blocks n c poll state.DownloadBusy = WaitPoll n poll
 polled_phase start blocks n c poll state.DownloadIdle = if suc n == blocks then Close else Block (suc n)
 polled_phase start blocks n c poll s = phase_in_trouble start c poll s
 
--- Phase after a status in Manifest: a wait while the image is put in place. On a tolerant device dfuIDLE with OK then confirms the install;
--- on another dfuIDLE or dfuMANIFEST-WAIT-RESET ends it unconfirmed. Any other status is trouble.
+-- Phase after a status in Manifest. If the device is tolerant, the host waits while the image is being installed, and dfuIDLE with OK then
+-- confirms the install. If not, the install stays unconfirmed: after a wait if the image is being installed, or at once in dfuIDLE and
+-- dfuMANIFEST-WAIT-RESET. Any other status is handled as in Trouble.
 abbrev pub manifest_phase : Phase → (tolerant : Bool) → Code → ℕ → State → Phase
 manifest_phase start true c poll state.ManifestSync = WaitManifest poll
 manifest_phase start true c poll state.Manifest = WaitManifest poll
@@ -161,28 +162,31 @@ manifest_phase start false c poll state.DfuIdle = Last report.Unconfirmed
 manifest_phase start false c poll state.ManifestWaitReset = Last report.Unconfirmed
 manifest_phase start false c poll s = phase_in_trouble start c poll s
 
--- Phase after a state in Ask, by which block n arrived, and is polled, or did not, and is sent again. Any other state is trouble.
+-- Phase after a state in Ask. If the state shows that block n arrived, the host polls; if it shows that the block was lost, the host sends
+-- it again. Any other state leads to Trouble.
 abbrev pub asked_phase : ℕ → State → Phase
 asked_phase n state.DownloadSync = Poll n
 asked_phase zero state.DfuIdle = Block zero
 asked_phase (suc n) state.DownloadIdle = Block (suc n)
 asked_phase n s = Trouble
 
--- Phase after a state in AskLast, by which the close arrived, or did not and is sent again. Any other state is trouble.
+-- Phase after a state in AskLast. If the state shows that the close arrived, the host checks the manifestation; if it shows that the close
+-- was lost, the host sends it again. Any other state leads to Trouble.
 abbrev pub asked_last_phase : State → Phase
 asked_last_phase state.ManifestSync = Manifest
 asked_last_phase state.DownloadIdle = Close
 asked_last_phase s = Trouble
 
--- Phase after a part in Fetch: a full one leads to the next, or is one too many; a shorter one is the last; a longer one leads to Find.
+-- Phase after a part in Fetch. A full part leads to the next part, unless it is one too many. A shorter part is the last; a longer one
+-- leads to Find.
 abbrev pub fetched_phase : (t k : ℕ) (kept bytes : List ℕ) → Phase
 fetched_phase t k kept bytes =
     if length bytes == t then (if suc k == 65535 then Over report.TooManyBlocks else Fetch (suc k) (kept ++ bytes))
     else if nat_lt (length bytes) t then LastUploaded (kept ++ bytes)
     else Find
 
--- Phase after a part in Compare: a longer one leads to Find, one that differs from block k (empty past the last block) to Different. An
--- equal one leads to Verified if it is shorter than a full one; else to the next, or it is one too many.
+-- Phase after a part in Compare. A part of more than t bytes leads to Find, and one that differs from block k (empty beyond the last block)
+-- to Different. An equal part leads to Verified if it is shorter than t; else to the next part, unless it is one too many.
 abbrev pub compared_phase : (t k : ℕ) → (block bytes : List ℕ) → Phase
 compared_phase t k block bytes =
     if nat_lt t (length bytes) then Find
@@ -195,19 +199,19 @@ abbrev pub after_last : Goal → Report → Phase
 after_last (VerifyGoal payload) report = Find
 after_last goal report = Over report
 
--- Phase after GETSTATUS: by the status, by a stall, or by any other result.
+-- Phase after GETSTATUS, for a status, a stall, or any other result.
 abbrev pub on_status : Heard → (Code → ℕ → State → Phase) → (stalled nothing : Phase) → Phase
 on_status (Status c poll s) told stalled nothing = told c poll s
 on_status Stalled told stalled nothing = stalled
 on_status heard told stalled nothing = nothing
 
--- Phase after GETSTATE: by the state, by a stall, or by any other result.
+-- Phase after GETSTATE, for a state, a stall, or any other result.
 abbrev pub on_state : Heard → (State → Phase) → (stalled nothing : Phase) → Phase
 on_state (StateIs s) told stalled nothing = told s
 on_state Stalled told stalled nothing = stalled
 on_state heard told stalled nothing = nothing
 
--- Phase after a request whose answer has no bytes: by its acknowledgement, by a stall, or by any other result.
+-- Phase after a request whose answer has no bytes, for an acknowledgement, a stall, or any other result.
 abbrev pub on_ack : Heard → (acked stalled nothing : Phase) → Phase
 on_ack Acked acked stalled nothing = acked
 on_ack Stalled acked stalled nothing = stalled
@@ -223,13 +227,13 @@ abbrev pub on_reset : Heard → (done again : Phase) → Phase
 on_reset WasReset done again = done
 on_reset heard done again = again
 
--- Phase after UPLOAD: by the bytes of the part, or the end if there was no memory for them. Any other result leads to Find.
+-- Phase after UPLOAD, which the bytes of a part select. A part without memory ends the session; any other result leads to Find.
 abbrev pub on_part : (t k : ℕ) (kept : List ℕ) → Heard → Phase
 on_part t k kept (Part bytes) = fetched_phase t k kept bytes
 on_part t k kept NoRoom = Over report.NoMemory
 on_part t k kept heard = Find
 
--- Phase after UPLOAD for a comparison: by the bytes of the part. Any other result leads to Find.
+-- Phase after UPLOAD for a comparison, which the bytes of a part select. Any other result leads to Find.
 abbrev pub on_compared : (t k : ℕ) → (block : List ℕ) → Heard → Phase
 on_compared t k block (Part bytes) = compared_phase t k block bytes
 on_compared t k block heard = Find
@@ -262,16 +266,16 @@ host_row task GiveUp heard = Over report.Aborted
 host_row task (Over report) heard = Over report
 host_row task (OverUploaded kept) heard = OverUploaded kept
 
--- The goal after the last reset: a payload that was to be verified is compared from then on.
+-- The goal after the last reset. A session that verifies a payload compares it from then on.
 abbrev pub goal_after_reset : Goal → Goal
 goal_after_reset (VerifyGoal payload) = CompareGoal payload
 goal_after_reset goal = goal
 
--- The goal after a result in a phase: it changes only once the last reset is done.
+-- The goal after a result in a phase. It changes only once the last reset is done.
 abbrev pub goal_after : Goal → Phase → Heard → Goal
 goal_after goal (Last report) WasReset = goal_after_reset goal
 goal_after goal phase heard = goal
 
--- The task after a result in a phase: only its goal may change.
+-- The task after a result in a phase. Only its goal may change.
 abbrev pub task_after : Task → Phase → Heard → Task
 task_after task phase heard = record task { goal = goal_after task.goal phase heard }

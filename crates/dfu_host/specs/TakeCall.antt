@@ -1,12 +1,12 @@
--- Effect of a call of `take`, for each way to keep an upload's bytes.
+-- Effect of a call of `take` on a session or a host, whichever way the bytes of an upload are kept.
 use Rattle.std.specs.Prelude.{◌≡◌, ◌-◌, ◌≤◌}
 use Rattle.dfu_host.specs.declared.seen.Seen.{Seen}
 use Rattle.dfu_host.specs.Host.{HostState, HostRow, IsOverPhase}
 use Rattle.dfu_host.specs.Budget.{remaining_results}
 use Rattle.dfu_host.specs.Uploading.{FetchResult}
 
--- A host takes a result by a row of the table, within its budget; a host that is done is unchanged. Bytes for a part are taken as that
--- part.
+-- A host takes a result as a row of the table allows, within its budget. A host that is done is unchanged. Bytes that answer the UPLOAD of
+-- a part are taken as that part.
 pub record TakeResult (h : HostState) (seen : Seen) (h' : HostState) : Type 0 where
   pub row : HostRow h seen h'
   pub budget : remaining_results h' ≤ remaining_results h - 1

@@ -1,4 +1,4 @@
--- Laws of a session's task: only its goal changes, because its other fields are the device's descriptor.
+-- Only the goal of a session's task changes, because its other fields are the device's descriptor.
 use Rattle.std.proofs.Common.{◌≡◌, ℕ, zero, suc, Bool, true, false, refl, sym, subst}
 use Rattle.dfu_host.specs.Phases.{Task, Phase, Find, GiveUp, Last, Over, OverUploaded, Heard, Restarted, Left}
 use Rattle.dfu_host.specs.BehindClose.{is_behind_close}
@@ -12,17 +12,16 @@ pub record SameDescriptor (a b : Task) : Type 0 where
   pub will_detach : b.will_detach ≡ a.will_detach
   pub detach_ms : b.detach_ms ≡ a.detach_ms
 
--- A task has the same descriptor fields as itself.
 task_has_own_descriptor : (task : Task) → SameDescriptor task task
 task_has_own_descriptor task = record { transfer = refl; tolerant = refl; will_detach = refl; detach_ms = refl }
 
--- A restart does not change the task.
+-- A restart doesn't change the task.
 restart_keeps_task : (h : HostState) (phase : Phase) (restarts : ℕ) → (host_after_restart h phase restarts).task ≡ h.task
 restart_keeps_task h GiveUp restarts = refl
 restart_keeps_task h phase zero = refl
 restart_keeps_task h phase (suc restarts) = refl
 
--- A result of a live host changes its task as `task_after` says, unless the device left by itself.
+-- A result changes the task of a live host to `task_after`, unless the device left by itself.
 heard_gives_task_after : (h : HostState) (phase : Phase) (heard : Heard) → (heard ≡ Left → ⊥)
     → (host_after_result h phase heard).task ≡ task_after h.task phase heard
 heard_gives_task_after h (Last report) Restarted never = restart_keeps_task h (Last report) h.restarts
@@ -30,7 +29,7 @@ heard_gives_task_after h phase Restarted never = restart_keeps_task h phase h.re
 heard_gives_task_after h phase Left never = absurd (never refl)
 heard_gives_task_after h phase heard never = refl
 
--- A result in a phase changes the task as `task_after` says, unless the device left by itself.
+-- A result in a phase changes the task to `task_after`, unless the device left by itself.
 phase_gives_task_after : (h : HostState) (phase : Phase) (heard : Heard) → (heard ≡ Left → ⊥)
     → (host_after_phase h phase heard).task ≡ task_after h.task phase heard
 phase_gives_task_after h (Over r) heard never = refl
@@ -38,20 +37,20 @@ phase_gives_task_after h (OverUploaded kept) heard never = refl
 phase_gives_task_after h Find heard never = heard_gives_task_after h Find heard never
 phase_gives_task_after h phase heard never = heard_gives_task_after h phase heard never
 
--- A result changes the task of a host as `task_after` says, unless the device left by itself.
+-- A result changes the task of a host to `task_after`, unless the device left by itself.
 pub host_gives_task_after : (h : HostState) (heard : Heard) → (heard ≡ Left → ⊥) → (after h heard).task ≡ task_after h.task h.phase heard
 host_gives_task_after h heard never = phase_gives_task_after h h.phase heard never
 
--- The task after a phase has the descriptor fields of the task before.
+-- `task_after` doesn't change the descriptor fields.
 pub task_after_keeps_descriptor : (task : Task) (phase : Phase) (heard : Heard) → SameDescriptor task (task_after task phase heard)
 task_after_keeps_descriptor task phase heard = record { transfer = refl; tolerant = refl; will_detach = refl; detach_ms = refl }
 
--- A restart does not change the descriptor fields.
+-- A restart doesn't change the descriptor fields.
 restart_keeps_descriptor : (h : HostState) (phase : Phase) (restarts : ℕ) → SameDescriptor h.task (host_after_restart h phase restarts).task
 restart_keeps_descriptor h phase restarts = subst (SameDescriptor h.task) (sym (restart_keeps_task h phase restarts))
     (task_has_own_descriptor h.task)
 
--- A device that left does not change the descriptor fields.
+-- A device that leaves doesn't change the descriptor fields.
 leaving_keeps_descriptor : (h : HostState) (phase : Phase) (behind : Bool) → SameDescriptor h.task (host_after_leaving h phase behind).task
 leaving_keeps_descriptor h phase true = record { transfer = refl; tolerant = refl; will_detach = refl; detach_ms = refl }
 leaving_keeps_descriptor h phase false = restart_keeps_descriptor h phase h.restarts

@@ -10,7 +10,7 @@ use Rattle.dfu_host.specs.PhaseClasses.{Common, Sending, Closing, Manifesting, F
 use Rattle.dfu_host.specs.Wire.{NeedsRoom}
 use Rattle.dfu_host.specs.Host.{HostState, after}
 
--- Condition under which an upload is refused with each fault. An upload has no payload and no file, and downloads nothing.
+-- True if an upload is refused with this fault. An upload has no payload and no file, and downloads nothing.
 abbrev pub refuses_upload : Functional → HostFault → Bool
 refuses_upload functional fault.EmptyPayload = false
 refuses_upload functional fault.WrongTarget = false
@@ -26,7 +26,8 @@ upload_faults = fault.CannotUpload ∷ fault.BadDescriptor ∷ []
 abbrev pub first_upload_fault : Functional → Option HostFault
 first_upload_fault functional = find (refuses_upload functional) upload_faults
 
--- Bytes for part k are taken as the part, or as NoRoom in an upload if the part needs memory. Other results are not constrained here.
+-- A host takes the bytes of part k as the part, or as NoRoom if its goal is an upload and the part needs memory. Other results are not
+-- constrained here.
 abbrev pub PartResult : HostState → (k : ℕ) → Seen → HostState → Type 0
 PartResult h k (seen.Bytes bytes) h' =
     (h' ≡ after h (Part bytes.now)) ⊎ ((h' ≡ after h NoRoom) × (h.task.goal ≡ FetchGoal) × NeedsRoom h.task.transfer k (length bytes.now))
@@ -38,7 +39,7 @@ PartResult h k seen.WasReset h' = Unit {0}
 PartResult h k seen.Restarted h' = Unit {0}
 PartResult h k seen.Left h' = Unit {0}
 
--- A result in a phase that fetches part k is taken as `PartResult` says. Other phases are not constrained here.
+-- In a phase that fetches part k, a host takes a result as `PartResult` requires. Other phases are not constrained here.
 abbrev pub FetchResult : HostState → Phase → Seen → HostState → Type 0
 FetchResult h phase seen h' = elim (class_of phase) [
   | Common ↦ Unit {0}
@@ -53,8 +54,7 @@ FetchResult h phase seen h' = elim (class_of phase) [
   | EndedUpload kept ↦ Unit {0}
 ]
 
--- Bytes that an upload keeps in a phase: the parts since the fetching began, until the host goes back to find the device. Other phases keep
--- none.
+-- Bytes that an upload keeps in a phase: all parts since the fetching last began. A host that returns to Find keeps none.
 abbrev pub kept_bytes_in_phase : Phase → List ℕ
 kept_bytes_in_phase phase = elim (class_of phase) [
   | Common ↦ []

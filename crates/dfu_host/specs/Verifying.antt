@@ -7,7 +7,7 @@ use Rattle.dfu_host.specs.Phases.{VerifyGoal, CompareGoal, Phase, Compare, Last,
 use Rattle.dfu_host.specs.CommonPhases.{IsCommonPhase, IsPhaseOfDownload}
 use Rattle.dfu_host.specs.Host.{HostState, HostRows}
 
--- A report with which a session that verifies may end: any but Installed, Unconfirmed, Uploaded and NoMemory.
+-- A session that verifies may end with this report, which is any but Installed, Unconfirmed, Uploaded and NoMemory.
 abbrev pub IsVerifyReport : Report → Type 0
 IsVerifyReport report.Installed = ⊥
 IsVerifyReport report.Unconfirmed = ⊥
@@ -21,24 +21,25 @@ IsVerifyReport report.NoMemory = ⊥
 IsVerifyReport report.Verified = Unit {0}
 IsVerifyReport report.Different = Unit {0}
 
--- The phase is one of a session that verifies, up to its last reset: a phase of a download, or an end with a report of `IsVerifyReport`.
+-- The phase belongs to a session that verifies and hasn't compared yet: it is a phase of a download up to the last reset, or an end with a
+-- report that satisfies `IsVerifyReport`.
 abbrev pub IsInstallingPhase : Phase → Type 0
 IsInstallingPhase phase = IsPhaseOfDownload (λ report. Unit {0}) IsVerifyReport phase
 
--- The phase belongs to a comparison: it is common, compares a part, is before the last reset with a report of `IsVerifyReport`, or is over
--- with one.
+-- The phase belongs to a comparison: it is common, compares a part, or is before the last reset or over, with a report that satisfies
+-- `IsVerifyReport`.
 abbrev pub IsComparingPhase : Phase → Type 0
 IsComparingPhase (Compare k) = Unit {0}
 IsComparingPhase (Last report) = IsVerifyReport report
 IsComparingPhase (Over report) = IsVerifyReport report
 IsComparingPhase phase = IsCommonPhase phase
 
--- The session verifies the payload: it still installs it, or compares it.
+-- The session verifies the payload, which is still being installed, or is compared with the device's image.
 abbrev pub VerifiesPayload : List ℕ → HostState → Type 0
 VerifiesPayload payload h =
     ((h.task.goal ≡ VerifyGoal payload) × IsInstallingPhase h.phase) ⊎ ((h.task.goal ≡ CompareGoal payload) × IsComparingPhase h.phase)
 
--- Through all results, a session that verifies keeps its payload, and is over only with a report of `IsVerifyReport`.
+-- After any results, a session that verifies has the same payload, and is over only with a report that satisfies `IsVerifyReport`.
 abbrev pub VerifyEndsWithVerifyReport : Type 0
 VerifyEndsWithVerifyReport =
     (payload : List ℕ) (h h' : HostState) (seens : List Seen) → VerifiesPayload payload h → HostRows h seens h' → VerifiesPayload payload h'

@@ -1,4 +1,4 @@
--- Definitions that only this crate's own functions cite: meanings of the code's values, and the parts of an upload in memory.
+-- Definitions that only this crate's own functions use: meanings of the code's values, and the parts of an upload in memory.
 pub mod View
 pub mod Comparing
 pub mod PartMemory

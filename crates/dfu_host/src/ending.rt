@@ -15,8 +15,8 @@ use crate::task::Task;
 use dfu_wire::{Code, State, Status};
 
 impl Task<'_> {
-    /// Returns the phase after `status`, asked for after a stall or an unexpected state: dfuERROR with a code other than OK and
-    /// errSTALLEDPKT ends the session; every other status leads to the phase for its state.
+    /// Returns the phase after `status`, which the host requested after a stall or an unexpected state. dfuERROR with a code other than OK
+    /// and errSTALLEDPKT ends the session; every other status leads to the phase for its state.
     pub(crate) fn troubled(&self, status: Status) -> Phase
         ensures next { (memory : List ℕ)
             → phase_of memory result ≡ table.phase_in_trouble
@@ -32,7 +32,7 @@ impl Task<'_> {
         }
     }
 
-    /// Returns true if the close is done in `phase`.
+    /// Returns true if `phase` follows the close of a download.
     pub(crate) fn is_behind_close(&self, phase: Phase) -> bool
         ensures { (memory : List ℕ) → result ≡ is_behind_close (goal_of self.now.goal) (phase_of memory phase) }
     {
@@ -43,8 +43,8 @@ impl Task<'_> {
         }
     }
 
-    /// Returns the phase after the last reset: the end with the report, or Find to compare; after any result but a reset, the last reset
-    /// again.
+    /// Returns the phase after the last reset: the end with `report`, or Find if the session must still compare the image. After any result
+    /// other than a reset, the host resets the bus again.
     pub(crate) fn after_last(&self, report: Report, heard: Heard) -> Phase
         ensures next { (memory part : List ℕ)
             → phase_of memory result ≡ table.host_row (task_of_session self.now) (table.Last report) (meaning_of_heard part heard) }
@@ -59,7 +59,7 @@ impl Task<'_> {
         }
     }
 
-    /// Returns the phase after `status`, asked for after the close.
+    /// Returns the phase after `status`, which the host requested after the close.
     pub(crate) fn manifested(&self, status: Status) -> Phase
         ensures next { (memory : List ℕ)
             → phase_of memory result
@@ -73,7 +73,7 @@ impl Task<'_> {
         }
     }
 
-    /// Returns the phase after `status` of a tolerant device: only dfuIDLE with OK confirms the new image.
+    /// Returns the phase after `status` of a tolerant device. Only dfuIDLE with OK confirms the new image.
     fn confirmed(&self, status: Status) -> Phase
         ensures next { (memory : List ℕ)
             → phase_of memory result

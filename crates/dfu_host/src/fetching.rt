@@ -1,4 +1,4 @@
-//! The rows of the phases that fetch the image, and its parts in memory.
+//! The rows of the phases that fetch the image, and the parts to keep.
 
 ghost use Rattle.std.specs.Prelude.{◌≡◌, ◌⊎◌, ◌+◌, ◌<◌, nat_lt, Bool, true, false, if◌then◌else◌, IfSome, None, List, ℕ, length, take};
 ghost use Rattle.dfu_host.specs.inside.PartMemory.{Joined, MemoryAfter, PartMemory, NoRoomOnlyIfNeeded};
@@ -16,12 +16,12 @@ use crate::phase::Phase;
 use crate::report::Report;
 use crate::task::Task;
 
-/// Number of full parts after which an upload ends without its image, and a comparison without its verdict. The
-/// limit is this project's own.
+/// Number of full parts after which an upload ends without its image, and a comparison without its verdict. This project chose the limit.
 pub(crate) const MOST_PARTS: u16 = 65_535;
 
 impl Task<'_> {
-    /// Returns the meaning of a part of the image: the part, or NoRoom if the caller refused it and it needs room.
+    /// Returns the meaning of a part of the image: NoRoom if the caller refused a part that has bytes and must be kept, else the part's
+    /// length.
     pub(crate) fn received(&self, number: u16, part: &[u8], refused: bool) -> Heard
         requires { HasPhaseNeeds self.now.goal self.now.transfer (Phase.Fetch number) }
         ensures heard { (result ≡ Heard.Part (length part.now)) ⊎ (result ≡ Heard.NoRoom) }
@@ -38,7 +38,8 @@ impl Task<'_> {
         }
     }
 
-    /// Returns the part to keep from `bytes`, which answer the UPLOAD of part number `number`; None if it is too long or one too many.
+    /// Returns the part to keep from `bytes`, which answer the UPLOAD of part `number`; None if the part is too long, or is the full part
+    /// that is one too many.
     pub(crate) fn part_in<'s>(&self, number: u16, bytes: &'s [u8]) -> Option<UploadPart<'s>>
         requires { number < 65535 }
         ensures some { IfSome result (λ part. (refused : Bool) (memory memory' : List ℕ)
@@ -67,8 +68,8 @@ impl Task<'_> {
         }
     }
 
-    /// Returns whether part `number` with `len` bytes is kept: a full part, or a shorter one, which is the last; but not the full part that
-    /// is one too many.
+    /// Returns true if part `number` of `len` bytes is kept: a full part, or a shorter one, which is the last. The full part that is one
+    /// too many is not kept.
     fn is_kept(&self, number: u16, len: usize) -> bool
         requires { number < 65535 }
         ensures { result ≡ is_part_to_be_kept self.now.transfer number len }
@@ -77,7 +78,7 @@ impl Task<'_> {
         len < transfer || len == transfer && number + 1 != MOST_PARTS
     }
 
-    /// Returns the phase after UPLOAD of part number `number`; a part in `heard` is kept already.
+    /// Returns the phase after the UPLOAD of part `number`. If the part in `heard` must be kept, it is kept already.
     pub(crate) fn after_fetch(&self, number: u16, heard: Heard) -> Phase
         requires { HasPhaseNeeds self.now.goal self.now.transfer (Phase.Fetch number) }
         ensures next { (memory memory' part : List ℕ)
@@ -114,7 +115,8 @@ impl Task<'_> {
         }
     }
 
-    /// Returns the phase after the last reset, with all parts kept.
+    /// Returns the phase after the last reset of an upload, with all fetched bytes kept. After any result other than a reset, the host
+    /// resets the bus again.
     pub(crate) fn after_last_uploaded(&self, heard: Heard) -> Phase
         ensures next { (memory part : List ℕ)
             → phase_of memory result ≡ table.host_row (task_of_session self.now) (table.LastUploaded memory) (meaning_of_heard part heard) }

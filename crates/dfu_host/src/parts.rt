@@ -23,14 +23,14 @@ pub struct Parts<'f> {
     pub detach_ms: u16,
     /// Phase of the session.
     pub phase: Phase,
-    /// Actions that are left.
+    /// Number of actions that are left.
     pub actions: u32,
-    /// Further restarts of the device that the session takes.
+    /// Number of further restarts of the device that the session tolerates.
     pub restarts: u16,
 }
 
 impl Parts<'_> {
-    /// Returns whether a session has these parts.
+    /// Returns true if a session can have these parts.
     pub(crate) fn is_session(&self) -> bool
         ensures yes { IsTrue result → ArePartsOfSession self.now }
         ensures no { result ≡ false → ArePartsOfSession self.now → ⊥ }
@@ -38,7 +38,7 @@ impl Parts<'_> {
         self.transfer > 0 && self.has_some() && self.is_within()
     }
 
-    /// Returns whether the goal has something to do: an image to fetch, or a payload of at least one byte.
+    /// Returns true if the goal is an upload, or has a payload of at least one byte.
     fn has_some(&self) -> bool
         ensures yes { IsTrue result → 0 < size_of self.now.goal }
         ensures no { result ≡ false → 0 < size_of self.now.goal → ⊥ }
@@ -51,7 +51,7 @@ impl Parts<'_> {
         }
     }
 
-    /// Returns whether the session has the payload, block or part that its phase needs.
+    /// Returns true if the session has the payload, block or part that its phase needs.
     fn is_within(&self) -> bool
         ensures yes { IsTrue result → HasPhaseNeeds self.now.goal self.now.transfer self.now.phase }
         ensures no { result ≡ false → HasPhaseNeeds self.now.goal self.now.transfer self.now.phase → ⊥ }
@@ -69,7 +69,7 @@ impl Parts<'_> {
         }
     }
 
-    /// Returns true if the payload has block number `number`.
+    /// Returns true if the payload has block `number`.
     fn has_block(&self, number: usize) -> bool
         ensures yes { IsTrue result → number * self.now.transfer < length (payload_of self.now.goal) }
         ensures no { result ≡ false → number * self.now.transfer < length (payload_of self.now.goal) → ⊥ }

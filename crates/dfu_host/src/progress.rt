@@ -1,4 +1,4 @@
-//! Progress of a session: its phase, the budget of actions, and the count of restarts.
+//! Progress of a session: its phase, the actions and the restarts that are left.
 
 ghost use Rattle.std.specs.Prelude.{◌≡◌, if◌then◌else◌, List, ℕ, max};
 ghost use Rattle.dfu_host.specs.Host as host;
@@ -22,13 +22,13 @@ use crate::task::Task;
 #[derive(Clone, Copy)]
 pub(crate) struct Progress {
     pub(crate) phase: Phase,
-    /// Actions that are left.
+    /// Number of actions that are left.
     pub(crate) actions: u32,
-    /// Further restarts of the device that the session takes.
+    /// Number of further restarts of the device that the session tolerates.
     pub(crate) restarts: u16,
 }
 
-/// Returns the first phase of a session, with at least one action.
+/// Returns the progress of a new session, with at least one action.
 pub(crate) fn beginning(limits: Limits) -> Progress
     ensures { result ≡ record { phase = Phase.Find; actions = max 1 limits.actions; restarts = limits.restarts } }
 {
@@ -40,7 +40,8 @@ pub(crate) fn beginning(limits: Limits) -> Progress
 }
 
 impl Progress {
-    /// Returns the progress after the result `heard`, whose part, if any, is kept or refused already. The task changes with it.
+    /// Returns the progress after the result `heard`, and changes the task with it. The caller has already kept or refused a part in the
+    /// result.
     pub(crate) fn after(self, task: &mut Task<'_>, heard: Heard) -> Progress
         requires { HasPhaseNeeds task.old.goal task.old.transfer self.phase }
         ensures state { (memory memory' part : List ℕ)
@@ -60,7 +61,7 @@ impl Progress {
         }
     }
 
-    /// Returns the progress after a result that the table's row takes.
+    /// Returns the progress after a result that is handled by the table's row.
     fn by_row(self, task: &mut Task<'_>, heard: Heard) -> Progress
         requires { HasPhaseNeeds task.old.goal task.old.transfer self.phase }
         ensures state { (memory memory' part : List ℕ)
@@ -77,8 +78,8 @@ impl Progress {
         self.spent(next, self.restarts)
     }
 
-    /// Returns the progress after the device left by itself. After the close that counts as the last reset, which
-    /// confirms nothing; in every other phase it counts as a restart.
+    /// Returns the progress after the device left by itself. After the close, this counts as the last reset, which confirms nothing; in
+    /// every other phase it counts as a restart.
     fn left(self, task: &mut Task<'_>) -> Progress
         ensures state { (memory old : List ℕ) → host_of_progress memory task.new result
             ≡ host.host_after_leaving (host_of_progress old task.old self) (phase_of old self.phase)
@@ -125,7 +126,7 @@ impl Progress {
     }
 }
 
-/// Returns whether `phase` was the last reset, and the bus was reset.
+/// Returns true if `phase` was the last reset, and the bus was reset.
 fn is_last_done(phase: &Phase, heard: &Heard) -> bool
     ensures { (goal : table.Goal) (memory part : List ℕ)
         → table.goal_after goal (phase_of memory phase.now) (meaning_of_heard part heard.now)
@@ -137,7 +138,7 @@ fn is_last_done(phase: &Phase, heard: &Heard) -> bool
     }
 }
 
-/// Returns the phase after the budget check: with no actions left, a session that isn't over gives up.
+/// Returns the phase after the budget check. A session without actions left gives up, unless it is over.
 fn budgeted(left: u32, phase: Phase) -> Phase
     ensures next { (memory : List ℕ) → phase_of memory result ≡ host.phase_in_budget left (phase_of memory phase) }
     ensures within { (task : Task) → HasPhaseNeeds task.goal task.transfer phase → HasPhaseNeeds task.goal task.transfer result }

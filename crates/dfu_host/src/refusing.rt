@@ -1,4 +1,4 @@
-//! The refusals that several kinds of sessions share.
+//! The checks that several kinds of sessions share.
 
 ghost use Rattle.std.specs.Prelude.{◌≡◌, ◌<◌, IfErr, IfOk, None, Some, find, length};
 ghost use Rattle.dfu_host.specs.Download.{first_install_fault, payload_faults, refuses_download, goal_of_install};
@@ -11,7 +11,7 @@ use crate::target::is_for;
 use dfu_suffix::File;
 use dfu_wire::{Functional, Ids};
 
-/// Returns the goal of a session that installs a file, and compares it too if `compares` is true.
+/// Returns the goal of a session that installs a file, and also compares it if `compares` is true. Fails with the first fault that holds.
 pub(crate) fn goal_to_install<'f>(
     file: &File<'f>,
     functional: &Functional,
@@ -34,7 +34,7 @@ pub(crate) fn goal_to_install<'f>(
     Ok(Goal::Load(payload))
 }
 
-/// Returns the payload of the file, or the first fault for which the device can't install it.
+/// Returns the payload of the file, or the first fault that prevents its install on the device.
 fn payload_for<'f>(
     file: &File<'f>,
     functional: &Functional,
@@ -56,7 +56,7 @@ fn payload_for<'f>(
     }
 }
 
-/// Returns the first fault for which the device can't upload, if there is one.
+/// Fails with the first fault that prevents an upload from the device.
 pub(crate) fn gives_uploads(functional: &Functional) -> Result<(), HostFault>
     ensures err { IfErr result (λ fault. first_upload_fault functional.now ≡ Some fault) }
     ensures ok { IfOk result (λ nothing. (first_upload_fault functional.now ≡ None) × (0 < functional.now.transfer)) }

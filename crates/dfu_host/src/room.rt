@@ -1,4 +1,4 @@
-//! An upload whose caller keeps the bytes in a room.
+//! An upload whose caller keeps the bytes in a room of fixed size.
 
 ghost use Rattle.std.specs.Prelude.{◌≡◌, ◌+◌, ◌<◌, ◌≤◌, ◌++◌, nat_lt, IfSome, None, drop, false, length, take, true, List, ℕ};
 ghost use Rattle.dfu_host.specs.InParts.{host_of, bytes_kept_for_part};
@@ -15,12 +15,12 @@ use crate::seen::Seen;
 use crate::session::Session;
 
 impl Session<'_> {
-    /// Gives the session the result of its action, as [`crate::Host::take`] does, and returns how many bytes of the
-    /// caller's room are kept after it. Before the call the first `kept` bytes of the room are kept. A download keeps
-    /// no bytes and needs no room.
+    /// Passes the result of the session's action to the session, as [`crate::Host::take`] does. Before the call, the first `kept` bytes of
+    /// the caller's room are kept. The call returns the number of bytes that are kept after it. A download keeps no bytes and needs no
+    /// room.
     ///
-    /// A part of an upload is stored in the room after the kept bytes. If the part doesn't fit, nothing is
-    /// stored, and the session ends with the report NoMemory.
+    /// A part of an upload is stored in the room after the kept bytes. If the part doesn't fit, nothing is stored, and the session ends
+    /// with the report NoMemory.
     pub fn take(&mut self, room: &mut [u8], kept: usize, seen: Seen<'_>) -> usize
         requires { kept ≤ length room.old }
         ensures takes { TakeResult (host_of (take kept room.old) self.old) seen.entry (host_of (take result room.new) self.new) }
@@ -45,7 +45,8 @@ impl Session<'_> {
     }
 }
 
-/// Stores the part in a session's result, and returns how many bytes are kept after it. If the part doesn't fit, nothing changes.
+/// Stores the part in a session's result, if there is one to keep, and returns the number of bytes that are kept then. None if the room is
+/// too small for the part; nothing changes then.
 fn keep(session: &Session<'_>, room: &mut [u8], kept: usize, seen: Seen<'_>) -> Option<usize>
     requires { kept ≤ length room.old }
     ensures some { IfSome result (λ n.
@@ -58,9 +59,9 @@ fn keep(session: &Session<'_>, room: &mut [u8], kept: usize, seen: Seen<'_>) -> 
     ensures refused { result ≡ None
         → RefusesAnswerByRoom (length room.old) session.now.transfer session.now.phase (take kept room.old) seen.entry true }
     ensures len { length room.new ≡ length room.old }
-    ensures fits { IfSome result (λ n. n ≤ length room.old) }
+    ensures inside_room { IfSome result (λ n. n ≤ length room.old) }
     ensures beyond { IfSome result (λ n. drop n room.new ≡ drop n room.old) }
-    ensures same { result ≡ None → room.new ≡ room.old }
+    ensures room_unchanged { result ≡ None → room.new ≡ room.old }
 {
     match session.part(seen) {
         Some(part) => store(room, kept, &part),
@@ -68,18 +69,19 @@ fn keep(session: &Session<'_>, room: &mut [u8], kept: usize, seen: Seen<'_>) -> 
     }
 }
 
-/// Stores a part after the first `kept` bytes, and returns how many bytes are kept after it. If the part doesn't fit, nothing changes.
+/// Stores a part after the first `kept` bytes, or at the beginning if it is part 0, and returns the number of bytes that are kept then.
+/// None if the room is too small for the part; nothing changes then.
 #[tactic(auto, using(std::proofs::lemmas::Slice::overwrites))]
 fn store(room: &mut [u8], kept: usize, part: &UploadPart<'_>) -> Option<usize>
     requires { kept ≤ length room.old }
     ensures len { length room.new ≡ length room.old }
-    ensures fits { IfSome result (λ n. n ≤ length room.old) }
+    ensures inside_room { IfSome result (λ n. n ≤ length room.old) }
     ensures joins { IfSome result (λ n. take n room.new ≡ bytes_kept_for_part part.now.number (take kept room.old) ++ part.now.bytes.now) }
     ensures beyond { IfSome result (λ n. drop n room.new ≡ drop n room.old) }
     ensures stored { IfSome result (λ n. PartIsStored
         (bytes_kept_for_part part.now.number (take kept room.old)) part.now.bytes.now room.old n room.new) }
-    ensures some { result ≡ None → 0 < length part.now.bytes.now }
-    ensures same { result ≡ None → room.new ≡ room.old }
+    ensures part_has_bytes { result ≡ None → 0 < length part.now.bytes.now }
+    ensures room_unchanged { result ≡ None → room.new ≡ room.old }
     ensures fitted { IfSome result (λ n.
         false ≡ nat_lt (length room.old) (length (bytes_kept_for_part part.now.number (take kept room.old)) + length part.now.bytes.now)) }
     ensures full { result ≡ None

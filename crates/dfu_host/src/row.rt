@@ -1,5 +1,5 @@
-//! The host's table, and its rows for the phases that bring a device to dfuIDLE, send the blocks and close the transfer (states:
-//! USB DFU 1.1, appendix A). The other rows are in `fetching` and `ending`.
+//! The host's table, and its rows for the phases that bring a device to dfuIDLE, send the blocks and close the transfer (states: USB DFU
+//! 1.1, appendix A). The other rows are in `fetching`, `comparing` and `ending`.
 
 ghost use Rattle.std.specs.Prelude.{◌≡◌, ◌*◌, ◌<◌, length, List, ℕ};
 ghost use Rattle.dfu_host.specs.inside.Comparing.{ComparedMeaning};
@@ -17,7 +17,7 @@ use crate::report::Report;
 use crate::task::Task;
 use dfu_wire::{State, Status};
 
-/// Returns the phase after a request whose answer has no bytes: by its acknowledgement, by a stall, or by any other result.
+/// Returns the phase after a request whose answer has no bytes: `acked`, `stalled`, or `nothing` after any other result.
 fn on_ack(heard: Heard, acked: Phase, stalled: Phase, nothing: Phase) -> Phase
     ensures next { (memory part : List ℕ) → phase_of memory result
         ≡ table.on_ack (meaning_of_heard part heard) (phase_of memory acked) (phase_of memory stalled) (phase_of memory nothing) }
@@ -81,7 +81,8 @@ impl Task<'_> {
         }
     }
 
-    /// Returns the phase after GETSTATUS: by the status, by a stall, or by any other result.
+    /// Returns the phase after GETSTATUS: the one that the status selects, `stalled` after a stall, or `phase` again after any other
+    /// result.
     fn on_status(&self, phase: Phase, heard: Heard, stalled: Phase) -> Phase
         requires { HasPhaseNeeds self.now.goal self.now.transfer phase }
         ensures next { (memory part : List ℕ) → phase_of memory result
@@ -95,7 +96,7 @@ impl Task<'_> {
         }
     }
 
-    /// Returns the phase after `status` in `phase`, which asks for it.
+    /// Returns the phase after `status`, which the host requested in `phase`.
     fn told(&self, phase: Phase, status: Status) -> Phase
         requires { HasPhaseNeeds self.now.goal self.now.transfer phase }
         ensures next { (memory : List ℕ)
@@ -110,8 +111,7 @@ impl Task<'_> {
         }
     }
 
-    /// Returns the phase in which the work begins once the device is in dfuIDLE. A payload has a first block;
-    /// no part of an image is kept or compared yet.
+    /// Returns the first phase of the work, once the device is in dfuIDLE: that of block 0 or of part 0.
     fn start(&self) -> Phase
         ensures next { (memory : List ℕ) → phase_of memory result ≡ table.work_start (goal_of self.now.goal) }
         ensures within { HasPhaseNeeds self.now.goal self.now.transfer result }
@@ -124,7 +124,7 @@ impl Task<'_> {
         }
     }
 
-    /// Returns the phase after `status`, by the device's state.
+    /// Returns the phase that the device's state in `status` selects.
     pub(crate) fn listed(&self, status: Status) -> Phase
         ensures next { (memory : List ℕ)
             → phase_of memory result ≡ table.phase_after_status (table.work_start (goal_of self.now.goal)) status.state status.poll_ms }
@@ -142,7 +142,7 @@ impl Task<'_> {
         }
     }
 
-    /// Returns the phase after Enter, which waits if the device detaches by itself, and else resets the bus.
+    /// Returns the phase after Enter, in which the host waits if the device detaches by itself, and else resets the bus.
     pub(crate) fn after_enter(&self, heard: Heard) -> Phase
         ensures next { (memory part : List ℕ) → phase_of memory result
             ≡ table.host_row (task_of_session self.now) table.Enter (meaning_of_heard part heard) }
@@ -155,7 +155,8 @@ impl Task<'_> {
         }
     }
 
-    /// Returns the phase after GETSTATE, asked because the answer to block number `number` was lost: the state says if the block arrived.
+    /// Returns the phase after GETSTATE, which the host sent because the answer to block `number` was lost. The state shows if the block
+    /// arrived.
     pub(crate) fn after_ask(&self, number: usize, heard: Heard) -> Phase
         requires { number * self.now.transfer < length (payload_of self.now.goal) }
         ensures next { (memory part : List ℕ)
@@ -171,7 +172,7 @@ impl Task<'_> {
         }
     }
 
-    /// Returns the phase after `status`, asked for after block number `number`.
+    /// Returns the phase after `status`, which the host requested after block `number`.
     pub(crate) fn polled(&self, number: usize, status: Status) -> Phase
         requires { number * self.now.transfer < length (payload_of self.now.goal) }
         ensures next { (memory : List ℕ)
@@ -190,7 +191,8 @@ impl Task<'_> {
         }
     }
 
-    /// Returns the phase after GETSTATE, asked because the answer to the close was lost: the state says if the close arrived.
+    /// Returns the phase after GETSTATE, which the host sent because the answer to the close was lost. The state shows if the close
+    /// arrived.
     pub(crate) fn after_ask_last(&self, heard: Heard) -> Phase
         requires { 0 < length (payload_of self.now.goal) }
         ensures next { (memory part : List ℕ) → phase_of memory result

@@ -30,7 +30,7 @@ impl<'f> Model for Session<'f> {
     ghost use Rattle.dfu_host.specs.InParts.{HasPhaseNeeds};
     ghost use Rattle.dfu_host.specs.inside.View.{session_parts};
 
-    // The session as its parts. With the bytes that its caller keeps they make a `HostState`, like a `Host`.
+    // The parts of the session. Together with the bytes that the caller keeps, they form a `HostState`, which is the view of a `Host` too.
     ghost Value = { Parts };
 
     ghost view = { λ s. session_parts s.task s.progress };
@@ -53,7 +53,7 @@ impl<'f> Session<'f> {
     ghost use Rattle.dfu_host.specs.inside.Refusing.{RefusesAnswerByRoom};
     ghost use Rattle.dfu_host.specs.declared.fault.HostFault.{HostFault};
 
-    /// Makes a session that installs a file, as [`crate::Host::download`] does, with the same faults.
+    /// Returns a new session that installs a file, as [`crate::Host::download`] does, with the same faults.
     pub fn download(
         file: &File<'f>,
         functional: &Functional,
@@ -68,8 +68,8 @@ impl<'f> Session<'f> {
         Ok(Session::begin(goal, functional, limits))
     }
 
-    /// Makes a session that installs a file and compares it, as [`crate::Host::download_verified`] does, with
-    /// the same faults.
+    /// Returns a new session that installs a file and then compares the image in the device with it, as [`crate::Host::download_verified`]
+    /// does, with the same faults.
     pub fn download_verified(
         file: &File<'f>,
         functional: &Functional,
@@ -84,7 +84,7 @@ impl<'f> Session<'f> {
         Ok(Session::begin(goal, functional, limits))
     }
 
-    /// Makes a session that fetches the active image, as [`crate::Host::upload`] does, with the same faults.
+    /// Returns a new session that fetches the active image, as [`crate::Host::upload`] does, with the same faults.
     pub fn upload(functional: &Functional, limits: Limits) -> Result<Session<'f>, HostFault>
         ensures refused { (fault : HostFault) → (result ≡ Err fault) ↔ (first_upload_fault functional.now ≡ Some fault) }
         ensures started { IfOk result (λ s. (memory : List ℕ) → host_of memory s ≡ host_for_goal functional.now FetchGoal limits) }
@@ -111,7 +111,7 @@ impl<'f> Session<'f> {
         }
     }
 
-    /// Returns the session's parts, which [`Session::from_parts`] puts together again.
+    /// Returns the session's parts, from which [`Session::from_parts`] creates the session again.
     pub fn parts(&self) -> Parts<'f>
         ensures parts { result ≡ self.now }
         ensures sound { ArePartsOfSession result }
@@ -128,8 +128,8 @@ impl<'f> Session<'f> {
         }
     }
 
-    /// Returns the session of `parts`. None exactly if no session has these parts: the goal has nothing to do, as with an empty payload;
-    /// the transfer size is 0; or the phase needs something that doesn't exist, such as a block after the last one.
+    /// Returns the session of `parts`. None exactly if no session has these parts: the goal has an empty payload, the transfer size is 0,
+    /// or the phase needs something that doesn't exist, such as a block after the last one.
     pub fn from_parts(parts: Parts<'f>) -> Option<Session<'f>>
         ensures some { IfSome result (λ s. s ≡ parts.entry) }
         ensures refused { (result ≡ None) ↔ (ArePartsOfSession parts.entry → ⊥) }
@@ -153,7 +153,7 @@ impl<'f> Session<'f> {
         })
     }
 
-    /// Returns the action that the session wants next. The call changes nothing, so it may be repeated.
+    /// Returns the next action that the caller must carry out. The call changes nothing, so it may be repeated.
     pub fn next(&self) -> Action<'f>
         ensures act { (memory : List ℕ) → Act (host_of memory self.now) result }
         ensures done { (memory : List ℕ) → IsTrue (is_done result) ↔ (remaining_results (host_of memory self.now) ≡ 0) }
@@ -162,8 +162,8 @@ impl<'f> Session<'f> {
         self.task.action(self.progress.phase)
     }
 
-    /// Returns the offset in the payload at which the body of `next` begins; 0 without a body. The body is a slice of
-    /// the payload from there on.
+    /// Returns the offset in the payload of the body of `next`; 0 if there is no body. The body is a slice of the payload that begins
+    /// there.
     pub fn sends_from(&self) -> usize
         ensures { result ≡ body_offset self.now.transfer self.now.phase }
     {
@@ -173,7 +173,7 @@ impl<'f> Session<'f> {
         }
     }
 
-    /// Returns the part of the image in `seen` that must be kept, before the session gets the result; None if there is none.
+    /// Returns the part of the image in `seen` that must be kept before the session takes the result; None if `seen` has no such part.
     pub(crate) fn part<'s>(&self, seen: Seen<'s>) -> Option<UploadPart<'s>>
         ensures some { IfSome result (λ part. (refused : Bool) (memory memory' : List ℕ)
             → PartAppendedOrRefused part.number part.bytes.now refused memory memory'
@@ -200,7 +200,7 @@ impl<'f> Session<'f> {
         }
     }
 
-    /// Gives the session the result of its action; `refused` says that the caller did not keep the result's part.
+    /// Passes the result of the session's action to the session. `refused` is true if the caller did not keep the part in the result.
     pub(crate) fn on_result(&mut self, seen: Seen<'_>, refused: bool)
         ensures payload { (payload : Bor (List ℕ)) → CarriesPayload payload self.old.goal → CarriesPayload payload self.new.goal }
         ensures takes { (memory memory' : List ℕ) → MemoryAfterSeen self.old.transfer self.old.phase seen.entry refused memory memory'
@@ -214,7 +214,7 @@ impl<'f> Session<'f> {
         self.progress = self.progress.after(&mut self.task, heard);
     }
 
-    /// Gives the session up, as [`crate::Host::abort`] does.
+    /// Aborts the session, as [`crate::Host::abort`] does.
     pub fn abort(&mut self)
         ensures payload { (payload : Bor (List ℕ)) → CarriesPayload payload self.old.goal → CarriesPayload payload self.new.goal }
         ensures given_up { (memory : List ℕ) → host_of memory self.new ≡ aborted_host (host_of memory self.old) }

@@ -42,10 +42,10 @@ impl<'f> Task<'f> {
         self.goal.payload()
     }
 
-    /// Returns block `number`, as a slice of the payload; empty past the last block.
+    /// Returns block `number`, as a slice of the payload; empty beyond the last block.
     pub(crate) fn block(&self, number: usize) -> &'f [u8]
         ensures bytes { result.now ≡ slice_index_or (session_blocks (task_of_session self.now)) number [] }
-        ensures fits { length result.now < 2 ^ 16 }
+        ensures in_16_bits { length result.now < 2 ^ 16 }
         ensures cut { result.now ≡ take (length result.now) (drop (number * self.now.transfer) (payload_of self.now.goal)) }
     {
         let transfer = self.transfer as usize;
@@ -54,7 +54,7 @@ impl<'f> Task<'f> {
         &rest[..transfer.min(rest.len())]
     }
 
-    /// Returns the offset in the payload at which block number `number` begins.
+    /// Returns the offset of block `number` in the payload.
     pub(crate) fn begins(&self, number: usize) -> usize
         requires { number * self.now.transfer < length (payload_of self.now.goal) }
         ensures { result ≡ number * self.now.transfer }
@@ -63,17 +63,17 @@ impl<'f> Task<'f> {
         number.saturating_mul(self.transfer as usize).min(all)
     }
 
-    /// Returns true if block number `number` is the last one.
+    /// Returns true if block `number` is the last one.
     pub(crate) fn is_last(&self, number: usize) -> bool
         requires { number * self.now.transfer < length (payload_of self.now.goal) }
         ensures last { result ≡ (suc number == length (session_blocks (task_of_session self.now))) }
-        ensures fits { number + 1 < 2 ^ 64 }
+        ensures next_in_64_bits { number + 1 < 2 ^ 64 }
     {
         let transfer = self.transfer as usize;
         self.payload().len() - number * transfer <= transfer
     }
 
-    /// Changes the goal once the last reset is done: a payload that was to be verified is compared from then on.
+    /// Changes the goal Verify to Compare if `done` is true, because the last reset is done then. Every other goal is unchanged.
     pub(crate) fn go_on(&mut self, done: bool)
         ensures payload { (payload : Bor (List ℕ)) → CarriesPayload payload self.old.goal → CarriesPayload payload self.new.goal }
         ensures task { task_of_session self.new
@@ -145,7 +145,7 @@ impl<'f> Task<'f> {
     }
 }
 
-/// Returns the DNLOAD of `body` as block number `number`, which wraps at 65,536.
+/// Returns the DNLOAD of `body` as block `number`. wBlockNum is the number modulo 65,536.
 fn download(number: usize, body: &[u8]) -> Action<'_>
     requires { length body.now < 2 ^ 16 }
     ensures spells { SpellsDeed (table.download number body.now) result }
@@ -156,7 +156,7 @@ fn download(number: usize, body: &[u8]) -> Action<'_>
     send(Request::Dnload { block, length }, body)
 }
 
-/// Returns the action that sends `request`, one of the seven, with its `body`.
+/// Returns the action that sends `request`, one of the seven class requests, with its `body`.
 fn send(request: Request, body: &[u8]) -> Action<'_>
     requires { IsUnnamedRequest request → ⊥ }
     ensures spells { SpellsDeed (table.Send request body.now) result }

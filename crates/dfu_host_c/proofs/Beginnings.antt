@@ -11,17 +11,17 @@ use Rattle.dfu_host.specs.Phases.{Goal}
 use Rattle.dfu_host_core.specs.BeginCalls.{BeginResult, IsInitialRecord, IsContent}
 use Rattle.dfu_host_c.specs.Refusing.{HostRefuses}
 use Rattle.dfu_host_c.specs.Refusals.{refused_number}
-use Rattle.dfu_host_c.specs.declared.refusals.Refusal.TheVariants as refusal
+use Rattle.dfu_host_c.specs.declared.refusals.HostRefusal.TheVariants as refusal
 use Rattle.dfu_host_core.specs.declared.session.DfuSession.{DfuSession}
 use Rattle.dfu_host_c.proofs.Refused.{call_is_refused_by_first_fault}
 
--- If a call fails exactly with its first fault, and it succeeded, there is no first fault.
+-- A call that fails exactly with its first fault has no fault if it succeeds.
 pub successful_call_has_no_fault : {T : Type 0} (result : Result T HostFault) (value : T) (first : Option HostFault) → result ≡ Ok value
     → ((fault : HostFault) → (result ≡ Err fault) ↔ (first ≡ Some fault)) → first ≡ None
 successful_call_has_no_fault result value None is refused = refl
 successful_call_has_no_fault result value (Some fault) is refused = let e : result ≡ Err fault = (refused fault).1 refl in absurd cc
 
--- If the file and the descriptor were read and the host accepts the session, the call has begun that session.
+-- If the file and the descriptor were read and the host accepts the session, the call begins that session.
 pub begins : {T : Type 0} {file descriptor : List ℕ} {asked device : Ids} {limits : Limits} {result : ℤ} {r' : DfuSession}
     {content : Content} {functional : Functional} {host : T} (to : List ℕ → Goal)
     (first : Content → Functional → Ids → Option HostFault) (made : Result T HostFault)
@@ -39,7 +39,7 @@ begins {content = content} {functional = functional} to first made is_content is
   number_is = number;
 }
 
--- If the file and the descriptor were read and the host refuses the session, the call is refused by the host's first fault.
+-- If the file and the descriptor were read and the host refuses the session, the call returns the number of the host's first fault.
 pub refused_call_has_first_fault : {T : Type 0} {file descriptor : List ℕ} {asked device : Ids} {result : ℤ} {content : Content}
     {functional : Functional}
     {fault : HostFault} (first : Content → Functional → Ids → Option HostFault) (made : Result T HostFault)

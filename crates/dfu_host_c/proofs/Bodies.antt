@@ -1,4 +1,4 @@
--- Offset of an action's body in the payload.
+-- The body of an action lies within the payload.
 use Rattle.std.proofs.Common.{◌≡◌, ℕ, ◌+◌, ◌≤◌, List, length, take, drop, ap, arith}
 use Rattle.std.proofs.lemmas.List.{length-take, length-drop}
 use Rattle.dfu_host.specs.declared.parts.Parts.{Parts}
@@ -7,7 +7,7 @@ use Rattle.dfu_host.specs.declared.phase.Phase.TheVariants as phase
 use Rattle.dfu_host.specs.Goals.{payload_of}
 use Rattle.dfu_host.specs.InParts.{ArePartsOfSession, HasPhaseNeeds, body_offset}
 
--- A body that is a slice of the payload from an offset within it ends within the payload.
+-- A body that is a slice of the payload, and begins within it, ends within the payload.
 pub body_ends_in_payload : (payload body : List ℕ) (from : ℕ) → body ≡ take (length body) (drop from payload) → from ≤ length payload
     → from + length body ≤ length payload
 body_ends_in_payload payload body from e within =

@@ -1,4 +1,4 @@
--- A DfuSe session keeps its map and its image, and so does its record.
+-- A session that is read from a record has the map and the image that were passed with the record.
 use Rattle.std.proofs.Common.{rules, ◌≡◌, ℕ, List, Some, sym, ap, ◌∙◌, subst}
 use Rattle.std.specs.Borrow.{Bor}
 use Rattle.dfu_formats.specs.memory.Reading.{MapContent}
@@ -10,7 +10,6 @@ use Rattle.std.specs.Prelude.{Option, None, option_map}
 use Rattle.dfu_host_c.specs.dfuse.Sessions.{IsDfuseRecordOf, phase_in, session_in, dfuse_session_in_phase}
 use Rattle.dfu_host_c.specs.declared.dfuse.session.DfuseSession.{DfuseSession}
 
--- The session that is read from a record has the given map and the given image.
 session_has_map_and_image : (r : DfuseSession) (map : Bor MapContent) (image : Bor (List Element)) (o : Option Phase) (s : Session) →
     option_map (dfuse_session_in_phase r map image) o ≡ Some s → (s.plan.map ≡ map) × (s.plan.image ≡ image)
 session_has_map_and_image r map image None s e = absurd cc
@@ -18,8 +17,7 @@ session_has_map_and_image r map image (Some phase) s e =
     let same : dfuse_session_in_phase r map image phase ≡ s = search (rules, e) in
     (sym (ap (λ (t : Session). t.plan.map) same), sym (ap (λ (t : Session). t.plan.image) same))
 
--- If a record is read as the next session, which has the plan of the session before, the record holds the next session over the string of
--- the map and the image.
+-- If the next session has the same plan and is read from the new record, the new record holds it, with the same map and image.
 pub record_holds_session : (r r' : DfuseSession) (text : List ℕ) (image : Bor (List Element)) (s next : Session)
     → IsDfuseRecordOf r text image s →
     next.plan ≡ s.plan → session_in r' next.plan.map next.plan.image ≡ Some next → IsDfuseRecordOf r' text image next

@@ -1,4 +1,4 @@
--- Maps that are read from a string, and their ranges.
+-- Faults and ranges of maps that are read from a string.
 use Rattle.std.proofs.Common.{◌≡◌, ◌≤◌, ℕ, ◌∙◌, Option, Some, None, IfSome, MatchOption, List, length, Result, Ok, Err, sym, ap, subst}
 use Rattle.std.specs.Prelude.{◌<◌, slice_index_or}
 use Rattle.std.specs.Borrow.{Bor}
@@ -9,12 +9,12 @@ use Rattle.dfu_formats.specs.memory.Reading.{MapContent}
 use Rattle.dfu_formats.specs.declared.memory.fault.MapFault.{MapFault}
 use Rattle.dfu_formats.specs.declared.memory.pages.Pages.{Pages}
 
--- A reading that ended with a fault gave no map.
+-- If reading a string ends with a fault, the string is not a map.
 pub faulty_string_is_no_map : (result : Result MapContent MapFault) (fault : MapFault) (m : MapContent) → result ≡ Err fault → result
     ≡ Ok m → ⊥
 faulty_string_is_no_map result fault m is only = let never : Err fault ≡ Ok m = sym is ∙ only in absurd cc
 
--- If a range was found by its number, it is the map's range with that number.
+-- A range that was found by a number is the map's range with that number.
 pub found_range_has_its_number : (xs ys : List Pages) (i : ℕ) (r : Option (Bor Pages)) (p : Bor Pages) → xs ≡ ys → IsItemAt xs i r
     → r ≡ Some p →
     slice_get ys i ≡ Some p.now

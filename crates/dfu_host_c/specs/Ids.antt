@@ -2,6 +2,5 @@
 use Rattle.dfu_wire.specs.declared.ids.Ids.{Ids}
 use Rattle.dfu_host_c.specs.declared.ids.DfuIds.{DfuIds}
 
--- The three identifiers in a record, as a value.
 abbrev pub ids_of : DfuIds → Ids
 ids_of r = record { device = r.device; product = r.product; vendor = r.vendor }

@@ -1,4 +1,4 @@
--- Record for C of a look at a file without a DFU suffix.
+-- Record for C of the recognized kind of a file without a DFU suffix.
 use Rattle.std.specs.Prelude.{ℕ, Option, Some, None}
 use Rattle.dfu_formats.specs.declared.images.format.Format.{Format}
 use Rattle.dfu_formats.specs.declared.images.format.Format.TheVariants.{IntelHex, SRecord, Uf2, Elf}
@@ -18,7 +18,7 @@ image_format_number SRecord = 2
 image_format_number Uf2 = 3
 image_format_number Elf = 4
 
--- Number of a file's kind, 0 to 9: 0 raw bytes, 1 to 4 an image format, and 5 to 9 a file of another kind.
+-- Number of a file's kind, 0 to 9: 0 for raw bytes, 1 to 4 for an image format, and 5 to 9 for a file of another kind.
 abbrev pub looks_number : Looks → ℕ
 looks_number looks.Raw = 0
 looks_number (looks.Of format) = image_format_number format
@@ -28,23 +28,23 @@ looks_number (looks.Other Gzip) = 7
 looks_number (looks.Other Text) = 8
 looks_number (looks.Other (Named ending)) = 9
 
--- Number of a file name's ending, 0 to 5: 0 no known ending, 1 to 4 that of an image format, and 5 `.dfu`.
+-- Number of a file name's ending, 0 to 5: 0 for no known ending, 1 to 4 for that of an image format, and 5 for `.dfu`.
 abbrev pub ending_number : Option Ending → ℕ
 ending_number None = 0
 ending_number (Some (ending.Of format)) = image_format_number format
 ending_number (Some ending.Dfu) = 5
 
--- Line of a place in a file; 0 if there is no place.
+-- Line of a position in a file; 0 if there is no position.
 abbrev pub line_number : Option Place → ℕ
 line_number None = 0
 line_number (Some place) = place.line
 
--- Column of a place in a file; 0 if there is no place.
+-- Column of a position in a file; 0 if there is no position.
 abbrev pub column_number : Option Place → ℕ
 column_number None = 0
 column_number (Some place) = place.column
 
--- Record of a look at a file: the numbers of its kind and of its name's ending, and the place of its bad byte.
+-- Record of a recognized file: the numbers of its kind and of its name's ending, and the position of its first bad byte.
 abbrev pub record_of_look : Look → DfuLook
 record_of_look look = record {
   looks = looks_number look.looks;

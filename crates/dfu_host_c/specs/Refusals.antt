@@ -7,12 +7,12 @@ use Rattle.dfu_formats.specs.declared.memory.fault.MapFault.TheVariants as map
 use Rattle.dfuse_host.specs.declared.fault.PlanFault.TheVariants as plan
 use Rattle.dfu_formats.specs.declared.dfuse.fault.FileFault.TheVariants as dfuse
 use Rattle.dfu_formats.specs.declared.dfuse.image.ImageFault.TheVariants as image
-use Rattle.dfu_host_c.specs.declared.refusals.Refusal.{Refusal}
-use Rattle.dfu_host_c.specs.declared.refusals.Refusal.TheVariants as refusal
+use Rattle.dfu_host_c.specs.declared.refusals.HostRefusal.{HostRefusal}
+use Rattle.dfu_host_c.specs.declared.refusals.HostRefusal.TheVariants as refusal
 
--- Number of each refusal, different for all: -1 to -10 for a file, -21 to -25 for the host, -31 to -37 for a descriptor, -51 to -59 for a
--- map, -61 to -68 for a plan, -71 to -86 for a DfuSe file, and -87 and -88 for its image.
-abbrev pub refused_number : Refusal → ℤ
+-- Number of each refusal; no two are equal. A file has -1 to -10, the host -21 to -25, a descriptor -31 to -37, a map -51 to -59, a plan
+-- -61 to -68, a DfuSe file -71 to -86, and its image -87 and -88.
+abbrev pub refused_number : HostRefusal → ℤ
 refused_number (refusal.File suffix.TooShort) = negsuc 0
 refused_number (refusal.File suffix.NoSignature) = negsuc 1
 refused_number (refusal.File suffix.BadLength) = negsuc 2
@@ -71,16 +71,16 @@ refused_number (refusal.DfuseFile dfuse.Trailing) = negsuc 85
 refused_number (refusal.Image image.NoSuchSetting) = negsuc 86
 refused_number (refusal.Image image.TooManyElements) = negsuc 87
 
--- -43: the buffer is too short for the body of the next request.
+-- Number of the refusal if the buffer is too short for the body of the next request.
 abbrev pub no_room : ℤ
 no_room = negsuc 42
 
--- -44: the map has no range with this number.
+-- Number of the refusal if the map has no range with this number.
 abbrev pub no_range : ℤ
 no_range = negsuc 43
 
--- A first fault holds, and the call is refused with the number of that fault.
-pub record IsRefusedFor {F : Type 0} (why : F → Refusal) (first : F → Type 0) (result : ℤ) : Type 0 where
+-- The call returns the number of its first fault.
+pub record IsRefusedFor {F : Type 0} (why : F → HostRefusal) (first : F → Type 0) (result : ℤ) : Type 0 where
   pub fault : F
   pub is_first : first fault
   pub number_is : result ≡ refused_number (why fault)

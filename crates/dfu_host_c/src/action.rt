@@ -13,7 +13,7 @@ use crate::reports::report_numbers;
 use dfu_host::Action;
 use dfu_host_core::{DfuAction, DfuSession};
 
-/// Makes the record of an action, whose body, if it has one, begins at offset `from` in the payload.
+/// Returns the record of an action. The body of the action, if it has one, begins at offset `from` in the payload.
 #[tactic(auto, using(crate::proofs::Bodies::body_ends_in_payload))]
 fn record_of(action: Action<'_>, from: usize) -> DfuAction
     ensures { (deed : Deed) (payload : List ℕ) → SpellsDeed deed action.entry → BodyIsSliceOfPayload payload from action.entry → from ≤ length payload

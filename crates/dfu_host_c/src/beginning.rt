@@ -16,7 +16,7 @@ ghost use Rattle.dfu_host_c.specs.Ids.{ids_of};
 use crate::file::file_in;
 use crate::holding::record_of;
 use crate::ids::DfuIds;
-use crate::refusals::Refusal;
+use crate::refusals::HostRefusal;
 use dfu_host::{HostFault, Limits, Session};
 use dfu_host_core::DfuSession;
 use dfu_suffix::File;
@@ -29,7 +29,8 @@ struct Wanted<'f> {
     functional: Functional,
 }
 
-/// Reads a file and a descriptor. Fails with the number of the file's fault, or else of the descriptor's.
+/// Reads a file and a descriptor. Fails with the number of the file's fault, or, if the file has no fault, with the number of the
+/// descriptor's fault.
 fn read_both<'f>(file: &'f [u8], descriptor: &[u8]) -> Result<Wanted<'f>, i32>
     ensures file { IfOk result (λ w. IsContent w.file file.now) }
     ensures functional { IfOk result (λ w. IsFunctional w.functional descriptor.now) }
@@ -37,11 +38,11 @@ fn read_both<'f>(file: &'f [u8], descriptor: &[u8]) -> Result<Wanted<'f>, i32>
 {
     let file = match file_in(file) {
         Ok(file) => file,
-        Err(fault) => return Err(Refusal::File(fault).number()),
+        Err(fault) => return Err(HostRefusal::File(fault).number()),
     };
     match Functional::decode(descriptor) {
         Ok(functional) => Ok(Wanted { file, functional }),
-        Err(fault) => Err(Refusal::Wire(fault).number()),
+        Err(fault) => Err(HostRefusal::Wire(fault).number()),
     }
 }
 
@@ -57,7 +58,7 @@ fn start(session: &mut DfuSession, host: &Session<'_>) -> i32
 impl<'f> Wanted<'f> {
     ghost use Rattle.dfu_host.specs.declared.fault.HostFault.{HostFault};
 
-    /// Makes a session that installs the file, and compares it too if `compares` is true.
+    /// Creates a session that installs the file, and also reads it back and compares it if `compares` is true.
     fn begin(&self, device: Ids, limits: Limits, compares: bool) -> Result<Session<'f>, HostFault>
         ensures refused { (fault : HostFault)
             → (result ≡ Err fault) ↔ (first_install_fault compares self.now.file self.now.functional device ≡ Some fault) }
@@ -72,8 +73,8 @@ impl<'f> Wanted<'f> {
     }
 }
 
-/// Begins a session that installs a file, and compares it too if `compares` is true. Returns 0 or the number
-/// of a refusal.
+/// Begins a session that installs a file, and also reads it back and compares it if `compares` is true. Returns 0 or the number of a
+/// refusal.
 fn install(
     session: &mut DfuSession,
     file: &[u8],
@@ -93,7 +94,7 @@ fn install(
     };
     match wanted.begin(device, limits, compares) {
         Ok(host) => start(session, &host),
-        Err(fault) => Refusal::Host(fault).number(),
+        Err(fault) => HostRefusal::Host(fault).number(),
     }
 }
 
@@ -149,11 +150,11 @@ pub extern "C" fn dfu_host_upload(
 {
     let functional = match Functional::decode(descriptor) {
         Ok(functional) => functional,
-        Err(fault) => return Refusal::Wire(fault).number(),
+        Err(fault) => return HostRefusal::Wire(fault).number(),
     };
     let limits = Limits { actions, restarts };
     match Session::upload(&functional, limits) {
         Ok(host) => start(session, &host),
-        Err(fault) => Refusal::Host(fault).number(),
+        Err(fault) => HostRefusal::Host(fault).number(),
     }
 }

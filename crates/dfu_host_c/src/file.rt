@@ -7,13 +7,13 @@ ghost use Rattle.dfu_suffix.specs.declared.fault.SuffixFault.{SuffixFault};
 ghost use Rattle.dfu_wire.specs.declared.ids.Ids.{Ids};
 ghost use Rattle.dfu_host_c.specs.FileRecords.{record_of};
 ghost use Rattle.dfu_host_c.specs.Refusals.{refused_number};
-ghost use Rattle.dfu_host_c.specs.declared.refusals.Refusal.TheVariants.{File as FileRefusal};
+ghost use Rattle.dfu_host_c.specs.declared.refusals.HostRefusal.TheVariants.{File as FileRefusal};
 
-use crate::refusals::Refusal;
+use crate::refusals::HostRefusal;
 use byteorder::{ByteOrder, LittleEndian};
 use dfu_suffix::{File, SuffixFault, read_small};
 
-/// `struct dfu_file`: the fields of a file. The header says what each number means.
+/// `struct dfu_file`: the fields of a file. The header explains each number.
 #[repr(C)]
 #[derive(Drop)]
 pub struct DfuFile {
@@ -21,7 +21,7 @@ pub struct DfuFile {
     pub payload: u64,
     /// bLength: length of the suffix in bytes, 16 to 255.
     pub suffix: u32,
-    /// dwCRC: checksum of the file.
+    /// dwCRC: CRC of the file.
     pub crc: u32,
     /// bcdDevice: release of the device.
     pub device: u16,
@@ -33,7 +33,7 @@ pub struct DfuFile {
     pub dfu: u16,
 }
 
-/// Returns the CRC, the number in the last four bytes, low byte first.
+/// Returns the CRC in the last four bytes, low byte first.
 fn crc_in(bytes: &[u8]) -> u32
     requires { 16 ≤ length bytes.now }
     ensures { result ≡ little_number 4 (drop (length bytes.now - 4) bytes.now) }
@@ -42,7 +42,7 @@ fn crc_in(bytes: &[u8]) -> u32
     LittleEndian::read_u32(last)
 }
 
-/// Makes the record of a file that was read from `bytes`.
+/// Returns the record of a file that was read from `bytes`.
 fn record_of(file: &File<'_>, bytes: &[u8]) -> DfuFile
     requires { 16 ≤ length bytes.now }
     ensures { result ≡ record_of file.now.payload file.now.ids file.now.dfu file.now.suffix bytes.now }
@@ -59,7 +59,8 @@ fn record_of(file: &File<'_>, bytes: &[u8]) -> DfuFile
     }
 }
 
-/// Reads a file, or returns its first fault. The CRC's small table is enough, because a file is read only once. Not inlined, to save space.
+/// Reads a file, or returns its first fault. The small table of the CRC suffices, because a file is read only once. The function isn't
+/// inlined, to save space.
 #[inline(never)]
 pub(crate) fn file_in(bytes: &[u8]) -> Result<File<'_>, SuffixFault>
     ensures found { IfOk result (λ f. (extra : List ℕ) × IsFile f.payload f.ids f.dfu extra bytes.now × (f.suffix ≡ 16 + length extra)) }
@@ -83,6 +84,6 @@ pub extern "C" fn dfu_host_file(file: &[u8], out: &mut DfuFile) -> i32
             *out = record_of(&read, file);
             0
         }
-        Err(fault) => Refusal::File(fault).number(),
+        Err(fault) => HostRefusal::File(fault).number(),
     }
 }

@@ -1,4 +1,4 @@
-//! Goals of a session, as numbers, both ways.
+//! Conversion between the goals of sessions and numbers.
 
 ghost use Rattle.std.specs.Prelude.{◌≡◌, List, ℕ, IfSome, Some, None};
 ghost use Rattle.std.specs.Borrow.{Bor};
@@ -21,7 +21,6 @@ pub(crate) fn goal_at<'f>(number: u32, payload: &'f [u8]) -> Option<Goal<'f>>
     }
 }
 
-/// Returns the number of a goal.
 pub(crate) fn goal_number(goal: Goal<'_>) -> u32
     ensures { (payload : Bor (List ℕ)) → CarriesPayload payload goal.entry → goal_at result payload ≡ Some goal.entry }
 {

@@ -1,4 +1,4 @@
-//! The session of a record, and the record of a session.
+//! Conversion between a session and its record for C.
 
 ghost use Rattle.std.specs.Prelude.{◌≡◌, List, ℕ, IfSome, None, Some};
 ghost use Rattle.std.specs.Borrow.{Bor};
@@ -35,7 +35,7 @@ fn parts_of<'f>(given: &DfuSession, payload: &'f [u8]) -> Option<Parts<'f>>
     })
 }
 
-/// Returns the session of a record with a payload; None for another version, or if no session has the record's parts.
+/// Returns the session of a record with a payload; None if the record has another version, or if its parts can't be those of a session.
 pub(crate) fn session_of<'f>(given: &DfuSession, payload: &'f [u8]) -> Option<Session<'f>>
     ensures some { IfSome result (λ s. IsRecord given.now payload.entry s × CarriesPayload payload.entry s.goal) }
     ensures none { result ≡ None → (parts : Parts) → IsRecord given.now payload.entry parts → ⊥ }
@@ -53,7 +53,7 @@ pub(crate) fn session_of<'f>(given: &DfuSession, payload: &'f [u8]) -> Option<Se
     Some(session)
 }
 
-/// Makes the record of a session that keeps `kept` bytes.
+/// Returns the record of a session that keeps `kept` bytes.
 pub(crate) fn record_of(session: &Session<'_>, kept: u64) -> DfuSession
     ensures says { (payload : Bor (List ℕ)) → CarriesPayload payload session.now.goal → IsRecord result payload session.now }
     ensures written { HasWrittenNumbers result session.now }

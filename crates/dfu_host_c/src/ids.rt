@@ -18,7 +18,6 @@ pub struct DfuIds {
 }
 
 impl DfuIds {
-    /// Returns the three identifiers as a value.
     pub(crate) fn ids(&self) -> Ids
         ensures { result ≡ ids_of self.now }
     {

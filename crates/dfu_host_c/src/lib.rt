@@ -1,8 +1,8 @@
-//! The host of USB device firmware upgrade (USB DFU 1.1) for programs in C: a static library without
-//! memory of its own. `include/dfu_host.h` describes its calls, and `include/dfuse_host.h` those of the host of DfuSe.
+//! The host of USB device firmware upgrade (USB DFU 1.1) for programs in C: a static library without memory of its own.
+//! `include/dfu_host.h` describes its calls, and `include/dfuse_host.h` those of the host of DfuSe.
 //!
-//! The caller keeps the state of a session in a record. Each call reads the session from the record, does one step,
-//! and writes the record again.
+//! The caller keeps the state of a session in a record. Each call reads the session from the record, takes one step, and writes the record
+//! again.
 #![tactic(auto)]
 
 mod action;

@@ -1,4 +1,4 @@
-//! Record for C of a look at a file without a DFU suffix, described in `include/dfu_image.h`.
+//! Record for C of the recognized kind of a file without a DFU suffix, described in `include/dfu_image.h`.
 
 ghost use Rattle.std.specs.Prelude.{◌≡◌};
 ghost use Rattle.dfu_formats.specs.images.Looks.{look_at_file};
@@ -6,17 +6,17 @@ ghost use Rattle.dfu_host_c.specs.Looks.{ending_number, image_format_number, loo
 
 use dfu_formats::images::{Ending, Format, Look, Looks, NotImage, look_at};
 
-/// `struct dfu_look`: the result of a look at a file. The header says what each number means.
+/// `struct dfu_look`: the recognized kind of a file. The header explains each number.
 #[repr(C)]
 #[derive(Drop)]
 pub struct DfuLook {
     /// Kind of the file, 0 to 9.
     pub looks: u32,
-    /// Format of the name's ending, 0 to 5.
+    /// Number of the format that has the ending of the file's name, 1 to 5; 0 if no format has this ending.
     pub named: u32,
-    /// Line of the first byte that no record allows at its place, from 1; 0 if there is no such byte.
+    /// Line, from 1, of the first byte that is not allowed at its position in a record; 0 if there is no such byte.
     pub line: u64,
-    /// Column of the first byte that no record allows at its place, from 1; 0 if there is no such byte.
+    /// Column, from 1, of the first byte that is not allowed at its position in a record; 0 if there is no such byte.
     pub column: u64,
 }
 
@@ -58,7 +58,6 @@ fn ending_number(ending: Option<Ending>) -> u32
     }
 }
 
-/// Makes the record of a look at a file.
 fn record_of_look(look: Look) -> DfuLook
     ensures { result ≡ record_of_look look }
 {
@@ -74,7 +73,7 @@ fn record_of_look(look: Look) -> DfuLook
     }
 }
 
-/// Looks at a file with a name, and returns the number of its kind.
+/// Recognizes the kind of a file from its bytes and its name, and returns the number of the kind.
 #[unsafe(no_mangle)]
 pub extern "C" fn dfu_image_look(file: &[u8], name: &[u8], look: &mut DfuLook) -> u32
     ensures number { result ≡ looks_number (look_at_file file.now name.now).looks }

@@ -41,8 +41,8 @@ fn name_at(number: u32) -> &'static [u8]
     }
 }
 
-/// Writes the name of report number `report` to `out` and returns its length. Writes nothing and returns 0 if no report has the number, or
-/// if the name is longer than the buffer.
+/// Writes the name of report `report` to `out` and returns its length. Writes nothing and returns 0 if no report has the number, or if the
+/// name is longer than the buffer.
 #[unsafe(no_mangle)]
 pub extern "C" fn dfu_host_name(report: u32, out: &mut [u8]) -> i32
     ensures named { length (name_at report) ≤ length out.old → (result ≡ pos (length (name_at report)))

@@ -1,4 +1,4 @@
-//! Phases as numbers, both ways.
+//! Conversion between the phases of sessions and numbers.
 
 ghost use Rattle.std.specs.Prelude.{◌≡◌, Some};
 ghost use Rattle.dfu_host_core.specs.PhaseNumbers.{part_at, phase_at};
@@ -9,7 +9,7 @@ use crate::reports::{report_at, report_numbers};
 use dfu_host::{Phase, Report};
 use dfu_host_core::EncodedPhase;
 
-/// Returns the phase with these numbers; None if no phase has them.
+/// Returns the phase with these numbers; None if no phase has these numbers.
 pub(crate) fn phase_at(which: u32, number: u64, more: u32) -> Option<Phase>
     ensures { result ≡ phase_at which number more }
 {
@@ -56,7 +56,7 @@ pub(crate) fn phase_at(which: u32, number: u64, more: u32) -> Option<Phase>
     }
 }
 
-/// Returns `number` as the number of a part; None over 65,535.
+/// Returns `number` as the number of a part; None above 65,535.
 fn part_at(number: u64) -> Option<u16>
     ensures { result ≡ part_at number }
 {
@@ -67,7 +67,6 @@ fn part_at(number: u64) -> Option<u16>
     }
 }
 
-/// Returns the numbers of a phase.
 pub(crate) fn numbers_of(phase: Phase) -> EncodedPhase
     ensures phase { phase_at result.which result.number result.more ≡ Some phase }
     ensures numbers { result ≡ numbers_in phase }
@@ -101,7 +100,7 @@ pub(crate) fn numbers_of(phase: Phase) -> EncodedPhase
     }
 }
 
-/// Returns the numbers of a phase: its own, its block, part or report, and its poll time or code.
+/// Returns the record of three numbers: that of a phase, that of its block, part or report, and its poll time or status code.
 fn of(which: u32, number: u64, more: u32) -> EncodedPhase
     ensures { result ≡ record { which = which; number = number; more = more } }
 {
@@ -112,7 +111,7 @@ fn of(which: u32, number: u64, more: u32) -> EncodedPhase
     }
 }
 
-/// Returns the numbers of a phase with a report: its own, and those of the report.
+/// Returns the numbers of a phase with a report.
 fn reported(which: u32, report: Report) -> EncodedPhase
     ensures which { result.which ≡ which }
     ensures report { report_at result.number result.more ≡ Some report }

@@ -1,4 +1,4 @@
-//! Refusals of calls, for C: negative numbers, in the order of the faults.
+//! Refusals of calls, for C, as negative numbers in the order of the faults.
 
 ghost use Rattle.std.specs.Prelude.{◌≡◌};
 ghost use Rattle.dfu_host_c.specs.Refusals.{refused_number};
@@ -22,38 +22,38 @@ pub(crate) const NO_ROOM: i32 = -43;
 /// The map has no range with this number.
 pub(crate) const NO_RANGE: i32 = -44;
 
-/// Reasons for which a call is refused.
+/// Reasons to refuse a call.
 #[derive(Clone, Copy)]
-pub(crate) enum Refusal {
-    /// The bytes are no file.
+pub(crate) enum HostRefusal {
+    /// The bytes are not a DFU file.
     File(SuffixFault),
     /// The host refuses the session.
     Host(HostFault),
-    /// The bytes are no descriptor.
+    /// The bytes are not a descriptor.
     Wire(WireFault),
-    /// The string is no memory map.
+    /// The string is not a memory map.
     Map(MapFault),
     /// The host of DfuSe refuses the plan.
     Plan(PlanFault),
-    /// The bytes are no DfuSe file.
+    /// The bytes are not a DfuSe file.
     DfuseFile(FileFault),
     /// A DfuSe file has no image for an alternate setting, or too many elements.
     Image(ImageFault),
 }
 
-impl Refusal {
+impl HostRefusal {
     /// Returns the number of the refusal, -1 to -88.
     pub(crate) fn number(self) -> i32
         ensures { result ≡ refused_number self }
     {
         match self {
-            Refusal::File(fault) => -1 - fault as i32,
-            Refusal::Host(fault) => -21 - fault as i32,
-            Refusal::Wire(fault) => -31 - fault as i32,
-            Refusal::Map(fault) => -51 - fault as i32,
-            Refusal::Plan(fault) => -61 - fault as i32,
-            Refusal::DfuseFile(fault) => -71 - fault as i32,
-            Refusal::Image(fault) => -87 - fault as i32,
+            HostRefusal::File(fault) => -1 - fault as i32,
+            HostRefusal::Host(fault) => -21 - fault as i32,
+            HostRefusal::Wire(fault) => -31 - fault as i32,
+            HostRefusal::Map(fault) => -51 - fault as i32,
+            HostRefusal::Plan(fault) => -61 - fault as i32,
+            HostRefusal::DfuseFile(fault) => -71 - fault as i32,
+            HostRefusal::Image(fault) => -87 - fault as i32,
         }
     }
 }

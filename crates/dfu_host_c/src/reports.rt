@@ -1,4 +1,4 @@
-//! Reports as numbers, both ways.
+//! Conversion between reports and numbers.
 
 ghost use Rattle.std.specs.Prelude.{◌≡◌, Some};
 ghost use Rattle.dfu_wire.specs.Code.{code_byte};
@@ -26,7 +26,7 @@ pub(crate) fn code_number(code: Code) -> u32
     u32::from(code.byte())
 }
 
-/// The reports by their numbers.
+/// Table of the reports and their numbers.
 macro_rules! reports {
     ($($way:tt)*) => {
         numbers!($($way)*, Report {
@@ -36,14 +36,14 @@ macro_rules! reports {
     };
 }
 
-/// Returns the report with this number; None for 0, over 11, or if it is Refused and `code` is the number of no code.
+/// Returns the report with this number. None for a number of 0 or over 11, or for Refused if `code` is not the number of a status code.
 pub(crate) fn report_at(number: u64, code: u32) -> Option<Report>
     ensures { result ≡ report_at number code }
 {
     reports!(read number, code)
 }
 
-/// Returns the number of a report, and the number of its code; 0 for reports other than Refused.
+/// Returns the number of a report, and the number of its status code, or 0 for reports other than Refused.
 pub(crate) fn report_numbers(report: Report) -> (u32, u32)
     ensures report { report_at result.0 result.1 ≡ Some report }
     ensures numbers { result ≡ report_numbers report }

@@ -1,4 +1,4 @@
-//! Results of actions, by their numbers.
+//! Results of actions by their numbers.
 
 ghost use Rattle.std.specs.Prelude.{◌≡◌};
 ghost use Rattle.dfu_host_core.specs.SeenNumbers.{seen_at};
@@ -7,8 +7,8 @@ ghost use Rattle.dfu_host_c.specs.dfuse.SeenNumbers.{dfuse_seen_at};
 use dfu_host::Seen;
 use dfuse_host::Seen as DfuseSeen;
 
-/// Result of an action by its number: the results that both hosts have, and those that only this host has. None if no
-/// result has the number.
+/// Maps the number of a result to the result; the entries after `$bytes` are results that only one of the hosts has. None if no result has
+/// the number.
 macro_rules! numbered {
     ($kind:ident, $number:ident, $bytes:ident $(, $own:literal => $name:ident)*) => {
         match $number {
@@ -24,14 +24,14 @@ macro_rules! numbered {
     };
 }
 
-/// Returns the result of an action by its number, 0 to 7; None over 7. Result 1 has the given bytes.
+/// Returns the result of an action with this number, 0 to 7; None over 7. Result 1 has the given bytes.
 pub(crate) fn seen_at<'s>(number: u32, bytes: &'s [u8]) -> Option<Seen<'s>>
     ensures { result ≡ seen_at number bytes.entry }
 {
     numbered!(Seen, number, bytes, 5 => WasReset, 7 => Left)
 }
 
-/// Returns a result for the host of DfuSe by its number; None if no result has it. Result 1 has the given bytes.
+/// Returns the result of a DfuSe action with this number; None if no result has the number. Result 1 has the given bytes.
 pub(crate) fn dfuse_seen_at<'s>(number: u32, bytes: &'s [u8]) -> Option<DfuseSeen<'s>>
     ensures { result ≡ dfuse_seen_at number bytes.entry }
 {

@@ -1,4 +1,4 @@
-//! Calls that step a session.
+//! The calls that pass a result to a session, and abort a session.
 
 ghost use Rattle.std.specs.Prelude.{◌≤◌, List, ℕ, length};
 ghost use Rattle.std.specs.Borrow.{Bor};
@@ -15,7 +15,7 @@ use crate::seen::seen_at;
 use dfu_host::{Seen, Session};
 use dfu_host_core::DfuSession;
 
-/// Gives `host`, the session of record `given`, the result `seen`, and returns the next record.
+/// Passes the result `seen` to `host`, the session of the record `given`, and returns the next record.
 fn step(given: &DfuSession, host: &mut Session<'_>, kept: &mut [u8], seen: Seen<'_>) -> DfuSession
     requires { given.now.kept ≤ length kept.old }
     ensures row { HostRow (host_in given.now kept.old host.old) seen.entry (host_in result kept.new host.new) }
@@ -30,7 +30,7 @@ fn step(given: &DfuSession, host: &mut Session<'_>, kept: &mut [u8], seen: Seen<
     record_of(host, count as u64)
 }
 
-/// Gives a session the result of its action. Returns 0, `DFU_NO_SESSION` or `DFU_NO_SEEN`.
+/// Passes the result of a session's action to the session. Returns 0, `DFU_NO_SESSION` or `DFU_NO_SEEN`.
 #[unsafe(no_mangle)]
 pub extern "C" fn dfu_host_take(
     session: &mut DfuSession,
@@ -54,7 +54,7 @@ pub extern "C" fn dfu_host_take(
     0
 }
 
-/// Gives a session up. Returns 0 or `DFU_NO_SESSION`.
+/// Aborts a session. Returns 0 or `DFU_NO_SESSION`.
 #[unsafe(no_mangle)]
 pub extern "C" fn dfu_host_abort(session: &mut DfuSession, payload: &[u8]) -> i32
     ensures outcome { HostAbortResult session.old payload.entry result session.new }

@@ -1,9 +1,9 @@
 //! Conversion between numbers and variants by a table.
 
-/// Reads or writes a number by a table, which has a number for each variant of a type.
+/// Converts between numbers and the variants of a type by a table, which has a number for each variant.
 ///
-/// `read` returns the variant of a number, or None; the value in the variant is read from the second number. `write` returns the number of
-/// a variant, and that of its value, or 0. The table names the functions that read and write a value that is no number.
+/// `read` returns the variant of a number, or None; a value in the variant is read from the second number. `write` returns the number of a
+/// variant, and that of its value, or 0. For a value that is not a number, the table names the functions that read and write it.
 macro_rules! numbers {
     (read $number:ident, $more:ident,
         $kind:ident { $($n:literal $name:ident $(($held:ident $(: $at:ident, $of:ident)?))?),* }) => {

@@ -4,11 +4,11 @@
 #[repr(C)]
 #[derive(Drop)]
 pub struct DfuWatch {
-    /// Requests and resets in a row that were not finished; 24 or more end the session.
+    /// Number of requests and resets in a row that were not finished; 24 end the session.
     pub silent: u32,
-    /// Resets in a row that followed requests stalled in run-time mode.
+    /// Number of resets in a row that followed requests stalled in run-time mode.
     pub resets: u32,
-    /// 1 if the device stalled the last request that went out, in run-time mode.
+    /// 1 if the device stalled, in run-time mode, the last request that reached it.
     pub stalled: u8,
     /// 1 if the session sent a block or the close of a download.
     pub sent: u8,
@@ -16,15 +16,15 @@ pub struct DfuWatch {
     pub anew: u8,
 }
 
-/// `struct dfu_facts`: the facts of a device after an action. 0 is no, any other number is yes.
+/// `struct dfu_facts`: the facts of a device after an action. 0 means no, any other number yes.
 #[repr(C)]
 #[derive(Drop)]
 pub struct DfuFacts {
-    /// The request went out: the device was there.
+    /// The request reached the device.
     pub reached: u8,
-    /// The device left, and did not come back in time.
+    /// The device left and did not return in time.
     pub gone: u8,
-    /// The device came back with several settings, and the program can't tell which one to use.
+    /// The device returned with several settings, and the program can't tell which one to use.
     pub many: u8,
     /// The user has stopped the session.
     pub stopped: u8,
@@ -32,7 +32,7 @@ pub struct DfuFacts {
     pub open: u8,
     /// The device is in DFU mode.
     pub upgrade: u8,
-    /// The device is the one first found in this mode.
+    /// The device is the one that the program first found in this mode.
     pub again: u8,
     /// The device has the functional descriptor with which the session began.
     pub same: u8,

@@ -1,4 +1,4 @@
-//! Calls of the watch over a session: when a program gives a device up, and when it begins another session.
+//! Calls of the watch over a session, which decide when a program gives up on a device and when it begins another session.
 
 ghost use Rattle.std.specs.Prelude.{◌≡◌, ◌<◌, ◌≢◌, if◌then◌else◌};
 ghost use Rattle.dfu_host_c.specs.Watch.{
@@ -21,7 +21,8 @@ ghost use Rattle.dfu_host_c.specs.Watch.{
 use crate::watch::{DfuFacts, DfuWatch};
 use dfu_host_core::DfuAction;
 
-/// Courses that `dfu_watch_before` and `dfu_watch_after` return.
+/// Courses that `dfu_watch_before` and `dfu_watch_after` return. A course is the decision to continue, to begin another session, or to end
+/// the session for one of six reasons.
 pub(crate) const GOES_ON: u32 = 0;
 
 const BEGINS_ANEW: u32 = 1;
@@ -38,26 +39,26 @@ const ENDS_STALLED: u32 = 6;
 
 const ENDS_REFUSED: u32 = 7;
 
-/// Requests and resets in a row that may stay unfinished: a dead device takes 5 seconds for each.
+/// Number of unfinished requests and resets in a row that end a session. With a transfer timeout of 5 seconds, they take two minutes.
 pub(crate) const MOST_SILENT: u32 = 24;
-/// Resets in a row that may follow nothing but stalls, because each of them resets a running application.
+/// Number of resets in a row that may follow only stalls, because each reset restarts a running application.
 const MOST_RESETS: u32 = 3;
 
-/// Returns whether an action sends a block or the close of a download (USB DFU 1.1, section 6.1.1).
+/// Returns true if an action sends a block or the close of a download (USB DFU 1.1, section 6.1.1).
 fn is_download(action: &DfuAction) -> bool
     ensures { result ≡ is_download action.now }
 {
     action.what == 0 && action.setup[0] == 0x21 && action.setup[1] == 1
 }
 
-/// Returns whether an action sends or fetches a part of an image (sections 6.1.1 and 6.2).
+/// Returns true if an action is a DNLOAD or an UPLOAD (USB DFU 1.1, sections 6.1.1 and 6.2).
 fn is_image_transfer(action: &DfuAction) -> bool
     ensures { result ≡ is_image_transfer action.now }
 {
     is_download(action) || (action.what == 0 && action.setup[0] == 0xa1 && action.setup[1] == 2)
 }
 
-/// Returns whether the action is a request that went out to the device.
+/// Returns true if the action is a request that reached the device.
 fn is_reached(action: &DfuAction, facts: &DfuFacts) -> bool
     ensures { result ≡ is_request_out action.now facts.now }
 {
@@ -71,8 +72,8 @@ pub(crate) fn count_and_one(number: u32, most: u32) -> u32
     if number < most { number + 1 } else { number }
 }
 
-/// Returns 0 if the session's next action may be done, else the course that ends the session. `by_another` is not 0 if the session uses a
-/// functional descriptor other than the device's own.
+/// Returns 0 if the program may do the session's next action, else the course that ends the session. `by_another` is not 0 if the session
+/// uses a functional descriptor other than the device's own.
 #[unsafe(no_mangle)]
 pub extern "C" fn dfu_watch_before(watch: &DfuWatch, action: &DfuAction, by_another: u32) -> u32
     ensures { result ≡ course_before watch.now action.now by_another }
@@ -86,7 +87,7 @@ pub extern "C" fn dfu_watch_before(watch: &DfuWatch, action: &DfuAction, by_anot
     }
 }
 
-/// Returns 1 if the program must send a DETACH before the reset that the session asks for, because the device stalled the last request in
+/// Returns 1 if the program must send a DETACH before the reset that the session requests, because the device stalled the last request in
 /// run-time mode and no reset followed a stall yet; else 0.
 #[unsafe(no_mangle)]
 pub extern "C" fn dfu_watch_detaches(watch: &DfuWatch) -> u32
@@ -108,8 +109,8 @@ fn silent_after(watch: &DfuWatch, action: &DfuAction, seen: u32) -> u32
     }
 }
 
-/// Returns the number of resets in a row that followed nothing but stalls, after an action: 0 once a request went out, and the device is in
-/// DFU mode or acknowledged or answered the request.
+/// Returns the number of resets in a row that follow only stalls, after an action. A request that reached the device sets the number to 0
+/// if the device is in DFU mode, or acknowledged the request, or answered it with bytes.
 fn resets_after(watch: &DfuWatch, action: &DfuAction, seen: u32, facts: &DfuFacts) -> u32
     ensures { result ≡ resets_after watch.now action.now seen facts.now }
 {
@@ -122,7 +123,7 @@ fn resets_after(watch: &DfuWatch, action: &DfuAction, seen: u32, facts: &DfuFact
     }
 }
 
-/// Returns whether the device stalled the last request that went out, in run-time mode.
+/// Returns true if the device stalled, in run-time mode, the last request that reached it.
 fn stalled_after(watch: &DfuWatch, action: &DfuAction, seen: u32, facts: &DfuFacts) -> bool
     ensures { result ≡ stalled_after watch.now action.now seen facts.now }
 {
@@ -146,7 +147,7 @@ fn watch_after(watch: &DfuWatch, action: &DfuAction, seen: u32, facts: &DfuFacts
     }
 }
 
-/// Returns whether the open device is not the session's. Once a DNLOAD was sent, a device in run-time mode may run another image, so its
+/// Returns true if the open device is not the session's. Once a DNLOAD was sent, a device in run-time mode may run another image, so its
 /// identity is not compared.
 fn is_other(watch: &DfuWatch, facts: &DfuFacts) -> bool
     ensures { result ≡ is_other_device watch.now facts.now }
@@ -154,7 +155,7 @@ fn is_other(watch: &DfuWatch, facts: &DfuFacts) -> bool
     facts.open != 0 && facts.again == 0 && (facts.upgrade != 0 || watch.sent == 0)
 }
 
-/// Returns 1 if the open device is not the session's, so that it must get no request; else 0.
+/// Returns 1 if the open device is not the session's, so that the program must not send it a request; else 0.
 #[unsafe(no_mangle)]
 pub extern "C" fn dfu_watch_is_other(watch: &DfuWatch, facts: &DfuFacts) -> u32
     ensures { result ≡ c_number_of_bool (is_other_device watch.now facts.now) }
@@ -162,7 +163,7 @@ pub extern "C" fn dfu_watch_is_other(watch: &DfuWatch, facts: &DfuFacts) -> u32
     u32::from(is_other(watch, facts))
 }
 
-/// Returns the course of the program, by the record of the watch and the facts of the device.
+/// Returns the course of the program, from the record of the watch and the facts of the device.
 fn course(watch: &DfuWatch, facts: &DfuFacts) -> u32
     ensures { result ≡ course_after watch.now facts.now }
 {
@@ -187,8 +188,8 @@ fn course(watch: &DfuWatch, facts: &DfuFacts) -> u32
     }
 }
 
-/// Returns the course after an action, by its result and by the facts of the device: 0 to go on, 1 to begin another session in place of
-/// this one, 2 to 5 to end the session. Course 1 is recorded in `watch`.
+/// Records an action in `watch`, and returns the course after it, from the action's result and the facts of the device: 0 to continue, 1 to
+/// begin another session in place of this one, 2 to 5 to end the session. Course 1 is recorded in `watch` too.
 #[unsafe(no_mangle)]
 pub extern "C" fn dfu_watch_after(
     watch: &mut DfuWatch,
@@ -198,9 +199,9 @@ pub extern "C" fn dfu_watch_after(
 ) -> u32
     ensures course { result ≡ course_after (watch_after_action watch.old action.now seen facts.now) facts.now }
     ensures kept { watch.new ≡ watch_after_course result (watch_after_action watch.old action.now seen facts.now) }
-    // A device that has answered nothing 24 times in a row must get no further request.
+    // Unless the session ends, fewer than 24 requests and resets in a row were not finished.
     ensures silence { result < 2 → watch.new.silent < 24 }
-    // Another session is begun at most once, and only before any part of an image was sent.
+    // The program begins another session at most once, and only before any part of an image was sent.
     ensures once { result ≡ 1 → (watch.old.anew ≡ 0) × (watch.new.anew ≡ 1) × (watch.new.sent ≡ 0) }
 {
     *watch = watch_after(watch, action, seen, facts);

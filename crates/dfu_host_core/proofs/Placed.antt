@@ -1,4 +1,4 @@
--- A session's record holds the same host wherever the payload's bytes are in memory.
+-- The address of the payload's bytes in memory doesn't matter to the host that a record holds.
 use Rattle.std.proofs.Common.{◌≡◌, ◌⊎◌, inl, inr, ℕ, ◌==◌, Bool, true, false, if◌then◌else◌, List, [], Option, Some, None, refl, sym, ap, ◌∙◌, subst}
 use Rattle.std.proofs.lemmas.Option.{same_Some, none-some}
 use Rattle.std.specs.Prelude.{option_and_then, option_map}
@@ -13,14 +13,14 @@ use Rattle.dfu_host_core.specs.PhaseNumbers.{phase_at}
 use Rattle.dfu_host_core.specs.Sessions.{IsRecord, parts_in, parts_of}
 use Rattle.dfu_host_core.specs.declared.session.DfuSession.{DfuSession}
 
--- The found parts are parts of a session with the host of the parts `a`, over any memory.
+-- The parts `found` are those of a session that has the same host as the parts `a`, with any memory.
 pub record SameHost (q : Bor (List ℕ)) (a : Parts) (found : Option Parts) : Type 0 where
   pub parts : Parts
   pub says : found ≡ Some parts
   pub sound : ArePartsOfSession parts
   pub host : (memory : List ℕ) → host_of memory parts ≡ host_of memory a
 
--- Goal for a number, by four tests of the number, of which the first that holds counts; None if none holds.
+-- Goal that the first true test of four selects; None if all four are false.
 abbrev tested_goal : (b1 b2 b3 b4 : Bool) → (payload : Bor (List ℕ)) → Option Goal
 tested_goal b1 b2 b3 b4 payload =
     if b1 then Some (goal.Load payload)
@@ -38,7 +38,7 @@ module _ (r : DfuSession) (p q : Bor (List ℕ)) (same : p.now ≡ q.now) (a : P
   abbrev found : Option Goal → Option Phase → Option Parts
   found o ph = option_and_then (λ g. option_map (parts_in r g) ph) o
 
-  -- If the payload of a record's goal is at another address with equal bytes, the record's parts have the host that they had.
+  -- If the payload of a record's goal moves to another address, the record's parts have the same host.
   goal_elsewhere_fits_host : (make : Bor (List ℕ) → Goal) (ph : Phase)
       → ((bytes : List ℕ) → ArePartsOfSession (parts_in r (make (slice_at p bytes)) ph) →
       ArePartsOfSession (parts_in r (make (slice_at q bytes)) ph))
@@ -55,7 +55,7 @@ module _ (r : DfuSession) (p q : Bor (List ℕ)) (same : p.now ≡ q.now) (a : P
         ∙ ap (host_of memory) e;
   }
 
-  -- If a record's payload is at another address with equal bytes, its parts, with the goal by four tests, have the host that they had.
+  -- If a record's payload moves to another address, the parts with the goal that four tests select have the same host.
   parts_elsewhere_fit_host : (b1 b2 b3 b4 : Bool) (ph : Option Phase) → found (tested_goal b1 b2 b3 b4 p) ph ≡ Some a → ArePartsOfSession a
       → SameHost q a (found (tested_goal b1 b2 b3 b4 q) ph)
   parts_elsewhere_fit_host true b2 b3 b4 None e session = absurd (none-some a e)
@@ -78,15 +78,15 @@ module _ (r : DfuSession) (p q : Bor (List ℕ)) (same : p.now ≡ q.now) (a : P
       (same_Some _ _ e) session
   parts_elsewhere_fit_host false false false false ph e session = absurd (none-some a e)
 
--- Over equal bytes at another address, a session's record holds the same host.
+-- If a record's payload moves to another address, the record holds the same host.
 pub record_fits_elsewhere : (r : DfuSession) (p q : Bor (List ℕ)) (a : Parts) → p.now ≡ q.now → IsRecord r p a → SameHost q a (parts_of r q)
 record_fits_elsewhere r p q a same is =
     parts_elsewhere_fit_host r p q same a (r.goal == 1) (r.goal == 2) (r.goal == 3) (r.goal == 4) (phase_at r.phase r.number r.more)
     is.says is.sound
 
--- The payload of a goal in a record is the payload that the record is read with, or empty.
+-- The payload of a record's goal is the payload that was passed with the record, or empty.
 module _ (r : DfuSession) (p : Bor (List ℕ)) (a : Parts) where
-  -- If four tests give a goal and the phase is known, the goal's payload is the record's, or empty.
+  -- If four tests select a goal and the phase is known, the goal's payload is the record's, or empty.
   found_goal_has_payload_or_empty : (b1 b2 b3 b4 : Bool) (ph : Option Phase) →
       option_and_then (λ g. option_map (parts_in r g) ph) (tested_goal b1 b2 b3 b4 p) ≡ Some a
       → (payload_of a.goal ≡ p.now) ⊎ (payload_of a.goal ≡ [])

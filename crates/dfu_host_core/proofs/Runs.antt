@@ -1,4 +1,4 @@
--- Proof that a session in C does by any list of calls as its host.
+-- Any list of calls moves a session in C as it moves the session's host.
 use Rattle.std.proofs.Common.{◌≡◌, ◌⊎◌, inl, inr, ℕ, ℤ, ◌≤◌, List, [], ◌∷◌, take, Some, refl, sym, ap, ◌∙◌, subst, arith}
 use Rattle.std.proofs.lemmas.Option.{same_Some}
 use Rattle.std.specs.Prelude.{length}
@@ -23,10 +23,9 @@ use Rattle.dfu_host_core.specs.declared.action.DfuAction.{DfuAction}
 use Rattle.dfu_host_core.specs.declared.session.DfuSession.{DfuSession}
 use Rattle.dfu_host_core.proofs.Placed.{SameHost, record_fits_elsewhere, goal_has_record_payload_or_empty}
 
--- The host of a session in C, with its payload at another address.
+-- Facts of a session in C whose payload is now at another address.
 module _ (payload : List ℕ) (x : CoreHost) (h : HostState) (here : CoreHostMatches payload x h) (q : Bor (List ℕ)) (same : q.now
     ≡ payload) where
-  -- Parts of the record with the payload at the other address.
   parts_elsewhere : SameHost q here.parts (parts_of x.kept q)
   parts_elsewhere = record_fits_elsewhere x.kept here.slice q here.parts (here.same ∙ sym same) here.held.stands
 
@@ -38,24 +37,24 @@ module _ (payload : List ℕ) (x : CoreHost) (h : HostState) (here : CoreHostMat
   buffer_fits_elsewhere : IsRecordAndBuffer x.kept q x.buffer parts_elsewhere.parts
   buffer_fits_elsewhere = record { stands = is_record_elsewhere; room = here.held.room }
 
-  -- All parts that a record holds with the payload at the other address have one host.
+  -- All parts that a record can hold with the payload at the other address have the same host.
   recorded_host_is_same : (b : Parts) → IsRecord x.kept q b → (memory : List ℕ) → host_of memory b ≡ host_of memory here.parts
   recorded_host_is_same b is memory =
       let e : b ≡ parts_elsewhere.parts = same_Some _ _ (sym is.says ∙ parts_elsewhere.says) in
       ap (host_of memory) e ∙ parts_elsewhere.host memory
 
-  -- All parts that the record holds with the payload at the other address have the session's host.
+  -- All parts that the record can hold with the payload at the other address have the session's host.
   recorded_host_is_its_session : (b : Parts) → IsRecord x.kept q b → host_in x.kept x.buffer b ≡ h
   recorded_host_is_its_session b is = recorded_host_is_same b is (take x.kept.kept x.buffer) ∙ here.is
 
--- A session in C that did not change still belongs to the same host.
+-- A session in C that did not change still matches the same host.
 unchanged_session_is_same_host : (payload : List ℕ) (x x' : CoreHost) (h : HostState) → CoreHostMatches payload x h → x'.kept ≡ x.kept →
     x'.buffer ≡ x.buffer
     → CoreHostMatches payload x' h
 unchanged_session_is_same_host payload x x' h here kept buffer =
     subst (λ (y : CoreHost). CoreHostMatches payload y h) (λ i. record { kept = sym kept i; buffer = sym buffer i }) here
 
--- Result of one call: the call moves the host, and the session after the call matches the moved host.
+-- The call moves the host, and the session after the call matches the moved host.
 record CallMovesHost (payload : List ℕ) (h : HostState) (call : HostCall) (n : ℤ) (x' : CoreHost) : Type 0 where
   pub now : HostState
   pub is : CoreHostMatches payload x' now
@@ -88,7 +87,7 @@ take_moves_host payload x x' h seen bytes n slice given here same said (inr (inr
   moves = inr (number, (given, said, none), refl);
 }
 
--- dfu_host_abort gives the host up.
+-- dfu_host_abort puts the host in phase GiveUp, unless the host is done.
 abort_moves_host : (payload : List ℕ) (x x' : CoreHost) (h : HostState) (n : ℤ) (slice : Bor (List ℕ)) → CoreHostMatches payload x h
     → slice.now ≡ payload → x'.buffer ≡ x.buffer → HostAbortResult x.kept slice n x'.kept → CallMovesHost payload h CoreAbortCall n x'
 abort_moves_host payload x x' h n slice here same buffer (inl (number, g)) =
@@ -116,13 +115,12 @@ abort_moves_host payload x x' h n slice here same buffer (inl (number, g)) =
 abort_moves_host payload x x' h n slice here same buffer (inr (number, none, kept)) =
     absurd (none (parts_elsewhere payload x h here slice same).parts (is_record_elsewhere payload x h here slice same))
 
--- Every call moves the host as `HostMovesByCall` says.
+-- Every call moves the host by the rule of `HostMovesByCall`.
 call_moves_host : (payload : List ℕ) (x x' : CoreHost) (h : HostState) (call : HostCall) (n : ℤ) → CoreHostMatches payload x h
     → HostCallResult payload x call n x' → CallMovesHost payload h call n x'
 call_moves_host payload x x' h (CoreTakeCall seen bytes) n here c = take_moves_host payload x x' h seen bytes n c.0 c.1 here c.2 c.3 c.4
 call_moves_host payload x x' h CoreAbortCall n here c = abort_moves_host payload x x' h n c.0 here c.1 c.2 c.3
 
--- If a session in C matches a host, then after any list of calls it matches a host that these calls lead to.
 pub core_sessions_refine_hosts : CoreSessionsRefineHosts
 core_sessions_refine_hosts payload x x' h [] here run =
     record { now = h; is = subst (λ (y : CoreHost). CoreHostMatches payload y h) (sym run) here; goes = stays }
@@ -132,7 +130,7 @@ core_sessions_refine_hosts payload x x' h (s ∷ rest) here run =
     let all = core_sessions_refine_hosts payload s.after x' one.now rest one.is run.2 in
     record { now = all.now; is = all.is; goes = moves one.moves all.goes }
 
--- A record without kept bytes, which holds parts with the host `start` over any memory, matches that host with any buffer.
+-- A new record without kept bytes matches its initial host, with any buffer.
 begun_record_matches_its_host : (payload buffer : List ℕ) (r : DfuSession) (start : HostState) → IsInitialRecord r start →
     (slice : Bor (List ℕ))
     → slice.now ≡ payload → (p : Parts) → IsRecord r slice p → ((memory : List ℕ) → host_of memory p ≡ start)
@@ -145,7 +143,7 @@ begun_record_matches_its_host payload buffer r start begun slice same p is host 
   is = host (take r.kept buffer);
 }
 
--- If a goal has these bytes as its payload, or has no payload, it carries a slice with these bytes.
+-- A goal with this payload, or without a payload, carries a slice with these bytes.
 goal_carries_slice : (payload : List ℕ) (g : Goal) (to : table.Goal) → goal_of g ≡ to → HasPayload to payload
     → (slice : Bor (List ℕ)) × (slice.now ≡ payload) × CarriesPayload slice g
 goal_carries_slice payload (goal.Load given) to e has =
@@ -156,18 +154,16 @@ goal_carries_slice payload (goal.Verify given) to e has =
 goal_carries_slice payload (goal.Compare given) to e has =
     (given, subst (λ (z : table.Goal). HasPayload z payload) (sym e) has, refl)
 
--- A session in C that a call has begun matches its initial host, if its goal has the given payload or none.
 pub begun_session_is_initial_host : BegunSessionIsInitialHost
 begun_session_is_initial_host payload buffer r start begun has =
     let c = goal_carries_slice payload begun.parts.goal start.task.goal (ap (λ (z : HostState). z.task.goal) (begun.begins [])) has in
     begun_record_matches_its_host payload buffer r start begun c.0 c.1 begun.parts (begun.stands c.0 c.2) begun.begins begun.nothing
 
--- A session in C matches only one host.
 pub core_session_is_one_host : CoreSessionIsOneHost
 core_session_is_one_host payload x h h' here other =
     sym other.is ∙ recorded_host_is_its_session payload x h here other.slice other.same other.parts other.held.stands
 
--- If the record of an action says that the session is over with a report, the deed of the host is Done with that report.
+-- If the record of an action contains the end of the session and a report, the deed of the host is Done with that report.
 over_means_done : (payload : List ℕ) (from : ℕ) (d : Deed) (a : DfuAction) (report : Report) → ActionRecord payload from d a → a.what ≡ 3
     → report_at a.value a.code ≡ Some report → d ≡ Done report
 over_means_done payload from (Send q body) a report t what is = absurd (omega (arith, t.what, what))
@@ -175,7 +171,7 @@ over_means_done payload from (Wait ms) a report t what is = absurd (omega (arith
 over_means_done payload from Reset a report t what is = absurd (omega (arith, t.action_number_matches, what))
 over_means_done payload from (Done other) a report t what is = ap Done (same_Some _ _ (sym t.final_report_matches ∙ is))
 
--- A record of a deed over an empty payload is a record of the deed over any payload.
+-- A record of a deed with an empty payload is also a record of the deed with any payload.
 empty_payload_record_fits_any : (payload : List ℕ) (d : Deed) (a : DfuAction) (from : ℕ) → ActionRecord [] from d a →
     ActionRecord payload from d a
 empty_payload_record_fits_any payload (Send q []) a from t = record {
@@ -193,7 +189,8 @@ empty_payload_record_fits_any payload (Wait ms) a from t = t
 empty_payload_record_fits_any payload Reset a from t = t
 empty_payload_record_fits_any payload (Done report) a from t = t
 
--- A record of a deed over the session's payload, which is the program's or empty, is a record of the deed over the program's payload.
+-- If a record is that of a deed with the session's payload, it is also that of the deed with the program's payload, because the session's
+-- payload is the program's or empty.
 session_record_fits_program : (mine payload : List ℕ) (d : Deed) (a : DfuAction) (from : ℕ) → (mine ≡ payload) ⊎ (mine ≡ []) →
     ActionRecord mine from d a
     → ActionRecord payload from d a
@@ -201,7 +198,6 @@ session_record_fits_program mine payload d a from (inl same) t = subst (λ (l : 
 session_record_fits_program mine payload d a from (inr none) t = empty_payload_record_fits_any payload d a from (subst (λ (l : List ℕ).
     ActionRecord l from d a) none t)
 
--- dfu_host_next returns the action of the session's host.
 pub next_is_host_action : NextIsHostAction
 next_is_host_action payload x h slice n a a' here same (inl (number, t)) =
     let memory = take x.kept.kept x.buffer in

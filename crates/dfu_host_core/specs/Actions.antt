@@ -7,7 +7,8 @@ use Rattle.dfu_host.specs.Wire.{IsSetupOf}
 use Rattle.dfu_host_core.specs.ReportNumbers.{report_at, report_numbers}
 use Rattle.dfu_host_core.specs.declared.action.DfuAction.{DfuAction}
 
--- The record is a request to send: its setup asks for q, and its body is a slice of the payload that begins at `from`, within the payload.
+-- The record is a request to send: its setup packet encodes the request q, and its body is a slice of the payload that begins at `from`,
+-- within the payload.
 pub record SendActionRecord (payload : List ℕ) (from : ℕ) (q : Request) (body : List ℕ) (r : DfuAction) : Type 0 where
   pub what : r.what ≡ 0
   pub value : r.value ≡ 0
@@ -18,7 +19,7 @@ pub record SendActionRecord (payload : List ℕ) (from : ℕ) (q : Request) (bod
   pub ends : from + length body ≤ length payload
   pub code : r.code ≡ 0
 
--- Record of an action without a request: it has the given numbers, and zeros for the setup and the body.
+-- The record is an action without a request: it contains the given numbers, and zeros for the setup packet, the offset and the length.
 pub record IsNoRequestRecord (what value code : ℕ) (r : DfuAction) : Type 0 where
   pub action_number_matches : r.what ≡ what
   pub value_is : r.value ≡ value
@@ -27,13 +28,13 @@ pub record IsNoRequestRecord (what value code : ℕ) (r : DfuAction) : Type 0 wh
   pub size : r.length ≡ 0
   pub setup : r.setup ≡ replicate 8 0
 
--- The record says that the session is over with `report`, and has zeros for the setup and the body.
+-- The record is the end of a session with `report`: it contains zeros for the setup packet, the offset and the length.
 pub record FinalActionRecord (report : Report) (r : DfuAction) : Type 0 where
   pub other : IsNoRequestRecord 3 r.value (report_numbers report).1 r
   pub final_report_matches : report_at r.value r.code ≡ Some report
 
--- Record of a deed of a host with a payload: 0 to send a request, 1 to wait for some milliseconds, 2 to reset the bus, and 3 if the host is
--- done. A body begins at `from` in the payload. Numbers that an action does not need are 0.
+-- The record holds a host's deed: 0 to send a request, 1 to wait for some milliseconds, 2 to reset the bus, and 3 if the host is done. A
+-- body begins at `from` in the payload. Numbers that the deed doesn't use are 0.
 abbrev pub ActionRecord : (payload : List ℕ) → (from : ℕ) → Deed → DfuAction → Type 0
 ActionRecord payload from (Send q body) r = SendActionRecord payload from q body r
 ActionRecord payload from (Wait ms) r = IsNoRequestRecord 1 ms 0 r

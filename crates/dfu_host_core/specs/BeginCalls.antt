@@ -1,4 +1,4 @@
--- Beginning of a session for a program in C.
+-- Results of the calls that begin a session in C.
 use Rattle.std.specs.Prelude.{◌≡◌, ◌+◌, ℕ, ℤ, pos, List, length, Option, None}
 use Rattle.std.specs.Borrow.{Bor}
 use Rattle.dfu_wire.specs.declared.functionals.Functional.{Functional}
@@ -15,7 +15,7 @@ use Rattle.dfu_host.specs.Phases.{Goal}
 use Rattle.dfu_host_core.specs.Sessions.{IsRecord, HasWrittenNumbers}
 use Rattle.dfu_host_core.specs.declared.session.DfuSession.{DfuSession}
 
--- Over any payload that its goal carries, the record holds a new session, with the host `start` and no kept bytes.
+-- With any payload that its goal carries, the record holds a new session, with the host `start` and no kept bytes.
 pub record IsInitialRecord (r : DfuSession) (start : HostState) : Type 0 where
   pub parts : Parts
   pub stands : (payload : Bor (List ℕ)) → CarriesPayload payload parts.goal → IsRecord r payload parts
@@ -27,8 +27,8 @@ pub record IsInitialRecord (r : DfuSession) (start : HostState) : Type 0 where
 abbrev pub IsContent : Content → List ℕ → Type 0
 IsContent c bytes = (extra : List ℕ) × IsFile c.payload c.ids c.dfu extra bytes × (c.suffix ≡ 16 + length extra)
 
--- Result 0 of a call that has begun a session: the file and the descriptor were read, `first` finds no fault, and the record is that of a
--- new session with the goal `to` of the file's payload.
+-- A call that began a session returned 0: the file and the descriptor were read, `first` finds no fault, and the record is that of a new
+-- session with the goal `to` of the file's payload.
 pub record BeginResult (to : List ℕ → Goal) (first : Content → Functional → Ids → Option HostFault) (file descriptor : List ℕ)
     (device : Ids)
     (limits : Limits) (result : ℤ) (r' : DfuSession) : Type 0 where
@@ -40,8 +40,8 @@ pub record BeginResult (to : List ℕ → Goal) (first : Content → Functional 
   pub begun : IsInitialRecord r' (host_for_goal functional (to content.payload) limits)
   pub number_is : result ≡ pos 0
 
--- Result 0 of a call that has begun an upload: the descriptor was read, `first` finds no fault, and the record is that of a new session
--- with the goal `to`.
+-- A call that began an upload returned 0: the descriptor was read, `first` finds no fault, and the record is that of a new session with the
+-- goal `to`.
 pub record BeginUploadResult (to : Goal) (first : Functional → Option HostFault) (descriptor : List ℕ) (limits : Limits) (result : ℤ)
     (r' : DfuSession) : Type 0 where
   pub functional : Functional

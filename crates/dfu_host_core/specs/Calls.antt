@@ -16,8 +16,8 @@ use Rattle.dfu_host_core.specs.SeenNumbers.{seen_at}
 use Rattle.dfu_host_core.specs.declared.action.DfuAction.{DfuAction}
 use Rattle.dfu_host_core.specs.declared.session.DfuSession.{DfuSession}
 
--- The session of a record took a result by a row of the host's table. A part of an upload was stored if the buffer had room for it;
--- otherwise the host took it as NoRoom.
+-- The session of a record took a result as a row of the host's table allows. A part of an upload was stored if the buffer had room for it;
+-- otherwise the host took the result as NoRoom.
 pub record TakeSeenResult (r r' : DfuSession) (payload : Bor (List ℕ)) (buffer buffer' : List ℕ) (seen : ℕ) (bytes : Bor (List ℕ)) : Type 0 where
   pub parts : Parts
   pub word : Seen
@@ -43,7 +43,7 @@ RecordAndBufferHoldNoSession r payload buffer = (parts : Parts) → IsRecordAndB
 abbrev pub RecordHoldsNoSession : DfuSession → Bor (List ℕ) → Type 0
 RecordHoldsNoSession r payload = (parts : Parts) → IsRecord r payload parts → ⊥
 
--- The session of a record was given up. The number of its kept bytes is unchanged.
+-- The session of a record was aborted. The number of its kept bytes is unchanged.
 pub record AbortedRecord (r r' : DfuSession) (payload : Bor (List ℕ)) : Type 0 where
   pub parts : Parts
   pub next : Parts
@@ -53,7 +53,7 @@ pub record AbortedRecord (r r' : DfuSession) (payload : Bor (List ℕ)) : Type 0
   pub same : (memory : List ℕ) → host_of memory next ≡ aborted_host (host_of memory parts)
   pub kept : r'.kept ≡ r.kept
 
--- The record `a` is the action of the session that r holds; a body is a slice of the payload of the session's goal.
+-- The record `a` holds the next action of the session in the record r. Its body is a slice of the payload of the session's goal.
 pub record IsNextAction (r : DfuSession) (payload : Bor (List ℕ)) (a : DfuAction) : Type 0 where
   pub parts : Parts
   pub stands : IsRecord r payload parts
@@ -61,19 +61,19 @@ pub record IsNextAction (r : DfuSession) (payload : Bor (List ℕ)) (a : DfuActi
       → ActionRecord (payload_of parts.goal) (body_offset parts.transfer parts.phase)
       (deed (host_of memory parts).task (host_of memory parts).phase) a
 
--- Result of dfu_host_take: 0 if the session took the result `seen`. If the record and the buffer hold no session, or no result has the
--- number `seen`, the call is refused and nothing changes.
+-- dfu_host_take returned 0, and the session took the result `seen`. Or the call was refused and changed nothing, because the record and the
+-- buffer hold no session, or because no result has the number `seen`.
 abbrev pub HostTakeResult : DfuSession → Bor (List ℕ) → (buffer : List ℕ) → (seen : ℕ) → Bor (List ℕ) → ℤ → DfuSession → (buffer' : List ℕ)
     → Type 0
 HostTakeResult r payload buffer seen bytes n r' buffer' = ((n ≡ pos 0) × TakeSeenResult r r' payload buffer buffer' seen bytes)
     ⊎ ((n ≡ no_session) × RecordAndBufferHoldNoSession r payload buffer × (r' ≡ r) × (buffer' ≡ buffer))
     ⊎ ((n ≡ no_seen) × RecordAndBufferHoldSession r payload buffer × (seen_at seen bytes ≡ None) × (r' ≡ r) × (buffer' ≡ buffer))
 
--- Result of dfu_host_abort: 0 if the session was given up. If the record holds no session, the call is refused and nothing changes.
+-- dfu_host_abort returned 0 and aborted the session, or it was refused and changed nothing, because the record holds no session.
 abbrev pub HostAbortResult : DfuSession → Bor (List ℕ) → ℤ → DfuSession → Type 0
 HostAbortResult r payload n r' = ((n ≡ pos 0) × AbortedRecord r r' payload) ⊎ ((n ≡ no_session) × RecordHoldsNoSession r payload × (r' ≡ r))
 
--- Result of dfu_host_next: 0 if the record `a'` is the session's next action. If the record holds no session, the call is refused and
--- nothing changes.
+-- dfu_host_next returned 0, and the record `a'` is the session's next action. Or the call was refused and changed nothing, because the
+-- record holds no session.
 abbrev pub HostNextResult : DfuSession → Bor (List ℕ) → ℤ → (a a' : DfuAction) → Type 0
 HostNextResult r payload n a a' = ((n ≡ pos 0) × IsNextAction r payload a') ⊎ ((n ≡ no_session) × RecordHoldsNoSession r payload × (a' ≡ a))

@@ -8,8 +8,8 @@ use Rattle.dfu_host_core.specs.ReportNumbers.{report_at}
 abbrev pub part_at : ℕ → Option ℕ
 part_at number = if nat_lt number 65536 then Some number else None
 
--- The phase with number `which`, 0 to 24. `number` is its block, part or report, `more` its poll time or code. None if no phase has these
--- numbers.
+-- The phase with number `which`, 0 to 24. `number` is its block, part or report; `more` is its poll time or status code. None if no phase
+-- has these numbers.
 abbrev pub phase_at : (which number more : ℕ) → Option Phase
 phase_at which number more =
     if which == 0 then Some phase.Find

@@ -17,18 +17,19 @@ status_codes =
 abbrev pub code_at : ℕ → Option Code
 code_at number = slice_get status_codes number
 
--- Reports in the order of their numbers, 1 to 11, after None for 0; Refused has the code with number `code`, and is None if no code has it.
+-- Reports in the order of their numbers, 1 to 11; number 0 has no report. The entry of Refused has the status code with number `code`, and
+-- is None if there is no such code.
 abbrev reports : (code : ℕ) → List (Option Report)
 reports code =
     None ∷ Some report.Installed ∷ Some report.Unconfirmed ∷ Some report.Aborted ∷ Some report.GaveUp ∷
     option_map report.Refused (code_at code) ∷ Some report.RestartsSpent ∷ Some report.Uploaded ∷ Some report.TooManyBlocks ∷
     Some report.NoMemory ∷ Some report.Verified ∷ Some report.Different ∷ []
 
--- The report with this number; None if no report has it, or if it is Refused and `code` is the number of no code.
+-- The report with this number. None if no report has the number, or for Refused if `code` is not the number of a status code.
 abbrev pub report_at : (number code : ℕ) → Option Report
 report_at number code = slice_index_or (reports code) number None
 
--- Numbers of a report, as `report_at` reads them: its number, and the number of its code for Refused, or 0 for any other report.
+-- Numbers of a report, as `report_at` reads them: its number, and the number of its status code for Refused, or 0 for any other report.
 abbrev pub report_numbers : Report → ℕ × ℕ
 report_numbers report.Installed = (1, 0)
 report_numbers report.Unconfirmed = (2, 0)

@@ -42,20 +42,20 @@ pub record HostStep : Type 0 where
   pub number : ℤ
   pub after : CoreHost
 
--- A call returned as its contract says, with the payload and the given bytes at some address in memory.
+-- A call returned as its contract requires, with the payload and the given bytes at some address in memory.
 abbrev pub HostCallResult : (payload : List ℕ) → CoreHost → HostCall → ℤ → CoreHost → Type 0
 HostCallResult payload x (CoreTakeCall seen bytes) n x' = (slice : Bor (List ℕ)) × (given : Bor (List ℕ)) × (slice.now ≡ payload)
     × (given.now ≡ bytes) × HostTakeResult x.kept slice x.buffer seen given n x'.kept x'.buffer
 HostCallResult payload x CoreAbortCall n x' = (slice : Bor (List ℕ)) × (slice.now ≡ payload) × (x'.buffer ≡ x.buffer)
     × HostAbortResult x.kept slice n x'.kept
 
--- The steps are calls in their order, each on the session that the call before left, from x to x'; each returned as its contract says.
+-- The steps are calls from x to x', each on the session that the previous call left. Each call returned as its contract requires.
 abbrev pub IsHostRun : (payload : List ℕ) → CoreHost → List HostStep → CoreHost → Type 0
 IsHostRun payload x [] x' = x' ≡ x
 IsHostRun payload x (s ∷ rest) x' =
     (s.before ≡ x) × HostCallResult payload s.before s.call s.number s.after × IsHostRun payload s.after rest x'
 
--- By a row of its table, the host takes the result with this number and these bytes.
+-- The host takes the result with this number and these bytes as a row of its table allows.
 pub record HostTakesSeenNumber (seen : ℕ) (bytes : List ℕ) (h h' : HostState) : Type 0 where
   pub slice : Bor (List ℕ)
   pub same : slice.now ≡ bytes
@@ -67,13 +67,13 @@ pub record HostTakesSeenNumber (seen : ℕ) (bytes : List ℕ) (h h' : HostState
 abbrev pub SeenNumberUnknown : (seen : ℕ) → (bytes : List ℕ) → Type 0
 SeenNumberUnknown seen bytes = (slice : Bor (List ℕ)) × (slice.now ≡ bytes) × (seen_at seen slice ≡ None)
 
--- Effect of a call on a host. dfu_host_take moves it by a row of its table and returns 0, or changes nothing if no result has the number;
--- dfu_host_abort gives it up and returns 0.
+-- A call had this effect on the host. dfu_host_take moved the host as a row of its table allows and returned 0, or changed nothing because
+-- no result has the number. dfu_host_abort aborted the host and returned 0.
 abbrev pub HostMovesByCall : HostState → HostCall → ℤ → HostState → Type 0
 HostMovesByCall h (CoreTakeCall seen bytes) n h' = ((n ≡ pos 0) × HostTakesSeenNumber seen bytes h h') ⊎ ((n ≡ no_seen) × SeenNumberUnknown seen bytes × (h' ≡ h))
 HostMovesByCall h CoreAbortCall n h' = (n ≡ pos 0) × (h' ≡ aborted_host h)
 
--- The host h becomes h' by the calls of the steps, each of which moves the host that the call before left.
+-- The calls of the steps move the host h to h', each from the host that the previous call left.
 pub data HostMoves : HostState → List HostStep → HostState → Type 0 where
   stays : {h : HostState} → HostMoves h [] h
   moves : {h mid h' : HostState} {s : HostStep} {rest : List HostStep} → HostMovesByCall h s.call s.number mid → HostMoves mid rest h'
@@ -97,7 +97,7 @@ HasPayload FetchGoal payload = Unit {0}
 HasPayload (VerifyGoal p) payload = p ≡ payload
 HasPayload (CompareGoal p) payload = p ≡ payload
 
--- A session that a call has begun matches its initial host, with any buffer, if its goal has these bytes as its payload or has no payload.
+-- A session that a call began matches its initial host, with any buffer, if its goal has these bytes as its payload or has no payload.
 abbrev pub BegunSessionIsInitialHost : Type 0
 BegunSessionIsInitialHost = (payload buffer : List ℕ) (r : DfuSession) (start : HostState) → IsInitialRecord r start
     → HasPayload start.task.goal payload
@@ -108,8 +108,8 @@ abbrev pub CoreSessionIsOneHost : Type 0
 CoreSessionIsOneHost = (payload : List ℕ) (x : CoreHost) (h h' : HostState) → CoreHostMatches payload x h →
     CoreHostMatches payload x h' → h' ≡ h
 
--- Result of dfu_host_next for a session in C. The call is not refused, and the record of the action is the host's next action, with a body
--- from the payload. If the record says that the session is over with a report, the host is done with that report.
+-- dfu_host_next isn't refused, and the record of the action is the host's next action, with a body from the payload. If the record contains
+-- the end of the session and a report, the host is done with that report.
 pub record IsNextActionOfHost (payload : List ℕ) (h : HostState) (n : ℤ) (a : DfuAction) : Type 0 where
   pub number : n ≡ pos 0
   pub from : ℕ

@@ -10,6 +10,6 @@ abbrev seen_in_order : (bytes : Bor (List ℕ)) → List Seen
 seen_in_order bytes =
     seen.Ack ∷ seen.Bytes bytes ∷ seen.Stall ∷ seen.Nothing ∷ seen.Waited ∷ seen.WasReset ∷ seen.Restarted ∷ seen.Left ∷ []
 
--- Result of an action by its number; None for a number over 7.
+-- Result of an action with this number; None for a number over 7.
 abbrev pub seen_at : (number : ℕ) → (bytes : Bor (List ℕ)) → Option Seen
 seen_at number bytes = slice_get (seen_in_order bytes) number

@@ -1,4 +1,4 @@
--- The session that a record holds.
+-- The session in a record.
 use Rattle.std.specs.Prelude.{◌≡◌, ℕ, ◌==◌, ◌≤◌, not, if◌then◌else◌, List, length, take, Option, Some, None, option_and_then, option_map}
 use Rattle.std.specs.Borrow.{Bor}
 use Rattle.dfu_host.specs.declared.goal.Goal.{Goal}
@@ -16,12 +16,11 @@ use Rattle.dfu_host_core.specs.declared.session.DfuSession.{DfuSession}
 abbrev pub version : ℕ
 version = 300
 
--- Limits of a session, from their two numbers.
 abbrev pub limits_of : (actions restarts : ℕ) → Limits
 limits_of actions restarts = record { actions = actions; restarts = restarts }
 
--- Goal of a session by its number: 1 to install the payload, 2 to fetch the image, 3 to install the payload and then compare it, 4 to
--- compare it; None for any other number.
+-- Goal with this number: 1 to install the payload, 2 to fetch the image, 3 to install the payload and then compare it, 4 to compare it;
+-- None for any other number.
 abbrev pub goal_at : ℕ → (payload : Bor (List ℕ)) → Option Goal
 goal_at number payload =
     if number == 1 then Some (goal.Load payload)
@@ -30,7 +29,7 @@ goal_at number payload =
     else if number == 4 then Some (goal.Compare payload)
     else None
 
--- Parts of a session from the fields of its record, a goal and a phase.
+-- Parts of a session, from a goal, a phase and the other fields of its record.
 abbrev pub parts_in : DfuSession → Goal → Phase → Parts
 parts_in r goal phase = record {
   goal = goal;
@@ -47,21 +46,21 @@ parts_in r goal phase = record {
 abbrev pub parts_of : DfuSession → (payload : Bor (List ℕ)) → Option Parts
 parts_of r payload = option_and_then (λ goal. option_map (parts_in r goal) (phase_at r.phase r.number r.more)) (goal_at r.goal payload)
 
--- The record holds a session with this payload and these parts, and has the library's version.
+-- The record has the library's version and holds a session with this payload and these parts.
 pub record IsRecord (r : DfuSession) (payload : Bor (List ℕ)) (parts : Parts) : Type 0 where
   pub version_is : r.version ≡ version
   pub says : parts_of r payload ≡ Some parts
   pub sound : ArePartsOfSession parts
 
--- The record has the numbers that the library writes for the phase of these parts, 0 for those that it does not need; and its bits are 0 or
--- 1.
+-- The record contains the numbers that the library writes for the phase of these parts, with 0 for those that the phase doesn't use. Its
+-- flags are 0 or 1.
 pub record HasWrittenNumbers (r : DfuSession) (parts : Parts) : Type 0 where
   pub number : r.number ≡ (numbers_in parts.phase).number
   pub more : r.more ≡ (numbers_in parts.phase).more
   pub tolerant : r.tolerant ≤ 1
   pub will_detach : r.will_detach ≤ 1
 
--- The record holds a session with this payload and these parts, and the buffer is no shorter than the bytes that the session keeps.
+-- The record holds a session with this payload and these parts, and the buffer is at least as long as the bytes that the session keeps.
 pub record IsRecordAndBuffer (r : DfuSession) (payload : Bor (List ℕ)) (buffer : List ℕ) (parts : Parts) : Type 0 where
   pub stands : IsRecord r payload parts
   pub room : r.kept ≤ length buffer

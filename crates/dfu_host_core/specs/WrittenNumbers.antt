@@ -5,11 +5,11 @@ use Rattle.dfu_host.specs.declared.phase.Phase.TheVariants as phase
 use Rattle.dfu_host_core.specs.ReportNumbers.{report_numbers}
 use Rattle.dfu_host_core.specs.declared.encoded.EncodedPhase.{EncodedPhase}
 
--- Numbers of a phase: its own, its block, part or report, and its poll time or code.
+-- Numbers of a phase: its own, that of its block, part or report, and its poll time or status code.
 abbrev encoded_phase : (which number more : ℕ) → EncodedPhase
 encoded_phase which number more = record { which = which; number = number; more = more }
 
--- Numbers of each phase, as `phase_at` reads them; 0 for those that the phase does not need.
+-- Numbers of each phase, as `phase_at` reads them; 0 for those that the phase doesn't use.
 abbrev pub numbers_in : Phase → EncodedPhase
 numbers_in phase.Find = encoded_phase 0 0 0
 numbers_in phase.FindAgain = encoded_phase 1 0 0

@@ -1,6 +1,6 @@
 //! The next action, as a record for C.
 
-/// `struct dfu_action`: the next action. The header says what each number means.
+/// `struct dfu_action`: the next action. The header explains each number.
 #[repr(C)]
 #[derive(Drop)]
 pub struct DfuAction {
@@ -8,12 +8,12 @@ pub struct DfuAction {
     pub what: u32,
     /// The milliseconds of a wait, or the number of a report.
     pub value: u32,
-    /// Offset in the payload at which the body begins.
+    /// Offset of the body in the payload.
     pub from: u64,
     /// Length in bytes of the body.
     pub length: u64,
-    /// The code of the report Refused.
+    /// The status code of the report Refused.
     pub code: u32,
-    /// Setup of the request to send.
+    /// Setup packet of the request to send.
     pub setup: [u8; 8],
 }

@@ -1,12 +1,12 @@
 //! A phase as numbers, for the record of a session.
 
-/// Numbers of a phase.
+/// Numbers that encode a phase in the record of a session.
 #[derive(Clone, Copy)]
 pub struct EncodedPhase {
     /// Number of the phase.
     pub which: u32,
-    /// The block, the part or the report.
+    /// Number of the phase's block, part or report.
     pub number: u64,
-    /// The poll time in milliseconds, or the code of a report.
+    /// The poll time in milliseconds, or the status code of a report.
     pub more: u32,
 }

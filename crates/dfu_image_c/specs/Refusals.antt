@@ -1,4 +1,4 @@
--- Refusals of a call that takes an image, for C: a number, and the places that the fault names.
+-- Refusals of `dfu_image_take`: a number for C, and the line, block, segment or addresses of the fault.
 use Rattle.std.specs.Prelude.{ℕ, ℤ, negsuc}
 use Rattle.dfu_formats.specs.declared.images.fault.ImageFault.{ImageFault}
 use Rattle.dfu_formats.specs.declared.images.fault.ImageFault.TheVariants as file
@@ -7,7 +7,7 @@ use Rattle.dfu_formats.specs.declared.images.making.ImageFileFault.{ImageFileFau
 use Rattle.dfu_formats.specs.declared.images.making.ImageFileFault.TheVariants.{Unread, NoData, Unlaid}
 use Rattle.dfu_image_c.specs.declared.refusals.ImageRefusal.{ImageRefusal}
 
--- Number of each fault of a file, from -103 to -125.
+-- Refusal number of each fault of a file, -103 to -125.
 abbrev pub image_fault_number : ImageFault → ℤ
 image_fault_number file.NoMemory = negsuc 102
 image_fault_number (file.NoMark at) = negsuc 103
@@ -33,7 +33,7 @@ image_fault_number (file.TooLarge at) = negsuc 122
 image_fault_number (file.TooManyElements at) = negsuc 123
 image_fault_number (file.Overlaps address) = negsuc 124
 
--- The line, block, segment or address that a fault of a file names, or 0 if it names none.
+-- Line, block, segment or address of a file's fault, or 0 if it has none.
 abbrev pub image_fault_place : ImageFault → ℕ
 image_fault_place file.NoMemory = 0
 image_fault_place (file.NoMark at) = at
@@ -59,8 +59,9 @@ image_fault_place (file.TooLarge at) = at
 image_fault_place (file.TooManyElements at) = at
 image_fault_place (file.Overlaps address) = address
 
--- Refusal of a file without an image, by the fault. A fault of the file has its number and its place. A file without bytes is -126, a gap
--- -127, with its two ends, and an image that is too large with its filling -128. No memory for the image is -103, as for the file.
+-- Refusal for each fault. A fault of the file has its number and its line, block, segment or address. A file without data is -126. A gap is
+-- -127, with its first address and the first address after it. An image that is too large once its gaps are filled is -128. If memory runs
+-- out, the number is -103.
 abbrev pub image_refusal : ImageFileFault → ImageRefusal
 image_refusal (Unread fault) = record { number = image_fault_number fault; from = image_fault_place fault; to = 0 }
 image_refusal NoData = record { number = negsuc 125; from = 0; to = 0 }
@@ -68,7 +69,7 @@ image_refusal (Unlaid lay.NoMemory) = record { number = negsuc 102; from = 0; to
 image_refusal (Unlaid (lay.Gap from to)) = record { number = negsuc 126; from = from; to = to }
 image_refusal (Unlaid lay.TooLarge) = record { number = negsuc 127; from = 0; to = 0 }
 
--- Result for a format number that no format has: -101.
+-- Result for an unknown format number: -101.
 abbrev pub unknown_format_number : ℤ
 unknown_format_number = negsuc 100
 

@@ -1,4 +1,4 @@
-//! The image in a file that builds produce, for programs in C, as a static library: `include/dfu_image_take.h` describes its call.
+//! A static library for C programs that reads the image from a firmware file. `include/dfu_image_take.h` describes its call.
 #![tactic(auto)]
 
 mod refusals;

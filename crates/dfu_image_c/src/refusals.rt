@@ -1,28 +1,28 @@
-//! Refusals of a call that takes an image, for C: a number, and the places that the fault names.
+//! Refusals of `dfu_image_take`: a number for C, and the line, block, segment or addresses of the fault.
 
 ghost use Rattle.std.specs.Prelude.{◌≡◌};
 ghost use Rattle.dfu_image_c.specs.Refusals.{image_fault_number, image_fault_place, image_refusal};
 
 use dfu_formats::images::{ImageFault, ImageFileFault, LayFault};
 
-/// Number of the refusal of a format number that no format has.
+/// Result for an unknown format number.
 pub(crate) const NO_FORMAT: i32 = -101;
 
-/// Number of the refusal of a room that is shorter than the image.
+/// Result for a room that is shorter than the image.
 pub(crate) const NO_ROOM: i32 = -102;
 
-/// A refusal: its number, and the places that it names, or 0.
+/// A refusal: its number, and the line, block, segment or addresses of the fault.
 #[derive(Clone, Copy)]
 pub(crate) struct ImageRefusal {
-    /// The number, -103 to -128.
+    /// Number of the refusal, -103 to -128.
     pub(crate) number: i32,
-    /// A line from 1, a block or segment from 0, or an address; 0 if the fault names none.
+    /// Line, from 1; block or segment, from 0; or address. 0 if the fault has none of these.
     pub(crate) from: u64,
-    /// The address of the first byte after a gap; 0 for any other fault.
+    /// First address after a gap, or 0 for any other fault.
     pub(crate) to: u64,
 }
 
-/// Returns the number of `fault`, a fault of a file.
+/// Returns the refusal number of `fault`, -103 to -125.
 fn image_fault_number(fault: ImageFault) -> i32
     ensures { result ≡ image_fault_number fault }
 {
@@ -53,7 +53,7 @@ fn image_fault_number(fault: ImageFault) -> i32
     }
 }
 
-/// Returns the line, block, segment or address that `fault`, a fault of a file, names, or 0.
+/// Returns the line, block, segment or address of `fault`, or 0 if it has none.
 fn image_fault_place(fault: ImageFault) -> u64
     ensures { result ≡ image_fault_place fault }
 {
@@ -80,7 +80,7 @@ fn image_fault_place(fault: ImageFault) -> u64
     }
 }
 
-/// Returns the refusal of a file that has no image because of `fault`.
+/// Returns the refusal of a file from which no image can be made because of `fault`.
 pub(crate) fn image_refusal(fault: ImageFileFault) -> ImageRefusal
     ensures { result ≡ image_refusal fault }
 {

@@ -1,4 +1,4 @@
-//! The image of a file of a format, at the front of the caller's room.
+//! The call that writes the image of a file to the caller's buffer, `room`.
 
 ghost use Rattle.std.specs.Prelude.{◌≡◌};
 ghost use Rattle.dfu_image_c.specs.TakeCall.{ImageCallResult, TakeImageResult, fill_byte_of, format_of};
@@ -7,21 +7,22 @@ use crate::refusals::{NO_FORMAT, NO_ROOM, image_refusal};
 use dfu_formats::images::{Format, Image, ImageFileFault, image_of};
 use std::alloc::Global;
 
-/// `struct dfu_taken`: the size and address of an image, or the places of the fault of a file without one. The header explains each number.
+/// `struct dfu_taken` in C: the size and address of an image, or the line, block, segment or addresses of a fault. The header explains each
+/// number.
 #[repr(C)]
 #[derive(Drop)]
 pub struct DfuTaken {
-    /// Length of the image in bytes; 0 if there is none.
+    /// Length of the image in bytes, or 0 if there is no image.
     pub length: u64,
-    /// The line, block, segment or address that a refusal names, or the first address of a gap; 0 if there is none of these.
+    /// Line, block, segment or address of the fault, or first address of a gap; 0 if there is none of these.
     pub from: u64,
-    /// The address of the first byte after a gap; 0 if no gap is refused.
+    /// First address after a gap, or 0 if no gap is refused.
     pub to: u64,
-    /// The address of the image's first byte; 0 if there is no image.
+    /// Address of the image's first byte, or 0 if there is no image.
     pub address: u32,
 }
 
-/// Returns the format with number `number`, 1 to 4; None for any other number.
+/// Returns the format with number `number`, 1 to 4, or None for any other number.
 #[tactic(auto, using(std::proofs::lemmas::Bool::Decides::nat_tests))]
 fn format_of(number: u32) -> Option<Format>
     ensures { result ≡ format_of number }
@@ -35,7 +36,7 @@ fn format_of(number: u32) -> Option<Format>
     }
 }
 
-/// Returns the byte `number` that fills gaps; None for a number over 255.
+/// Returns the byte that fills gaps, or None for a number above 255.
 #[tactic(auto, using(std::proofs::lemmas::Bool::Decides::nat_tests))]
 fn fill_byte_of(number: u32) -> Option<u8>
     ensures { result ≡ fill_byte_of number }
@@ -47,8 +48,8 @@ fn fill_byte_of(number: u32) -> Option<u8>
     }
 }
 
-/// Writes the image of a file to the room, if it fits, and its length and address, or the places of the fault, to the record. Returns 0, or
-/// the number of the refusal.
+/// Writes an image to the front of `room`, if it fits, and its length and address to `taken`. After a fault, writes its line, block,
+/// segment or addresses to `taken`. Returns 0, or the number of the refusal.
 fn write_result(read: Result<Image, ImageFileFault>, room: &mut [u8], taken: &mut DfuTaken) -> i32
     ensures { ImageCallResult read room.old room.new taken.new result }
 {
@@ -80,8 +81,9 @@ fn write_result(read: Result<Image, ImageFileFault>, room: &mut [u8], taken: &mu
     }
 }
 
-/// Writes the image of `file`, a file of format number `format`, to the front of `room`, if it fits. Gaps are filled by the byte `fill`, if
-/// it is under 256; else a gap is refused. Returns 0, or the number of the refusal, after which `room` is unchanged.
+/// Writes the image of `file`, which is in the format with number `format`, to the front of `room`. Gaps are filled with the byte `fill` if
+/// it is at most 255, and refused otherwise. Returns 0, or the number of the refusal, which leaves `room` unchanged. `taken` receives the
+/// length and address of the image, or the line, block, segment or addresses of the fault. An unknown format leaves `taken` unchanged.
 #[unsafe(no_mangle)]
 pub extern "C" fn dfu_image_take(
     alloc: Global,

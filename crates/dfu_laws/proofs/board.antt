@@ -3,13 +3,13 @@ pub mod Broken
 pub mod Cut
 pub mod Closing
 pub mod Installs
-pub mod Objected
-pub mod Due
-pub mod Turns
-pub mod Called
-pub mod Works
+pub mod RefuseSteps
+pub mod DueRow
+pub mod StepRows
+pub mod CallSteps
+pub mod WorkingSteps
 pub mod Powers
-pub mod Each
+pub mod EachStepRows
 pub mod Slots
 pub mod Opens
 pub mod SlotCalls
@@ -20,5 +20,5 @@ pub mod Accepts
 pub mod Counting
 pub mod Bounds
 pub mod Asked
-pub mod Fewer
-pub mod Served
+pub mod SeriesLimits
+pub mod DeviceCalls

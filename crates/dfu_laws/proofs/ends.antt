@@ -1,6 +1,6 @@
 pub mod Actions
-pub mod Heard
-pub mod Settled
-pub mod Came
+pub mod ResultNumbers
+pub mod ReportsInC
+pub mod EventsInC
 pub mod Played
-pub mod Stays
+pub mod TrialPayloads

@@ -1,6 +1,6 @@
 pub mod Bits
 pub mod Histories
-pub mod Leads
+pub mod LeadingAnswers
 pub mod Passing
 pub mod Rows
-pub mod Seen
+pub mod SeenAnswers

@@ -1,6 +1,6 @@
-//! The law of both ends in C: of a host that a program keeps in the record of dfu_host_core, and of a board that another keeps in the
-//! record of dfu_core. The law is the contract of a function that only calls other laws; it is proved, and a call of the function has no
-//! effect.
+//! Law of a host and a board that both run in C. The host's program keeps its session in the record of dfu_host_core, and the board's
+//! program keeps its device in the record of dfu_core. The law is the contract of a function that only calls other laws. The contract is
+//! proved, and a call of the function has no effect.
 
 ghost use Rattle.dfu_laws.specs.ends.Plays.{SessionsOfEndsHaveHosts, EndsReportMeansInPlace, EndsUploadIsActiveImage, EndsActiveImageIsKnown, EndsActiveImageKnownWithin, EndsContinue};
 ghost use Rattle.dfu_laws.specs.ends.Stays.{EndsReportedTrialStays};
@@ -8,12 +8,16 @@ ghost use Rattle.dfu_laws.specs.ends.Stays.{EndsReportedTrialStays};
 use crate::laws::core_boards_install;
 use dfu_host_core::laws::core_hosts_are_hosts;
 
-/// For all events of a board in C over a link with a host in C, from power on, each with its record as the last call left it: if
-/// dfu_host_next says that a session is over with Installed or Verified, the payload with which it began is the active image of the flash,
-/// and dfu_core_state returns appIDLE. With any report, the active image is the one that it was at first, or the whole of a payload offered
-/// so far, at each step, also between two writes of a call. If dfu_host_next says Uploaded, the bytes that the session keeps are the active
-/// image. The live session is a host of dfu_host, and all events are those of a board in C with that host. Marks of a trial may be set,
-/// trials may end, and copies of two areas may come; for a payload on trial, `stays` says which image runs.
+/// Law of any sequence of events between a board in C and a host in C, after the board's power on. Each call works on the record that the
+/// previous call left.
+///
+/// If dfu_host_next reports that a session is over with Installed or Verified, the payload of that session is the active image of the
+/// flash, and dfu_core_state returns appIDLE. If dfu_host_next reports Uploaded, the bytes that the session keeps are the active image. At
+/// every step, even between two writes of a call, the active image is the image that was active at first, or a payload that was offered so
+/// far. After the end of a trial it may also be the other image that was in a slot at first.
+///
+/// The live session is a session of a host of dfu_host. The events may include marks of a trial, ends of trials, and copies between two
+/// areas. If the payload is on trial, the clause `stays` states which image runs.
 pub fn core_ends_install()
     ensures in_place { EndsReportMeansInPlace }
     ensures stays { EndsReportedTrialStays }

@@ -1,5 +1,6 @@
-//! Laws of a board through any steps, of a board over a link with a host, of a board whose program makes the calls in C, and of the answers
-//! of a device. Each law is the contract of a function that only calls other laws; it is proved, and a call of the function has no effect.
+//! Laws of a board through any steps, alone or over a link with a host, with calls in Rattle or in C; and the law of a device's answers.
+//! Each law is the contract of a function whose body is empty or only calls other laws. The contracts are proved, and a call of such a
+//! function has no effect.
 
 ghost use Rattle.std.specs.Prelude.{ℕ};
 ghost use Rattle.dfu_slots.specs.Medium.{MediumState};
@@ -29,7 +30,7 @@ use dfu_home::laws::{first_slot_is_known, image_stays, writes_the_first_slot};
 use dfu_sim::laws::{only_offered, simulation};
 use dfu_slots::laws::active_image_is_one;
 
-// Laws of a board that follow from the rows that its steps make.
+// Laws of a board that follow from the rows of its steps in the device table.
 fn boards_make_rows()
     ensures power { RunsRefineDeviceTable }
     ensures idle { IdleRunsRefineTable }
@@ -45,10 +46,12 @@ fn boards_make_rows()
     active_image_is_one();
 }
 
-/// All steps of a board after power on are a history of the device table: each answer ends a row of it, and a loss of power within a row is
-/// that row, broken off by a write that failed, and then the row of power. The board is in the state of the device to which the rows lead,
-/// and its flash has that device's active image, or while writes are due the bytes that it has taken. From any later time at which no
-/// writes are due this holds too, and each image in one of the two slots was in one before, or was active after some step.
+/// The steps of a board after power on are a history of the device table. Each answer ends one row. If the power fails while the writes of
+/// a row are pending, the history contains that row, ended by a write that failed, and then the row of the power on.
+///
+/// The board is in the state of the device to which the rows lead. Its flash has that device's active image, or while writes are pending in
+/// manifestation the bytes of the download. This also holds from any later time at which no writes are pending. From such a time on, each
+/// image in one of the two slots was in a slot at that time, or was active after one of the steps.
 pub fn boards_are_devices()
     ensures power { RunsRefineDeviceTable }
     ensures idle { IdleRunsRefineTable }
@@ -57,10 +60,10 @@ pub fn boards_are_devices()
     boards_make_rows();
 }
 
-/// After any steps of a board since power on, its flash has an active image: the one that it had then, or all bytes of a download that was
-/// closed since. From any later time on at which the state is neither dfuMANIFEST-SYNC nor dfuMANIFEST this holds too, of the image and the
-/// downloads from that time on. If a step leads from one of these two states to dfuIDLE or dfuMANIFEST-WAIT-RESET, all bytes taken are the
-/// active image.
+/// After any steps of a board since power on, its flash has an active image: the image that was active at power on, or all bytes of a
+/// download that was closed since. This also holds from any later time at which the state is neither dfuMANIFEST-SYNC nor dfuMANIFEST, for
+/// the image that is active at that time and the downloads closed after it. If a step leads from one of these two states to dfuIDLE or
+/// dfuMANIFEST-WAIT-RESET, and it is not a restart, all bytes of the download are the active image.
 pub fn boards_keep_an_image()
     ensures keeps { RunsKeepImage }
     ensures stays { ImageStaysInRun }
@@ -69,11 +72,13 @@ pub fn boards_keep_an_image()
     boards_make_rows();
 }
 
-/// For any steps of a board since power on, and any check that its program makes: if no close of bytes that the check refuses was
-/// acknowledged, its flash has an active image that it had then, or one that the check accepts, all bytes of a download that was closed
-/// since. For any history of a device of the table: if each image that waits to be put in place, and that the check refuses, was refused
-/// in time or given up, the active image is the one that it had at first, or one that the check accepts. A program that never checks takes
-/// every image.
+/// Law of a board whose program checks each image. A program without a check accepts every image.
+///
+/// If the program refuses every close of bytes that fail the check, the active image is the one at power on, or all bytes of a download
+/// that was closed since and that pass the check.
+///
+/// In a history of the device table, if each pending image that fails the check is refused in time or given up, the active image is the
+/// first one, or one that passes the check.
 pub fn boards_take_what_is_accepted()
     ensures at_close { RunKeepsAcceptedImage }
     ensures in_time { HistoryKeepsAcceptedImage }
@@ -81,9 +86,9 @@ pub fn boards_take_what_is_accepted()
     boards_keep_an_image();
 }
 
-/// For any steps of a board since power on: while a call is not answered, a board that writes a block has asked for writes at most as often
-/// as `DFU_BLOCK_ERASES` and `DFU_BLOCK_PROGRAMS` say together, and one that puts an image in place at most as often as `DFU_COMMIT_ERASES`
-/// and `DFU_COMMIT_PROGRAMS` do. Therefore the loop that carries out the writes ends.
+/// Law of a board that has no pending writes, up to its next answer. It requests at most `DFU_BLOCK_ERASES` plus `DFU_BLOCK_PROGRAMS`
+/// writes for a block, and at most `DFU_COMMIT_ERASES` plus `DFU_COMMIT_PROGRAMS` for the commit of an image. Therefore the loop that
+/// carries out the writes ends.
 pub fn boards_ask_few_times()
     ensures { RunOperationsBounded }
 {
@@ -91,14 +96,17 @@ pub fn boards_ask_few_times()
     steps_are_the_writes();
 }
 
-/// For all events of a board over a link with a host, from power on: if the host reports Installed or Verified, the payload with which its
-/// session began is the active image of the board's flash, and the board is in appIDLE. With any report, the active image is the one that
-/// it was at first, or the whole of a payload offered so far, at each step, also between two writes of a call. The bytes that come with
-/// Uploaded are the active image. All steps of the board are runs of it, so the laws above hold of them. Meanwhile marks of a trial may be
-/// set and trials may end: the image that comes back then is one of the two that were in the slots at first, or was offered. If the payload
-/// is on trial once it is in place, each start runs it until its tries are spent, or the confirmed image if the mark of the start fails;
-/// then the confirmed one comes back. In two areas operations of the copy to the first slot may come between a restart and the begin of the
-/// device, and any of them may fail, lie or be cut off.
+/// Law of any sequence of events between a board and a host over a link, after the board's power on.
+///
+/// If the host reports Installed or Verified, the payload of its session is the active image of the board's flash, and the board is in
+/// appIDLE. The bytes of the report Uploaded are the active image. At every step, even between two writes of a call, the active image is
+/// the image that was active at first, or a payload that was offered so far. After the end of a trial it may also be the other image that
+/// was in a slot at first. The steps of the board are runs, and therefore the laws above hold for them.
+///
+/// The events may include marks of a trial, ends of trials, and copies between two areas. If the payload is on trial, each start runs it
+/// until its tries are spent; a start whose mark fails runs the confirmed image, and once the tries are spent every start does. With two
+/// areas, the copy to the first slot runs between a restart and the start of the device, and any of its operations may fail, be cut off, or
+/// report a wrong result.
 pub fn boards_install()
     ensures in_place { ReportMeansPayloadInPlace }
     ensures stays { ReportedTrialStays }
@@ -117,30 +125,30 @@ pub fn boards_install()
     first_slot_is_known();
 }
 
-/// After any number of operations of the copy of two areas, each by `next` of dfu_home with any progress, the same image is active: also if
-/// any of them failed, lied or was cut off, and the power went between them.
+/// Any number of operations of the copy between two areas leave the same image active. Each operation is one that `next` of dfu_home
+/// returns for some progress. It may fail, be cut off by a loss of power, or report a wrong result.
 pub fn copies_change_no_image()
     ensures { HomeOperationsKeepImage }
 {
     image_stays();
 }
 
-/// As a trial ends by dfu_boot, only the sector of one gate changes, with any result of its operation, and that gate was open. The laws
-/// here count each such change as the end of a trial.
+/// The end of a trial by dfu_boot changes only the sector of one gate, which was open, for any outcome of the erase. The laws here describe
+/// the end of a trial by `OpenGateWasClosed`.
 pub fn ends_of_trials_close_a_gate()
     ensures { (m now : MediumState) (tries : ℕ) → TrialStepResult tries m Ends now → OpenGateWasClosed m now.bytes }
 {}
 
-/// For every history of a device, and every list of events that it shows, some run of the standard's table has these events, from the
-/// device's first place to its last; no habit is needed. Therefore a judge reports no departure of the device. The law is the contract of a
-/// function with an empty body, which no program needs to call.
+/// For every history of a device, the events that a judge observes are a run of the standard's table, from the device's first state to its
+/// last. The run uses no habit, that is, no tolerated departure from the standard. Therefore a judge reports no departure of the device.
+/// The law is the contract of a function with an empty body, which no program needs to call.
 pub fn answers_are_kept()
     ensures history { HistoriesConform }
     ensures start { DevicesFromStartConform }
 {}
 
-/// All steps of a board in C from power on are a run of a board, event by event, and therefore rows of the device table, with the answers
-/// that the numbers give.
+/// The steps of a board in C from power on are a run of a board, event by event, and therefore rows of the device table. The numbers that
+/// the calls return give the answers of these rows.
 pub fn core_boards_are_devices()
     ensures { CoreRunsRefineTable }
 {
@@ -148,9 +156,9 @@ pub fn core_boards_are_devices()
 }
 
 /// After any steps of a board in C from power on, its flash has an active image: the one at power on, or all bytes of a download that was
-/// closed since. From any later time on at which its state is neither dfuMANIFEST-SYNC nor dfuMANIFEST this holds too. If a step leads from
-/// one of these two states to dfuIDLE or dfuMANIFEST-WAIT-RESET, all bytes taken are the active image. Therefore dfu_core_power_on is never
-/// refused.
+/// closed since. This also holds from any later time at which the state is neither dfuMANIFEST-SYNC nor dfuMANIFEST. If a step leads from
+/// one of these two states to dfuIDLE or dfuMANIFEST-WAIT-RESET, and it is not a restart, all bytes of the download are the active image.
+/// Therefore dfu_core_power_on is never refused.
 pub fn core_boards_keep_an_image()
     ensures keeps { CoreRunsKeepImage }
     ensures stays { CoreImageStaysInRun }
@@ -160,21 +168,25 @@ pub fn core_boards_keep_an_image()
     boards_keep_an_image();
 }
 
-/// For any steps of a board in C that was just powered on: until a call is answered, DFU_WRITE_PENDING is returned at most
-/// `DFU_BLOCK_ERASES` plus `DFU_BLOCK_PROGRAMS` times (of the transfer size and the sector) while a block is written, and at most
-/// `DFU_COMMIT_ERASES` plus `DFU_COMMIT_PROGRAMS` times while an image is put in place. Therefore a loop that runs while the number is
-/// DFU_WRITE_PENDING ends, after at most these sums of operations.
+/// Law of a board in C that has no pending writes, up to its next answer. While a block is written, DFU_WRITE_PENDING is returned at most
+/// `DFU_BLOCK_ERASES` plus `DFU_BLOCK_PROGRAMS` times. While an image is put in place, it is returned at most `DFU_COMMIT_ERASES` plus
+/// `DFU_COMMIT_PROGRAMS` times. The bounds are those of the configured transfer size and sector size. Therefore a loop that runs while the
+/// number is DFU_WRITE_PENDING ends, after at most these sums of operations.
 pub fn core_boards_ask_few_times()
     ensures { CoreOperationsBounded }
 {
     boards_ask_few_times();
 }
 
-/// For all events of a board in C over a link with a host, from power on: if the host reports Installed or Verified, the payload with which
-/// its session began is the active image of the flash, and dfu_core_state returns appIDLE. With any report, the active image is the one
-/// that it was at first, or the whole of a payload offered so far, at each step, also between two writes of a call. The bytes that come
-/// with Uploaded are the active image. All steps of the board are runs of it, so the laws above hold of them. Marks, ends of trials and
-/// copies of two areas may come as with a board; for a payload on trial, `stays` says which image runs.
+/// Law of any sequence of events between a board in C and a host over a link, after the board's power on.
+///
+/// If the host reports Installed or Verified, the payload of its session is the active image of the flash, and dfu_core_state returns
+/// appIDLE. The bytes of the report Uploaded are the active image. At every step, even between two writes of a call, the active image is
+/// the image that was active at first, or a payload that was offered so far. After the end of a trial it may also be the other image that
+/// was in a slot at first. The steps of the board are runs, and therefore the laws above hold for them.
+///
+/// The events may include marks of a trial, ends of trials, and copies between two areas. If the payload is on trial, the clause `stays`
+/// states which image runs.
 pub fn core_boards_install()
     ensures in_place { CoreReportMeansInPlace }
     ensures stays { CoreReportedTrialStays }
@@ -188,23 +200,23 @@ pub fn core_boards_install()
     what_was_confirmed_runs_or_the_newest_on_trial();
 }
 
-/// With any results of the writes of a format: once dfu_core_format_took returns 0 the image is the active one of the flash, on which
-/// dfu_core_power_on is not refused. A format that was broken off, by a loss of power or a fault of a write, leaves a flash which need not
-/// have an active image, and a new format may begin on it as on any other.
+/// Law of a format, with any results of its writes. Once dfu_core_format_took returns 0, the image is the active image of the flash, and
+/// dfu_core_power_on is not refused. A format that a loss of power or a failed write broke off may leave a flash without an active image. A
+/// new format can begin on that flash as on any other.
 pub fn core_formats_make_an_image()
     ensures formatted { EndedFormatActivatesImage }
     ensures anew { BrokenFormatCanRestart }
 {}
 
-/// With any results of the writes of a format: its calls return DFU_WRITE_PENDING at most `DFU_FORMAT_ERASES` plus `DFU_FORMAT_PROGRAMS`
-/// times (of the image's length and the sector). Therefore the loop that carries a format out ends.
+/// Law of a format, with any results of its writes. Its calls return DFU_WRITE_PENDING at most `DFU_FORMAT_ERASES` plus
+/// `DFU_FORMAT_PROGRAMS` times, for the image's length and the sector size. Therefore the loop that carries out a format ends.
 pub fn core_formats_ask_few_times()
     ensures { FormatOperationsBounded }
 {}
 
-/// The result of dfu_core_closes for a setup agrees with dfu_core_refuse_close: if dfu_core_closes returns 1, dfu_core_refuse_close returns
-/// DFU_STALL, and if it returns 0, DFU_NO_CLOSE. Therefore a program that checks the image whenever dfu_core_closes returns 1 can refuse
-/// each image before it is put in place.
+/// If dfu_core_closes returns 1 for a setup, dfu_core_refuse_close returns DFU_STALL for it, and if dfu_core_closes returns 0,
+/// dfu_core_refuse_close returns DFU_NO_CLOSE. Therefore a program that checks the image whenever dfu_core_closes returns 1 can refuse each
+/// image before it is put in place.
 pub fn core_closes_if_refused()
     ensures { ClosesIfRefused }
 {}

@@ -1,6 +1,6 @@
-//! Laws of whole runs: of a board that runs a device of dfu_asks, through every call and a loss of power at any time; of the reports of a
-//! host over a link that may lose any message; of the same board with the calls in C; and of the answers of a device, against a table of
-//! the standard that was made separately. No program calls a law.
+//! Laws of whole runs. They cover a board with a device of dfu_asks, through every call and a loss of power at any time; the reports of a
+//! host over a link that may lose any message; the same board with the calls in C; and the answers of a device, which are compared with a
+//! separately written table of the standard. A program calls none of these laws.
 #![tactic(auto)]
 
 mod hosts;

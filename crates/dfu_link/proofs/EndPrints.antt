@@ -1,4 +1,4 @@
--- The written text follows from the script's ending, because each event keeps the headline.
+-- The headline holds for the text that a script printed, because each event preserves it.
 use Rattle.std.proofs.Common.{◌≡◌, inl, inr, ℕ, List, [], ◌∷◌, ◌++◌, map, Option, Some, None, Result, Ok, Err, refl, sym, ap, ◌∙◌, subst}
 use Rattle.std.proofs.lemmas.List.{map-append}
 use Rattle.std.specs.Prelude.{◌+◌, IfSome, replicate, unwrap_or}
@@ -27,14 +27,14 @@ use Rattle.dfu_link.specs.Lines.{line_of}
 use Rattle.dfu_link.specs.ScriptRun.{Settings, initial_settings, link_at_rest, ScriptPoint, initial_point, checked_event, EventsPlayed, no_event_played, event_played_next, LineActs, skips, acts_by_limits, plays, goes_on, shows, expects, LinesRun, stays, line_runs_next, IsPrologue, DeviceStarts, RunIsOut, blank_slots}
 use Rattle.dfu_link.specs.Falls.{PrintingStops, in_events as breaks_in_events, stops_in_until_report as breaks_in_passes, stops_in_show as breaks_in_show, NextLineFails, ScriptFails, no_memory, fails_in_setting, start_fails, run_fails, ScriptEnding}
 use Rattle.dfu_link.specs.Printed.{IsKnownImage, LineEffect, Events, effect_of_line, report_text, EventsPrint, no_event, refused_event_prints_next, LinePrints, prints_nothing, prints_events, prints_passes, prints_image, LinesPrint, no_lines_print, line_prints_next, IsStartPoint, TextPrints, WholeIsPrinted, PartPrints, part_of_nothing, in_events, part_of_line_text, part_of_image_line, PartIsPrinted, stopped_before_start, stopped_after_start, HasPrinted}
-use Rattle.dfu_link.proofs.LineBrings.{effect_of_content, line_effect_is_content_effect}
-use Rattle.dfu_link.proofs.PrintedTexts.{Refusal, refusal, state_words, state_words_are_one_line}
+use Rattle.dfu_link.proofs.LineEffects.{effect_of_content, line_effect_is_content_effect}
+use Rattle.dfu_link.proofs.PrintedTexts.{PrintedRefusal, refusal, state_words, state_words_are_one_line}
 use Rattle.dfu_link.proofs.Printing.{session_of_event, check_keeps_session, line_events_begin_sessions, one_more_event_prints, settings_lines_keep_given, settings_lines_precede, start_precedes_next_line}
 use Rattle.dfu_link.proofs.PlayLaws.{one_more_copy_is_at_end}
-use Rattle.dfu_sim.proofs.Steady.{machines_follow_event_result, uploads_are_active, rest_is_steady}
+use Rattle.dfu_sim.proofs.EventFacts.{machines_follow_event_result, uploads_are_active, rest_is_steady}
 use Rattle.dfu_sim.proofs.HeadlineKept.{event_keeps_headline, headline_at_start}
 
--- Facts that hold at each point of a script: the headline holds of the link, with some last report or none, and the link is steady.
+-- Facts that hold at each point of a script: the link is steady, and the headline holds for it, with the last report, if there was one.
 record Keeps (factory : List ℕ) (past : List SessionBeginning) (b : LinkView) : Type 0 where
   pub steady : IsSteadyLink b
   pub report : Option Report
@@ -53,7 +53,7 @@ shown_image_is_known shown {factory = factory} {past = past} {b = b} keeps =
     subst (λ (image : List ℕ). IsKnownImage factory past b image) (shown_image_is_headline_image shown keeps.holds)
     (record { active = keeps.holds.says.active; known = keeps.holds.says.known })
 
--- If Uploaded comes with the bytes of the image, the text of a report, or of none, is the line of the answer.
+-- If the bytes of Uploaded are those of the active image, the text of a report equals the line of the answer.
 report_text_is_outcome_line : (report : Option Report) (gave : Option (List ℕ)) (image shows_image : List ℕ) → (report ≡ Some Uploaded →
     gave ≡ Some shows_image)
     → image ≡ shows_image → report_text report image ≡ outcome_line (Ok report) (unwrap_or gave [])
@@ -62,7 +62,7 @@ report_text_is_outcome_line (Some Uploaded) gave image shows_image gives e =
     ap uploaded_line (e ∙ ap (λ (x : Option (List ℕ)). unwrap_or x []) (sym (gives refl)))
 report_text_is_outcome_line (Some report) gave image shows_image gives e = refl
 
--- After the events, the facts of a point hold, and the text of the events is as the headline allows.
+-- After the events the facts of `Keeps` hold, and the text of the events is one that the headline allows.
 
 record HeadlineAfterEvents (factory : List ℕ) (past : List SessionBeginning) (b : LinkView) (hs : List Happening) (out : List ℕ)
     (b' : LinkView) : Type 0 where
@@ -76,7 +76,7 @@ next_event_keeps_headline : BenchImageIsActive → {factory : List ℕ} {past : 
     → HeadlineAfterEvents factory past b (hs ++ h ∷ []) (out ++ answer_line answer) c'
 next_event_keeps_headline shown {factory = factory} {past = past} {b = b} {c = c} {hs = hs} {out = out} {h = h} rest (refuses {fault =
     fault} why) active =
-    let why : Refusal fault = refusal fault in
+    let why : PrintedRefusal fault = refusal fault in
     record {
       past' = rest.past';
       keeps = rest.keeps;
@@ -122,7 +122,7 @@ events_keep_headline shown {factory = factory} {past = past} {check = check} {b 
           (check_keeps_session check c h) ∙ sym (map-append session_of_event hs (h ∷ []))) kept.prints;
     }
 
--- After the line, the facts of a point hold, and the text of the line is as the headline allows.
+-- After the line the facts of `Keeps` hold, and the text of the line is one that the headline allows.
 
 record HeadlineAfterLine (factory : List ℕ) (past : List SessionBeginning) (p : ScriptPoint) (said : LineContent) (out : List ℕ)
     (p' : ScriptPoint) : Type 0 where
@@ -205,7 +205,7 @@ lines_keep_headline shown {p = p} keeps (line_runs_next line {said = said} more 
       given = next.given ∙ rest.given;
     }
 
--- The headline holds when the device has started, with no session and no report.
+-- The headline holds at the start of the device, where no session is live and nothing was reported.
 
 headline_holds_at_start : {settings : Settings} {first : DeviceView} → DeviceStarts settings first
     → HeadlineInvariant settings.image [] None (link_at_rest first)
@@ -245,7 +245,7 @@ whole_text_prints shown {g = g} {settings = settings} {after = after} {done = do
       known = shown_image_is_known shown all.keeps;
     }
 
--- A script that ran whole has printed its text.
+-- If all lines of a script ran, their text and the line of a known image were written.
 script_run_prints : BenchImageIsActive → {g : Option (List ℕ)} {text : List ℕ} {old new : Option (List ℕ)} → RunIsOut g text old new
     → WholeIsPrinted g text old new
 script_run_prints shown {old = old} {new = new} wrote =
@@ -262,7 +262,7 @@ script_run_prints shown {old = old} {new = new} wrote =
       told = subst (λ (out : List ℕ). Appends old new out) run.out_is wrote.told;
     }
 
--- A line in which the printing stops has printed a part of its text.
+-- If the printing of a line stops, only a part of the line's text was written.
 
 stopped_line_prints_part : BenchImageIsActive → {factory : List ℕ} {past : List SessionBeginning} {p : ScriptPoint} {line : List ℕ} {lines
     : List
@@ -327,7 +327,7 @@ failed_script_prints_part shown {g = g} {new = new}
     (subst (λ (x : Option (List ℕ)). PartPrints x settings.image all.past' falls.end.at (image_of falls.end.at.device.slots) falls.rest
     falls.mid new) kept (failed_line_prints_part shown falls.end _ falls.rest falls.mid new fault all.keeps falls.falls))
 
--- If the read text is known, the printed text follows from the script's ending.
+-- If the reader's text is known, a script that ended has printed a text for which the headline holds.
 pub ended_script_has_printed : BenchImageIsActive → (g given : Option (List ℕ)) (old new : Option (List ℕ)) (r : Result Unit ScriptFault)
     → IfSome given (λ text. ScriptEnding g text old new r) → IfSome given (λ text. HasPrinted g text old new r)
 ended_script_has_printed shown g None old new r end = tt

@@ -10,14 +10,14 @@ use Rattle.dfu_link.specs.declared.scripting.fault.ScriptFault.{ScriptFault}
 use Rattle.dfu_link.specs.declared.scripting.fault.ScriptFault.TheVariants.{Expected, NoMemory, Write}
 use Rattle.dfu_link.proofs.WriteLaws.{both_texts_fail}
 
--- The expectation after two texts is that after the two joined.
+-- The expectation after two texts is the same as after both joined.
 expectation_left_of_joined : (e : Option Expectation) (xs ys : List ℕ) → expectation_left e (xs ++ ys)
     ≡ expectation_left (expectation_left e xs) ys
 expectation_left_of_joined e [] ys = refl
 expectation_left_of_joined e (x ∷ xs) [] = refl
 expectation_left_of_joined e (x ∷ xs) (y ∷ ys) = refl
 
--- Two texts printed in a row that meet the expectation meet it when joined.
+-- If two texts in a row meet the expectation, both joined meet it.
 both_meet_expectation : (e : Option Expectation) (xs ys : List ℕ) → MeetsExpectation e xs → MeetsExpectation (expectation_left e xs) ys
     → MeetsExpectation e (xs ++ ys)
 both_meet_expectation None xs ys h k = tt
@@ -36,7 +36,7 @@ empty_text_meets_expectation (Some e) = tt
 pub empty_text_is_printed : (e : Option Expectation) (old : Option (List ℕ)) → TextPrinted e old [] e old
 empty_text_is_printed e old = record { told = Appends-nil old; meets = empty_text_meets_expectation e; left = refl }
 
--- If a text is printed, and then a second text, both are printed as one text.
+-- If two texts are printed one after the other, both joined are printed as one text.
 pub printed_texts_join : {e e' e'' : Option Expectation} {old mid new : Option (List ℕ)} {xs ys : List ℕ} → TextPrinted e old xs e' mid
     → TextPrinted e' mid ys e'' new → TextPrinted e old (xs ++ ys) e'' new
 printed_texts_join {e = e} {old = old} {mid = mid} {new = new} {xs = xs} {ys = ys} h k = record {
@@ -45,7 +45,7 @@ printed_texts_join {e = e} {old = old} {mid = mid} {new = new} {xs = xs} {ys = y
   left = k.left ∙ (ap (λ (x : Option Expectation). expectation_left x ys) h.left ∙ sym (expectation_left_of_joined e xs ys));
 }
 
--- If the writer failed in a text, the printing of the text fails as the writer did.
+-- If the writer fails in a text, the printing of the text fails with the writer's fault.
 failed_writer_prints_prefix : (r : Result Unit ScriptFault) (e e' : Option Expectation) (old new : Option (List ℕ)) (text : List ℕ) (f :
     ScriptFault)
     → WriteEnds text old new r → IsErrAnd r (λ g. g ≡ f) → PrintEnds e old text e' new r
@@ -63,14 +63,14 @@ pub prefix_fault_fails_text : {e e' : Option Expectation} {old new : Option (Lis
 prefix_fault_fails_text {e = e} {e' = e'} {old = old} {new = new} {text = text} {f = f} {r = r} ys h same is =
     failed_writer_prints_prefix r e e' old new text f (both_texts_fail ys h same is) same
 
--- A fault of a text without an expected line is the writer's, so it is also a fault of any text with any expectation.
+-- If no line is expected, only the writer can fail; the writer's fault is a print fault of every text and every expectation.
 writer_fault_fails_any_print : (e : Option Expectation) (xs ys : List ℕ) (f : ScriptFault) (a b a' b' : Option (List ℕ)) →
     IsPrintFault None xs a b f
     → IsPrintFault e ys a' b' f
 writer_fault_fails_any_print e xs ys Write a b a' b' h = tt
 writer_fault_fails_any_print e xs ys f a b a' b' h = absurd h
 
--- If a text fails to print after an empty text was written, it fails to print from the start.
+-- If a text fails to print after an empty text was written, it fails to print without the empty text too.
 nothing_then_fault_fails : (e : Expectation) (ys : List ℕ) (f : ScriptFault) (old mid new : Option (List ℕ)) → Appends old mid []
     → IsPrintFault (Some e) ys mid new f → IsPrintFault (Some e) ys old new f
 nothing_then_fault_fails e ys Write old mid new told h = tt
@@ -87,14 +87,14 @@ nothing_then_fault_fails e ys (Expected n) old mid new told h = (
 )
 nothing_then_fault_fails e ys f old mid new told h = absurd h
 
--- If a text fails to print after another was written, the two joined fail to print.
+-- If a text fails to print after another one was written, both joined fail to print.
 prefix_then_fault_fails : (e : Option Expectation) (xs ys : List ℕ) (f : ScriptFault) (old mid new : Option (List ℕ)) → Appends old mid xs
     → IsPrintFault (expectation_left e xs) ys mid new f → IsPrintFault e (xs ++ ys) old new f
 prefix_then_fault_fails None [] ys f old mid new told h = writer_fault_fails_any_print None ys ys f mid new old new h
 prefix_then_fault_fails (Some e) [] ys f old mid new told h = nothing_then_fault_fails e ys f old mid new told h
 prefix_then_fault_fails e (x ∷ xs) ys f old mid new told h = writer_fault_fails_any_print e ys (x ∷ (xs ++ ys)) f mid new old new h
 
--- If a text fails to print after another was printed, the two joined fail to print.
+-- If a text fails to print after another one was printed, both joined fail to print.
 pub text_then_fault_fails : {e e' : Option Expectation} {old mid : Option (List ℕ)} {xs : List ℕ} (ys : List ℕ)
     (new : Option (List ℕ)) (f : ScriptFault)
     → TextPrinted e old xs e' mid

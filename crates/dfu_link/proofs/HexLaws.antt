@@ -1,4 +1,4 @@
--- Hexadecimal text, piece by piece.
+-- Lemmas about hexadecimal text that is written piece by piece.
 use Rattle.std.proofs.Common.{◌≡◌, ℕ, ◌+◌, ◌-◌, ◌/◌, ◌%◌, slice_index, List, [], ◌∷◌, ◌++◌, length, take, drop, Option, Result, Ok, Err, refl, sym, ap, ◌∙◌, arith}
 use Rattle.std.specs.List.{slice_range}
 use Rattle.std.specs.Prelude.{IsErrAnd}
@@ -17,13 +17,13 @@ unfolding encode_with
 encode-append t [] ys = refl
 encode-append t (x ∷ xs) ys = ap (λ (rest : List ℕ). slice_index t (x / 16) ∷ slice_index t (x % 16) ∷ rest) (encode-append t xs ys)
 
--- The first bytes followed by the next piece are the first bytes up to the end of that piece.
+-- The first bytes followed by the next piece are the bytes up to the end of that piece.
 next_piece_extends_prefix : (bytes : List ℕ) (at n : ℕ) → take (at + n) bytes ≡ take at bytes ++ slice_range bytes at (at + n)
 next_piece_extends_prefix bytes at n =
     let same : at + n - at ≡ n = omega arith in
     take-add at n bytes ∙ ap (λ (k : ℕ). take at bytes ++ take k (drop at bytes)) (sym same)
 
--- The digits of the first bytes and of the next piece, joined, are the digits of both pieces joined.
+-- The digits of the first bytes, followed by the digits of the next piece, are the digits of both joined.
 next_piece_extends_digits : (bytes : List ℕ) (at n : ℕ) → encode_lower (take (at + n) bytes) ≡ encode_lower (take at bytes)
     ++ encode_lower (slice_range bytes at (at + n))
 next_piece_extends_digits bytes at n = ap encode_lower (next_piece_extends_prefix bytes at n)
@@ -34,14 +34,14 @@ digits_split_at_place : (bytes : List ℕ) (at : ℕ) → encode_lower bytes ≡
 digits_split_at_place bytes at = ap encode_lower (sym (take-append-drop at bytes))
     ∙ encode-append lower_digits (take at bytes) (drop at bytes)
 
--- Writing the digits of the next piece, after those of the first bytes, writes the digits of all bytes up to that piece's end.
+-- If the digits of the first bytes and then those of the next piece are written, the digits of all bytes up to the end of the piece are
+-- written.
 pub written_piece_adds_digits : {old mid new : Option (List ℕ)} {r : Result Unit ScriptFault} (bytes : List ℕ) (at n : ℕ)
     → WriteEnds (encode_lower (take at bytes)) old mid (Ok tt) → WriteEnds (encode_lower (slice_range bytes at (at + n))) mid new r
     → WriteEnds (encode_lower (take (at + n) bytes)) old new r
 written_piece_adds_digits bytes at n told piece = both_texts_are_written told piece (next_piece_extends_digits bytes at n)
 
--- If the digits of the first bytes were written, and the writer fails in the digits of the next piece, it failed in the digits of all
--- bytes.
+-- If the writer fails in the digits of a piece after those of the first bytes, it fails in the digits of all bytes.
 pub piece_stops_digits : {old mid new : Option (List ℕ)} {f : ScriptFault} {r : Result Unit ScriptFault} (bytes : List ℕ) (at n : ℕ)
     → WriteEnds (encode_lower (take at bytes)) old mid (Ok tt)
     → WriteEnds (encode_lower (slice_range bytes at (at + n))) mid new (Err f)

@@ -13,11 +13,11 @@ pub mod PlayLaws
 pub mod StepLaws
 pub mod MoveLaws
 pub mod Spending
-pub mod PassingOn
+pub mod ReportPasses
 pub mod FallLaws
 pub mod RestLaws
 pub mod WholeLaws
-pub mod LineBrings
+pub mod LineEffects
 pub mod PrintedTexts
 pub mod Printing
 pub mod EndPrints

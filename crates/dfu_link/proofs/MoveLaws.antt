@@ -1,4 +1,4 @@
--- Lines that were done, put together to a run.
+-- Lemmas about runs of lines, lines that change the settings, and benches with no session.
 use Rattle.std.proofs.Common.{◌≡◌, ℕ, ◌+◌, List, [], ◌∷◌, ◌++◌, Option, Some, Ok, sym, ap, ◌∙◌, subst, append_assoc, arith, length, length-append}
 use Rattle.std.proofs.lemmas.List.{append-nil}
 use Rattle.std.specs.Io.KnownBytes.{Appends, IsAtEnd}
@@ -18,7 +18,7 @@ use Rattle.dfu_link.specs.inside.Source.{SourceState, SourceLine}
 use Rattle.dfu_link.specs.inside.Moving.{LineDone, LinesDone, SourceExhausted, IsUnarmed, LinesPrepared}
 use Rattle.dfu_link.proofs.GivenLaws.{source_gives_no_line, source_lines_join}
 
--- A source that gave no line leaves no line done, and nothing changed.
+-- If a source has read no line, no line ran and nothing changed.
 pub no_line_is_done : (p : ScriptPoint) (s : SourceState) (old : Option (List ℕ)) → LinesDone p s old p s old
 no_line_is_done p s old = record {
   done = [];
@@ -28,7 +28,7 @@ no_line_is_done p s old = record {
   told = Appends-nil old;
 }
 
--- If lines were done, and then the next line of the source, all of these lines were done.
+-- If lines ran, and the next line of the source ran after them, all of these lines ran.
 pub next_line_joins : {p q r : ScriptPoint} {s t u : SourceState} {old mid new : Option (List ℕ)} {n : ℕ} {line : List ℕ}
     → LinesDone p s old q t mid
     → SourceLine t u → n ≡ u.number → line ≡ u.line → LineDone n q line mid r new → LinesDone p s old r u new
@@ -56,7 +56,7 @@ runs_of_lines_join k j p q r xs ys a b at run (line_runs_next {q = mid} {lines =
     subst (λ (zs : List (List ℕ)). LinesRun k p zs (a ++ (o ++ more)) r) (append_assoc xs ls (line ∷ []))
     (subst (λ (c : List ℕ). LinesRun k p (xs ++ ls ++ line ∷ []) c r) (append_assoc a o more) both)
 
--- Two runs of lines that were done one after the other are one run of done lines.
+-- If some lines of a source ran, and some more lines ran after them, all of these lines ran.
 pub lines_done_join : {p q r : ScriptPoint} {s t u : SourceState} {old mid new : Option (List ℕ)} → LinesDone p s old q t mid
     → LinesDone q t mid r u new
     → LinesDone p s old r u new
@@ -68,7 +68,7 @@ lines_done_join {p = p} {q = q} {r = r} {s = s} {t = t} {old = old} {mid = mid} 
   told = Appends-trans old mid new m.shown n.shown m.told n.told;
 }
 
--- If all lines were done, and the line of the image was written, nothing is left of the source.
+-- If all lines ran, and the image line was written, the source is exhausted.
 pub image_after_lines_exhausts : {p q : ScriptPoint} {s t : SourceState} {old mid new : Option (List ℕ)} {x : Option Expectation} {done :
     Unit {0}}
     → LinesDone p s old q t mid → IsAtEnd t.left → PrintEnds q.next mid (image_line q.at.device) x new (Ok done)
@@ -85,7 +85,7 @@ image_after_lines_exhausts {p = p} {q = q} {s = s} {t = t} {old = old} {mid = mi
   told = Appends-trans old mid new m.shown (image_line q.at.device) m.told prints.ok.told;
 }
 
--- If lines were done and then the source was exhausted, it is exhausted after all of these lines.
+-- If lines ran, and all lines after them ran too and the image line was written, the source is exhausted.
 pub lines_then_end_exhaust : {p q : ScriptPoint} {s t : SourceState} {old mid new : Option (List ℕ)} → LinesDone p s old q t mid
     → SourceExhausted q t mid new
     → SourceExhausted p s old new
@@ -106,13 +106,13 @@ lines_then_end_exhaust {p = p} {q = q} {s = s} {t = t} {old = old} {mid = mid} {
           (Appends-trans old mid new m.shown (e.shown ++ image) m.told e.told);
     }
 
--- Lines that change the settings.
+-- Lemmas about lines that change the settings.
 
--- Without lines the settings stay as they are.
+-- Without lines the settings are unchanged.
 pub no_lines_keep_settings : (x : Settings) (s : SourceState) → LinesPrepared x s x s
 no_lines_keep_settings x s = record { done = []; gives = source_gives_no_line s; prepares = nothing }
 
--- If settings were prepared, and the next line changes them, the new settings are prepared.
+-- If lines changed the settings, and the next line changes them again, all of these lines lead to the new settings.
 pub next_line_prepares : {x y z : Settings} {s t u : SourceState} {line : List ℕ} (w : LineContent) → LinesPrepared x s y t → SourceLine t u
     → line ≡ u.line
     → line_of y.given line ≡ Some w → settings_after_line y w ≡ Some z → LinesPrepared x s z u
@@ -122,9 +122,9 @@ next_line_prepares {y = y} {u = u} w p given same is does = record {
   prepares = line_prepares_next u.line p.prepares (ap (line_of y.given) (sym same) ∙ is) does;
 }
 
--- A device with no session.
+-- Lemmas about benches with no session.
 
--- A link made over an unarmed device begins with the device as it is.
+-- A link made over an unarmed device begins with that device unchanged.
 pub unarmed_world_is_at_rest : {x : WorldView} (d : DeviceView) → x ≡ record { bench = link_at_rest (armed_device d Whole); up = [] } →
     IsUnarmed d
     → x.bench ≡ link_at_rest d

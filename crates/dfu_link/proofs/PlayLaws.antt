@@ -23,16 +23,16 @@ use Rattle.dfu_link.proofs.WriteLaws.{second_text_breaks_both}
 use Rattle.dfu_link.proofs.ExpectLaws.{empty_text_is_printed, printed_texts_join, text_then_fault_fails}
 use Rattle.dfu_link.proofs.ToldLines.{outcome_line_is_answer_line}
 
--- n + 1 copies are n copies, and a last one.
+-- A list of `suc n` copies is a list of n copies with one more at the end.
 successor_copies_end_in_copy : {A : Type 0} (n : ℕ) (x : A) → replicate (suc n) x ≡ replicate n x ++ x ∷ []
 successor_copies_end_in_copy zero x = refl
 successor_copies_end_in_copy (suc n) x = ap (λ (xs : List _). x ∷ xs) (successor_copies_end_in_copy n x)
 
--- n + 1 copies are n copies, and a last one.
+-- A list of n + 1 copies is a list of n copies with one more at the end.
 pub one_more_copy_is_at_end : {A : Type 0} (n : ℕ) (x : A) → replicate (n + 1) x ≡ replicate n x ++ x ∷ []
 one_more_copy_is_at_end n x = ap (λ (k : ℕ). replicate k x) (add-one n) ∙ successor_copies_end_in_copy n x
 
--- If events were played, and then one more event, the list with that event was played.
+-- If events were played, and one more event was played after them, all of these events were played.
 pub next_event_is_played : (z : List ℕ) (b : LinkView) (c c' : WorldView) (events : List Happening) (e : Happening) (out : List ℕ)
     (r : Result (Option Report) LinkFault) → EventsPlayed z b events out c.bench → WorldEventResult c (checked_event z c.bench e) c' r
     → BenchMatchesFlash c'.bench
@@ -41,7 +41,7 @@ next_event_is_played z b c c' events e out r p h active =
     subst (λ (text : List ℕ). EventsPlayed z b (events ++ e ∷ []) (out ++ text) c'.bench) (sym (outcome_line_is_answer_line c c' r h))
     (event_played_next e p h.comes active)
 
--- The playing of no events changes nothing, and prints nothing.
+-- Playing no events changes nothing, and prints nothing.
 pub no_event_is_played : (z : List ℕ) (b : LinkView) (x : Option Expectation) (h : Option (List ℕ)) → PlayIsDone z b x [] h b x h
 no_event_is_played z b x h = record {
   out = [];
@@ -49,7 +49,7 @@ no_event_is_played z b x h = record {
   prints = empty_text_is_printed x h;
 }
 
--- If events were played, the playing of all of them and the next event ends as the printing of its text does.
+-- If events were played, the result of playing them and the next event is the result of printing that event's text.
 next_event_ends_play : (done : Result Unit ScriptFault) (e : Happening) {check : List ℕ} {b c c' : LinkView} {events : List Happening}
     {answer : Result Answered LinkFault} {x y z : Option Expectation} {old mid new : Option (List ℕ)}
     → PlayIsDone check b x events old c y mid → EventResult c (checked_event check c e) c' answer
@@ -77,7 +77,8 @@ next_event_ends_play (Err f) e {c' = c'} {events = events} {answer = answer} {ol
       };
     }
 
--- If events were played, and one more comes, the playing of all of them ends as the printing of its text does.
+-- If events were played, and the text of the next event's result is printed, the result of playing all of them is the result of that
+-- printing.
 pub next_print_ends_play : (e : Happening) {check : List ℕ} {b : LinkView} {c c' : WorldView} {events : List Happening}
     (r : Result (Option Report) LinkFault) {x y z : Option Expectation} {old mid new : Option (List ℕ)} {done : Result Unit ScriptFault}
     → PlayIsDone check b x events old c.bench y mid → WorldEventResult c (checked_event check c.bench e) c' r → BenchMatchesFlash c'.bench
@@ -87,7 +88,7 @@ next_print_ends_play e {c = c} {c' = c'} r {y = y} {z = z} {mid = mid} {new = ne
     next_event_ends_play done e before come.comes active
     (subst (λ (text : List ℕ). PrintEnds y mid text z new done) (outcome_line_is_answer_line c c' r come) prints)
 
--- If events were played, and the next one prints nothing, the list with that event was played and nothing more is written.
+-- If events were played, and the next one prints nothing, all of these events were played, and nothing more is written.
 pub silent_event_is_played : (e : Happening) {check : List ℕ} {b : LinkView} {c c' : WorldView} {events : List Happening}
     (r : Result (Option Report) LinkFault) {x y : Option Expectation} {old new : Option (List ℕ)}
     → PlayIsDone check b x events old c.bench y new → WorldEventResult c (checked_event check c.bench e) c' r → BenchMatchesFlash c'.bench
@@ -104,7 +105,7 @@ offer_in_session_is_refused : (b : LinkView) (purpose : Purpose) (file : List �
     → EventResult b (Offers purpose file limits) b (Err HostBusy)
 offer_in_session_is_refused b purpose file limits live = refuses live
 
--- An offer while a session is live prints the line of its refusal, whatever its file.
+-- An offer of any file while a session is live prints the line of its refusal.
 pub offer_in_session_is_printed : (check : List ℕ) {b : LinkView} (purpose : Purpose) (file : List ℕ) (limits : Limits) {e e' : Option
     Expectation}
     {old new : Option (List ℕ)}
@@ -114,7 +115,7 @@ offer_in_session_is_printed check {b = b} purpose file limits {e = e} {old = old
     next_event_ends_play done (Offers purpose file limits) (no_event_is_played check b e old) (offer_in_session_is_refused b purpose
     file limits live) active prints
 
--- n equal events are k of them, one more, and the rest, if k is less than n.
+-- If k is less than n, a list of n equal events begins with k of them, followed by one more.
 replicate_splits_at_turn : {A : Type 0} (k n : ℕ) (x : A) → k < n → (left : List A) × (replicate n x ≡ (replicate k x ++ x ∷ []) ++ left)
 replicate_splits_at_turn k zero x h = absurd (omega (arith, h))
 replicate_splits_at_turn zero (suc n) x h = (replicate n x, refl)
@@ -122,7 +123,7 @@ replicate_splits_at_turn (suc k) (suc n) x h =
     let rest = replicate_splits_at_turn k n x (omega (arith, h)) in
     (rest.0, ap (λ (xs : List _). x ∷ xs) rest.1)
 
--- A stop at turn k of n equal events is a stop among all n of them.
+-- If a script stops in the event after k of n equal events, it stops among the n events.
 pub stop_at_turn_stops_all : (k n : ℕ) (e : Happening) {check : List ℕ} {b : LinkView} {x : Option Expectation} {old new : Option (List ℕ)}
     {f : ScriptFault} → k < n
     → StoppedAmongEvents check b x (replicate k e ++ e ∷ []) old new f → StoppedAmongEvents check b x (replicate n e) old new f
@@ -140,7 +141,7 @@ stop_at_turn_stops_all k n e lt stopped =
       fails = stopped.fails;
     }
 
--- A program's check changes no offer.
+-- A program's check does not change an offer.
 pub check_keeps_offer : (check : List ℕ) (b : LinkView) {event : Happening} {purpose : Purpose} {file : List ℕ} {limits : Limits}
     → event ≡ Offers purpose file limits → checked_event check b event ≡ event
 check_keeps_offer check b is = ap (λ (e : Happening). checked_event check b e) is ∙ sym is

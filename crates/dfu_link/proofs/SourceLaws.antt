@@ -13,9 +13,9 @@ use Rattle.dfu_link.specs.inside.Source.{source_state, LinesReadFrom, PieceRead,
 use Rattle.dfu_link.specs.declared.scripting.fault.ScriptFault.TheVariants.{BadLine}
 use Rattle.dfu_link.proofs.LineLaws.{no_newline_if_none_found, no_newline_before_first_one, joined_have_no_newline, newline_ends_first_line, text_without_newline_is_line, first_line_is_not_shorter, longer_prefix_has_newline}
 
--- Pieces of a line.
+-- Lemmas about the pieces of a line.
 
--- The bytes at hand after n of them were taken are those before without the first n.
+-- After n bytes were taken, the buffer holds its earlier bytes without the first n.
 pub advance_drops_bytes_at_hand : (xs : List ℕ) (a e n : ℕ) → n ≤ length (slice_range xs a e) → slice_range xs (a + n) e
     ≡ drop n (slice_range xs a e)
 advance_drops_bytes_at_hand xs a e n le =
@@ -23,14 +23,14 @@ advance_drops_bytes_at_hand xs a e n le =
     ap (take (e - (a + n))) (sym (drop-drop n a xs)) ∙ sym (drop-take n (e - (a + n)) (drop a xs))
     ∙ ap (λ k. drop n (take k (drop a xs))) whole
 
--- The bytes that are left after a piece was taken are those before without the bytes of the piece.
+-- After a piece was taken, the rest of the text begins after the bytes of the piece.
 pub advance_consumes_bytes : (given : Option (List ℕ)) (ready ready' : List ℕ) (n : ℕ) → ready' ≡ drop n ready
     → Consumes (prepend_known ready given) (prepend_known ready' given) (take n ready)
 advance_consumes_bytes None ready ready' n e = tt
 advance_consumes_bytes (Some r) ready ready' n e = ap (λ (xs : List ℕ). xs ++ r) (sym (take-append-drop n ready))
     ∙ (append_assoc (take n ready) (drop n ready) r ∙ ap (λ (xs : List ℕ). take n ready ++ (xs ++ r)) (sym e))
 
--- A piece with a newline ends the line.
+-- A piece with a line feed ends the line.
 pub piece_with_newline_ends_line : (left left' : Option (List ℕ)) (line line' ready window : List ℕ) (k n : ℕ) → window ≡ take k ready
     → position is_newline window ≡ Some n → Consumes left left' (take (n + 1) ready) → line' ≡ line ++ take n window
     → length line + k ≤ 65537 → PieceRead left line (n + 1) true left' line'
@@ -51,7 +51,7 @@ piece_with_newline_ends_line left left' line line' ready window k n w p taken lo
       taken = subst (λ (xs : List ℕ). Consumes left left' xs) same taken;
     }
 
--- A piece without a newline continues the line.
+-- A piece without a line feed continues the line.
 pub plain_piece_continues_line : (left left' : Option (List ℕ)) (line line' ready window : List ℕ) (k : ℕ) → window ≡ take k ready
     → position is_newline window ≡ None → Consumes left left' (take (length window) ready) → line' ≡ line ++ window
     → length line + k ≤ 65537 → 0 < k → 0 < length ready → PieceRead left line (length window) false left' line'
@@ -68,9 +68,9 @@ plain_piece_continues_line left left' line line' ready window k w p taken longer
       taken = subst (λ (xs : List ℕ). Consumes left left' xs) same taken;
     }
 
--- The part of a line that was read so far.
+-- Lemmas about the part of a line that was read so far.
 
--- These bytes of a line were read so far: they have no newline, so the line continues.
+-- The source has read the bytes `line` of a line so far. They have no line feed, so the line continues.
 pub record LineReadSoFar (left : Option (List ℕ)) (room : ℕ) (left' : Option (List ℕ)) (room' : ℕ) (line : List ℕ) : Type 0 where
   pub given : Consumes left left' line
   pub rooms : room ≡ length line + room'
@@ -88,7 +88,7 @@ refill_keeps_line_so_far {left = left} {left1 = left1} {left2 = left2} {line = l
   short = r.short;
 }
 
--- A piece without a newline continues the part of the line that was read so far.
+-- A piece without a line feed continues the part of the line that was read so far.
 pub piece_extends_line : {left left1 left2 : Option (List ℕ)} {room room1 : ℕ} {line line' : List ℕ} {bytes : ℕ}
     → LineReadSoFar left room left1 room1 line → PieceRead left1 line bytes false left2 line' → bytes ≤ room1 → length line' ≤ 65536
     → LineReadSoFar left room left2 (room1 - bytes) line'
@@ -100,7 +100,7 @@ piece_extends_line {left = left} {left1 = left1} {left2 = left2} {line = line} r
   short = short;
 }
 
--- A newline ends a line.
+-- Lemmas about the line feed that ends a line.
 
 line_ends_at_newline : (a b : Option (List ℕ)) (room room' : ℕ) (line : List ℕ) → has_no_newline line ≡ true → room
     ≡ length line + 1 + room'
@@ -119,7 +119,7 @@ line_ends_at_newline (Some a) (Some b) room room' line none rooms h =
       λ over. grind (arith, over.no_end ∙ refl, ap (λ (xs : List ℕ). has_no_newline (take room xs)) whole, within),
     )
 
--- A line is given once its newline was read.
+-- A line is complete once its line feed was read.
 pub newline_gives_line : {left left1 left2 : Option (List ℕ)} {room room1 : ℕ} (n : ℕ) (x : List ℕ) {line line' : List ℕ} {bytes : ℕ}
     → LineReadSoFar left room left1 room1 line → PieceRead left1 line bytes true left2 line' → bytes ≤ room1
     → SourceLine (source_state left room n x) (source_state left2 (room1 - bytes) (n + 1) line')
@@ -139,7 +139,7 @@ newline_gives_line {left = left} {left1 = left1} {left2 = left2} {room = room} {
       less = omega (arith, r.rooms, le, t.some);
     }
 
--- The last line of a text is read up to the end of the text.
+-- At the end of the text the bytes since the last line feed are a line, if there are any.
 line_ends_with_text : (a b : Option (List ℕ)) (room room' : ℕ) (line : List ℕ) → has_no_newline line ≡ true → 0 < length line
     → room ≡ length line + room' → Consumes a b line → IsAtEnd b
     → LinesReadFrom a room (line ∷ []) b room' × IfSome a (λ left. ¬ ExceedsLimit room left)
@@ -156,18 +156,18 @@ line_ends_with_text (Some a) (Some b) room room' line none some rooms h e =
       λ over. absurd (omega (arith, over.over, rooms, ap length whole)),
     )
 
--- If nothing was taken of a text and it is at its end, it was at its end before.
+-- If a text is at its end and no bytes were taken from it, it was at its end before.
 no_bytes_keep_end : (a b : Option (List ℕ)) → Consumes a b [] → IsAtEnd b → IsAtEnd a
 no_bytes_keep_end None b h e = tt
 no_bytes_keep_end (Some a) None h e = absurd h
 no_bytes_keep_end (Some a) (Some b) h e = h ∙ e
 
--- A list of no length is empty.
+-- A list of length 0 is empty.
 pub zero_length_is_empty : (xs : List ℕ) → (length xs == 0) ≡ true → xs ≡ []
 zero_length_is_empty [] h = refl
 zero_length_is_empty (b ∷ bs) h = absurd (grind (arith, h))
 
--- At the end of the text the bytes read so far are the last line, unless they are none.
+-- At the end of the text the bytes that were read so far are the last line. If there are none, no line remains.
 pub end_gives_last_line : (left left' : Option (List ℕ)) (room room' n : ℕ) (x line : List ℕ) →
     LineReadSoFar left room left' room' line → IsAtEnd left'
     → (some : Bool) → some ≡ not (length line == 0) → NextLineOrEnd (source_state left room n x) some (source_state left' room' (n + 1)
@@ -183,7 +183,7 @@ end_gives_last_line left left' room room' n x (b ∷ bs) r e true h =
       less = omega (arith, r.rooms);
     }
 
--- A line of over 65,536 bytes is not of the language.
+-- Lemmas about lines of over 65,536 bytes, which are not of the language.
 
 too_long_line_is_no_line : (given : Option (List ℕ)) (line : List ℕ) → 65536 < length line → line_of given line ≡ None
 unfolding line_of read_line
@@ -204,7 +204,7 @@ too_long_line_stops_reading g (Some a) (Some b) room n line h size none le =
           (refl, too_long_line_is_no_line g long.0 (omega (arith, size, long.3))),
     )
 
--- A source gives no line, if the line has over 65,536 bytes.
+-- A source stops at a line of over 65,536 bytes.
 pub source_stops_at_too_long_line : {left left1 left2 : Option (List ℕ)} {room room1 : ℕ} (n : ℕ) (x : List ℕ) {line line' : List ℕ} {bytes
     : ℕ}
     → LineReadSoFar left room left1 room1 line → PieceRead left1 line bytes false left2 line' → bytes ≤ room1 → 65536 < length line'

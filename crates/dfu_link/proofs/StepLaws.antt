@@ -1,4 +1,4 @@
--- Lines that are done, by their meaning.
+-- Lemmas about lines that run, by their meaning.
 use Rattle.std.proofs.Common.{◌≡◌, ℕ, List, [], Option, Some, None, sym, subst}
 use Rattle.std.specs.Prelude.{Result, Ok, Err}
 use Rattle.std.proofs.KnownBytes.{Appends-nil}
@@ -27,7 +27,7 @@ blank_line_is_done {old = old} e = record {
   told = Appends-nil old;
 }
 
--- A line of limits sets the limits of later sessions.
+-- A `limits` line sets the limits of later sessions.
 pub limits_line_is_done : {k : ℕ} {p : ScriptPoint} {line : List ℕ} {old : Option (List ℕ)} {a r : ℕ} → line_of p.given line
     ≡ Some (SetsLimits a r)
     → LineDone k p line old (record p { limits = record { actions = a; restarts = r } }) old
@@ -39,13 +39,13 @@ limits_line_is_done {old = old} {a = a} {r = r} e = record {
   told = Appends-nil old;
 }
 
--- A line is done once its acts were carried out.
+-- If the meaning of a line was carried out, the line ran.
 pub acting_line_is_done : {k : ℕ} {p p' : ScriptPoint} {line : List ℕ} {old new : Option (List ℕ)} {said : LineContent}
     → line_of p.given line ≡ Some said
     → LineCarriedOut p said old p' new → LineDone k p line old p' new
 acting_line_is_done {k = k} {said = said} e a = record { said = said; is = e; out = a.out; acts = a.acts k; told = a.told }
 
--- The events of a line carry the line out.
+-- The result of playing the events of an event line is the result of its meaning.
 events_carry_out_line : (r : Result Unit ScriptFault) {g : Option (List ℕ)} {check : List ℕ} {l : Limits} {x x' : Option Expectation} {b b'
     : LinkView}
     {old new : Option (List ℕ)} (d : EventLine) → PlayEnds check b x (events_of_line l d) old b' x' new r
@@ -63,7 +63,7 @@ events_carry_out_line (Ok done) {g = g} {check = check} {l = l} {x = x} {b = b} 
 events_carry_out_line (Err f) {g = g} {check = check} {l = l} {x = x} {b = b} d p =
     record { ok = tt; fault = λ k line e. stopped_line_fails (point_of_parts g check l x b) k line f (in_events e p.fault) }
 
--- An event line is carried out by playing its events.
+-- If the line's meaning is that of an event line, the result of playing its events is the result of its meaning.
 pub event_line_is_done : {r : Result Unit ScriptFault} {g : Option (List ℕ)} {check : List ℕ} {l : Limits} {x x' : Option Expectation}
     {b b' : LinkView}
     {old new : Option (List ℕ)} {said : LineContent} {events : List Happening} (d : EventLine) → said ≡ Does d → events ≡ events_of_line l d
@@ -74,7 +74,7 @@ event_line_is_done {r = r} {g = g} {check = check} {l = l} {x = x} {x' = x'} {b 
     subst (λ (y : LineContent). LineOutcome (point_of_parts g check l x b) y old (point_of_parts g check l x' b') new r) (sym is)
     (events_carry_out_line r d (subst (λ (es : List Happening). PlayEnds check b x es old b' x' new r) same events_played_before))
 
--- A `show` line is done once the line of the device was printed.
+-- If the line of `show` was printed as expected, the `show` line ran.
 pub show_line_is_done : {k : ℕ} {g : Option (List ℕ)} {check : List ℕ} {l : Limits} {x x' : Option Expectation} {b : LinkView} {line : List
     ℕ}
     {old new : Option (List ℕ)} → line_of g line ≡ Some Show → TextPrinted x old (show_line b.device) x' new
@@ -89,7 +89,7 @@ show_line_is_done {k = k} {g = g} {check = check} {l = l} {x = x} {b = b} e prin
   told = prints.told;
 }
 
--- An `expect` line is done once its text is expected, if no text was expected before.
+-- If no line is expected, an `expect` line runs, and the next printed line must be its text.
 pub expect_line_is_done : {k : ℕ} {g : Option (List ℕ)} {check : List ℕ} {l : Limits} {x x' : Option Expectation} {b : LinkView}
     {line text : List ℕ}
     {old : Option (List ℕ)} → line_of g line ≡ Some (ExpectsText text) → x ≡ None → x' ≡ Some (record { number = k; text = text })

@@ -1,4 +1,4 @@
--- Whole scripts, put together from their parts.
+-- Results of whole scripts, from the results of their parts.
 use Rattle.std.proofs.Common.{◌≡◌, ℕ, ◌+◌, ◌++◌, List, [], length, Option, Some, None, refl, sym, ap, ◌∙◌, subst, arith}
 use Rattle.std.proofs.lemmas.List.{append-nil}
 use Rattle.std.specs.Prelude.{Bool, Result, Ok, Err, IfSome, OnOk, IfErr}
@@ -16,13 +16,13 @@ use Rattle.dfu_link.specs.declared.scripting.fault.ScriptFault.{ScriptFault}
 use Rattle.dfu_link.specs.declared.scripting.fault.ScriptFault.TheVariants.{BadLine, LateConfig, BadConfig, Expected, NonePrinted, TooLarge, NoMemory, Read, Write}
 use Rattle.dfu_link.proofs.GivenLaws.{value_has_property, source_reads_named_text, lines_read_join, reading_stops_after}
 
--- A source that has taken nothing of the text.
+-- The source is fresh: it is at the beginning of the text, no byte was taken, and no line was counted.
 record IsFresh (text : List ℕ) (s : SourceState) : Type 0 where
   pub left : s.left ≡ Some text
   pub room : s.room ≡ 16777216
   pub number : s.number ≡ 0
 
--- A property that each unread text has is a property of the text that a reader names, if it names one.
+-- If a property holds for every text of a fresh source, it holds for the reader's text, if that is known.
 whole_text_has_property : (given : Option (List ℕ)) (s : SourceState) (P : List ℕ → Type 0)
     → (s.left ≡ prepend_known [] given) × (s.room ≡ 16777216) × (s.number ≡ 0) → ((text : List ℕ) → IsFresh text s → P text)
     → IfSome given P
@@ -32,14 +32,14 @@ whole_text_has_property given s P (left, room, number) holds = each_value_gives_
   number = number;
 }))
 
--- A source that has taken nothing of its text yet gives lines that are read from the front of the text.
+-- If a source is fresh, the lines that it reads are the first lines of its text.
 fresh_source_reads_front : {text : List ℕ} {s s' : SourceState} {xs : List (List ℕ)} → IsFresh text s → SourceLines s xs s'
     → (left : List ℕ) × (s'.left ≡ Some left) × LinesRead text 16777216 xs left s'.room
 fresh_source_reads_front {text = text} {s = s} {s' = s'} {xs = xs} fresh gives =
     let t = source_reads_named_text s s' xs gives fresh.left in
     (t.0, t.1, subst (λ (room : ℕ). LinesRead text room xs t.0 s'.room) fresh.room t.2)
 
--- If a setting line fails, or reading stops there, the script fails with that fault.
+-- If a configuration line fails, or can't be read, the script fails with the fault of that line.
 setting_fault_ends_script : {g : Option (List ℕ)} {text : List ℕ} {s : SourceState} {x : Settings} (old : Option (List ℕ)) (f : ScriptFault)
     → IsFresh text s
     → x ≡ initial_settings g → SettingLineFails x s f → ScriptFails g text old old f
@@ -59,7 +59,7 @@ setting_fault_ends_script {text = text} old f fresh e stops =
       stops = reading_stops_after f t.2 here.0;
     }) refl
 
--- If the settings of a script cannot be completed, it fails with that fault.
+-- If the settings of a script can't be completed, the script fails with the fault of its configuration lines.
 configure_fault_ends_script : {g : Option (List ℕ)} {text : List ℕ} {s : SourceState} {x : Settings} (old : Option (List ℕ)) (f :
     ScriptFault)
     → IsFresh text s
@@ -74,7 +74,7 @@ configure_fault_ends_script old Write fresh e falls = setting_fault_ends_script 
 configure_fault_ends_script old (Expected n) fresh e falls = setting_fault_ends_script old (Expected n) fresh e falls
 configure_fault_ends_script old (NonePrinted n) fresh e falls = setting_fault_ends_script old (NonePrinted n) fresh e falls
 
--- If the reader names a text, and its settings cannot be completed, the script fails with that fault.
+-- If the reader's text is known, and its settings can't be completed, the script fails with the fault of its configuration lines.
 pub configure_fault_fails_script : {g : Option (List ℕ)} (given old : Option (List ℕ)) (f : ScriptFault) {x : Settings} (s : SourceState)
     → (s.left ≡ prepend_known [] given) × (s.room ≡ 16777216) × (s.number ≡ 0) → x ≡ initial_settings g → IsConfigureFault x s f
     → IfSome given (λ text. ScriptFails g text old old f)
@@ -95,7 +95,7 @@ lines_before_start_set_up_device {y = y} fresh e c =
       ready = value_has_property c.at.left (λ left. DeviceMustStart y (lines_of left)) t.0 t.1 c.ready;
     }
 
--- If the device that was set up does not start, the script fails with that fault.
+-- If the configured device does not start, the script fails with the fault of the start.
 start_fault_ends_script : {g : Option (List ℕ)} {text : List ℕ} {s s' : SourceState} {x y : Settings} {more : Bool}
     (old : Option (List ℕ)) (f : ScriptFault)
     → IsFresh text s → x ≡ initial_settings g → LinesConfigured x s y more s' → StartFails y f → ScriptFails g text old old f
@@ -107,7 +107,7 @@ start_fault_ends_script old BadConfig fresh e c falls =
     refl
 start_fault_ends_script old f fresh e c falls = absurd falls
 
--- If the reader names a text, and the device that it sets up does not start, the script fails with that fault.
+-- If the reader's text is known, and the device that it configures does not start, the script fails with the fault of the start.
 pub start_fault_fails_script : {g : Option (List ℕ)} (given old : Option (List ℕ)) (f : ScriptFault) {s s' : SourceState} {x y : Settings}
     {more : Bool}
     → (s.left ≡ prepend_known [] given) × (s.room ≡ 16777216) × (s.number ≡ 0) → x ≡ initial_settings g → LinesConfigured x s y more s'
@@ -116,12 +116,12 @@ start_fault_fails_script {g = g} given old f {s = s} first e c falls =
     whole_text_has_property given s (λ text. ScriptFails g text old old f) first (λ text fresh. start_fault_ends_script old f fresh e c
     falls)
 
--- At the end of a text, the rest is empty, if the reader names it.
+-- At the end of a text the rest is empty, if it is known.
 rest_is_empty_at_end : (a : Option (List ℕ)) → IsAtEnd a → IfSome a (λ left. left ≡ [])
 rest_is_empty_at_end None h = tt
 rest_is_empty_at_end (Some left) h = h
 
--- The lines that were done are all lines of the text after its setting lines.
+-- If the source is exhausted, the lines that ran are all lines of the text after its configuration lines.
 done_lines_are_all_left : {text : List ℕ} {s s' : SourceState} {x y : Settings} {more : Bool} {old new : Option (List ℕ)} {p : ScriptPoint}
     → (fresh : IsFresh text s) → (c : LinesConfigured x s y more s') → (ends : SourceExhausted p c.at old new)
     → ends.done ≡ lines_of (fresh_source_reads_front fresh c.prepared.gives).0
@@ -131,7 +131,7 @@ done_lines_are_all_left fresh c ends =
     let empty : u.0 ≡ [] = value_has_property ends.last.left (λ left. left ≡ []) u.0 u.1 (rest_is_empty_at_end ends.last.left ends.ended) in
     sym (u.2.are ∙ (ap (λ (zs : List ℕ). ends.done ++ lines_of zs) empty ∙ append-nil ends.done))
 
--- A script whose source is exhausted ran whole.
+-- If the source is exhausted, all lines of the script ran.
 exhausted_source_ends_script : {g : Option (List ℕ)} {text : List ℕ} {s s' : SourceState} {x y : Settings} {more : Bool} {old new : Option
     (List ℕ)}
     (d : DeviceView)
@@ -167,7 +167,7 @@ exhausted_source_ends_script {text = text} {y = y} d fresh e c starts ends =
       told = ends.told;
     }
 
--- If a line after the start fails, the script fails with that fault.
+-- If a line after the start of the device fails, the script fails with the fault of that line.
 failed_line_ends_script : {g : Option (List ℕ)} {text : List ℕ} {s s' : SourceState} {x y : Settings} {more : Bool} {old new : Option (List
     ℕ)}
     (d : DeviceView)
@@ -195,7 +195,7 @@ failed_line_ends_script {y = y} {new = new} d f fresh e c starts falls =
     } in
     run_fails (lines_before_start_set_up_device fresh e c) starts runs (reading_stops_after f (lines_read_join t.2 u.2) here.0)
 
--- A script whose device starts ends as the lines after that do: all of them are done, or one fails.
+-- Once the device has started, the script succeeds if all lines after the start run, and fails if one of them fails.
 pub script_ends_after_start : (r : Result Unit ScriptFault) {g : Option (List ℕ)} (given old new : Option (List ℕ)) (d : DeviceView) {s s'
     : SourceState}
     {x y : Settings} {more : Bool} → (s.left ≡ prepend_known [] given) × (s.room ≡ 16777216) × (s.number ≡ 0) → x ≡ initial_settings g

@@ -4,7 +4,7 @@ use Rattle.std.specs.Io.KnownBytes.{Appends}
 use Rattle.dfu_link.specs.declared.scripting.fault.ScriptFault.{ScriptFault}
 use Rattle.dfu_link.specs.declared.scripting.fault.ScriptFault.TheVariants.{Expected, NoMemory, Write}
 
--- The number of the `expect` line, and the line that it expects, without its 0Ah.
+-- Number of an `expect` line, and the line that it expects, without its line feed.
 pub record Expectation : Type 0 where
   pub number : ℕ
   pub text : List ℕ
@@ -20,12 +20,12 @@ MeetsExpectation None text = Unit {0}
 MeetsExpectation (Some e) [] = Unit {0}
 MeetsExpectation (Some e) (byte ∷ bytes) = HasExpectedFront e (byte ∷ bytes)
 
--- Expectation after a text was printed: unchanged if the text is empty, else none.
+-- Expectation after a text was printed: unchanged if the text is empty, else None.
 abbrev pub expectation_left : Option Expectation → (text : List ℕ) → Option Expectation
 expectation_left e [] = e
 expectation_left e (byte ∷ bytes) = None
 
--- The text is not the expected line, and all of it but its last byte was written.
+-- The text differs from the expected line, and all of it but its last byte was written.
 pub record IsUnexpected (e : Expectation) (text : List ℕ) (old new : Option (List ℕ)) : Type 0 where
   pub front : List ℕ
   pub last : ℕ
@@ -33,8 +33,8 @@ pub record IsUnexpected (e : Expectation) (text : List ℕ) (old new : Option (L
   pub other : text ≢ e.text ++ 10 ∷ []
   pub told : Appends old new front
 
--- The fault is a reason for which a text was not written whole: the writer failed; or a line is expected, and it differs from the text, or
--- there was no memory to compare them.
+-- Fault of a text that was not written completely: the writer failed; or a line is expected, and the text differs from it, or there was no
+-- memory to compare them.
 abbrev pub IsPrintFault : Option Expectation → (text : List ℕ) → (old new : Option (List ℕ)) → ScriptFault → Type 0
 IsPrintFault e text old new Write = Unit {0}
 IsPrintFault (Some e) text old new NoMemory = Unit {0}

@@ -1,4 +1,4 @@
--- Scripts that end with a fault, and the text that was written by then.
+-- Scripts that end with a fault, and the text that was written before it.
 use Rattle.std.specs.Prelude.{◌≡◌, ◌≢◌, ◌⊎◌, ℕ, ◌+◌, ◌%◌, ◌<◌, List, [], ◌∷◌, ◌++◌, length, Option, Some, None, Result, Ok, Err}
 use Rattle.std.specs.Io.KnownBytes.{Appends}
 use Rattle.dfu_slots.specs.Units.{IsMultiple}
@@ -19,8 +19,8 @@ use Rattle.dfu_link.specs.ScriptRun.{Settings, initial_settings, SettingsPrepare
 use Rattle.dfu_link.specs.declared.scripting.fault.ScriptFault.{ScriptFault}
 use Rattle.dfu_link.specs.declared.scripting.fault.ScriptFault.TheVariants.{BadLine, LateConfig, BadConfig, Expected, NonePrinted, TooLarge, NoMemory, Read, Write}
 
--- A script stopped among events: the first of them were played, and a prefix of their text was written, but not all of it. The device's
--- program takes only images that begin with `check`, and the line of `next` is expected.
+-- A script stopped among the events of a line: the first ones were played, and a prefix of their text was written, but not all of it. The
+-- device's program accepts only images that begin with `check`, and `next` is the expected line.
 pub record StoppedAmongEvents (check : List ℕ) (b : LinkView) (next : Option Expectation) (events : List Happening)
     (old new : Option (List ℕ))
     (fault : ScriptFault)
@@ -34,7 +34,7 @@ pub record StoppedAmongEvents (check : List ℕ) (b : LinkView) (next : Option E
   pub broken_text_in_part : IsPartlyWritten old new out
   pub fails : IsPrintFault next out old new fault
 
--- A script stops while a line prints: among the line's events, in the text of `go until report`, or in the line of `show`.
+-- A script stops while it writes the text of a line: that of the line's events, of `go until report`, or of `show`.
 pub data PrintingStops (p : ScriptPoint) (line : List ℕ) (old new : Option (List ℕ)) (fault : ScriptFault) : Type 0 where
   in_events : {events : EventLine} → line_of p.given line ≡ Some (Does events)
       → StoppedAmongEvents p.check p.at p.next (events_of_line p.limits events) old new fault
@@ -46,7 +46,7 @@ pub data PrintingStops (p : ScriptPoint) (line : List ℕ) (old new : Option (Li
       → IsPrintFault p.next (show_line p.at.device) old new fault
       → PrintingStops p line old new fault
 
--- The line sets something about the device.
+-- The line sets a value of the device's configuration.
 pub record IsSettingLine (given : Option (List ℕ)) (line : List ℕ) : Type 0 where
   pub setting : ConfigLine
   pub says : line_of given line ≡ Some (SetsConfig setting)
@@ -69,15 +69,15 @@ pub data LineNeedsMemory (p : ScriptPoint) (line : List ℕ) : Type 0 where
   needs_tear_memory : {events : EventLine} → line_of p.given line ≡ Some (Does events) → HasTear events → LineNeedsMemory p line
   needs_text_memory : IsExpectLine p.given line → LineNeedsMemory p line
 
--- The line expects a text while line n of the script still expects one.
+-- The line expects a text, but the text that line n of the script expects was not printed yet.
 pub record IsSecondExpectation (p : ScriptPoint) (line : List ℕ) (n : ℕ) : Type 0 where
   pub first : Expectation
   pub is : p.next ≡ Some first
   pub number : n ≡ first.number
   pub second : IsExpectLine p.given line
 
--- Line k fails with `fault` after the device has started. It is not of the language, it sets something about the device, it lacks memory,
--- or it expects a text before the last expected one was printed, and nothing is written; or the printing of its text stops.
+-- Line k fails with `fault` after the device has started. Nothing is written if the line is not of the language, configures the device,
+-- lacks memory, or expects a text before an earlier expected one was printed. Otherwise the printing of its text stops.
 abbrev pub LineFails : ScriptPoint → ℕ → List ℕ → Option (List ℕ) → Option (List ℕ) → ScriptFault → Type 0
 LineFails p k line old new (BadLine n) = (n ≡ k) × (line_of p.given line ≡ None) × (new ≡ old)
 LineFails p k line old new (LateConfig n) = (n ≡ k) × IsSettingLine p.given line × (new ≡ old)
@@ -87,8 +87,8 @@ LineFails p k line old new (Expected n) = PrintingStops p line old new (Expected
 LineFails p k line old new (NonePrinted n) = IsSecondExpectation p line n × (new ≡ old)
 LineFails p k line old new fault = ⊥
 
--- The script fails with `lines` left, the first of them line k. The text exceeds its limit, or the reader fails, and nothing more is
--- written; or the first line fails; or no line is left, and the printing of the line of the image fails.
+-- The script fails at line k, the first of the remaining `lines`. Nothing more is written if the text exceeds its limit or the reader
+-- fails. Otherwise line k fails; or no line remains, and the printing of the image line fails.
 abbrev pub NextLineFails : ScriptPoint → ℕ → List (List ℕ) → Option (List ℕ) → Option (List ℕ) → ScriptFault → Type 0
 NextLineFails p k lines old new TooLarge = new ≡ old
 NextLineFails p k lines old new Read = new ≡ old
@@ -108,7 +108,7 @@ pub record LinesFail (p : ScriptPoint) (k : ℕ) (lines : List (List ℕ)) (old 
   pub told : Appends old mid shown
   pub falls : NextLineFails end (k + length done) rest mid new fault
 
--- The setting lines fail: the first of them prepare settings, and after them no line of the language is read.
+-- A script fails before its device starts: its first lines set their values, and the next line can't be read or is not of the language.
 pub record SettingFails (given : Option (List ℕ)) (text : List ℕ) (fault : ScriptFault) : Type 0 where
   pub done : List (List ℕ)
   pub rest : List (List ℕ)
@@ -118,22 +118,22 @@ pub record SettingFails (given : Option (List ℕ)) (text : List ℕ) (fault : S
   pub falls : NoLineRead settings.given (1 + length done) rest fault
   pub stops : ReadingStopsAfter text done fault
 
--- No device can be set up with these settings: the setting has a fault, the capacity is no multiple of the unit or of the sector, or it is
--- less than the image.
+-- No device can be configured with these settings: the setting has a fault, the capacity is not a multiple of the unit or of the sector, or
+-- the image is longer than the capacity.
 pub data NoDeviceStarts (s : Settings) : Type 0 where
   refused : (fault : ConfigFault) → IsFirstFault fault s.device → NoDeviceStarts s
   room_not_whole : ¬ IsMultiple s.grain.unit s.capacity → NoDeviceStarts s
   cuts_sector : 0 < s.grain.sector → s.capacity % s.grain.sector ≢ 0 → NoDeviceStarts s
   too_large : s.capacity < length s.image → NoDeviceStarts s
 
--- The fault is a reason for which a device does not start: BadConfig if none can be set up, NoMemory if there is no memory.
+-- Fault of a device that does not start: BadConfig if no device can be configured, NoMemory if there is no memory.
 abbrev pub StartFails : Settings → ScriptFault → Type 0
 StartFails s BadConfig = NoDeviceStarts s
 StartFails s NoMemory = Unit {0}
 StartFails s fault = ⊥
 
--- A script fails. There is no memory for a line, the image or the device, a setting line fails, or no device can be set up, and nothing is
--- written; or the device starts, and the script fails at a line after that or at its end.
+-- A script fails. Nothing is written if there is no memory for a line, the image or the device, a configuration line fails, or no device
+-- can be configured. Otherwise the device starts, and the script fails at a later line or at its end.
 pub data ScriptFails (given : Option (List ℕ)) (text : List ℕ) (old new : Option (List ℕ)) : ScriptFault → Type 0 where
   no_memory : new ≡ old → ScriptFails given text old new NoMemory
   fails_in_setting : {fault : ScriptFault} → SettingFails given text fault → new ≡ old → ScriptFails given text old new fault
@@ -147,7 +147,7 @@ pub data ScriptFails (given : Option (List ℕ)) (text : List ℕ) (old new : Op
       (1 + length lines_before_start_set_up_device.before) after old new fault)
       → ReadingStopsAfter text (lines_before_start_set_up_device.before ++ falls.done) fault → ScriptFails given text old new fault
 
--- Ending of a script: with Ok all of it ran, and with a fault it failed with that fault.
+-- Ending of a script: with Ok the whole script ran, and with a fault the script failed with that fault.
 abbrev pub ScriptEnding : (given : Option (List ℕ)) → (text : List ℕ) → (old new : Option (List ℕ)) → Result Unit ScriptFault → Type 0
 ScriptEnding given text old new (Ok done) = RunIsOut given text old new
 ScriptEnding given text old new (Err fault) = ScriptFails given text old new fault

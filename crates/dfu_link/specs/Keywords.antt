@@ -1,4 +1,4 @@
--- The first words of lines, and the words of fates.
+-- First words of lines, and the words of fates.
 use Rattle.std.specs.Prelude.{ℕ, List, Option, Some, None, codes, if◌then◌else◌}
 use Rattle.std.specs.Str.{bytes_eq}
 use Rattle.dfu_link.specs.declared.scripting.words.Keyword.{Keyword}
@@ -6,8 +6,7 @@ use Rattle.dfu_link.specs.declared.scripting.words.Keyword.TheVariants as key
 use Rattle.dfu_link.specs.declared.scripting.words.FateKeyword.{FateKeyword}
 use Rattle.dfu_link.specs.declared.scripting.words.FateKeyword.TheVariants as fate
 
--- The keyword that the first word of a line is, if it is one from `limits` on; None for `ids`, `device`, `unit`, `erase`, `pace`,
--- `capacity` and `image`, and for a word that is no keyword.
+-- Keyword of a line's first word, if it is one of `limits` to `refuse`; None for any other word.
 unfoldable pub later_keyword_of : List ℕ → Option Keyword
 later_keyword_of w =
     if bytes_eq w (codes "limits") then Some key.Limits
@@ -25,7 +24,7 @@ later_keyword_of w =
     else if bytes_eq w (codes "refuse") then Some key.Refuse
     else None
 
--- The keyword that the first word of a line is; None if it is no keyword.
+-- Keyword of a line's first word; None if it is not a keyword.
 unfoldable pub keyword_of : List ℕ → Option Keyword
 keyword_of w =
     if bytes_eq w (codes "ids") then Some key.Ids
@@ -37,7 +36,7 @@ keyword_of w =
     else if bytes_eq w (codes "image") then Some key.Image
     else later_keyword_of w
 
--- The keyword that the word after `go` is, the name of a fate or `until`; None if it is neither.
+-- Keyword of the word after `go`, a fate or `until`; None if it is neither.
 unfoldable pub fate_keyword_of : List ℕ → Option FateKeyword
 fate_keyword_of w =
     if bytes_eq w (codes "pass") then Some fate.Pass

@@ -20,23 +20,23 @@ use Rattle.dfu_link.specs.declared.scripting.line.Offered.TheVariants as offered
 use Rattle.dfu_link.specs.declared.scripting.line.EventLine as event_lines
 use Rattle.dfu_link.specs.declared.scripting.line.EventLine.TheVariants as events
 
--- The bytes that a hexadecimal text spells.
+-- Bytes of a hexadecimal text.
 abbrev pub hex_bytes : HexText → List ℕ
 hex_bytes text = unwrap_or (hex_word_bytes text.text.now) []
 
--- The bytes that are given to a script as FILE, if any are.
+-- Bytes that are given to a script as FILE, if there are any.
 abbrev pub given_bytes : Option (Bor (List ℕ)) → Option (List ℕ)
 given_bytes None = None
 given_bytes (Some bytes) = Some bytes.now
 
--- The bytes of a file that a line offers.
+-- Bytes of a file that a line offers.
 abbrev pub offered_bytes : offereds.Offered → List ℕ
 offered_bytes (offered.Spelled text) = hex_bytes text
 offered_bytes (offered.Given bytes) = bytes.now
 
 -- Setting of a configuration line: the device's identifiers, its descriptor, the unit or the sectors of its medium, the milliseconds of an
--- erase and of a program of 256 bytes, the most bytes of an image, the image at first, or the first bytes of each image that the program
--- takes.
+-- erase and of a program of 256 bytes, the largest number of bytes of an image, the image at the start, or the first bytes of each image
+-- that the program accepts.
 pub data ConfigLine : Type 0 where
   SetsDeviceIds : Ids → ConfigLine
   SetsDevice : Functional → (least busy manifest : ℕ) → ConfigLine
@@ -47,9 +47,9 @@ pub data ConfigLine : Type 0 where
   SetsImage : List ℕ → ConfigLine
   SetsCheck : List ℕ → ConfigLine
 
--- The events of a line. A file is offered, to be installed or to be verified too; an upload begins; the session is given up; or the host
--- takes a number of actions of one fate, each with the same harm. Or time passes, the bus is reset, the power is cut, or the device's
--- program refuses the closed image.
+-- Events of a line. A file is offered, to be installed, or installed and verified; an upload begins; the session is aborted; or the host
+-- performs a number of actions of one fate, each with the same harm. Or time passes, the bus is reset, the power is cut, or the device's
+-- program refuses the image of the closed download.
 pub data EventLine : Type 0 where
   Offer : Purpose → (file : List ℕ) → EventLine
   Upload : EventLine
@@ -60,15 +60,15 @@ pub data EventLine : Type 0 where
   Cut : EventLine
   Refuse : (why : Objection) → EventLine
 
--- The event line harms a write, and so has a tear.
+-- The event line harms a write, so it has a tear.
 abbrev pub HasTear : EventLine → Type 0
 HasTear (Go CutInWrite h times) = Unit {0}
 HasTear (Go Fail h times) = Unit {0}
 HasTear (Go Lie h times) = Unit {0}
 HasTear d = ⊥
 
--- Meaning of a line: none, a setting, the limits of later sessions, events, passes until one prints a line, a view of the device, or the
--- line that must be printed next.
+-- Meaning of a line: none, a setting, the limits of later sessions, events, passes until one prints a line, the line of `show`, or the line
+-- that must be printed next.
 pub data LineContent : Type 0 where
   Blank : LineContent
   SetsConfig : ConfigLine → LineContent
@@ -78,7 +78,7 @@ pub data LineContent : Type 0 where
   Show : LineContent
   ExpectsText : (text : List ℕ) → LineContent
 
--- Setting of a configuration line as the code has it.
+-- Setting of a configuration line that the code has parsed.
 abbrev pub config_line_of : config_lines.ConfigLine → ConfigLine
 config_line_of (config.Ids ids) = SetsDeviceIds ids
 config_line_of (config.Device functional least busy manifest) = SetsDevice functional least busy manifest
@@ -89,18 +89,17 @@ config_line_of (config.Capacity room) = SetsCapacity room.bytes
 config_line_of (config.Image text) = SetsImage (hex_bytes text)
 config_line_of (config.Check text) = SetsCheck (hex_bytes text)
 
--- The fate of an action in which a write is harmed, by the kind of the harm.
+-- Fate of an action in which a write is harmed, by the kind of the harm.
 abbrev pub harm_fate : kinds.HarmKind → Fate
 harm_fate kind.Cut = CutInWrite
 harm_fate kind.Fail = Fail
 harm_fate kind.Lie = Lie
 
--- Meaning of a line that harms a write of one action: `writes` writes work, and the next one is harmed, and leaves the first bytes of the
--- tear.
+-- Meaning of a line that harms a write of one action: `writes` writes succeed, and the next one is torn with the first bytes of the tear.
 abbrev pub harmed_line : kinds.HarmKind → (writes : ℕ) → HexText → LineContent
 harmed_line h writes text = Does (Go (harm_fate h) (harmed writes (hex_bytes text)) 1)
 
--- Meaning of an event line as the code has it.
+-- Meaning of an event line that the code has parsed.
 abbrev pub content_of_event : event_lines.EventLine → LineContent
 content_of_event (events.Offer purpose file) = Does (Offer purpose (offered_bytes file))
 content_of_event events.Upload = Does Upload
@@ -113,7 +112,7 @@ content_of_event events.Reset = Does Reset
 content_of_event events.Cut = Does Cut
 content_of_event (events.Refuse why) = Does (Refuse why)
 
--- Meaning of a line as the code has it.
+-- Meaning of a line that the code has parsed.
 abbrev pub content_of_line : lines.Line → LineContent
 content_of_line line.Blank = Blank
 content_of_line (line.Set s) = SetsConfig (config_line_of s)

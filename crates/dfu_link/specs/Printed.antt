@@ -1,4 +1,4 @@
--- The headline of the text that a script prints: which image its lines show, and what `report installed` and `report verified` mean.
+-- The headline of the text that a script prints: which image its lines show, and the meaning of `report installed` and `report verified`.
 use Rattle.std.specs.Prelude.{Result, Ok, Err, ◌≡◌, ◌⊎◌, ℕ, List, [], ◌∷◌, ◌++◌, Option, Some, None, true, unwrap_or, codes, replicate, if◌then◌else◌}
 use Rattle.std.specs.Str.{bytes_eq}
 use Rattle.std.specs.Io.KnownBytes.{Appends}
@@ -13,10 +13,10 @@ use Rattle.dfu_sim.specs.Headline.{WasOffered, SessionBeginning, BeginningWithOf
 use Rattle.dfu_slots.specs.Image.{Active}
 use Rattle.dfu_link.specs.declared.scripting.fault.ScriptFault.{ScriptFault}
 
--- Effects of lines.
+-- Definitions of the effects of lines.
 
--- Effect of a line. A line sets the image that a device has at first; or it brings events, each of which may begin a session; or it brings
--- some number of events that begin none; or it shows the device. Any other line has no effect.
+-- Effect of a line. The line sets the image of the device at the start; or it has events, each of which may begin a session; or it has some
+-- number of events that begin no session; or it shows the device. Any other line has no effect.
 pub data LineEffect : Type 0 where
   Nothing : LineEffect
   FactoryImageEffect : (image : List ℕ) → LineEffect
@@ -24,18 +24,17 @@ pub data LineEffect : Type 0 where
   SomePassesEffect : LineEffect
   ShowEffect : LineEffect
 
--- The bytes that the first word of a list spells; no bytes if it spells none, or if there is no word.
+-- Bytes of the first word of a list, if it is hexadecimal text; otherwise no bytes.
 abbrev pub first_word_bytes : List (List ℕ) → List ℕ
 first_word_bytes [] = []
 first_word_bytes (word ∷ words) = unwrap_or (hex_word_bytes word) []
 
--- The file that the first word of a list means: FILE means the given bytes, any other word the bytes that it spells; no bytes if there are
--- none.
+-- File that the first word of a list stands for: the given bytes for FILE, and the bytes of hexadecimal text; otherwise no bytes.
 abbrev pub file_in : (given : Option (List ℕ)) → List (List ℕ) → List ℕ
 file_in given [] = []
 file_in given (word ∷ words) = unwrap_or (if bytes_eq word (codes "FILE") then given else hex_word_bytes word) []
 
--- The number that the first word of a list spells; 0 if it spells none, or if there is no word.
+-- Number of the first word of a list; 0 if it is not a number, or if there is no word.
 abbrev pub first_word_number : List (List ℕ) → ℕ
 first_word_number [] = 0
 first_word_number (word ∷ words) = unwrap_or (number_of word) 0
@@ -48,8 +47,8 @@ effect_of_go (word ∷ words) =
     else if bytes_eq word (codes "pass") then Events (replicate (first_word_number words) None)
     else Events (None ∷ [])
 
--- Effect of a line by its words. An offer and an upload may begin a session. An abort, a time, a reset, a cut and a refusal are one event
--- each. `expect` has no event.
+-- Effect of a line by its words. An offer and an upload may begin a session. `abort`, `time`, `reset`, `cut` and `refuse` have one event
+-- each, and `expect` has none.
 abbrev pub effect_of_words : (given : Option (List ℕ)) → List (List ℕ) → LineEffect
 effect_of_words given [] = Nothing
 effect_of_words given (word ∷ words) =
@@ -67,33 +66,33 @@ effect_of_words given (word ∷ words) =
     else if bytes_eq word (codes "expect") then Events []
     else Nothing
 
--- Effect of a line, by the bytes that FILE means.
+-- Effect of a line. `given` holds the bytes that FILE stands for.
 abbrev pub effect_of_line : (given : Option (List ℕ)) → List ℕ → LineEffect
 effect_of_line given line = effect_of_words given (words_of line)
 
--- Printed texts.
+-- Definitions of the printed texts.
 
 -- The image is active, and it is the factory image or the whole payload of a file offered so far.
 pub record IsKnownImage (factory : List ℕ) (past : List SessionBeginning) (b : LinkView) (image : List ℕ) : Type 0 where
   pub active : Active b.device.slots.medium image
   pub known : (image ≡ factory) ⊎ WasOffered past image
 
--- The sessions that have begun by the end of an event, the last one first.
+-- Beginnings of sessions, the last one first, after an event that may begin another session.
 abbrev pub sessions_after : Option SessionBeginning → List SessionBeginning → List SessionBeginning
 sessions_after None past = past
 sessions_after (Some begun) past = begun ∷ past
 
--- Text of a report, or of none, while `image` is active.
+-- Text of a report while `image` is active; empty without a report.
 abbrev pub report_text : Option Report → (image : List ℕ) → List ℕ
 report_text None image = []
 report_text (Some report) image = report_line report image
 
--- The line of a refused event.
+-- Line that a script prints for an event that is refused for this reason.
 abbrev pub refused_event_line : (reason : List ℕ) → List ℕ
 refused_event_line reason = codes "refused " ++ reason ++ 10 ∷ []
 
--- Events in their order, with the text that is printed of them. After an event the headline holds with the report that is printed, and the
--- line of an upload shows the active image. A refused event prints a line with some reason, and changes nothing else.
+-- Events in their order, with the text that they print. After an event the headline holds with the report that is printed, and the line of
+-- an upload shows the active image. A refused event prints a line with some reason, and changes nothing else.
 pub data EventsPrint (factory : List ℕ) (past : List SessionBeginning) (b : LinkView) :
     List (Option SessionBeginning) → (printed : List ℕ) → List SessionBeginning → LinkView → Type 0 where
   no_event : EventsPrint factory past b [] [] past b
@@ -108,7 +107,7 @@ pub data EventsPrint (factory : List ℕ) (past : List SessionBeginning) (b : Li
       → EventsPrint factory past b events printed mid c → has_no_newline reason ≡ true
       → EventsPrint factory past b (events ++ event ∷ []) (printed ++ refused_event_line reason) mid c
 
--- The text of a line by its effect, once the device is started. `show` prints a state in one line, with a known image.
+-- Text of a line by its effect, after the device has started. `show` prints a state in one line, with a known image.
 pub data LinePrints (factory : List ℕ) (past : List SessionBeginning) (b : LinkView) : LineEffect → (printed : List ℕ)
     → List SessionBeginning → LinkView
     → Type 0 where
@@ -120,7 +119,7 @@ pub data LinePrints (factory : List ℕ) (past : List SessionBeginning) (b : Lin
   prints_image : {image : List ℕ} (state : List ℕ) → has_no_newline state ≡ true → IsKnownImage factory past b image
       → LinePrints factory past b ShowEffect (codes "state " ++ state ++ line_of_image image) past b
 
--- Lines in their order, with the text that they print.
+-- Text of lines in their order, by their effects.
 pub data LinesPrint (given : Option (List ℕ)) (factory : List ℕ) (past : List SessionBeginning) (b : LinkView) :
     List (List ℕ) → (printed : List ℕ) → List SessionBeginning → LinkView → Type 0 where
   no_lines_print : LinesPrint given factory past b [] [] past b
@@ -128,7 +127,7 @@ pub data LinesPrint (given : Option (List ℕ)) (factory : List ℕ) (past : Lis
       → LinesPrint given factory past b lines printed mid c → LinePrints factory mid c (effect_of_line given line) more past' b'
       → LinesPrint given factory past b (lines ++ line ∷ []) (printed ++ more) past' b'
 
--- Whole scripts.
+-- Definitions for whole scripts.
 
 -- A line with this effect needs the device: it is an event line, `expect` or `show`.
 abbrev pub NeedsDevice : LineEffect → Type 0
@@ -138,8 +137,8 @@ NeedsDevice (Events events) = Unit {0}
 NeedsDevice SomePassesEffect = Unit {0}
 NeedsDevice ShowEffect = Unit {0}
 
--- The device starts before the first line that needs it, with which `after` begins; or after all lines, if none needs it. Its factory image
--- is the one set last before the start, or `image` if no line sets one.
+-- The device starts before the first line that needs it, which is the first of `after`, or after all lines if none needs it. Its factory
+-- image is the one set last before the start, or `image` if no line sets one.
 pub data IsStartPoint (given : Option (List ℕ)) : (image : List ℕ) (lines after : List (List ℕ)) (factory : List ℕ) → Type 0 where
   starts_at_end : {image : List ℕ} → IsStartPoint given image [] [] image
   starts_at_line : {image line : List ℕ} {lines : List (List ℕ)} → NeedsDevice (effect_of_line given line)
@@ -172,8 +171,8 @@ pub record WholeIsPrinted (given : Option (List ℕ)) (text : List ℕ) (old new
   pub prints : TextPrints given text after after printed past end image
   pub told : Appends old new (printed ++ line_of_image image)
 
--- A script stopped before the first line of `lines`, or before the line of the image if none is left. Nothing of that line's text was
--- written, or a prefix of it, or of the text of its first events.
+-- A script stopped before the first of `lines`, or before the line of the image if none remains. Of that line's text, nothing was written,
+-- or a prefix of it, or a prefix of the text of its first events.
 pub data PartPrints (given : Option (List ℕ)) (factory : List ℕ) (past : List SessionBeginning) (b : LinkView) (image : List ℕ) :
     List (List ℕ) → (old new : Option (List ℕ)) → Type 0 where
   part_of_nothing : {lines : List (List ℕ)} {old : Option (List ℕ)} → PartPrints given factory past b image lines old old
@@ -189,8 +188,8 @@ pub data PartPrints (given : Option (List ℕ)) (factory : List ℕ) (past : Lis
   part_of_image_line : {old new : Option (List ℕ)} → IsPartlyWritten old new (line_of_image image) →
       PartPrints given factory past b image [] old new
 
--- A script stopped. Nothing was written, and no device was started; or the text of the lines that ran was written, with a part of the next
--- line's text.
+-- A script stopped. Either nothing was written, because no device had started; or the text of the lines that ran after the start was
+-- written, with a part of the next line's text.
 pub data PartIsPrinted (given : Option (List ℕ)) (text : List ℕ) (old new : Option (List ℕ)) : Type 0 where
   stopped_before_start : new ≡ old → PartIsPrinted given text old new
   stopped_after_start : {after done rest : List (List ℕ)} {printed image : List ℕ} {past : List SessionBeginning} {end : LinkView} {mid :
@@ -199,7 +198,7 @@ pub data PartIsPrinted (given : Option (List ℕ)) (text : List ℕ) (old new : 
       → (prints : TextPrints given text after done printed past end image) → after ≡ done ++ rest → Appends old mid printed
       → PartPrints given prints.factory past end image rest mid new → PartIsPrinted given text old new
 
--- The text that was written is, with Ok, that of the whole script, and with a fault, the text up to the place at which the script stopped.
+-- With Ok the written text is that of the whole script. With a fault it is the text up to the point at which the script stopped.
 abbrev pub HasPrinted : (given : Option (List ℕ)) → (text : List ℕ) → (old new : Option (List ℕ)) → Result Unit ScriptFault → Type 0
 HasPrinted given text old new (Ok done) = WholeIsPrinted given text old new
 HasPrinted given text old new (Err fault) = PartIsPrinted given text old new

@@ -1,4 +1,4 @@
--- Acts of a script, and the text that it prints.
+-- Runs of a script: its settings, its lines with their events, and the text that it prints.
 use Rattle.std.specs.Prelude.{◌≡◌, ◌≢◌, ℕ, ◌+◌, ◌*◌, ◌≤◌, ◌==◌, Bool, true, false, if◌then◌else◌, List, [], ◌∷◌, ◌++◌, length, Option, Some, None, Result, replicate}
 use Rattle.std.specs.Io.KnownBytes.{Appends}
 use Rattle.dfu_wire.specs.Functional.{functional_of}
@@ -26,8 +26,8 @@ use Rattle.dfu_link.specs.Lines.{line_of}
 use Rattle.dfu_link.specs.Expecting.{Expectation, MeetsExpectation, expectation_left}
 
 -- Settings before the first event line, `show` or `expect`: the device, the unit, sectors and pace of its medium, the largest image, the
--- image at first, the first bytes of each image that the device's program takes, and the limits of sessions. The caller may give the bytes
--- that FILE means; no line sets them.
+-- image at the start, the first bytes of each image that the device's program accepts, and the limits of sessions. `given` holds the bytes
+-- that FILE stands for; only the caller gives them.
 pub record Settings : Type 0 where
   pub device : Setting
   pub grain : Grain
@@ -37,7 +37,7 @@ pub record Settings : Type 0 where
   pub limits : Limits
   pub given : Option (List ℕ)
 
--- Settings that hold if no line sets anything else.
+-- Settings of a script without configuration lines.
 abbrev pub initial_settings : (given : Option (List ℕ)) → Settings
 initial_settings given = record {
   device = record {
@@ -56,8 +56,8 @@ initial_settings given = record {
   given = given;
 }
 
--- The value of a configuration line replaces the value set before. A line of the unit, the sectors or the pace also sets the pace that the
--- device reckons with, which must be that of its medium.
+-- Settings after a configuration line, which replaces the earlier value. A line of the unit, the sectors or the pace also sets the pace in
+-- the device's configuration, which must be that of its medium.
 abbrev pub settings_with : Settings → ConfigLine → Settings
 settings_with s (SetsDeviceIds ids) = record s { device = record s.device { ids = ids } }
 settings_with s (SetsDevice functional least busy manifest) =
@@ -76,14 +76,14 @@ settings_with s (SetsCapacity n) = record s { capacity = n }
 settings_with s (SetsImage bytes) = record s { image = bytes }
 settings_with s (SetsCheck bytes) = record s { check = bytes }
 
--- Settings after a line that sets something, or is blank; None for an event line, `show` and `expect`.
+-- Settings after a configuration line, a `limits` line or a blank line; None for an event line, `show` and `expect`.
 abbrev pub settings_after_line : Settings → LineContent → Option Settings
 settings_after_line s Blank = Some s
 settings_after_line s (SetsConfig x) = Some (settings_with s x)
 settings_after_line s (SetsLimits actions restarts) = Some (record s { limits = record { actions = actions; restarts = restarts } })
 settings_after_line s said = None
 
--- Settings after lines that prepare the device, one line after the other.
+-- Settings after configuration lines, `limits` lines and blank lines, one line after the other.
 pub data SettingsPrepared : Settings → List (List ℕ) → Settings → Type 0 where
   nothing : {s : Settings} → SettingsPrepared s [] s
   line_prepares_next : {s t t' : Settings} {lines : List (List ℕ)} (line : List ℕ) {said : LineContent} →
@@ -98,17 +98,17 @@ IsActingLine (Some Show) = Unit {0}
 IsActingLine (Some (ExpectsText text)) = Unit {0}
 IsActingLine said = ⊥
 
--- The device must start: the next line acts, or no line is left.
+-- The device must start: the next line acts, or there is no next line.
 abbrev pub DeviceMustStart : Settings → List (List ℕ) → Type 0
 DeviceMustStart s [] = Unit {0}
 DeviceMustStart s (line ∷ lines) = IsActingLine (line_of s.given line)
 
--- A blank medium of two slots, with its grain and with room for images of `capacity` bytes. The medium is not armed.
+-- Blank medium of two slots, with this grain and with room for images of `capacity` bytes.
 abbrev pub blank_slots : Grain → ℕ → MediumState
 blank_slots grain capacity = blank_medium grain (2 * (2 * gate_room grain + capacity))
 
--- The device starts: its setting is allowed, the capacity is a multiple of the unit and of the sector, the image fits, and the device is in
--- appIDLE on a blank medium that was formatted with the image, which is the active image of its bytes.
+-- The device starts: its setting is allowed, the capacity is a multiple of the unit and of the sector, the image is at most as long as the
+-- capacity, and the device is in appIDLE on a blank medium that was formatted with the image, which is the active image.
 pub record DeviceStarts (s : Settings) (d : DeviceView) : Type 0 where
   pub config : d.config ≡ record s.device { functional = functional_of_this_version s.device.functional }
   pub allowed : IsAllowedSetting d.config
@@ -119,33 +119,33 @@ pub record DeviceStarts (s : Settings) (d : DeviceView) : Type 0 where
   pub image : image_of d.slots ≡ s.image
   pub stage : d.stage ≡ InAppIdle
 
--- A device with no session.
+-- Bench of a device with no session.
 abbrev pub link_at_rest : DeviceView → LinkView
 link_at_rest d = record { device = d; session = NoLiveSession }
 
--- The bytes begin with `front`.
+-- True if the bytes begin with `front`.
 abbrev pub has_front : (front bytes : List ℕ) → Bool
 has_front [] bytes = true
 has_front (x ∷ front) [] = false
 has_front (x ∷ front) (byte ∷ bytes) = if x == byte then has_front front bytes else false
 
--- A program that takes only images that begin with `check` accepts the image that was taken: it begins so, or there is none.
+-- True if a program that accepts only images that begin with `check` accepts the received image, or if there is no image.
 abbrev pub is_accepted : (check : List ℕ) → Option (List ℕ) → Bool
 is_accepted check None = true
 is_accepted check (Some taken) = has_front check taken
 
--- Fate of an action on a device whose program takes only images that begin with `check`: an image that begins otherwise is refused if the
--- action closes it.
+-- Fate of an action on a device whose program accepts only images that begin with `check`: if the received image begins otherwise, the
+-- program refuses it when the action closes it.
 abbrev pub checked_fate : (check : List ℕ) → DeviceView → Fate → Fate
 checked_fate check d fate = if is_accepted check (candidate_in d.stage) then fate else Refusing FailsCheck fate
 
--- An event on a bench whose device's program takes only images that begin with `check`.
+-- Event on a bench whose device's program accepts only images that begin with `check`.
 abbrev pub checked_event : (check : List ℕ) → LinkView → Happening → Happening
 checked_event check b (Goes fate harm) = Goes (checked_fate check b.device fate) harm
 checked_event check b event = event
 
--- Events in their order, with the text that they print, if the device's program takes only images that begin with `check`. After each event
--- the bench shows the active image of its medium's bytes.
+-- Events in their order, with the text that they print, if the device's program accepts only images that begin with `check`. After each
+-- event the bench shows the active image of its medium's bytes.
 pub data EventsPlayed (check : List ℕ) : LinkView → List Happening → List ℕ → LinkView → Type 0 where
   no_event_played : {b : LinkView} → EventsPlayed check b [] [] b
   event_played_next : {b c c' : LinkView} {events : List Happening} {out : List ℕ} {answer : Result Answered LinkFault} (event : Happening)
@@ -153,8 +153,8 @@ pub data EventsPlayed (check : List ℕ) : LinkView → List Happening → List 
       EventsPlayed check b events out c → EventResult c (checked_event check c event) c' answer → BenchMatchesFlash c'
       → EventsPlayed check b (events ++ event ∷ []) (out ++ answer_line answer) c'
 
--- Point of a script once the device is started: the bytes that FILE means, the first bytes of each image that the program takes, the limits
--- of the next session, the line that is expected next, and the link.
+-- Point of a script after the device has started: the bytes that FILE stands for, the first bytes of each image that the program accepts,
+-- the limits of the next session, the expected line, and the link.
 pub record ScriptPoint : Type 0 where
   pub given : Option (List ℕ)
   pub check : List ℕ
@@ -166,11 +166,11 @@ pub record ScriptPoint : Type 0 where
 abbrev pub initial_point : Settings → LinkView → ScriptPoint
 initial_point s at = record { given = s.given; check = s.check; limits = s.limits; next = None; at = at }
 
--- Point of a script once a text was printed, with the link after it.
+-- Point of a script after a text was printed, with the link after it.
 abbrev pub point_after_text : ScriptPoint → (text : List ℕ) → LinkView → ScriptPoint
 point_after_text p text at = record p { next = expectation_left p.next text; at = at }
 
--- The events of an event line.
+-- Events of an event line.
 abbrev pub events_of_line : Limits → EventLine → List Happening
 events_of_line limits (Offer purpose file) = Offers purpose file limits ∷ []
 events_of_line limits Upload = Uploads limits ∷ []
@@ -181,8 +181,8 @@ events_of_line limits Reset = Resets ∷ []
 events_of_line limits Cut = Cuts ∷ []
 events_of_line limits (Refuse why) = Refuses why ∷ []
 
--- Line k acts once the device is started, and its text is as expected. A configuration line has no place there. `go until report` lets
--- actions pass that print nothing, and then one that prints something. `expect` has no place while a line is expected already.
+-- Line k acts after the device has started, and its text is as expected. A configuration line does not act. `go until report` performs
+-- actions that print nothing, and then one that prints a line. `expect` does not act while a line is expected already.
 pub data LineActs (k : ℕ) : ScriptPoint → LineContent → List ℕ → ScriptPoint → Type 0 where
   skips : {p : ScriptPoint} → LineActs k p Blank [] p
   acts_by_limits : {p : ScriptPoint} {actions restarts : ℕ} → LineActs k p (SetsLimits actions restarts) []
@@ -201,22 +201,22 @@ pub data LineActs (k : ℕ) : ScriptPoint → LineContent → List ℕ → Scrip
   expects : {p : ScriptPoint} {text : List ℕ} → p.next ≡ None → LineActs k p (ExpectsText text) []
       (record p { next = Some (record { number = k; text = text }) })
 
--- Lines run in their order, the first of them line k, with the text that they print.
+-- Lines run in their order, beginning with line k, and print their text.
 pub data LinesRun (k : ℕ) : ScriptPoint → List (List ℕ) → List ℕ → ScriptPoint → Type 0 where
   stays : {p : ScriptPoint} → LinesRun k p [] [] p
   line_runs_next : {p q q' : ScriptPoint} {lines : List (List ℕ)} (line : List ℕ) {said : LineContent} {out more : List ℕ} →
       LinesRun k p lines out q → line_of q.given line ≡ Some said → LineActs (k + length lines) q said more q'
       → LinesRun k p (lines ++ line ∷ []) (out ++ more) q'
 
--- The lines of the text before `after` are its prologue: they prepare the settings, and the device must start before `after`.
+-- The lines of the text before `after` are its prologue: they set the configuration, and the device must start before `after`.
 pub record IsPrologue (given : Option (List ℕ)) (text : List ℕ) (settings : Settings) (after : List (List ℕ)) : Type 0 where
   pub before : List (List ℕ)
   pub split : lines_of text ≡ before ++ after
   pub prepares : SettingsPrepared (initial_settings given) before settings
   pub ready : DeviceMustStart settings after
 
--- The text `out` is that of a run of a whole script, of at most 16,777,216 bytes: the setting lines, the start of the device, the lines
--- after it, and the line of the image, which is as expected.
+-- The text `out` is that of a run of a whole script, of at most 16,777,216 bytes: the configuration lines, the start of the device, the
+-- lines after it, and the line of the image, which is as expected.
 pub record IsScriptRun (given : Option (List ℕ)) (text out : List ℕ) : Type 0 where
   pub small : length text ≤ 16777216
   pub settings : Settings

@@ -5,7 +5,7 @@ use Rattle.dfu_link.specs.Lines.{line_of}
 use Rattle.dfu_link.specs.declared.scripting.fault.ScriptFault.{ScriptFault}
 use Rattle.dfu_link.specs.declared.scripting.fault.ScriptFault.TheVariants.{BadLine, TooLarge, Read}
 
--- The text begins with `lines`, which end within its first 16,777,216 bytes; the rest of the text is left.
+-- The text begins with `lines`, which end within its first 16,777,216 bytes; `left` is the rest of the text.
 pub record HasFrontLines (text : List ℕ) (lines : List (List ℕ)) : Type 0 where
   pub front : List ℕ
   pub left : List ℕ
@@ -13,15 +13,15 @@ pub record HasFrontLines (text : List ℕ) (lines : List (List ℕ)) : Type 0 wh
   pub are : lines_of text ≡ lines ++ lines_of left
   pub within : length front ≤ 16777216
 
--- The rest of a text exceeds its limit of `room` bytes in its first line: it is longer, its first line doesn't end within them, and `room`
--- is at most the 65,536 bytes of a line.
+-- The rest of a text exceeds its limit of `room` bytes in its first line: the rest is longer, the first line doesn't end within `room`
+-- bytes, and `room` is at most 65,536, the limit of a line.
 pub record ExceedsLimit (room : ℕ) (left : List ℕ) : Type 0 where
   pub over : room < length left
   pub short : room ≤ 65536
   pub no_end : has_no_newline (take room left) ≡ true
 
--- Reading stops in the first line of the rest of a text. If the rest exceeds the limit, that is the only reason; else the reader fails, or
--- the line has a fault.
+-- Reading stops with the fault in the first line of the rest of a text. With TooLarge the rest exceeds the limit. With any other fault but
+-- Read, the rest does not exceed it.
 abbrev pub ReadingIsStopped : ℕ → List ℕ → ScriptFault → Type 0
 ReadingIsStopped room left TooLarge = ExceedsLimit room left
 ReadingIsStopped room left Read = Unit {0}
@@ -31,8 +31,8 @@ ReadingIsStopped room left fault = ¬ ExceedsLimit room left
 abbrev pub ReadingStopsAfter : List ℕ → List (List ℕ) → ScriptFault → Type 0
 ReadingStopsAfter text lines fault = (b : HasFrontLines text lines) × ReadingIsStopped (16777216 - length b.front) b.left fault
 
--- Reading the rest of a text, of which the first line is line k, gives no line of the language: the text exceeds its limit, the reader
--- fails, or line k is not of the language.
+-- No line of the language is read from the rest of a text, whose first line is line k: the text exceeds its limit, the reader fails, or
+-- line k is not of the language.
 abbrev pub NoLineRead : (given : Option (List ℕ)) → ℕ → List (List ℕ) → ScriptFault → Type 0
 NoLineRead given k lines TooLarge = Unit {0}
 NoLineRead given k lines Read = Unit {0}

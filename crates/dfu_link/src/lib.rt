@@ -1,8 +1,7 @@
-//! Scripts of the link of a host and a device of USB device firmware upgrade (USB DFU 1.1): the acts of each
-//! line, the text that it prints, and a trace of each action.
+//! Scripts for USB device firmware upgrade (USB DFU 1.1): lines that configure a device, apply events to the link between that device and a
+//! host, and print the results. A trace records each action of the host.
 //!
-//! Each call does the lines of a text one by one, and takes memory. The link itself is that of `dfu_sim`, whose
-//! calls and definitions this crate passes on.
+//! A call runs the lines of a text one by one, and allocates memory. The crate re-exports the link of `dfu_sim`.
 #![tactic(auto)]
 
 mod scripting;

@@ -1,4 +1,4 @@
-//! Scripts: a text of lines that sets up a device, brings events to the link of that device and a host, and prints their results.
+//! Scripts: texts of lines that configure a device, apply events to the link of that device and a host, and print the results.
 
 mod event_parts;
 pub(crate) mod expectation;

@@ -1,4 +1,4 @@
-//! The trace of a script: a line for each action of the host. No contract covers its text; tests and pictures show it.
+//! The trace of a script: a line for each action of the host. No contract covers its text.
 
 mod tracer;
 mod words;

@@ -1,5 +1,5 @@
 mod ShownLaws
-mod Behind
+mod SuccessiveDescriptors
 mod FieldLists
 mod LogLists
 mod LogPieces

@@ -1,4 +1,4 @@
--- Texts of the elements of a list, joined in order.
+-- Texts of the elements of a list, joined in their order.
 use Rattle.std.proofs.Common.{◌≡◌, ◌∙◌, ◌+◌, ◌<◌, ◌++◌, ◌∷◌, ℕ, List, [], length, take, get_or, refl, sym, ap, append_assoc}
 use Rattle.std.proofs.lemmas.List.{append-nil, take_more}
 use Rattle.dfu_output.specs.judge.Texts.{texts_of_each}
@@ -22,7 +22,7 @@ next_element_adds_text text xs n d below =
     ap (texts_of_each text) (take_more xs n d below) ∙ joined_lists_join_texts text (take n xs) (get_or xs n d ∷ [])
     ∙ ap (λ (t : List ℕ). texts_of_each text (take n xs) ++ t) (one_element_has_its_text text (get_or xs n d))
 
--- A line with the texts of `n` elements has the texts of `n + 1` once the next text is added.
+-- If a line holds the texts of `n` elements, adding the next text gives the texts of `n + 1` elements.
 pub next_text_extends_line : {X : Type 0} (text : X → List ℕ) (xs : List X) (n : ℕ) (d : X) (start before after : List ℕ) → n < length xs
     → before ≡ start ++ texts_of_each text (take n xs) → after ≡ before ++ text (get_or xs n d)
     → after ≡ start ++ texts_of_each text (take (n + 1) xs)
@@ -31,7 +31,7 @@ next_text_extends_line text xs n d start before after below is more =
     ∙ append_assoc start (texts_of_each text (take n xs)) (text (get_or xs n d))
     ∙ ap (λ (t : List ℕ). start ++ t) (sym (next_element_adds_text text xs n d below))
 
--- A line without a text of an element has the texts of the empty list.
+-- At first the line holds the texts of no elements.
 pub line_begins_without_texts : {X : Type 0} (text : X → List ℕ) (start : List ℕ) → start ≡ start ++ texts_of_each text []
 unfolding texts_of_each
 line_begins_without_texts text start = sym (append-nil start)

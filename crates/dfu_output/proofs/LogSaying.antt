@@ -1,10 +1,9 @@
--- Meaning of a line of a log.
+-- Meanings of the lines of a log.
 use Rattle.std.specs.Prelude.{◌≡◌, ℕ, List, Option}
 use Rattle.std.proofs.Common.{subst}
 use Rattle.dfu_conformance.specs.declared.log.Line.{Line}
 use Rattle.dfu_conformance.specs.Line.{LineMeaning}
 
--- Equal lines have equal meanings.
 pub equal_lines_agree : (interface : ℕ) (given text : List ℕ) (o p : Option Line) → given ≡ text → o ≡ p → LineMeaning interface given o
     → LineMeaning interface text p
 equal_lines_agree interface given text o p same is says =

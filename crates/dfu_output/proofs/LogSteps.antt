@@ -1,4 +1,4 @@
--- Lemmas for one more byte of a log: the event of the line that it ends continues the course, or is a departure.
+-- Judging one more byte of a log: if the byte ends a line with an event, the event continues the course or is a departure.
 use Rattle.std.specs.Prelude.{◌≡◌, ℕ, ◌+◌, ◌<◌, ◌≤◌, ◌||◌, List, [], ◌∷◌, ◌++◌, length, Bool, true, false, Option, Some, None, cond}
 use Rattle.std.proofs.Common.{sym, ap, ◌∙◌, subst, arith, refl, append_assoc, length-append}
 use Rattle.std.specs.List.{list_any}
@@ -27,7 +27,7 @@ neither_of_two_holds true y none = absurd cc
 next_event_is_counted : (events : List LogEvent) (e : LogEvent) (n : ℕ) → n ≡ length events → n + 1 ≡ length (events ++ e ∷ [])
 next_event_is_counted events e n is = omega (arith, is, length-append events (e ∷ []))
 
--- If a device without habits may have answered an event and all events since the last departure, the event continues the course.
+-- If a device without habits may have answered all events since the last departure including this one, the event continues the course.
 pub event_continues_course : (s : JudgingState) (w v : List (List ℕ)) (n : ℕ) (text : List ℕ) (c : LogCourse) (e : LogEvent)
     (at : List Bool)
     → IsStateAfter s text c
@@ -49,7 +49,7 @@ event_continues_course s w v n text c e at is held plain places single = record 
   out = sym (append-nil c.out);
 }
 
--- If no device without habits may have answered an event and all events since the last departure, the event is a departure.
+-- If no device without habits may have answered all events since the last departure including this one, the event is a departure.
 pub event_departs : (s : JudgingState) (w v : List (List ℕ)) (text : List ℕ) (c : LogCourse) (e : LogEvent) (d : Departure)
     → IsStateAfter s text c
     → CandidatesExact w (c.events ++ e ∷ []) → d.event ≡ e → EventDeparts c.since d v
@@ -69,12 +69,11 @@ event_departs s w v text c e d is held same off = record {
   out = ap (λ (k : ℕ). c.out ++ Rattle.dfu_output.specs.judge.Texts.departure_text k d) (sym is.number);
 }
 
--- A byte that was accepted with the meaning of a line is accepted with an equal meaning.
 pub equal_meaning_accepts : (interface : ℕ) (s t : LinesState) (byte : ℕ) (o p : Option Line) → o ≡ p → ByteAccepted interface s t byte o
     → ByteAccepted interface s t byte p
 equal_meaning_accepts interface s t byte o p same took = subst (λ (x : Option Line). ByteAccepted interface s t byte x) same took
 
--- After the byte that ends a line, the state is that of the course after the line.
+-- After a byte that ends a line, the state belongs to the course after the line.
 pub state_follows_line_end : (interface byte : ℕ) (s : JudgingState) (lines : LinesState) (text : List ℕ) (c : LogCourse) (says : Line)
     → IsStateAfter s text c
     → ByteEndsLine interface s.lines lines byte says → IsStateAfter (record s { lines = lines }) (text ++ 10 ∷ []) (course_after_line c)
@@ -88,18 +87,17 @@ state_follows_line_end interface byte s lines text c says is e = record {
   single = is.single;
 }
 
--- The line that the byte ended has the meaning that was returned.
+-- The line that the byte ended has the meaning that the reader returned.
 pub ended_line_has_meaning : (interface byte : ℕ) (s : JudgingState) (lines : LinesState) (text : List ℕ) (c : LogCourse) (says : Line)
     → IsStateAfter s text c
     → ByteEndsLine interface s.lines lines byte says → LineMeaning interface c.line (Some says)
 ended_line_has_meaning interface byte s lines text c says is e = subst (λ (t : List ℕ). LineMeaning interface t (Some says)) is.line e.said
 
--- A text that was judged with 0Ah as its last byte was judged with any byte that equals 0Ah.
 equal_last_byte_is_judged : (interface byte : ℕ) (text : List ℕ) (c : LogCourse) (o : Option Departure) (s : JudgingState) → byte ≡ 10
     → JudgedText interface (text ++ 10 ∷ []) c o s → JudgedText interface (text ++ byte ∷ []) c o s
 equal_last_byte_is_judged interface byte text c o s end took = subst (λ (k : ℕ). JudgedText interface (text ++ k ∷ []) c o s) (sym end) took
 
--- After the byte that ends a line with an event, the text is judged, with the state and the departure, if any, of the event.
+-- After a byte that ends a line with an event, the text is judged, and state and departure are those of the event.
 pub line_end_judges_event : (interface byte : ℕ) (s t : JudgingState) (lines : LinesState) (text : List ℕ) (c : LogCourse) (e : LogEvent)
     (o : Option Departure) → IsStateAfter s text c → CourseOfText interface text c → ByteEndsLine interface s.lines lines byte (line.Came e)
     → LogEventResult (text ++ 10 ∷ []) (course_after_line c) e o t → JudgedText interface (text ++ byte ∷ []) c o t
@@ -111,7 +109,7 @@ line_end_judges_event interface byte s t lines text c e o is judged end came = e
       out = came.out;
     })
 
--- The end of a line without an event of the device is judged without a departure.
+-- A line without an event ends without a departure.
 pub eventless_line_is_judged : (interface byte : ℕ) (s : JudgingState) (lines : LinesState) (text : List ℕ) (c : LogCourse) (says : Line)
     (o : Option Line)
     → (LineMeaning interface c.line (Some says) → LineEndLeadsTo interface c (course_after_line c)) → IsStateAfter s text c
@@ -127,7 +125,7 @@ eventless_line_is_judged interface byte s lines text c says o leads is judged sa
       out = sym (append-nil c.out);
     })
 
--- A byte added to the open line is judged without a departure.
+-- A byte in the middle of a line causes no departure.
 pub byte_in_line_is_judged : (interface byte : ℕ) (s : JudgingState) (lines : LinesState) (text : List ℕ) (c : LogCourse) →
     IsStateAfter s text c
     → CourseOfText interface text c → ByteInLine s.lines lines byte
@@ -147,7 +145,7 @@ byte_in_line_is_judged interface byte s lines text c is judged g = record {
   out = sym (append-nil c.out);
 }
 
--- Bytes without 0Ah, for which the open line has room, extend the course by themselves.
+-- Bytes other than 0Ah extend the open line of the course, if the line has room for them.
 bytes_extend_course : (interface : ℕ) (bytes text : List ℕ) (c : LogCourse) → CourseOfText interface text c → list_any is_end bytes ≡ false
     → length c.line + length bytes ≤ 262158 → CourseOfText interface (text ++ bytes) (record c { line = c.line ++ bytes })
 bytes_extend_course interface [] text c judged inner short =
@@ -162,7 +160,7 @@ bytes_extend_course interface (byte ∷ bytes) text c judged inner short =
     (subst (λ (l : List ℕ). CourseOfText interface ((text ++ byte ∷ []) ++ bytes) (record c { line = l }))
     (append_assoc c.line (byte ∷ []) bytes) rest)
 
--- Bytes added to the open line are judged without a departure.
+-- Bytes in the middle of a line cause no departure.
 pub bytes_in_line_are_judged : (interface : ℕ) (bytes : List ℕ) (s : JudgingState) (lines : LinesState) (text : List ℕ) (c : LogCourse)
     → IsStateAfter s text c
     → CourseOfText interface text c → BytesInLine s.lines lines bytes
@@ -183,12 +181,11 @@ bytes_in_line_are_judged interface bytes s lines text c is judged g = record {
   out = sym (append-nil c.out);
 }
 
--- A text that equals a bad line is a bad line.
 equal_text_is_bad_line : (interface : ℕ) (line text rest : List ℕ) (why : LineFault) → line ≡ text → IsBadLine interface line rest why
     → IsBadLine interface text rest why
 equal_text_is_bad_line interface line text rest why same bad = subst (λ (t : List ℕ). IsBadLine interface t rest why) same bad
 
--- A byte that isn't accepted because of a fault can't be judged because of that fault.
+-- If a byte isn't accepted because of a fault, it can't be judged because of this fault.
 pub unread_byte_is_unjudged : (interface : ℕ) (s : JudgingState) (text : List ℕ) (c : LogCourse) (rest : List ℕ) (fault : LogFault)
     → IsStateAfter s text c
     → ByteRefused interface s.lines rest fault → CannotJudgeByte interface text c rest fault

@@ -1,4 +1,4 @@
--- Lines and exits for the answers of dfu_suffix, and the line for a command line that isn't understood. Each line ends with 0Ah.
+-- Lines and exits for the answers of dfu_suffix, and the line for an invalid command line. Each line ends with 0Ah.
 use Rattle.std.specs.Prelude.{◌≡◌, ◌⊎◌, ℕ, ◌-◌, ◌^◌, false, List, [], ◌∷◌, ◌++◌, Option, Some, None, Result, Ok, Err, codes}
 use Rattle.std.specs.Fmt.{decimal, digits, padded_integral, format_spec}
 use Rattle.dfu_suffix.specs.declared.summary.Summary.{Summary}
@@ -8,7 +8,7 @@ use Rattle.dfu_suffix.specs.FaultName.{suffix_fault_name}
 use Rattle.dfu_output.specs.declared.exit.Exit.{Exit}
 use Rattle.dfu_output.specs.declared.exit.Exit.TheVariants.{Done, Refused, Fault}
 
--- Lower-case hexadecimal digits of a number, with zeros before them if there are fewer than the width.
+-- Lower-case hexadecimal digits of a number, padded with zeros to the width.
 abbrev pub hex_padded : ℕ → ℕ → List ℕ
 hex_padded width n = padded_integral (format_spec 32 0 4 width (2 ^ 64 - 1)) false [] (digits 16 false n)
 
@@ -31,21 +31,21 @@ fault_exit Read = Fault
 fault_exit Write = Fault
 fault_exit f = Refused
 
--- Line for an answer: `line` of its value, or the line for its fault.
+-- Line for an answer: `line` of the value, or the line for the fault.
 abbrev pub line_of_answer : {T : Type 0} → (line : T → List ℕ) → Result T SuffixFault → List ℕ
 line_of_answer line (Ok x) = line x
 line_of_answer line (Err f) = fault_line f
 
--- Exit for an answer: Done for a value, or the exit for its fault.
+-- Exit for an answer: Done for a value, and the exit for the fault otherwise.
 abbrev pub exit_of_answer : {T : Type 0} → Result T SuffixFault → Exit
 exit_of_answer (Ok x) = Done
 exit_of_answer (Err f) = fault_exit f
 
--- Line for a command line that isn't understood: `bad words`.
+-- Line for an invalid command line: `bad words`.
 abbrev pub bad_words_line : List ℕ
 bad_words_line = codes "bad words" ++ 10 ∷ []
 
--- `fault` is the fault of the answer. For an answer without a fault, it is None, or NoMemory if there was no memory for the line.
+-- `fault` is the fault of the answer. If the answer has none, it is None, or NoMemory if there was no memory for the line.
 abbrev pub IsFaultOf : {T : Type 0} → Result T SuffixFault → Option SuffixFault → Type 0
 IsFaultOf (Ok x) fault = (fault ≡ None) ⊎ (fault ≡ Some NoMemory)
 IsFaultOf (Err f) fault = fault ≡ Some f

@@ -7,15 +7,15 @@ use Rattle.dfu_wire.specs.declared.fault.WireFault.{WireFault}
 use Rattle.dfu_wire.specs.declared.fault.WireFault.TheVariants as fault
 use Rattle.dfu_output.specs.ShowLines.{functional_line}
 
--- The descriptor is of a DFU interface: class FEh, subclass 01h (USB DFU 1.1, section 4.1.2).
+-- The descriptor describes a DFU interface: class FEh and subclass 01h (USB DFU 1.1, section 4.1.2).
 abbrev pub IsDfuInterface : List ℕ → Type 0
 IsDfuInterface d = (slice_index d 5 ≡ 0xfe) × (slice_index d 6 ≡ 1)
 
--- Name of the mode of a DFU interface, by its protocol: 1 is the application (`run-time`), 2 is DFU mode (`dfu`), and any other is `other`.
+-- Name of the mode for the protocol of a DFU interface: `run-time` for 1, `dfu` for 2, and `other` for any other.
 abbrev pub mode_name : ℕ → List ℕ
 mode_name n = if n == 1 then codes "run-time" else (if n == 2 then codes "dfu" else codes "other")
 
--- Line for a configuration: `configuration N`, N being its bConfigurationValue.
+-- Line for a configuration: `configuration N`, where N is its bConfigurationValue.
 unfoldable pub configuration_line : ℕ → List ℕ
 configuration_line value = codes "configuration " ++ decimal value ++ 10 ∷ []
 
@@ -25,8 +25,9 @@ interface_line number alternate protocol string =
     codes "interface" ++ (codes " " ++ decimal number) ++ (codes " alternate " ++ decimal alternate)
     ++ (codes " mode " ++ mode_name protocol) ++ (codes " string " ++ decimal string) ++ 10 ∷ []
 
--- Text that one descriptor adds, or its fault: a line for a DFU interface, and for a functional descriptor that belongs to one; no text for
--- any other. `inside` means that the descriptor belongs to a DFU interface, and the second Bool that the next descriptor does.
+-- Text that one descriptor adds, or its fault. A DFU interface adds a line, and so does a functional descriptor that belongs to one; other
+-- descriptors add nothing. `inside` is true if the descriptor belongs to a DFU interface, and the second Bool is true if the next
+-- descriptor belongs to one.
 pub data DescriptorText (inside : Bool) (d : List ℕ) : Bool → Result (List ℕ) WireFault → Type 0 where
   -- A descriptor of a DFU interface adds a line.
   dfu_interface : slice_index d 1 ≡ 4 → 9 ≤ length d → IsDfuInterface d →
@@ -38,37 +39,37 @@ pub data DescriptorText (inside : Bool) (d : List ℕ) : Bool → Result (List �
   -- A functional descriptor of a DFU interface adds a line.
   functional : {f : Functional} → inside ≡ true → slice_index d 1 ≡ 0x21 → IsFunctional f d →
       DescriptorText inside d inside (Ok (functional_line f))
-  -- A functional descriptor of a DFU interface that can't be read has its own fault.
+  -- A functional descriptor of a DFU interface can't be decoded. Its first fault is reported.
   bad_functional : {e : WireFault} → inside ≡ true → slice_index d 1 ≡ 0x21 → FirstFunctionalFault e d
       → DescriptorText inside d inside (Err e)
-  -- Any other descriptor adds no text: it is of another type, or of type 21h outside a DFU interface.
+  -- A descriptor of another type, or of type 21h outside a DFU interface, adds no text.
   other : slice_index d 1 ≢ 4 → (inside ≡ false) ⊎ (slice_index d 1 ≢ 0x21) → DescriptorText inside d inside (Ok [])
 
--- Text followed by the text of a result; or the fault of the result.
+-- Puts a text before the text of a result. A fault stays unchanged.
 abbrev pub text_then_result : List ℕ → Result (List ℕ) WireFault → Result (List ℕ) WireFault
 text_then_result text (Ok rest) = Ok (text ++ rest)
 text_then_result text (Err e) = Err e
 
--- Text that successive descriptors add, or their first fault. The first byte of each is its length, at least 2 and at most the number of
--- the bytes left.
+-- Text that successive descriptors add, or their first fault. The first byte of a descriptor is its length, which must be at least 2 and at
+-- most the number of remaining bytes.
 pub data DescriptorsText : Bool → List ℕ → Result (List ℕ) WireFault → Type 0 where
-  -- No bytes are left.
+  -- No bytes remain.
   end : {inside : Bool} → DescriptorsText inside [] (Ok [])
-  -- The first byte, the length of the next descriptor, is below 2.
+  -- The first byte, which is the descriptor's length, is below 2.
   descriptor_without_length : {inside : Bool} {b : List ℕ} → 0 < length b → slice_index b 0 < 2 →
       DescriptorsText inside b (Err fault.WrongLength)
-  -- The next descriptor ends after the last byte.
+  -- The next descriptor extends beyond the last byte.
   short : {inside : Bool} {b : List ℕ} → 2 ≤ slice_index b 0 → 0 < length b → length b < slice_index b 0
       → DescriptorsText inside b (Err fault.Short)
   -- The next descriptor has a fault.
   stops : {inside now : Bool} {b : List ℕ} {e : WireFault} → 2 ≤ slice_index b 0 → slice_index b 0 ≤ length b →
       DescriptorText inside (take (slice_index b 0) b) now (Err e) → DescriptorsText inside b (Err e)
-  -- The next descriptor adds its text, and the descriptors behind it add theirs or have the first fault.
+  -- The next descriptor adds its text. The descriptors after it add theirs or have the first fault.
   goes_on : {inside now : Bool} {b text : List ℕ} {rest : Result (List ℕ) WireFault} → 2 ≤ slice_index b 0 → slice_index b 0 ≤ length b →
       DescriptorText inside (take (slice_index b 0) b) now (Ok text) → DescriptorsText now (drop (slice_index b 0) b) rest →
       DescriptorsText inside b (text_then_result text rest)
 
--- Number of bytes of a configuration descriptor and of the descriptors after it, by wTotalLength.
+-- Value of wTotalLength: the number of bytes of a configuration descriptor and of the descriptors after it.
 abbrev pub total_length : List ℕ → ℕ
 total_length bytes = slice_index bytes 2 + 256 * slice_index bytes 3
 
@@ -76,28 +77,28 @@ total_length bytes = slice_index bytes 2 + 256 * slice_index bytes 3
 pub data ConfigurationText (bytes : List ℕ) : Result (List ℕ) WireFault → Type 0 where
   -- There are fewer than nine bytes.
   fewer_than_nine : length bytes < 9 → ConfigurationText bytes (Err fault.Short)
-  -- The second byte, the type, isn't 02h.
+  -- The second byte, which is the descriptor's type, isn't 02h.
   not_a_configuration : 9 ≤ length bytes → slice_index bytes 1 ≢ 2 → ConfigurationText bytes (Err fault.WrongType)
-  -- The first byte, the length, isn't 9.
+  -- The first byte, which is the descriptor's length, isn't 9.
   wrong_own_length : 9 ≤ length bytes → slice_index bytes 1 ≡ 2 → slice_index bytes 0 ≢ 9 → ConfigurationText bytes (Err fault.WrongLength)
-  -- There are fewer bytes than wTotalLength says.
+  -- There are fewer than wTotalLength bytes.
   short : 9 ≤ length bytes → slice_index bytes 1 ≡ 2 → slice_index bytes 0 ≡ 9 → length bytes < total_length bytes →
       ConfigurationText bytes (Err fault.Short)
-  -- There are more bytes than wTotalLength says.
+  -- There are more than wTotalLength bytes.
   long : 9 ≤ length bytes → slice_index bytes 1 ≡ 2 → slice_index bytes 0 ≡ 9 → total_length bytes < length bytes →
       ConfigurationText bytes (Err fault.Long)
-  -- The lengths are right: the line of the configuration, and then the text of the descriptors behind it; or their first fault.
+  -- The lengths are right. The text is the line of the configuration and the text of the descriptors after it, or their first fault.
   whole : {rest : Result (List ℕ) WireFault} → 9 ≤ length bytes → slice_index bytes 1 ≡ 2 → slice_index bytes 0 ≡ 9 →
       total_length bytes ≡ length bytes → DescriptorsText false (drop 9 bytes) rest
       → ConfigurationText bytes (text_then_result (configuration_line (slice_index bytes 5)) rest)
 
--- A descriptor added its text to a line, and `now` means that the next descriptor belongs to a DFU interface; or the descriptor has the
--- fault `e`.
+-- Ok means that a descriptor added its text to a line, where `now` is true if the next descriptor belongs to a DFU interface. Err holds the
+-- fault of the descriptor.
 abbrev pub DescriptorTextAdded : (inside : Bool) (d old new : List ℕ) → Result Bool WireFault → Type 0
 DescriptorTextAdded inside d old new (Ok now) = (text : List ℕ) × DescriptorText inside d now (Ok text) × (new ≡ old ++ text)
 DescriptorTextAdded inside d old new (Err e) = DescriptorText inside d inside (Err e)
 
--- Successive descriptors added their text to a line; or their first fault is `e`.
+-- Successive descriptors added their text to a line, or `e` is their first fault.
 abbrev pub DescriptorsTextAdded : (bytes old new : List ℕ) → Result (Unit {0}) WireFault → Type 0
 DescriptorsTextAdded bytes old new (Ok done) = (text : List ℕ) × DescriptorsText false bytes (Ok text) × (new ≡ old ++ text)
 DescriptorsTextAdded bytes old new (Err e) = DescriptorsText false bytes (Err e)

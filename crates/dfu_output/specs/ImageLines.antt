@@ -1,4 +1,4 @@
--- Lines for image files, each ended by 0Ah.
+-- Lines about image files. Each line ends with 0Ah.
 use Rattle.std.specs.Prelude.{ℕ, List, [], ◌∷◌, ◌++◌, codes}
 use Rattle.std.specs.Fmt.{decimal}
 use Rattle.dfu_formats.specs.declared.images.fault.ImageFault.{ImageFault}
@@ -15,18 +15,18 @@ use Rattle.dfu_formats.specs.declared.images.looks.NotImage.{NotImage}
 use Rattle.dfu_formats.specs.declared.images.looks.NotImage.TheVariants.{DfuSe, Zip, Gzip, Text, Named}
 use Rattle.dfu_output.specs.AnswerLines.{hex_padded}
 
--- Name of a format, a word of `--format`.
+-- Name of a format, as a value of `--format`.
 abbrev pub format_name : Format → List ℕ
 format_name IntelHex = codes "ihex"
 format_name SRecord = codes "srec"
 format_name Uf2 = codes "uf2"
 format_name Elf = codes "elf"
 
--- Line for an image: `format FORMAT address 0xAAAAAAAA`, with the address of its first byte.
+-- Line for an image: `format FORMAT address 0xAAAAAAAA`, with the address of the image's first byte.
 unfoldable pub image_format_line : Format → ℕ → List ℕ
 image_format_line format address = codes "format " ++ format_name format ++ (codes " address 0x" ++ hex_padded 8 address) ++ 10 ∷ []
 
--- Name of a fault of a file, and its line, block, segment or address, if it has one.
+-- Name of a fault of a file, followed by the number or the address to which the fault refers, if there is one.
 unfoldable pub image_fault_text : ImageFault → List ℕ
 image_fault_text fault.NoMemory = codes "NoMemory"
 image_fault_text (fault.NoMark at) = codes "NoMark " ++ decimal at
@@ -52,23 +52,23 @@ image_fault_text (fault.TooLarge at) = codes "TooLarge " ++ decimal at
 image_fault_text (fault.TooManyElements at) = codes "TooManyElements " ++ decimal at
 image_fault_text (fault.Overlaps address) = codes "Overlaps " ++ hex_padded 8 address
 
--- Name of the fault that keeps elements from being one piece; for a gap its addresses follow.
+-- Name of the fault because of which elements can't form one image. A Gap is followed by the addresses at which it begins and ends.
 unfoldable pub lay_fault_text : LayFault → List ℕ
 lay_fault_text lay.NoMemory = codes "NoMemory"
 lay_fault_text (lay.Gap from to) = codes "Gap " ++ hex_padded 8 from ++ (codes " " ++ hex_padded 8 to)
 lay_fault_text lay.TooLarge = codes "TooLarge"
 
--- Text of the fault that keeps a file from giving an image: its name, and its place or addresses, if it has them.
+-- Name of the fault because of which no image can be read from a file, followed by its number or addresses if it has any.
 abbrev pub fault_text : ImageFileFault → List ℕ
 fault_text (Unread fault) = image_fault_text fault
 fault_text NoData = codes "NoData"
 fault_text (Unlaid fault) = lay_fault_text fault
 
--- Line for a file that gives no image: `refused NAME`, and the place or the addresses of the fault, if it has them.
+-- Line for a file from which no image can be read: `refused NAME`, followed by the number or addresses of the fault if it has any.
 unfoldable pub refused_line : ImageFileFault → List ℕ
 refused_line fault = codes "refused " ++ fault_text fault ++ 10 ∷ []
 
--- Word for the ending of a file's name: the name of a format, or `dfu`.
+-- Word for the extension of a file's name: the name of a format, or `dfu`.
 abbrev pub ending_name : Ending → List ℕ
 ending_name (ending.Of format) = format_name format
 ending_name ending.Dfu = codes "dfu"

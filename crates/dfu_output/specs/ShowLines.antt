@@ -1,4 +1,4 @@
--- The lines of `dfu show`, each ended by 0Ah.
+-- The lines of `dfu show`. Each line ends with 0Ah.
 use Rattle.std.specs.Prelude.{ℕ, Bool, true, false, List, [], ◌∷◌, ◌++◌, codes}
 use Rattle.std.specs.Fmt.{decimal}
 use Rattle.hex.specs.declared.error.FromHexError.{FromHexError}
@@ -29,7 +29,7 @@ functional_line f =
     ++ (codes " detach " ++ decimal f.detach_ms) ++ (codes " transfer " ++ decimal f.transfer)
     ++ (codes " version " ++ hex_padded 4 f.version) ++ 10 ∷ []
 
--- Line for a status, and for iString, its sixth byte: `status CODE poll N state STATE string N`.
+-- Line for a status and its iString, the sixth byte: `status CODE poll N state STATE string N`.
 unfoldable pub status_line : StatusFields → ℕ → List ℕ
 status_line s string =
     codes "status" ++ (codes " " ++ code_name s.code) ++ (codes " poll " ++ decimal s.poll_ms) ++ (codes " state " ++ state_name s.state)
@@ -39,13 +39,13 @@ status_line s string =
 unfoldable pub state_line : State → List ℕ
 state_line s = codes "state " ++ state_name s ++ 10 ∷ []
 
--- Line for a setup, and for the request for which it asks: `setup REQUEST kind HH number HH value N index N length N`.
+-- Line for a setup and its request: `setup REQUEST kind HH number HH value N index N length N`.
 unfoldable pub setup_line : Setup → Request → List ℕ
 setup_line s asked =
     codes "setup" ++ (codes " " ++ request_name asked) ++ (codes " kind " ++ hex_padded 2 s.kind) ++ (codes " number " ++ hex_padded 2 s.request)
     ++ (codes " value " ++ decimal s.value) ++ (codes " index " ++ decimal s.index) ++ (codes " length " ++ decimal s.length) ++ 10 ∷ []
 
--- Line for bytes that can't be decoded: `refused NAME`, NAME being their fault.
+-- Line for bytes that can't be decoded: `refused NAME`, where NAME is the fault.
 unfoldable pub wire_line : WireFault → List ℕ
 wire_line f = codes "refused " ++ wire_fault_name f ++ 10 ∷ []
 
@@ -53,7 +53,7 @@ wire_line f = codes "refused " ++ wire_fault_name f ++ 10 ∷ []
 abbrev pub no_hex_line : List ℕ
 no_hex_line = codes "refused BadHex" ++ 10 ∷ []
 
--- Line for a text that gives no bytes: `refused NoMemory` if memory ran out, and `refused BadHex` if the text isn't hexadecimal.
+-- Line for a text that can't be decoded: `refused NoMemory` if memory ran out, and `refused BadHex` if the text isn't hexadecimal.
 abbrev pub bad_hex_line : FromHexError → List ℕ
 bad_hex_line hex_error.OutOfMemory = fault_line NoMemory
 bad_hex_line e = no_hex_line

@@ -1,4 +1,4 @@
-//! `dfu add`: writes a file with a suffix, and a line about it.
+//! `dfu add`: writes a file with a suffix, and a line about the result.
 
 ghost use Rattle.std.specs.Prelude.{◌≡◌, IfOk, None};
 ghost use Rattle.std.specs.String.{string_bytes};
@@ -12,7 +12,7 @@ use dfu_wire::Ids;
 use std::alloc::{AllocError, Global};
 use std::io::{Read, Write};
 
-/// Returns the line for a file that was written: `wrote N`, N being `count`, the number of its bytes.
+/// Returns the line for a written file: `wrote N`, where N is `count`, the file's number of bytes.
 ///
 /// # Errors
 ///
@@ -24,12 +24,12 @@ pub fn wrote_line(alloc: Global, count: u32) -> Result<String, AllocError>
     line_of(alloc, "wrote", &[(" ", Number(count as u64))])
 }
 
-/// Writes the bytes of the reader and a suffix for them to `file`, and one line to `out`: `wrote N` with Done, N being the number of bytes
-/// in `file`; `refused NAME` with Refused; or `fault Read`, or `fault Write` of `file`, with Fault. After `fault Write` a prefix of the
-/// bytes is in `file`, not all of them; after any other refusal or fault, none. But if there is no memory for the line `wrote N`, it is
-/// `refused NoMemory`, and `file` is complete.
+/// Writes the bytes of the reader with a suffix to `file`, and one line to `out`: `wrote N` with Done, where N is the number of bytes in
+/// `file`, `refused NAME` with Refused, or `fault Read` or `fault Write` with Fault. After `fault Write` only a proper prefix of the bytes
+/// is in `file`, and after any other refusal or fault none. If there is no memory for the line `wrote N`, the line is `refused NoMemory`
+/// and `file` is complete.
 ///
-/// If `out` fails, the exit is Fault, and a prefix of the line is written, not all of it.
+/// If `out` fails, the exit is Fault, and only a proper prefix of the line is written.
 pub fn add_text<R: Read + Drop, F: Write, W: Write>(
     alloc: Global,
     reader: R,
@@ -44,7 +44,7 @@ pub fn add_text<R: Read + Drop, F: Write, W: Write>(
     exit
 }
 
-/// Adds a suffix as `add_text` does. Returns the exit, and the fault whose line was to be written, if there is one.
+/// Adds a suffix as `add_text` does. Returns the exit, and the fault that the line reports, if there is one.
 pub fn add_with_fault<R: Read + Drop, F: Write, W: Write>(
     alloc: Global,
     reader: R,

@@ -1,4 +1,4 @@
-//! `dfu check`: checks a file, and writes a line about it.
+//! `dfu check`: checks a file, and writes a line about the result.
 
 ghost use Rattle.std.specs.Prelude.{◌≡◌, IfOk, None};
 ghost use Rattle.std.specs.String.{string_bytes};
@@ -31,10 +31,10 @@ fn ok_line(alloc: Global, summary: &Summary) -> Result<String, AllocError>
 }
 
 /// Checks the bytes of the reader, and writes one line: `ok payload P suffix S device DDDD product PPPP vendor VVVV dfu BBBB crc CCCCCCCC`
-/// with Done, `refused NAME` with Refused, or `fault Read` with Fault. Memory is allocated only for the line `ok ..`: if that is refused,
-/// the line is `refused NoMemory`.
+/// with Done, `refused NAME` with Refused, or `fault Read` with Fault. Only the line `ok ..` needs memory. If it runs out, the line is
+/// `refused NoMemory`.
 ///
-/// If the writer fails, the exit is Fault; a prefix of the line is written, not all of it, and nothing more.
+/// If the writer fails, the exit is Fault, and only a proper prefix of the line is written.
 pub fn check_text<R: Read + Drop, W: Write>(alloc: Global, reader: R, writer: &mut W) -> Exit
     ensures { WritesCheckLine (R.remaining reader) (W.contents writer.old) (W.contents writer.new) result }
 {
@@ -43,8 +43,8 @@ pub fn check_text<R: Read + Drop, W: Write>(alloc: Global, reader: R, writer: &m
     exit
 }
 
-/// Checks the bytes as `check_text` does. Returns the exit, and the fault whose line was to be written, if there is one. Stores in
-/// `findings` the numbers for the reason of BadLength or BadCrc. After TooShort, TooLarge and Read, the findings mean nothing.
+/// Checks the bytes as `check_text` does. Returns the exit, and the fault that the line reports, if there is one. Stores in `findings` the
+/// numbers that explain BadLength or BadCrc. After TooShort, TooLarge and Read the findings have no meaning.
 pub fn check_with_fault<R: Read + Drop, W: Write>(
     alloc: Global,
     reader: R,

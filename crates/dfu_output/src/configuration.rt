@@ -10,13 +10,13 @@ use crate::show_lines::functional_line;
 use dfu_wire::{Functional, WireFault};
 use std::alloc::{AllocError, Global};
 
-// The type of an interface descriptor.
+// bDescriptorType of an interface descriptor.
 const INTERFACE: u8 = 4;
 
-// The type of a functional descriptor.
+// bDescriptorType of a functional descriptor.
 const FUNCTIONAL: u8 = 0x21;
 
-// Returns the name of the mode of a DFU interface, by its bInterfaceProtocol.
+// Returns the name of a DFU interface's mode for its bInterfaceProtocol.
 fn mode_name(protocol: u8) -> &'static str
     ensures { result.now ≡ mode_name protocol }
 {
@@ -47,7 +47,8 @@ fn interface_line(
     line_of(alloc, "interface", &fields)
 }
 
-// Adds the text of a descriptor, and returns true if the next descriptor belongs to a DFU interface; or returns the descriptor's fault.
+// Adds the text of a descriptor to `line`. Returns true if the next descriptor belongs to a DFU interface, or a fault if the descriptor is
+// bad.
 fn add(
     alloc: Global,
     line: &mut String,
@@ -81,7 +82,7 @@ fn add(
     }
 }
 
-// Returns the line for a configuration: `configuration N`, N being `value`, its bConfigurationValue.
+// Returns the line for a configuration: `configuration N`, where N is `value`, its bConfigurationValue.
 #[tactic(auto, unfolding(crate::specs::Configuration::configuration_line))]
 fn configuration_line(alloc: Global, value: u8) -> Result<String, AllocError>
     ensures { IfOk result (λ t. string_bytes t ≡ configuration_line value) }
@@ -89,7 +90,7 @@ fn configuration_line(alloc: Global, value: u8) -> Result<String, AllocError>
     line_of(alloc, "configuration ", &[("", Number(value as u64))])
 }
 
-// Adds the texts of successive descriptors, up to the first fault, which it returns.
+// Adds the texts of successive descriptors to `line`. Stops at the first fault and returns it.
 fn walk(alloc: Global, line: &mut String, bytes: &[u8]) -> Result<Result<(), WireFault>, AllocError>
     ensures { IfOk result (λ r. DescriptorsTextAdded bytes.now (string_bytes line.old) (string_bytes line.new) r) }
 {
@@ -118,9 +119,9 @@ fn walk(alloc: Global, line: &mut String, bytes: &[u8]) -> Result<Result<(), Wir
 /// 1. `Short`: there are fewer than nine bytes.
 /// 2. `WrongType`: the second byte is not 02h.
 /// 3. `WrongLength`: the first byte is not 9.
-/// 4. `Short`, `Long`: there are fewer bytes than wTotalLength says, or more.
-/// 5. The fault of the first bad descriptor after it: `WrongLength`, if its first byte is below 2, or it is an interface and has fewer than
-///    nine bytes; `Short`, if it ends after the last byte; or its own fault, if it is the functional descriptor of a DFU interface.
+/// 4. `Short` or `Long`: there are fewer or more than wTotalLength bytes.
+/// 5. The fault of the first bad descriptor after it. `WrongLength`: its first byte is below 2, or it is an interface descriptor with fewer
+///    than nine bytes. `Short`: it extends beyond the last byte. A functional descriptor of a DFU interface has its own faults.
 pub(crate) fn configuration_text(
     alloc: Global,
     bytes: &[u8],

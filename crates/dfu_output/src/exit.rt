@@ -1,4 +1,4 @@
-//! Exits of commands, and the lines of faults.
+//! Exits of commands, and the lines for their faults.
 
 ghost use Rattle.std.specs.Prelude.{◌≡◌, max};
 ghost use Rattle.dfu_output.specs.AnswerLines.{bad_words_line, fault_line, fault_exit};
@@ -9,21 +9,21 @@ use dfu_suffix::{SuffixFault, write_whole};
 use std::alloc::Global;
 use std::io::Write;
 
-/// Exit of a command, which decides the exit status of the program.
+/// Exit of a command, which determines the exit status of the program.
 #[derive(Clone, Copy)]
 pub enum Exit {
-    /// The command did what was asked: status 0.
+    /// The command succeeded: status 0.
     Done,
-    /// The input was refused, and the line names the reason: status 1.
+    /// The input was refused, and the printed line names the reason: status 1.
     Refused,
-    /// The words of the command line weren't understood: status 2.
+    /// The command line is invalid: status 2.
     BadWords,
     /// A file, standard input or standard output failed: status 3.
     Fault,
 }
 
 impl Exit {
-    /// Returns the exit status, from 0 to 3.
+    /// Returns the exit status of the program, from 0 to 3.
     pub fn status(self) -> u8
         ensures { result ≡ exit_status self }
     {
@@ -47,16 +47,16 @@ impl Exit {
     }
 }
 
-/// Exit of a command, and the line for standard error that gives the reason, if there is one.
+/// Exit of a command, and the reason for standard error if there is one.
 #[derive(Drop)]
 pub struct Outcome {
-    /// Exit of the command.
+    /// Exit of the command; for several files, the worst one.
     pub exit: Exit,
-    /// Line with the reason, if one is wanted and the printed line doesn't say it.
+    /// Line with the reason. It is None if no reason is requested, if the printed line already gives the reason, or if memory ran out.
     pub reason: Option<String>,
 }
 
-/// Returns the lines of `first` and then those of `second`, as far as there is memory for them; None if both are None.
+/// Returns the lines of `first` followed by those of `second`, or None if both are None. Lines for which there is no memory are left out.
 fn joined_lines(alloc: Global, first: Option<String>, second: Option<String>) -> Option<String> {
     match (first, second) {
         (Some(first), Some(second)) => {
@@ -71,7 +71,8 @@ fn joined_lines(alloc: Global, first: Option<String>, second: Option<String>) ->
 }
 
 impl Outcome {
-    /// Returns the outcome of two files, this one and `next`: the worse exit, and the reasons of both, as far as there is memory for them.
+    /// Returns the outcome of two files, this one and `next`: the worse exit and both reasons. A reason for which there is no memory is
+    /// left out.
     pub fn and(self, alloc: Global, next: Outcome) -> Outcome
         ensures { exit_status result.exit ≡ max (exit_status self.exit) (exit_status next.exit) }
     {
@@ -83,8 +84,8 @@ impl Outcome {
     }
 }
 
-/// Writes a whole text, and returns `exit`; or Fault, if the writer fails.
-// Not inlined, so that the program has it once: many commands call it.
+/// Writes all of `text` and returns `exit`, or returns Fault if the writer fails.
+// Many commands call this, and a single copy keeps the program small.
 #[inline(never)]
 pub fn write_out<W: Write>(writer: &mut W, text: &[u8], exit: Exit) -> Exit
     ensures { TextIsOut (W.contents writer.old) (W.contents writer.new) text.now exit result }
@@ -116,17 +117,17 @@ fn fault_exit(fault: SuffixFault) -> Exit
     }
 }
 
-/// Writes the line of a fault: `fault NAME` for Read and Write, and `refused NAME` for any other fault.
+/// Writes the line for a fault: `fault NAME` for Read and Write, and `refused NAME` for any other fault.
 ///
-/// Returns Fault for Read and Write, and Refused for any other fault. If the writer fails, it returns Fault, and a prefix of the line is
-/// written, not all of it.
+/// Returns Fault for Read and Write, and Refused for any other fault. If the writer fails, it returns Fault, and only a proper prefix of
+/// the line is written.
 pub fn fault_text<W: Write>(fault: SuffixFault, writer: &mut W) -> Exit
     ensures { TextIsOut (W.contents writer.old) (W.contents writer.new) (fault_line fault) (fault_exit fault) result }
 {
     write_out(writer, fault_line(fault).as_bytes(), fault_exit(fault))
 }
 
-/// Writes the line `bad words` for a command line that isn't understood, and returns BadWords; or Fault, if the writer fails.
+/// Writes the line `bad words` for an invalid command line. Returns BadWords, or Fault if the writer fails.
 pub fn bad_words<W: Write>(writer: &mut W) -> Exit
     ensures { TextIsOut (W.contents writer.old) (W.contents writer.new) bad_words_line Exit.BadWords result }
 {

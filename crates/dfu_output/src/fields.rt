@@ -1,4 +1,4 @@
-//! Lines of fields, each a label and a value, and the digits of numbers. Functions that are called often aren't inlined, to keep the
+//! Lines of fields and the digits of numbers; each field has a label and a value. Functions with many callers aren't inlined, to keep the
 //! program small.
 
 ghost use Rattle.std.specs.Prelude.{◌≡◌, ◌++◌, ◌∷◌, [], IfOk, OnOk};
@@ -8,10 +8,10 @@ ghost use Rattle.dfu_output.specs.Fields.{value_text, text_with_fields};
 
 use std::alloc::{AllocError, Global};
 
-/// Value of a field, in the form in which it is written.
+/// Value of a field, with the form in which it is written.
 #[derive(Clone, Copy)]
 pub(crate) enum Value<'v> {
-    /// The text as it is.
+    /// A text, unchanged.
     Text(&'v str),
     /// `yes` or `no`.
     Flag(bool),
@@ -25,7 +25,7 @@ pub(crate) enum Value<'v> {
     Hex8(u64),
 }
 
-/// A field: a label, and the value after it.
+/// A label and the value after it.
 pub(crate) type Field<'v> = (&'v str, Value<'v>);
 
 /// Returns `n` in two lower-case hexadecimal digits.
@@ -74,7 +74,6 @@ pub fn made_field(line: &mut String, label: &str, value: String) -> Result<(), A
     field(line, label, &value)
 }
 
-/// Adds a field to a line.
 fn push_field(
     alloc: Global,
     line: &mut String,
@@ -94,7 +93,7 @@ fn push_field(
     }
 }
 
-/// Adds fields to a line.
+/// Adds the labels and values of `fields` to a line, in their order.
 pub(crate) fn push_fields(
     alloc: Global,
     line: &mut String,
@@ -108,7 +107,7 @@ pub(crate) fn push_fields(
     Ok(())
 }
 
-/// Returns the text of `fields`, one after the other.
+/// Returns the texts of `fields`, one after the other.
 ///
 /// # Errors
 ///
@@ -121,7 +120,7 @@ pub(crate) fn text_of(alloc: Global, fields: &[Field<'_>]) -> Result<String, All
     Ok(text)
 }
 
-/// Returns the line of `first`, `fields` and a line feed.
+/// Returns a line that consists of `first`, `fields` and a line feed.
 ///
 /// # Errors
 ///

@@ -1,10 +1,10 @@
 //! The lines that the program `dfu` prints, and the exits of its commands.
 //!
-//! `check_text`, `add_text` and `judge_text` are the commands over a reader and writers, and `show_text` is one over a text and a writer.
-//! The crate opens no file.
+//! `check_text`, `add_text` and `judge_text` run commands on a reader and writers, and `show_text` runs one on a text and a writer. The
+//! crate opens no file.
 #![tactic(auto)]
 
-/// Text of an enum's value, by a table of variants and texts.
+/// Returns the text for a variant of an enum from a table of variants and texts.
 macro_rules! named {
     ($value:expr, $kind:ident, $($variant:ident $text:literal),+) => {
         match $value {
@@ -13,7 +13,7 @@ macro_rules! named {
     };
 }
 
-/// Line of an enum's value: `refused NAME`, NAME being its variant, or, for each `$other`, the line beside it.
+/// Returns the line `refused NAME` for a variant of an enum, where NAME is the variant. Each `$other` has its own line instead.
 macro_rules! refused {
     ($value:expr, $kind:ident, $($variant:ident)+ $(, $other:ident $line:literal)*) => {
         match $value {

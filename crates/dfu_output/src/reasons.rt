@@ -8,17 +8,17 @@ ghost use Rattle.dfu_output.specs.ShownText.{visible_character, visible_prefix};
 use crate::fields::{field, push};
 use std::alloc::{AllocError, Global};
 
-/// Largest number of characters of a name that are shown.
+/// Largest number of characters of a name in a line.
 const SHOWN_CHARACTERS: u32 = 4096;
 
-/// Returns `letter` as a terminal may show it: `?` for a control character.
+/// Returns `letter`, or `?` if it is a control character.
 fn plain(letter: char) -> char
     ensures { result ≡ visible_character letter }
 {
     if letter.is_control() { '?' } else { letter }
 }
 
-/// Returns the first character of `text`, and the text after it; None if `text` is empty.
+/// Returns the first character of `text` and the text after it, or None if `text` is empty.
 fn first_of(text: &str) -> Option<(char, &str)>
     ensures { MatchOption result (chars text.now ≡ []) (λ (c, rest). chars text.now ≡ c ∷ chars rest.now) }
 {
@@ -29,8 +29,8 @@ fn first_of(text: &str) -> Option<(char, &str)>
     }
 }
 
-/// Returns at most the first 4,096 characters of `text`, with `?` for each control character, so that the result is one line and no
-/// terminal obeys it.
+/// Returns the first 4,096 characters of `text` or fewer, with `?` for each control character. The result is a single line, and a terminal
+/// doesn't interpret it.
 fn shown(alloc: Global, text: &str) -> Result<String, AllocError>
     ensures { IfOk result (λ t. string_bytes t ≡ visible_prefix 4096 text.now) }
 {
@@ -48,8 +48,8 @@ fn shown(alloc: Global, text: &str) -> Result<String, AllocError>
     Ok(line)
 }
 
-/// Returns the line of a reason, `dfu: LABELNAME: WHY`: `label` and `name` are the subject, with `name` as a terminal may show it, and
-/// `why` is the reason.
+/// Returns the line with a reason: `dfu: LABELNAME: WHY`. `label` and `name` are the subject, and `why` is the reason. Control characters
+/// in `name` are replaced by `?`.
 ///
 /// # Errors
 ///
@@ -66,8 +66,8 @@ pub fn reason_line(alloc: Global, label: &str, name: &str, why: &str) -> Result<
     Ok(line)
 }
 
-/// Returns the text before each line of file `name`, one of several: at most 4,096 characters of the name, as a terminal may show them, a
-/// colon and a space.
+/// Returns the prefix of each line about the file `name`, one of several files: at most 4,096 characters of the name, a colon and a space.
+/// Control characters in `name` are replaced by `?`.
 ///
 /// # Errors
 ///

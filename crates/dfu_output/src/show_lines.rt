@@ -30,7 +30,7 @@ pub(crate) fn functional_line(alloc: Global, f: &Functional) -> Result<String, A
     line_of(alloc, "functional", &fields)
 }
 
-/// Returns the line for `status` and `string`, its sixth byte: `status CODE poll N state STATE string N`.
+/// Returns the line for `status` and its sixth byte `string`: `status CODE poll N state STATE string N`.
 #[tactic(auto, unfolding(crate::specs::ShowLines::status_line))]
 pub(crate) fn status_line(alloc: Global, status: &Status, string: u8) -> Result<String, AllocError>
     ensures { IfOk result (λ t. string_bytes t ≡ status_line status.now string) }
@@ -52,7 +52,7 @@ pub(crate) fn state_line(alloc: Global, state: State) -> Result<String, AllocErr
     line_of(alloc, "state ", &[("", Text(state.name()))])
 }
 
-/// Returns the line for `setup`, and for `asked`, its request: `setup REQUEST kind HH number HH value N index N length N`.
+/// Returns the line for `setup` and its request `asked`: `setup REQUEST kind HH number HH value N index N length N`.
 #[tactic(auto, unfolding(crate::specs::ShowLines::setup_line))]
 pub(crate) fn setup_line(alloc: Global, setup: &Setup, asked: Request) -> Result<String, AllocError>
     ensures { IfOk result (λ t. string_bytes t ≡ setup_line setup.now asked) }
@@ -68,7 +68,7 @@ pub(crate) fn setup_line(alloc: Global, setup: &Setup, asked: Request) -> Result
     line_of(alloc, "setup", &fields)
 }
 
-/// Returns the line for bytes that can't be decoded because of `fault`: `refused NAME`, NAME being the fault.
+/// Returns the line for bytes that can't be decoded: `refused NAME`, where NAME is `fault`.
 #[tactic(auto, unfolding(crate::specs::ShowLines::wire_line))]
 pub(crate) fn wire_line(fault: WireFault) -> &'static str
     ensures { result.now ≡ wire_line fault }
@@ -78,7 +78,8 @@ pub(crate) fn wire_line(fault: WireFault) -> &'static str
     )
 }
 
-/// Returns the line for a text that gives no bytes: `refused NoMemory` if memory ran out, and `refused BadHex` if it isn't hexadecimal.
+/// Returns the line for a text that can't be decoded: `refused NoMemory` if memory ran out, and `refused BadHex` if the text isn't
+/// hexadecimal.
 pub(crate) fn bad_hex_line(error: FromHexError) -> &'static str
     ensures { result.now ≡ bad_hex_line error }
 {

@@ -1,4 +1,4 @@
-//! `dfu show`: decodes bytes of the wire, and writes their fields.
+//! `dfu show`: decodes bytes of USB messages, and writes their fields.
 
 ghost use Rattle.std.specs.Prelude.{◌≡◌, codes};
 ghost use Rattle.dfu_output.specs.Output.{TextIsOut};
@@ -15,7 +15,7 @@ use dfu_wire::{Functional, Request, Setup, State, Status, WireFault};
 use std::alloc::Global;
 use std::io::Write;
 
-/// Decodes a hexadecimal text, and passes its bytes to `$write`; or writes the line for a text that gives no bytes.
+/// Decodes a hexadecimal text and passes its bytes to `$write`, or writes the line for a text that can't be decoded.
 macro_rules! decoded {
     ($hex:ident, $write:ident($alloc:ident, $writer:ident)) => {
         match hex::decode($alloc, $hex) {
@@ -25,7 +25,7 @@ macro_rules! decoded {
     };
 }
 
-/// Decodes `bytes` as a functional descriptor, and writes the line for it, for the first fault, or for a lack of memory.
+/// Decodes `bytes` as a functional descriptor. Writes the line for it, for the first fault, or for a lack of memory.
 fn write_functional<W: Write>(alloc: Global, bytes: &[u8], writer: &mut W) -> Exit
     ensures { WritesFunctionalLine bytes.now (W.contents writer.old) (W.contents writer.new) result }
 {
@@ -38,7 +38,7 @@ fn write_functional<W: Write>(alloc: Global, bytes: &[u8], writer: &mut W) -> Ex
     }
 }
 
-/// Decodes `bytes` as a status, and writes the line for it, for the first fault, or for a lack of memory.
+/// Decodes `bytes` as a status. Writes the line for it, for the first fault, or for a lack of memory.
 fn write_status<W: Write>(alloc: Global, bytes: &[u8], writer: &mut W) -> Exit
     ensures { WritesStatusLine bytes.now (W.contents writer.old) (W.contents writer.new) result }
 {
@@ -51,7 +51,7 @@ fn write_status<W: Write>(alloc: Global, bytes: &[u8], writer: &mut W) -> Exit
     }
 }
 
-// Decodes the one byte of an answer to GETSTATE.
+// Decodes the single byte of an answer to GETSTATE.
 fn state_in(bytes: &[u8]) -> Result<State, WireFault>
     ensures { DecodesStateBytes bytes.now result }
 {
@@ -62,7 +62,7 @@ fn state_in(bytes: &[u8]) -> Result<State, WireFault>
     }
 }
 
-/// Decodes `bytes` as a state, and writes the line for it, for the first fault, or for a lack of memory.
+/// Decodes `bytes` as a state. Writes the line for it, for the first fault, or for a lack of memory.
 fn write_state<W: Write>(alloc: Global, bytes: &[u8], writer: &mut W) -> Exit
     ensures { WritesStateLine bytes.now (W.contents writer.old) (W.contents writer.new) result }
 {
@@ -75,16 +75,16 @@ fn write_state<W: Write>(alloc: Global, bytes: &[u8], writer: &mut W) -> Exit
     }
 }
 
-/// A setup, and the request for which it asks if its interface is taken as 0.
+/// A setup, and the request that it encodes if its index is set to 0.
 #[derive(Clone, Copy)]
 pub(crate) struct RequestedSetup {
-    /// The setup, as its bytes say it.
+    /// The setup with the index from its bytes.
     pub(crate) setup: Setup,
-    /// The request for which it asks.
+    /// The request that the setup encodes for interface 0.
     pub(crate) asked: Request,
 }
 
-// Decodes the eight bytes of a setup, and the request for which it asks if its interface is taken as 0.
+// Decodes the eight bytes of a setup. The request is the one that the setup encodes if its index is set to 0.
 fn setup_in(bytes: &[u8]) -> Result<RequestedSetup, WireFault>
     ensures { DecodesSetupBytes bytes.now result }
 {
@@ -100,7 +100,7 @@ fn setup_in(bytes: &[u8]) -> Result<RequestedSetup, WireFault>
     Ok(RequestedSetup { setup, asked })
 }
 
-/// Decodes `bytes` as a setup, and writes the line for it, for the first fault, or for a lack of memory.
+/// Decodes `bytes` as a setup. Writes the line for it, for the first fault, or for a lack of memory.
 fn write_setup<W: Write>(alloc: Global, bytes: &[u8], writer: &mut W) -> Exit
     ensures { WritesSetupLine bytes.now (W.contents writer.old) (W.contents writer.new) result }
 {
@@ -113,7 +113,7 @@ fn write_setup<W: Write>(alloc: Global, bytes: &[u8], writer: &mut W) -> Exit
     }
 }
 
-/// Decodes `bytes` as a configuration, and writes its lines, or the line for the first fault or for a lack of memory.
+/// Decodes `bytes` as a configuration. Writes its lines, or the line for the first fault or for a lack of memory.
 fn write_configuration<W: Write>(alloc: Global, bytes: &[u8], writer: &mut W) -> Exit
     ensures { WritesConfigurationText bytes.now (W.contents writer.old) (W.contents writer.new) result }
 {
@@ -159,23 +159,23 @@ fn show_configuration<W: Write>(alloc: Global, hex: &str, writer: &mut W) -> Exi
     decoded!(hex, write_configuration(alloc, writer))
 }
 
-/// Decodes the bytes of `hex`, two hexadecimal digits of either case each, and writes a line for them; for a configuration, also a line for
-/// each DFU interface and for each functional descriptor.
+/// Decodes the bytes that `hex` gives with two hexadecimal digits each, of either case, and writes a line about them. For a configuration,
+/// it also writes a line for each DFU interface and each functional descriptor.
 ///
-/// - `kind` is not one of those below: `bad words`, with BadWords.
-/// - `hex` has an odd count of digits, or another character: `refused BadHex`, with Refused.
-/// - The bytes don't decode: `refused NAME`, NAME being the first fault, with Refused.
-/// - Else, with Done, Y being `yes` or `no`:
-///   - `functional download Y upload Y tolerant Y will-detach Y detach N transfer N version HHHH`, a functional descriptor;
-///   - `status CODE poll N state STATE string N`, an answer to GETSTATUS;
-///   - `state STATE`, an answer to GETSTATE;
-///   - `setup REQUEST kind HH number HH value N index N length N`, the eight bytes of a setup: REQUEST is its request at any interface,
+/// - `kind` is not one of the kinds below: `bad words`, with BadWords.
+/// - `hex` has an odd number of digits, or a character that isn't a digit: `refused BadHex`, with Refused.
+/// - The bytes can't be decoded: `refused NAME`, where NAME is the first fault, with Refused.
+/// - Otherwise one of these lines, with Done, where Y is `yes` or `no`:
+///   - `functional download Y upload Y tolerant Y will-detach Y detach N transfer N version HHHH`, for a functional descriptor;
+///   - `status CODE poll N state STATE string N`, for an answer to GETSTATUS;
+///   - `state STATE`, for an answer to GETSTATE;
+///   - `setup REQUEST kind HH number HH value N index N length N`, for the eight bytes of a setup. REQUEST is its request at any interface,
 ///     `other-class` or `not-dfu`;
-///   - `configuration N`, a configuration descriptor with all descriptors after it, and then `interface N alternate N mode MODE string N`,
-///     MODE being `run-time`, `dfu` or `other`, and `functional ..` as above, in the order of the bytes.
+///   - `configuration N`, for a configuration descriptor with all descriptors after it. Lines `interface N alternate N mode MODE string N`,
+///     where MODE is `run-time`, `dfu` or `other`, and `functional ..` as above follow in the order of the bytes.
 ///
-/// The first case that applies decides. If an allocation is refused, the line is `refused NoMemory`, with Refused. If the writer fails, the
-/// exit is Fault, and a prefix of the text is written, not all of it.
+/// The first case that applies decides. If an allocation fails, the line is `refused NoMemory`, with Refused. If the writer fails, the exit
+/// is Fault, and only a proper prefix of the text is written.
 pub fn show_text<W: Write>(alloc: Global, kind: &str, hex: &str, writer: &mut W) -> Exit
     ensures functional { kind.now ≡ codes "functional"
         → WritesAboutHexText WritesFunctionalLine hex.now (W.contents writer.old) (W.contents writer.new) result }

@@ -1,4 +1,4 @@
--- Spans of the part that are erased for virtual sectors, and have no byte in common.
+-- The spans that are erased for two virtual sectors have no byte in common.
 use Rattle.std.proofs.Common.{◌≡◌, ◌⊎◌, inl, inr, ⊎_elim, ℕ, ◌+◌, ◌%◌, ◌≤◌, ◌<◌, ◌==◌, ◌||◌, ◌&&◌, nat_lt, Bool, true, false, Some, None, List, refl, sym, ◌∙◌, ap, arith, if◌then◌else◌}
 use Rattle.std.proofs.lemmas.Option.{same_Some}
 use Rattle.dfu_slots.proofs.Sectors.{sector_ends_before_edge}
@@ -25,13 +25,14 @@ pub record ErasesDataSector (p : Placement) (rank offset : ℕ) (s : Span) : Typ
   pub within : offset < (span_at p rank).len
   pub len : s.len ≡ p.sector
 
--- The erased span is all of a gate or a header.
+-- The erased span is a whole gate or header.
 pub record ErasesHead (p : Placement) (rank offset : ℕ) (s : Span) : Type 0 where
   pub head_rank : is_data rank ≡ false
   pub front : offset ≡ 0
   pub len : s.len ≡ (span_at p rank).len
 
--- The span is erased for virtual byte `v`, which is byte `offset` of a thing of a slot: one virtual sector of data, or all of the thing.
+-- The span is erased for the virtual sector at virtual byte `v`. It is one virtual sector of data, or a whole gate or header, and `v` is
+-- byte `offset` of this data, gate or header.
 pub record IsErasedSpan (p : Placement) (v : ℕ) (s : Span) : Type 0 where
   pub rank : ℕ
   pub offset : ℕ
@@ -96,7 +97,7 @@ second_data_span_length : (p : Placement) → (span_at p 5).len ≡ p.second.dat
 unfolding span_at
 second_data_span_length p = refl
 
--- Data of either slot have as many bytes as the first data.
+-- The data of either slot are as long as the first data.
 pub data_spans_equal_first : (regions : List Region) (needs : Needs) (p : Placement) → IsPlacement regions needs p → (i : ℕ)
     → is_data i ≡ true →
     (span_at p i).len ≡ p.first.data.len
@@ -105,12 +106,12 @@ data_spans_equal_first regions needs p is i x = ⊎_elim
     (λ five. ap (λ r. (span_at p r).len) five ∙ second_data_span_length p ∙ is.sizes.second)
     (data_rank_is_two_or_five i (i == 2) (i == 5) refl refl x)
 
--- In things that begin at one place, the earlier of two bytes has the smaller offset.
+-- If two virtual bytes are in the same gate, header or data, the earlier one has the smaller offset.
 offsets_lt : (v w s t i j : ℕ) → v ≡ s + i → w ≡ t + j → s ≡ t → v < w → i < j
 offsets_lt v w s t i j a b c d = omega (arith, a, b, c, d)
 
 module _ (regions : List Region) (needs : Needs) (p : Placement) (is : IsPlacement regions needs p) where
-  -- The erased span ends within its thing.
+  -- The erased span ends within its gate, header or data.
   pub erase_ends_in_thing : (v : ℕ) (s : Span) (x : IsErasedSpan p v s) → end_of s ≤ end_of (span_at p x.rank)
   erase_ends_in_thing v s x = ⊎_elim
       (λ (part : ErasesDataSector p x.rank x.offset s).
@@ -120,7 +121,7 @@ module _ (regions : List Region) (needs : Needs) (p : Placement) (is : IsPlaceme
       (λ (all : ErasesHead p x.rank x.offset s). omega (arith, x.at, all.len, all.front))
       x.how
 
-  -- Spans within two spans that are apart are apart.
+  -- If two spans are apart, spans within them are apart.
   smaller : (s t big other : Span) → big.at ≤ s.at → end_of s ≤ end_of big → other.at ≤ t.at → end_of t ≤ end_of other → IsApart big other →
       IsApart s t
   smaller s t big other a b c d (inl e) = inl (omega (arith, a, b, c, d, e))
@@ -148,7 +149,7 @@ module _ (regions : List Region) (needs : Needs) (p : Placement) (is : IsPlaceme
       y.how)
       x.how
 
-  -- Spans that are erased for two virtual bytes are apart.
+  -- The spans that are erased for two virtual bytes are apart.
   spans_apart : (v w : ℕ) (s t : Span) (x : IsErasedSpan p v s) (y : IsErasedSpan p w t) → v < w → IsApart s t
   spans_apart v w s t x y lt = ⊎_elim
       (λ same. erases_in_thing_apart v w s t x y lt same)

@@ -1,4 +1,4 @@
--- Virtual bytes of a thing, side by side, have addresses side by side, in the same order.
+-- Consecutive virtual bytes of a gate, header or data have consecutive addresses, in the same order.
 use Rattle.std.proofs.Common.{◌≡◌, ℕ, ◌+◌, ◌-◌, ◌*◌, ◌≤◌, ◌<◌, nat_lt, Bool, true, false, Option, Some, None, refl, ◌∙◌, ap, arith, if◌then◌else◌}
 use Rattle.dfu_places.specs.declared.placement.Placement.{Placement}
 use Rattle.dfu_places.specs.Things.{span_at, bytes_at}
@@ -6,17 +6,17 @@ use Rattle.dfu_places.specs.Finding.{Spot, slot_len, spot_in, spot_of}
 use Rattle.dfu_places.specs.Laws.{IsInOrder}
 use Rattle.dfu_places.proofs.Spots.{found_address_is_computed}
 
--- Spot `i` bytes later in the same thing.
+-- Spot `i` bytes later in the same gate, header or data.
 abbrev later : Spot → ℕ → Spot
 later spot i = record { rank = spot.rank; offset = spot.offset + i }
 
--- Spot in a slot, picked by two tests: in the gate's sector, and before the data.
+-- Spot of byte `at` of a slot. The first test is true in the gate's sector, and the second before the data.
 abbrev pick : ℕ → ℕ → ℕ → Bool → Bool → Spot
 pick sector first at b c =
     if b then record { rank = first; offset = at }
     else if c then record { rank = first + 1; offset = at - sector } else record { rank = first + 2; offset = at - 2 * sector }
 
--- The byte `i` places later stays in the thing of a slot that two tests pick; in data there is no condition.
+-- The byte `i` bytes later is in the same gate or header. For data there is no condition.
 abbrev Stays : ℕ → ℕ → ℕ → ℕ → Bool → Bool → Type 0
 Stays sector at i first true c = at + i < sector
 Stays sector at i first false true = at + i < 2 * sector

@@ -4,6 +4,6 @@ mod OneToOne
 mod InOrder
 mod Used
 mod Erasing
-mod Own
+mod VirtualErases
 mod WholeErases
 mod Sectors

@@ -1,4 +1,4 @@
--- Addresses of virtual bytes, which are all different.
+-- Any two virtual bytes on the part have different addresses.
 use Rattle.std.proofs.Common.{◌≡◌, inl, inr, ⊎_elim, ℕ, ◌+◌, ◌≤◌, ◌<◌, nat_lt, Some, List, refl, ap, arith}
 use Rattle.dfu_places.specs.declared.region.Span.{Span}
 use Rattle.dfu_places.specs.declared.region.Region.{Region}
@@ -12,7 +12,7 @@ use Rattle.dfu_places.specs.Laws.{IsOneToOne}
 use Rattle.dfu_places.proofs.Spots.{start_of, spot_of_gives_byte_back, found_address_is_computed}
 use Rattle.dfu_places.proofs.Places.{things_apart, virtual_bytes_fit_thing, equal_or_ordered}
 
--- A virtual byte lies at address `a`: it is byte `offset` of a thing of a slot, which has that byte on the part.
+-- Virtual byte `v` lies at address `a`: it is byte `offset` of a gate, header or data of a slot, and that byte is on the part.
 pub record ByteLiesAt (p : Placement) (v a : ℕ) : Type 0 where
   pub rank : ℕ
   pub offset : ℕ
@@ -38,12 +38,12 @@ found_byte_lies_at p v a is =
       at = there.1;
     }
 
--- No address lies in both of two spans that are apart.
+-- If two spans are apart, no address lies in both.
 pub address_not_in_both_spans : (s t : Span) (a : ℕ) → IsApart s t → s.at ≤ a → a < end_of s → t.at ≤ a → a < end_of t → ⊥
 address_not_in_both_spans s t a (inl x) b c d e = omega (arith, x, b, c, d, e)
 address_not_in_both_spans s t a (inr x) b c d e = omega (arith, x, b, c, d, e)
 
--- Two virtual bytes at one address are in the same thing.
+-- Two virtual bytes at the same address are in the same gate, header or data.
 pub bytes_at_address_same_rank : (regions : List Region) (needs : Needs) (p : Placement) → IsPlacement regions needs p → (v w a : ℕ) →
     (x : ByteLiesAt p v a) (y : ByteLiesAt p w a) → x.rank ≡ y.rank
 bytes_at_address_same_rank regions needs p is v w a x y = ⊎_elim

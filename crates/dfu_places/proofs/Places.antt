@@ -1,4 +1,4 @@
--- Things of a placement.
+-- The gates, headers and data of both slots do not overlap, and end below 2^32.
 use Rattle.std.proofs.Common.{◌≡◌, ◌⊎◌, inl, inr, ℕ, ◌≤◌, ◌<◌, ◌^◌, ◌==◌, ◌||◌, nat_lt, min, Bool, true, false, Option, Some, None, List, refl, arith, if◌then◌else◌}
 use Rattle.dfu_places.specs.declared.region.Span.{Span}
 use Rattle.dfu_places.specs.declared.region.Region.{Region}
@@ -12,7 +12,7 @@ slot_ranks_below_count : (run : Option Span) (i : ℕ) → i ≤ 5 → i < thing
 slot_ranks_below_count (Some span) i le = omega (arith, le)
 slot_ranks_below_count None i le = omega (arith, le)
 
--- Ranks to 5, those of the things of both slots, are ranks of things of a placement.
+-- Every placement has a `Thing` of each rank from 0 to 5: the gates, headers and data.
 pub slot_rank_is_thing : (p : Placement) (i : ℕ) → i ≤ 5 → i < things p
 slot_rank_is_thing p i le = slot_ranks_below_count p.run i le
 
@@ -20,7 +20,7 @@ apart_both_ways : (a b : Span) → IsApart a b → IsApart b a
 apart_both_ways a b (inl x) = inr x
 apart_both_ways a b (inr x) = inl x
 
--- Two things of the slots, of different ranks, have no byte in common.
+-- The gates, headers and data of both slots have no byte in common with each other.
 pub things_apart : (regions : List Region) (needs : Needs) (p : Placement) → IsPlacement regions needs p → (i j : ℕ) → i ≤ 5 → j ≤ 5 →
     (i < j) ⊎ (j < i) → IsApart (span_at p i) (span_at p j)
 things_apart regions needs p is i j li lj (inl lt) = apart_both_ways (span_at p j) (span_at p i) (is.own j (slot_rank_is_thing p j lj) i lt)
@@ -30,7 +30,7 @@ chosen_bytes_fit_thing : (len sector : ℕ) (b : Bool) → (if b then len else m
 chosen_bytes_fit_thing len sector true = omega arith
 chosen_bytes_fit_thing len sector false = omega arith
 
--- Virtual bytes stand for at most as many bytes of a thing as it has.
+-- Each gate, header or data span has at least as many bytes as are mapped to virtual bytes.
 pub virtual_bytes_fit_thing : (p : Placement) (i : ℕ) → bytes_at p i ≤ (span_at p i).len
 unfolding bytes_at
 virtual_bytes_fit_thing p i = chosen_bytes_fit_thing (span_at p i).len p.sector (i == 2 || i == 5)
@@ -40,11 +40,11 @@ ordered i j true c x y = inr (inl (grind (arith, x)))
 ordered i j false true x y = inr (inr (grind (arith, y)))
 ordered i j false false x y = inl (grind (arith, x, y))
 
--- Two numbers are the same, or one is less.
+-- Two numbers are equal, or one is less.
 pub equal_or_ordered : (i j : ℕ) → (i ≡ j) ⊎ (i < j) ⊎ (j < i)
 equal_or_ordered i j = ordered i j (nat_lt i j) (nat_lt j i) refl refl
 
--- Each thing of the slots ends below 2^32.
+-- Each gate, header and data of the slots ends below 2^32.
 pub slot_thing_ends_below_bound : (p : Placement) → IsPlaced p → (i : ℕ) → i ≤ 5 → end_of (span_at p i) < 2 ^ 32
 slot_thing_ends_below_bound p placed i few =
     let whole = placed.accepted.whole i (slot_rank_is_thing p i few) in

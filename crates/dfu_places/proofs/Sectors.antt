@@ -1,4 +1,4 @@
--- Sectors of the part, each of which an erase has wholly or not at all.
+-- An erase contains each sector of the part as a whole or not at all.
 use Rattle.std.proofs.Common.{◌≡◌, ⊎_elim, ℕ, zero, suc, ◌+◌, ◌-◌, ◌*◌, ◌%◌, ◌≤◌, ◌<◌, List, [], ◌∷◌, length, refl, sym, ◌∙◌, ap, subst, arith}
 use Rattle.std.specs.Prelude.{Contains}
 use Rattle.std.proofs.lemmas.Bool.{cases_lt}
@@ -7,10 +7,10 @@ use Rattle.dfu_places.specs.declared.region.Span.{Span}
 use Rattle.dfu_places.specs.declared.region.Region.{Region}
 use Rattle.dfu_places.specs.Regions.{end_of, region_end, AreRegions, IsWholeInRegion, IsSectorOfPart}
 use Rattle.dfu_places.specs.Laws.{ErasesOwnSectors}
-use Rattle.dfu_places.proofs.Own.{erase_keeps_other_bytes}
+use Rattle.dfu_places.proofs.VirtualErases.{erase_keeps_other_bytes}
 use Rattle.dfu_places.proofs.WholeErases.{erases_whole}
 
--- Each region of a list that is in order from `from` on begins at `from` or later.
+-- If a list of regions is in order from `from` on, each of its regions begins at `from` or later.
 region_begins_at_or_after : (from : ℕ) (regions : List Region) (r : Region) → AreRegions from regions → Contains regions r → from ≤ r.at
 region_begins_at_or_after from [] r are (k, few, is) = absurd (omega (arith, few))
 region_begins_at_or_after from (x ∷ rest) r are (zero, few, is) = subst (λ (y : Region). from ≤ y.at) is are.0.after
@@ -33,7 +33,7 @@ address_in_one_region from a (x ∷ rest) r q are (suc k, few, is) (zero, less, 
 address_in_one_region from a (x ∷ rest) r q are (suc k, few, is) (suc j, less, same) low high down up =
     address_in_one_region (region_end x) a rest r q are.1 (k, omega (arith, few), is) (j, omega (arith, less), same) low high down up
 
--- A sector that shares a byte with a span of whole sectors of its size lies in the span.
+-- If a sector shares a byte with a span of whole sectors of the same size, the sector lies in the span.
 sector_within_whole_span : (base sector from to at a : ℕ) → 0 < sector → base ≤ from → base ≤ at → (from - base) % sector ≡ 0
     → (to - base) % sector ≡ 0
     → (at - base) % sector ≡ 0 → from ≤ a → a < to → at ≤ a → a < at + sector → (from ≤ at) × (at + sector ≤ to)
@@ -55,7 +55,7 @@ sector_within_whole_span base sector from to at a some low least first last edge
   omega (arith, least, sector_ends_before_edge sector (at - base) (to - base) edge last (omega (arith, least, q, r))),
 )
 
--- A whole span that is one part ends at the edge of a sector.
+-- If a span is erased as a whole, it ends at the edge of a sector.
 whole_span_ends_at_edge : (part : ℕ) (s : Span) (r : Region) → IsWholeInRegion part s r → part ≡ s.len → (end_of s - r.at) % r.sector ≡ 0
 whole_span_ends_at_edge part s r split is =
     let sum : end_of s - r.at ≡ (s.at - r.at) + s.len = omega (arith, split.after) in

@@ -1,9 +1,9 @@
--- Spots of virtual bytes, which give the bytes back.
+-- Each virtual byte can be computed from its spot.
 use Rattle.std.proofs.Common.{◌≡◌, ℕ, ◌+◌, ◌-◌, ◌*◌, ◌≤◌, nat_lt, ◌==◌, Bool, true, false, Some, None, refl, arith, if◌then◌else◌}
 use Rattle.dfu_places.specs.declared.placement.Placement.{Placement}
 use Rattle.dfu_places.specs.Finding.{Spot, slot_len, spot_in, spot_of}
 
--- Virtual byte at which the thing of a rank begins.
+-- First virtual byte of the gate, header or data of rank `i`.
 abbrev pub start_of : Placement → ℕ → ℕ
 start_of p i =
     if i == 0 then 0
@@ -13,7 +13,8 @@ start_of p i =
     else if i == 4 then slot_len p + p.sector
     else slot_len p + 2 * p.sector
 
--- A spot gives virtual byte `v` back: `v` lies at the spot's offset behind the beginning of its thing, of rank 5 at most.
+-- Virtual byte `v` is the sum of the spot's offset and the first virtual byte of its gate, header or data. The rank of the spot is at most
+-- 5.
 pub record IsSpotOf (p : Placement) (v : ℕ) (spot : Spot) : Type 0 where
   pub rank : spot.rank ≤ 5
   pub back : v ≡ start_of p spot.rank + spot.offset
@@ -42,7 +43,7 @@ chosen_spot_gives_byte p v false x =
 pub spot_of_gives_byte_back : (p : Placement) (v : ℕ) → IsSpotOf p v (spot_of p v)
 spot_of_gives_byte_back p v = chosen_spot_gives_byte p v (nat_lt v (slot_len p)) refl
 
--- If `found` returns an address, the range ends within the thing, and the address is the computed one.
+-- If `found` returns an address, the range ends within its gate, header or data, and the address is the computed one.
 pub found_address_is_computed : (x y z a : ℕ) (b : Bool) → nat_lt x y ≡ b → (if b then None else Some z) ≡ Some a → (y ≤ x) × (z ≡ a)
 found_address_is_computed x y z a true e is = (grind (arith, is), grind (arith, is))
 found_address_is_computed x y z a false e is = (grind (arith, e), grind (arith, is))

@@ -1,4 +1,4 @@
--- Virtual bytes that the store uses are on the part.
+-- Each virtual byte that the store uses is on the part.
 use Rattle.std.proofs.Common.{◌≡◌, ℕ, ◌+◌, ◌≤◌, ◌==◌, ◌||◌, nat_lt, min, Bool, true, false, IsSome, Some, None, List, refl, arith, if◌then◌else◌}
 use Rattle.dfu_places.specs.declared.region.Region.{Region}
 use Rattle.dfu_places.specs.declared.placement.Placement.{Placement}
@@ -14,7 +14,7 @@ fitting_range_is_found : (x y z : ℕ) (b : Bool) → nat_lt x y ≡ b → y ≤
 fitting_range_is_found x y z true e le = absurd (grind (arith, e, le))
 fitting_range_is_found x y z false e le = refl
 
--- A need that fits the chosen number still fits it, chosen in the same way.
+-- If at least `room` bytes are mapped, at least as many bytes are mapped as the store uses.
 chosen : (b : Bool) (room len some : ℕ) → room ≤ (if b then len else some) → (if b then len else room) ≤ (if b then len else some)
 chosen true room len some le = omega arith
 chosen false room len some le = le

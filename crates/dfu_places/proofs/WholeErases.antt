@@ -1,4 +1,4 @@
--- Erases of virtual sectors, which are of whole sectors of the part.
+-- Erases of virtual sectors consist of whole sectors of the part.
 use Rattle.std.proofs.Common.{◌≡◌, ◌⊎◌, inl, inr, ℕ, ◌+◌, ◌-◌, ◌%◌, ◌≤◌, ◌<◌, Bool, true, false, sym, ◌∙◌, ap, refl, arith, if◌then◌else◌}
 use Rattle.std.proofs.lemmas.Nat.Gcd.{dvd_trans, dvd_of_mod-eq-zero, mod-eq-zero_of_dvd}
 use Rattle.dfu_slots.proofs.Sectors.{edge_sum_is_edge, first_byte_is_edge}
@@ -26,7 +26,7 @@ head_is_erased_whole : (p : Placement) (i : ℕ) → is_data i ≡ false → par
 unfolding part_at
 head_is_erased_whole p i x = chosen_head_part_is_all (is_data i) p.sector (span_at p i).len x
 
--- A place at a multiple of `q` behind an edge is at an edge.
+-- If `a` is at a sector's edge, `a + o` is at a sector's edge too for each multiple `o` of the sector size.
 offset_keeps_sector_edge : (s r a o q : ℕ) → s ≡ a + o → r ≤ a → (a - r) % q ≡ 0 → o % q ≡ 0 → 0 < q → (s - r) % q ≡ 0
 offset_keeps_sector_edge s r a o q is le x y some =
     let same : s - r ≡ (a - r) + o = omega (arith, is, le) in
@@ -35,7 +35,8 @@ offset_keeps_sector_edge s r a o q is le x y some =
 multiples_are_transitive : (o sector q : ℕ) → o % sector ≡ 0 → sector % q ≡ 0 → o % q ≡ 0
 multiples_are_transitive o sector q x y = mod-eq-zero_of_dvd q (dvd_trans q (dvd_of_mod-eq-zero q y) (dvd_of_mod-eq-zero sector x))
 
--- The offset and the length of an erase in its thing are multiples of the sector size, as the thing's parts are.
+-- The offset and the length of an erase are multiples of the sector size, because the number of bytes that are erased together is such a
+-- multiple.
 erase_is_sector_multiple : (p : Placement) (rank offset : ℕ) (s : Span) (q : ℕ) → 0 < q → part_at p rank % q ≡ 0 →
     ErasesDataSector p rank offset s ⊎ ErasesHead p rank offset s → (offset % q ≡ 0) × (s.len % q ≡ 0)
 erase_is_sector_multiple p rank offset s q some parts (inl part) =
@@ -46,7 +47,7 @@ erase_is_sector_multiple p rank offset s q some parts (inr all) = (
   ap (λ n. n % q) (all.len ∙ sym (head_is_erased_whole p rank all.head_rank)) ∙ parts,
 )
 
--- A span within one that is apart from the bootloader is apart from it.
+-- If a span is apart from the bootloader, each span within it is too.
 outside : (boot s big : Span) → big.at ≤ s.at → end_of s ≤ end_of big → IsApart boot big → IsApart boot s
 outside boot s big a b (inl e) = inl (omega (arith, a, e))
 outside boot s big a b (inr e) = inr (omega (arith, b, e))

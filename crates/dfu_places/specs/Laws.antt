@@ -1,4 +1,4 @@
--- Laws of placements.
+-- Laws of the addresses and erases of a placement.
 use Rattle.std.specs.Prelude.{◌≡◌, ℕ, ◌+◌, ◌≤◌, ◌<◌, List, Some, IsSome}
 use Rattle.dfu_places.specs.declared.region.Span.{Span}
 use Rattle.dfu_places.specs.declared.region.Region.{Region}
@@ -15,7 +15,7 @@ IsOneToOne =
     (regions : List Region) (needs : Needs) (p : Placement) (v w a : ℕ) → IsPlacement regions needs p →
     found p v 1 ≡ Some a → found p w 1 ≡ Some a → v ≡ w
 
--- Virtual bytes that lie in one thing and on the part, side by side, have addresses side by side, in the same order.
+-- If a range of virtual bytes lies in one gate, header or data, and on the part, its bytes have consecutive addresses, in the same order.
 abbrev pub IsInOrder : Type 0
 IsInOrder =
     (p : Placement) (v len i a : ℕ) → found p v len ≡ Some a → i < len → found p (v + i) 1 ≡ Some (a + i)
@@ -38,19 +38,19 @@ ErasesItsOwn =
     (regions : List Region) (needs : Needs) (p : Placement) (v w a : ℕ) (s : Span) → IsPlacement regions needs p →
     erased p v ≡ Some s → found p w 1 ≡ Some a → s.at ≤ a → a < end_of s → (v ≤ w) × (w < v + p.sector)
 
--- Virtual bytes of a thing are on the part if the store uses them.
+-- Each virtual byte that the store uses is on the part.
 abbrev pub UsedBytesAreFound : Type 0
 UsedBytesAreFound =
     (regions : List Region) (needs : Needs) (p : Placement) (v len : ℕ) → IsPlacement regions needs p →
     (spot_of p v).offset + len ≤ thing_used_bytes needs p (spot_of p v).rank → IsSome (found p v len)
 
--- A sector of the part belongs to one erase alone: it lies in the erased span, and has no byte of another virtual sector.
+-- A sector of the part belongs to one erase alone: it lies in the erased span, and contains no byte of another virtual sector.
 pub record IsSectorOfErase (p : Placement) (v : ℕ) (s x : Span) : Type 0 where
   pub from : s.at ≤ x.at
   pub to : end_of x ≤ end_of s
   pub own : (w a : ℕ) → found p w 1 ≡ Some a → x.at ≤ a → a < end_of x → (v ≤ w) × (w < v + p.sector)
 
--- A sector of the part that shares a byte with the erase of a virtual sector belongs to that erase alone.
+-- If a sector of the part shares a byte with the erase of a virtual sector, the sector belongs to that erase alone.
 abbrev pub ErasesOwnSectors : Type 0
 ErasesOwnSectors =
     (regions : List Region) (needs : Needs) (p : Placement) (v a : ℕ) (s x : Span) → IsPlacement regions needs p → erased p v ≡ Some s →

@@ -1,60 +1,60 @@
--- Rules of a placement, and the refusal that names the first one that it breaks.
+-- Rules of a placement, and refusals that name the first broken rule.
 use Rattle.std.specs.Prelude.{◌≡◌, ℕ, ◌%◌, ◌^◌, ◌≤◌, ◌<◌, ◌≢◌, List, Option, Some, None}
 use Rattle.dfu_places.specs.declared.region.Span.{Span}
 use Rattle.dfu_places.specs.declared.region.Region.{Region}
 use Rattle.dfu_places.specs.declared.placement.Placement.{Placement}
 use Rattle.dfu_places.specs.declared.placement.Needs.{Needs}
 use Rattle.dfu_places.specs.declared.refusal.Thing.{Thing}
-use Rattle.dfu_places.specs.declared.refusal.Refusal.{Refusal}
-use Rattle.dfu_places.specs.declared.refusal.Refusal.TheVariants.{BadRegions, BadSector, BadCapacity, Unequal, NotWhole, NoRoom, InBootloader, Shared, NoPlacement}
+use Rattle.dfu_places.specs.declared.refusal.PlacementRefusal.{PlacementRefusal}
+use Rattle.dfu_places.specs.declared.refusal.PlacementRefusal.TheVariants.{BadRegions, BadSector, BadCapacity, Unequal, NotWhole, NoRoom, InBootloader, Shared, NoPlacement}
 use Rattle.dfu_places.specs.declared.refusal.Thing.TheVariants.{FirstGate, FirstHeader, FirstData, SecondGate, SecondHeader, SecondData, RunArea}
 use Rattle.dfu_places.specs.Regions.{AreRegions, IsApart, IsWhole}
 use Rattle.dfu_places.specs.Things.{things, rank, span_at, part_at, room_at, bytes_at}
 
--- Sizes of a virtual sector: the multiples of 256 from 256 to 2^18.
+-- The size of a virtual sector is allowed: a multiple of 256, from 256 to 2^18.
 pub record IsSectorSize (sector : ℕ) : Type 0 where
   pub pages : sector % 256 ≡ 0
   pub some : 0 < sector
   pub most : sector ≤ 2 ^ 18
 
--- Lengths of the first data: 1 to 2^24 bytes, in whole virtual sectors.
+-- The length of the first data is allowed: 1 to 2^24 bytes, in whole virtual sectors.
 pub record IsCapacity (sector len : ℕ) : Type 0 where
   pub some : 0 < len
   pub most : len ≤ 2 ^ 24
   pub whole : len % sector ≡ 0
 
--- A run area has `len` bytes, as the data have. Without a run area there is no condition.
+-- A run area is as long as the data of a slot. Without a run area there is no condition.
 abbrev pub RunHasDataLength : Option Span → ℕ → Type 0
 RunHasDataLength (Some span) len = span.len ≡ len
 RunHasDataLength None len = Unit {0}
 
--- A rule holds for each thing of a rank below `count`.
+-- The rule holds for each `Thing` of a rank below `count`.
 abbrev pub HoldsForThings : (ℕ → Type 0) → ℕ → Type 0
 HoldsForThings Rule count = (i : ℕ) → i < count → Rule i
 
--- The thing of rank `i`, below `count`, is the first one that breaks a rule.
+-- The `Thing` of rank `i`, below `count`, is the first one that breaks a rule.
 pub record IsFirstThingBreaking (Rule : ℕ → Type 0) (count : ℕ) (i : ℕ) : Type 0 where
   pub within : i < count
   pub before : HoldsForThings Rule i
   pub broken : ¬ Rule i
 
--- The thing of a rank lies in one region, begins where a sector does, and each part that is erased at a time is of whole sectors.
+-- The `Thing` of rank `i` lies in one region, begins at a sector, and each part of it that is erased together consists of whole sectors.
 abbrev pub IsThingWhole : List Region → Placement → ℕ → Type 0
 IsThingWhole regions p i = IsWhole regions (part_at p i) (span_at p i)
 
--- The thing of a rank has at least the bytes that it needs, counted without those that no virtual byte stands for.
+-- The `Thing` of rank `i` has at least the bytes that it needs. Bytes of a gate or header beyond one virtual sector don't count.
 abbrev pub HasNeededBytes : Needs → Placement → ℕ → Type 0
 HasNeededBytes needs p i = room_at needs i ≤ bytes_at p i
 
--- The thing of a rank has no byte in common with a span.
+-- The `Thing` of rank `i` has no byte in common with a span.
 abbrev pub IsThingApartFrom : Span → Placement → ℕ → Type 0
 IsThingApartFrom span p i = IsApart span (span_at p i)
 
--- The thing of a rank has no byte in common with the things of lower ranks.
+-- The `Thing` of rank `j` has no byte in common with those of lower ranks.
 abbrev pub IsApartFromEarlierThings : Placement → ℕ → Type 0
 IsApartFromEarlierThings p j = HoldsForThings (IsThingApartFrom (span_at p j) p) j
 
--- The regions are in order, and the sizes of a placement keep the rules: virtual sector, first data, second data, run area.
+-- The regions are in order, and the virtual sector, the first data, the second data and the run area have allowed sizes.
 pub record HasAllowedSizes (regions : List Region) (p : Placement) : Type 0 where
   pub ordered : AreRegions 0 regions
   pub sector : IsSectorSize p.sector
@@ -62,7 +62,7 @@ pub record HasAllowedSizes (regions : List Region) (p : Placement) : Type 0 wher
   pub second : p.second.data.len ≡ p.first.data.len
   pub run : RunHasDataLength p.run p.first.data.len
 
--- A placement keeps all rules on a part with these regions.
+-- The placement satisfies all rules on a part with these regions.
 pub record IsPlacement (regions : List Region) (needs : Needs) (p : Placement) : Type 0 where
   pub sizes : HasAllowedSizes regions p
   pub whole : HoldsForThings (IsThingWhole regions p) (things p)
@@ -70,7 +70,7 @@ pub record IsPlacement (regions : List Region) (needs : Needs) (p : Placement) :
   pub outside : HoldsForThings (IsThingApartFrom needs.boot p) (things p)
   pub own : HoldsForThings (IsApartFromEarlierThings p) (things p)
 
--- The thing is the first one that must have the length of the first data and has another: the second data, or else the run area.
+-- This `Thing` is the first one that is not as long as the first data, although it must be: the second data, or else the run area.
 abbrev pub HasOtherDataLength : Placement → Thing → Type 0
 HasOtherDataLength p FirstGate = ⊥
 HasOtherDataLength p FirstHeader = ⊥
@@ -80,14 +80,14 @@ HasOtherDataLength p SecondHeader = ⊥
 HasOtherDataLength p SecondData = p.second.data.len ≢ p.first.data.len
 HasOtherDataLength p RunArea = (p.second.data.len ≡ p.first.data.len) × (¬ RunHasDataLength p.run p.first.data.len)
 
--- A placement keeps all rules on some part, for some needs.
+-- The placement satisfies all rules on some part, for some needs.
 pub record IsPlaced (p : Placement) : Type 0 where
   pub regions : List Region
   pub needs : Needs
   pub accepted : IsPlacement regions needs p
 
--- The refusal names the first rule of the sizes that a placement breaks.
-abbrev pub IsFirstRefusalOfSizes : List Region → Placement → Refusal → Type 0
+-- The refusal names the first rule about sizes that the placement breaks.
+abbrev pub IsFirstRefusalOfSizes : List Region → Placement → PlacementRefusal → Type 0
 IsFirstRefusalOfSizes regions p BadRegions = ¬ AreRegions 0 regions
 IsFirstRefusalOfSizes regions p BadSector = AreRegions 0 regions × (¬ IsSectorSize p.sector)
 IsFirstRefusalOfSizes regions p BadCapacity =
@@ -100,14 +100,14 @@ IsFirstRefusalOfSizes regions p (InBootloader thing) = ⊥
 IsFirstRefusalOfSizes regions p (Shared thing other) = ⊥
 IsFirstRefusalOfSizes regions p NoPlacement = ⊥
 
--- The things of ranks `i` and `j` are the first two with a byte in common: the lowest `j`, and the lowest `i` below it.
+-- The ranks `i` and `j` are those of the first two overlapping spans: the lowest `j`, and for it the lowest `i`.
 pub record AreFirstOverlapping (p : Placement) (i j : ℕ) : Type 0 where
   pub within : j < things p
   pub before : HoldsForThings (IsApartFromEarlierThings p) j
   pub meets : IsFirstThingBreaking (IsThingApartFrom (span_at p j) p) j i
 
--- The refusal names the first rule that a placement breaks, and the first thing that breaks it.
-abbrev pub FirstRefusal : List Region → Needs → Placement → Refusal → Type 0
+-- The refusal names the first rule that the placement breaks, and the first `Thing` that breaks it.
+abbrev pub FirstRefusal : List Region → Needs → Placement → PlacementRefusal → Type 0
 FirstRefusal regions needs p BadRegions = IsFirstRefusalOfSizes regions p BadRegions
 FirstRefusal regions needs p BadSector = IsFirstRefusalOfSizes regions p BadSector
 FirstRefusal regions needs p BadCapacity = IsFirstRefusalOfSizes regions p BadCapacity

@@ -3,11 +3,11 @@ use Rattle.std.specs.Prelude.{◌≡◌, ◌⊎◌, ℕ, ◌+◌, ◌-◌, ◌*�
 use Rattle.dfu_places.specs.declared.region.Span.{Span}
 use Rattle.dfu_places.specs.declared.region.Region.{Region}
 
--- Address behind the last byte of a span.
+-- Address after the last byte of a span.
 abbrev pub end_of : Span → ℕ
 end_of s = s.at + s.len
 
--- Address behind the last byte of a region.
+-- Address after the last byte of a region.
 abbrev pub region_end : Region → ℕ
 region_end r = r.at + r.sector * r.count
 
@@ -18,7 +18,7 @@ pub record IsRegion (from : ℕ) (r : Region) : Type 0 where
   pub after : from ≤ r.at
   pub bound : region_end r < 2 ^ 32
 
--- Regions have sectors, are in the order of their addresses, from `from` on, do not overlap, and end below 2^32.
+-- The regions have sectors, are in the order of their addresses, begin at `from` or later, do not overlap, and end below 2^32.
 abbrev pub AreRegions : ℕ → List Region → Type 0
 AreRegions from [] = Unit {0}
 AreRegions from (r ∷ rest) = IsRegion from r × AreRegions (region_end r) rest
@@ -27,7 +27,7 @@ AreRegions from (r ∷ rest) = IsRegion from r × AreRegions (region_end r) rest
 abbrev pub IsApart : Span → Span → Type 0
 IsApart a b = (end_of a ≤ b.at) ⊎ (end_of b ≤ a.at)
 
--- A span lies in a region that ends below 2^32, begins where a sector does, and each of its parts of `part` bytes is of whole sectors.
+-- The span lies in the region, which ends below 2^32, and begins at a sector. Each of its parts of `part` bytes consists of whole sectors.
 pub record IsWholeInRegion (part : ℕ) (s : Span) (r : Region) : Type 0 where
   pub sector : 0 < r.sector
   pub after : r.at ≤ s.at
@@ -36,13 +36,13 @@ pub record IsWholeInRegion (part : ℕ) (s : Span) (r : Region) : Type 0 where
   pub within : end_of s ≤ region_end r
   pub bound : region_end r < 2 ^ 32
 
--- A span lies in one of the regions, begins where a sector does, and each of its parts of `part` bytes is of whole sectors.
+-- The span lies in one of the regions, and begins at a sector. Each of its parts of `part` bytes consists of whole sectors.
 pub record IsWhole (regions : List Region) (part : ℕ) (s : Span) : Type 0 where
   pub region : Region
   pub has : Contains regions region
   pub split : IsWholeInRegion part s region
 
--- A span is one sector of a region of the part.
+-- The span is one sector of a region of the part.
 pub record IsSectorOfPart (regions : List Region) (x : Span) : Type 0 where
   pub region : Region
   pub has : Contains regions region

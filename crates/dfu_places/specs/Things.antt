@@ -1,4 +1,4 @@
--- Things to which a placement gives a place, by their ranks: gates, headers, data, and a run area.
+-- Gates, headers and data of both slots, and the run area, by their ranks in the enum `Thing`.
 use Rattle.std.specs.Prelude.{ℕ, ◌+◌, ◌==◌, ◌||◌, min, Option, Some, None, if◌then◌else◌}
 use Rattle.dfu_slots.specs.Units.{gate_size}
 use Rattle.dfu_places.specs.declared.region.Span.{Span}
@@ -7,21 +7,21 @@ use Rattle.dfu_places.specs.declared.placement.Needs.{Needs}
 use Rattle.dfu_places.specs.declared.refusal.Thing.{Thing}
 use Rattle.dfu_places.specs.declared.refusal.Thing.TheVariants.{FirstGate, FirstHeader, FirstData, SecondGate, SecondHeader, SecondData, RunArea}
 
--- Run area, or the empty span at 0 without one.
+-- Span of the run area, or the empty span at address 0 if there is none.
 abbrev pub run_span : Option Span → Span
 run_span (Some span) = span
 run_span None = record { at = 0; len = 0 }
 
--- Number of things with or without a run area.
+-- Number of gates, headers, data and run areas in a placement with this run area, or without one.
 abbrev pub things_with : Option Span → ℕ
 things_with (Some span) = 7
 things_with None = 6
 
--- Number of things of a placement.
+-- Number of gates, headers, data and run areas of a placement: 7 with a run area, else 6.
 abbrev pub things : Placement → ℕ
 things p = things_with p.run
 
--- Rank of a thing: its number in the order of the enum, from 0 on.
+-- Rank of a `Thing`: its index in the enum, from 0 on.
 abbrev pub rank : Thing → ℕ
 rank FirstGate = 0
 rank FirstHeader = 1
@@ -31,7 +31,7 @@ rank SecondHeader = 4
 rank SecondData = 5
 rank RunArea = 6
 
--- Span of the thing of a rank: the run area, or the empty span, from 6 on.
+-- Span of the `Thing` of rank `i`. From rank 6 on, it is the run area, or the empty span if there is none.
 unfoldable pub span_at : Placement → ℕ → Span
 span_at p i =
     if i == 0 then p.first.gate
@@ -42,21 +42,23 @@ span_at p i =
     else if i == 5 then p.second.data
     else run_span p.run
 
--- Number of a thing's bytes that are erased at a time: a virtual sector of data, else all.
+-- Number of bytes of the `Thing` of rank `i` that are erased together: a virtual sector of data, else the whole span.
 unfoldable pub part_at : Placement → ℕ → ℕ
 part_at p i = if i == 2 || i == 5 then p.sector else (span_at p i).len
 
--- Smallest number of bytes that a thing must have: a gate its unit, a header its unit and the marks, each other thing one byte.
+-- Number of bytes that the `Thing` of rank `i` needs: for a gate 16 or a unit, whichever is more; for a header as many and the marks; 1 for
+-- data or a run area.
 unfoldable pub room_at : Needs → ℕ → ℕ
 room_at needs i =
     if i == 0 || i == 3 then gate_size needs.unit
     else if i == 1 || i == 4 then gate_size needs.unit + needs.marks
     else 1
 
--- Number of a thing's bytes that virtual bytes stand for: of a gate and a header no more than a virtual sector.
+-- Number of bytes of the `Thing` of rank `i` that are mapped to virtual bytes: at most a virtual sector of a gate, header or run area, and
+-- all data.
 unfoldable pub bytes_at : Placement → ℕ → ℕ
 bytes_at p i = if i == 2 || i == 5 then (span_at p i).len else min (span_at p i).len p.sector
 
--- Number of a thing's bytes that the store uses: the unit of a gate, the unit of a header and the marks behind it, and all data.
+-- Number of bytes of the `Thing` of rank `i` that the store uses: those that a gate or a header needs, and all data.
 abbrev pub thing_used_bytes : Needs → Placement → ℕ → ℕ
 thing_used_bytes needs p i = if i == 2 || i == 5 then (span_at p i).len else room_at needs i

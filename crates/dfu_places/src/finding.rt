@@ -1,4 +1,4 @@
-//! Places of virtual bytes on a part.
+//! Addresses of virtual bytes on a part.
 ghost use Rattle.std.specs.Prelude.{◌≡◌, ◌^◌, ◌<◌, ◌≤◌, ◌+◌, ◌*◌};
 ghost use Rattle.dfu_places.specs.Placement.{IsPlaced, IsSectorSize};
 ghost use Rattle.dfu_places.specs.Finding.{slot_len, virtual_len, spot_in, spot_of, found, erased};
@@ -6,7 +6,7 @@ ghost use Rattle.dfu_places.specs.Finding.{slot_len, virtual_len, spot_in, spot_
 use crate::placement::{bytes_at, span_at};
 use crate::{Placement, Span};
 
-/// Spot of a virtual byte: the rank of its thing, and the byte's offset in the thing.
+/// Spot of a virtual byte: the rank of its gate, header or data, and the byte's offset there.
 #[derive(Clone, Copy, Drop)]
 pub(crate) struct Spot {
     pub rank: u32,
@@ -17,12 +17,12 @@ pub(crate) struct Spot {
 fn slot_len(placement: &Placement) -> u32
     requires { IsPlaced placement.now }
     ensures value { result ≡ slot_len placement.now }
-    ensures most { result < 2 ^ 25 }
+    ensures in_25_bits { result < 2 ^ 25 }
 {
     2 * placement.sector + placement.first.data.len
 }
 
-/// Returns the number of bytes of the virtual flash: DFU_MEDIUM_SIZE of the unit, the virtual sector and the bytes of the data.
+/// Returns the number of bytes of the virtual flash. It equals DFU_MEDIUM_SIZE for the unit, the virtual sector and the data bytes.
 pub fn virtual_len(placement: &Placement) -> u32
     requires { IsPlaced placement.now }
     ensures { result ≡ virtual_len placement.now }
@@ -30,7 +30,7 @@ pub fn virtual_len(placement: &Placement) -> u32
     2 * slot_len(placement)
 }
 
-// Returns the spot of a byte of a slot, whose things have ranks from `first` on.
+// Returns the spot of byte `at` of a slot, whose gate has the rank `first`.
 fn spot_in(sector: u32, first: u32, at: u32) -> Spot
     requires sector { sector ≤ 2 ^ 18 }
     requires first { first ≤ 3 }
@@ -55,12 +55,11 @@ fn spot_in(sector: u32, first: u32, at: u32) -> Spot
     }
 }
 
-// Returns the spot of a virtual byte.
 fn spot_of(placement: &Placement, at: u32) -> Spot
     requires { IsPlaced placement.now }
     ensures rank { result.rank ≡ (spot_of placement.now at).rank }
     ensures offset { result.offset ≡ (spot_of placement.now at).offset }
-    ensures most { result.rank ≤ 5 }
+    ensures rank_at_most_5 { result.rank ≤ 5 }
 {
     let slot = slot_len(placement);
     if at < slot {
@@ -71,8 +70,8 @@ fn spot_of(placement: &Placement, at: u32) -> Spot
 }
 
 #[tactic(auto, using(crate::proofs::Places::slot_thing_ends_below_bound, crate::proofs::Places::virtual_bytes_fit_thing))]
-/// Returns the address of the `len` virtual bytes from `at` on; None exactly if they do not all lie in one thing, or not all are on the
-/// part.
+/// Returns the address of the `len` virtual bytes from `at` on. None means that they do not all lie in the same gate, header or data, or
+/// that not all are on the part.
 pub fn find(placement: &Placement, at: u32, len: u32) -> Option<u32>
     requires { IsPlaced placement.now }
     ensures { result ≡ found placement.now at len }
@@ -86,8 +85,8 @@ pub fn find(placement: &Placement, at: u32, len: u32) -> Option<u32>
 }
 
 #[tactic(auto, using(crate::proofs::Places::slot_thing_ends_below_bound, crate::proofs::Places::virtual_bytes_fit_thing))]
-/// Returns the sectors of the part that are erased for the virtual sector that begins at `at`: all of a gate or a header, or a part of the
-/// data; None exactly if no virtual sector begins there.
+/// Returns the sectors of the part that are erased for the virtual sector that begins at `at`: a whole gate or header, or one virtual
+/// sector of data. None means that no virtual sector begins there.
 pub fn erased(placement: &Placement, at: u32) -> Option<Span>
     requires { IsPlaced placement.now }
     ensures { result ≡ erased placement.now at }

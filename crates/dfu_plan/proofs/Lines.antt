@@ -8,18 +8,18 @@ use Rattle.dfu_plan.specs.declared.part.PartFault.{PartFault}
 use Rattle.dfu_plan.specs.declared.part.PartFault.TheVariants.{BadLine, NoMemory, UnknownPart}
 use Rattle.dfu_plan.specs.declared.row.RowFault.{RowFault}
 
--- A byte that is no line feed is the first byte of the first line.
+-- If a byte that is not a line feed is put before a text, it becomes the first byte of the first line.
 byte_joins_first_line : (byte : ℕ) (bytes : List ℕ) → is_line_feed_byte byte ≡ false
     → table_lines (byte ∷ bytes) ≡ with_front_byte byte (table_lines bytes)
 unfolding table_lines
 byte_joins_first_line byte bytes is = rw is refl
 
--- After a byte that is no line feed, the first line feed is one place later.
+-- A byte before a text moves the first line feed to the next index, if the byte is not a line feed itself.
 byte_moves_line_feed : (byte : ℕ) (bytes : List ℕ) → is_line_feed_byte byte ≡ false
     → position_or_len is_line_feed_byte (byte ∷ bytes) ≡ suc (position_or_len is_line_feed_byte bytes)
 byte_moves_line_feed byte bytes is = rw is (omega arith)
 
--- With one more byte at its front, a text is cut one place later into the same line, led by that byte, and the same rest.
+-- A byte before a text moves the end of the first line to the next index, and becomes the first byte of that line.
 cut_moves_with_front_byte : (byte : ℕ) (bytes : List ℕ) (n m : ℕ) → m ≡ suc n
     → ((byte ∷ take n bytes) ∷ table_lines (drop (n + 1) bytes)) ≡ (take m (byte ∷ bytes) ∷ table_lines (drop (m + 1) (byte ∷ bytes)))
 cut_moves_with_front_byte byte bytes n m is =
@@ -73,7 +73,7 @@ valid_line_is_passed name number part next rest line behind table some first las
     part_if_known (result_after_line number r (λ more. part_with_lines name (number + 1) more (table_lines behind))))
     (sym right))
 
--- At a wrong line, the result of the table is BadLine with its number.
+-- At a wrong line, the result of the table is BadLine with the number of the line.
 pub wrong_line_ends_table : (name : List ℕ) (number : ℕ) (part : PartRead) (why : RowFault) (rest line behind : List ℕ)
     (table : Result PartRead PartFault)
     → 0 < length rest → line ≡ first_line rest → behind ≡ lines_after_first rest → Err why ≡ part_with_line name line part
@@ -95,7 +95,7 @@ last_line name number part [] table (Err (BadLine n why)) none is made = is ∙ 
 last_line name number part [] table (Err UnknownPart) none is made = is ∙ sym made
 last_line name number part [] table (Err NoMemory) none is made = tt
 
--- The text after the first line of a text that isn't empty is shorter than this text.
+-- The text after the first line is shorter than the text, unless the text is empty.
 pub rest_of_lines_is_shorter : (rest behind : List ℕ) → 0 < length rest → behind ≡ lines_after_first rest → length behind + 1 ≤ length rest
 rest_of_lines_is_shorter rest behind some is =
     let dropped : length behind ≡ length rest - (position_or_len is_line_feed_byte rest + 1) =

@@ -2,12 +2,12 @@
 use Rattle.std.specs.Prelude.{ℕ, List, []}
 use Rattle.dfu_places.specs.declared.region.Region.{Region}
 
--- Regions of a part, the note of the first one, and the address after the last one: an empty note and 0 if there are no regions.
+-- Regions of a part, the note of the first one, and the address after the last one. Without regions, the note is empty and the address is
+-- 0.
 pub record PartRead : Type 0 where
   pub regions : List Region
   pub note : List ℕ
   pub end : ℕ
 
--- A part without regions.
 abbrev pub part_without_regions : PartRead
 part_without_regions = record { regions = []; note = []; end = 0 }

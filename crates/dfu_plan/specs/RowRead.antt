@@ -2,7 +2,7 @@
 use Rattle.std.specs.Prelude.{ℕ, List}
 use Rattle.dfu_places.specs.declared.region.Region.{Region}
 
--- Name of a part, a region of it, and the note on the source of the numbers.
+-- Name of a part, one of its regions, and the note on the source of the numbers.
 pub record RowRead : Type 0 where
   pub name : List ℕ
   pub region : Region

@@ -1,4 +1,4 @@
-//! The placement of gates, headers and data on a part with unequal sectors, as `dfu plan` prints it.
+//! Plan of the gates, headers and data on a part with sectors of different sizes, as `dfu plan` prints it.
 #![tactic(auto)]
 
 mod part;

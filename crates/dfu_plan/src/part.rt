@@ -1,4 +1,4 @@
-//! Lookup of a part in a table of parts.
+//! Search for a part in a table of parts.
 
 ghost use Rattle.std.specs.Prelude.{◌≡◌, IfOk, Ok};
 ghost use Rattle.dfu_places.specs.Regions.{region_end};
@@ -11,13 +11,13 @@ use std::alloc::{AllocError, Global};
 use std::marker::Model;
 use thiserror::Error;
 
-/// Faults of looking up a part in a table.
+/// Faults of a search for a part in a table.
 #[derive(Debug, Drop, Error)]
 pub enum PartFault {
     /// The line with this number, from 1 on, is neither empty, a comment nor a region, or its region is out of order.
     #[error("line {number}: {why}")]
     BadLine {
-        /// Number of the line.
+        /// Number of the line, from 1 on.
         number: usize,
         /// Fault of the line.
         why: RowFault,
@@ -33,9 +33,9 @@ pub enum PartFault {
 /// A part: its regions, the note of the first one, and the address after the last one.
 #[derive(Drop)]
 pub struct Part {
-    /// The regions, in the order of their addresses, none of which overlaps another.
+    /// Regions in the order of their addresses, which do not overlap.
     pub regions: Vec<Region>,
-    /// Note of the first region, the source of the numbers; empty if there is none.
+    /// Note of the first region, on the source of the numbers; empty if there is none.
     pub note: Vec<u8>,
     /// Address after the last region; 0 if there are no regions.
     pub end: u64,
@@ -49,14 +49,14 @@ impl Model for Part {
     ghost view = { λ p. record { regions = p.regions.items; note = p.note.items; end = p.end } };
 }
 
-/// Returns the address after a region.
+/// Returns the address after the last byte of a region.
 fn region_end(region: Region) -> u64
     ensures { result ≡ region_end region }
 {
     region.at as u64 + region.sector as u64 * region.count as u64
 }
 
-/// Returns the part, with the region of a row added if the row names the part; Order if that region begins before the part's end.
+/// Returns the part, with the region of a row added if the row names the part, or Order if that region begins before the part's end.
 #[tactic(auto, using(std::proofs::lemmas::Bool::Decides::nat_tests), unfolding(crate::specs::Parts::part_with_row))]
 fn part_with_row(
     part: Part,
@@ -90,7 +90,7 @@ fn part_with_row(
     }))
 }
 
-/// Returns the part, with the region of a line added if the line names the part; or the fault of the line.
+/// Returns the part, with the region of a line added if the line names the part, or the fault of the line.
 fn part_with_line(
     part: Part,
     name: &[u8],
@@ -115,11 +115,11 @@ fn part_if_known(part: Part) -> Result<Part, PartFault>
     Ok(part)
 }
 
-/// Returns the regions of a part in a table of parts. Each line is read up to the first wrong one, even if it names another part.
+/// Returns the regions of a part in a table of parts. Reads each line up to the first wrong one, even if that names another part.
 ///
 /// # Errors
 ///
-/// BadLine at the first wrong line; UnknownPart if each line is right, but none names the part; NoMemory if an allocation was refused.
+/// BadLine at the first wrong line; UnknownPart if no line is wrong and none names the part; NoMemory if an allocation was refused.
 pub fn part_in(alloc: Global, table: &[u8], name: &[u8]) -> Result<Part, PartFault>
     ensures { IsPartResult (part_in name.now table.now) result }
 {

@@ -1,4 +1,4 @@
-//! Texts made of pieces: words, decimal numbers and hexadecimal numbers.
+//! Texts that consist of pieces: words, decimal numbers and hexadecimal numbers.
 
 ghost use Rattle.std.specs.Prelude.{◌≡◌, ◌++◌, IfOk, OnOk};
 ghost use Rattle.std.specs.List.{flat_map};
@@ -10,11 +10,11 @@ use std::alloc::{AllocError, Global};
 /// Piece of a text.
 #[derive(Clone, Copy)]
 pub(crate) enum Piece<'t> {
-    /// The text as it is.
+    /// Text that is added without a change.
     Word(&'t str),
-    /// A number in decimal digits.
+    /// Number in decimal digits.
     Number(u32),
-    /// A number in lower-case hexadecimal digits, at least eight of them.
+    /// Number in lower-case hexadecimal digits, at least eight of them.
     Hex(u64),
 }
 
@@ -25,7 +25,7 @@ fn hexadecimal(alloc: Global, number: u64) -> Result<String, AllocError>
     format!(in alloc; "{number:08x}")
 }
 
-/// Adds a piece to a text.
+/// Appends a piece to a text.
 fn push_piece(alloc: Global, text: &mut String, piece: Piece<'_>) -> Result<(), AllocError>
     ensures { OnOk result (string_bytes text.new ≡ string_bytes text.old ++ piece_text piece.entry) }
 {
@@ -42,7 +42,7 @@ fn push_piece(alloc: Global, text: &mut String, piece: Piece<'_>) -> Result<(), 
     }
 }
 
-/// Adds pieces to a text.
+/// Appends pieces to a text.
 pub(crate) fn push_pieces(
     alloc: Global,
     text: &mut String,

@@ -17,17 +17,17 @@ pub enum RowFault {
     Unprintable,
     /// The first word has a byte other than letters, digits, `-`, `_`, `.` and `+`.
     Name,
-    /// The second word is no address.
+    /// The second word is not an address.
     Address,
-    /// The third word is no size of a sector: no size, or 0.
+    /// The third word is not a sector size, or is 0.
     Sector,
-    /// The fourth word is no number of sectors: no number, or 0.
+    /// The fourth word is not a number, or is 0.
     Count,
     /// The region ends after address FFFFFFFEh.
     PastTheEnd,
-    /// The fourth word is followed by something other than `#` and a note.
+    /// The fourth word is followed by text that does not begin with `#`.
     Trailing,
-    /// The region begins before the end of the region before it of the part.
+    /// The region begins before the end of the part's previous region.
     Order,
 }
 
@@ -67,14 +67,14 @@ impl fmt::Display for RowFault {
     }
 }
 
-/// A region of a part, as read from a line.
+/// Row of a table: a region of a part, as read from a line.
 #[derive(Drop)]
 pub struct Row<'t> {
     /// Name of the part.
     pub name: &'t [u8],
-    /// The region.
+    /// Region of the part.
     pub region: Region,
-    /// Note after `#`, the source of the numbers; empty if there is none.
+    /// Note after `#`, on the source of the numbers; empty if there is none.
     pub note: &'t [u8],
 }
 
@@ -86,42 +86,40 @@ impl<'t> Model for Row<'t> {
     ghost view = { λ r. record { name = r.name.now; region = r.region; note = r.note.now } };
 }
 
-/// Returns whether a byte is printable ASCII or a tab.
 fn is_printable(byte: u8) -> bool
     ensures { result ≡ is_printable byte }
 {
     byte >= b' ' && byte <= b'~' || byte == b'\t'
 }
 
-/// Returns whether each byte of a line is printable ASCII or a tab.
 fn is_printable_line(line: &[u8]) -> bool
     ensures { result ≡ is_printable_line line.now }
 {
     line.iter().all(|byte| is_printable(*byte))
 }
 
-/// Returns whether a byte may be part of the name of a part.
+/// Returns true if a part's name may contain the byte.
 fn is_name_byte(byte: u8) -> bool
     ensures { result ≡ is_name_byte byte }
 {
     byte.is_ascii_alphanumeric() || byte == b'-' || byte == b'_' || byte == b'.' || byte == b'+'
 }
 
-/// Returns whether each byte of a word may be part of the name of a part.
+/// Returns true if a part's name may contain each byte of the word.
 fn has_only_name_bytes(word: &[u8]) -> bool
     ensures { result ≡ has_only_name_bytes word.now }
 {
     word.iter().all(|byte| is_name_byte(*byte))
 }
 
-/// Returns whether a line, without its leading blanks, is empty or a comment, which begins with `#`.
+/// Returns true if the line, without its leading blanks, is empty or a comment, which begins with `#`.
 fn is_rowless_line(text: &[u8]) -> bool
     ensures { result ≡ is_rowless_line text.now }
 {
     text.is_empty() || text[0] == b'#'
 }
 
-/// Returns the note behind `#` after the number of sectors, empty if only blanks follow the number; None if anything else follows.
+/// Returns the note after the number of sectors and `#`. It is empty if only blanks follow the number, and None if anything else does.
 #[tactic(auto, using(std::proofs::lemmas::Bool::Decides::nat_tests), unfolding(crate::specs::Rows::note_after_count))]
 fn note_after_count(text: &[u8]) -> Option<&[u8]>
     ensures { MatchOption result (note_after_count text.now ≡ None) (λ note. note_after_count text.now ≡ Some note.now) }
@@ -137,7 +135,7 @@ fn note_after_count(text: &[u8]) -> Option<&[u8]>
     Some(without_front_blanks(note))
 }
 
-/// Returns the number, if there is one and it is at least 1; else None.
+/// Returns the number if it is at least 1; else None.
 fn positive_number(number: Option<u32>) -> Option<u32>
     ensures { result ≡ positive_number number }
 {
@@ -147,7 +145,7 @@ fn positive_number(number: Option<u32>) -> Option<u32>
     }
 }
 
-/// Returns the region of three words; or the fault of the first wrong word, or PastTheEnd.
+/// Returns the region of three words, or the fault of the first wrong word, or PastTheEnd.
 #[tactic(auto, using(std::proofs::lemmas::Bool::Decides::nat_tests), unfolding(crate::specs::Rows::region_of))]
 fn region_of(at: &[u8], sector: &[u8], count: &[u8]) -> Result<Region, RowFault>
     ensures { result ≡ region_of at.now sector.now count.now }
@@ -167,7 +165,7 @@ fn region_of(at: &[u8], sector: &[u8], count: &[u8]) -> Result<Region, RowFault>
     Ok(Region { at, sector, count })
 }
 
-/// Returns the row that the words of a line make, or the first fault.
+/// Returns the row of the words of a line, or the first fault.
 #[tactic(auto, using(std::proofs::lemmas::Bool::Decides::nat_tests), unfolding(crate::specs::Rows::row_of_words))]
 fn row_of_words(line: &[u8]) -> Result<Row<'_>, RowFault>
     ensures { result ≡ row_of_words line.now }
@@ -189,8 +187,9 @@ fn row_of_words(line: &[u8]) -> Result<Row<'_>, RowFault>
     }
 }
 
-/// Returns the row on a line of a table: the name of a part, the address of a region, the size of its sectors, and their number, with
-/// blanks between them, and after them `#` and a note, or nothing. None if the line, after leading blanks, is empty or begins with `#`.
+/// Returns the row on a line of a table, or the first fault of the line. The line has the name of a part, the address of a region, the size
+/// of its sectors and their number, with blanks between them. A note after `#` may follow. Returns None if the line, after leading blanks,
+/// is empty or begins with `#`.
 #[tactic(auto, using(std::proofs::lemmas::Bool::Decides::nat_tests), unfolding(crate::specs::Rows::row_in))]
 pub fn row_in(line: &[u8]) -> Result<Option<Row<'_>>, RowFault>
     ensures { result ≡ row_in line.now }

@@ -1,4 +1,5 @@
-//! Sizes and addresses in words: decimal digits, decimal digits before `k` or `K`, or hexadecimal digits after `0x` or `0X`.
+//! Sizes and addresses in the words of a line: decimal digits, decimal digits before `k` or `K` for KiB, or hexadecimal digits after `0x`
+//! or `0X`.
 
 ghost use Rattle.std.specs.Prelude.{◌≡◌, ◌≤◌, ◌<◌, ◌^◌, IfSome};
 ghost use Rattle.dfu_plan.specs.Sizes.{size_digit, size_number, number_with_digit, size_in, bytes_of_kib};
@@ -16,8 +17,8 @@ fn size_digit(byte: u8) -> u64
     }
 }
 
-/// Returns the number with one more digit; None if there is no number, the byte is no digit in this base, or the result is over
-/// 4,294,967,295.
+/// Returns the number with one more digit. None means that there is no number, that the byte is not a digit in this base, or that the
+/// result is over 4,294,967,295.
 #[tactic(auto, using(std::proofs::lemmas::Bool::Decides::nat_tests), unfolding(crate::specs::Sizes::number_with_digit))]
 fn number_with_digit(base: u64, number: Option<u32>, byte: u8) -> Option<u32>
     requires base { base ≤ 16 }
@@ -34,7 +35,8 @@ fn number_with_digit(base: u64, number: Option<u32>, byte: u8) -> Option<u32>
     None
 }
 
-/// Returns the number that `digits` spell in this base; None if there are none, or if they spell no number up to 4,294,967,295.
+/// Returns the value of `digits` in this base. None means that there are no digits, that a byte is not a digit, or that the value is over
+/// 4,294,967,295.
 #[tactic(auto, using(std::proofs::lemmas::Bool::Decides::nat_tests), unfolding(crate::specs::Sizes::size_number))]
 fn size_number(base: u64, digits: &[u8]) -> Option<u32>
     requires base { base ≤ 16 }
@@ -50,7 +52,7 @@ fn size_number(base: u64, digits: &[u8]) -> Option<u32>
     number
 }
 
-/// Returns the number of bytes in a number of KiB; None if there is no number, or the bytes are over 4,294,967,295.
+/// Returns the number of bytes in a number of KiB. None means that there is no number, or that the bytes are over 4,294,967,295.
 #[tactic(auto, using(std::proofs::lemmas::Bool::Decides::nat_tests), unfolding(crate::specs::Sizes::bytes_of_kib))]
 fn bytes_of_kib(number: Option<u32>) -> Option<u32>
     ensures { result ≡ bytes_of_kib number }
@@ -61,8 +63,8 @@ fn bytes_of_kib(number: Option<u32>) -> Option<u32>
     }
 }
 
-/// Returns the number in the word of a size or an address, such as `32k`, `32K`, `0x8000` or `32768`, up to 4,294,967,295; None for any
-/// other word.
+/// Returns the number in the word of a size or an address, such as `32k`, `32K`, `0x8000` or `32768`, up to 4,294,967,295. Returns None for
+/// any other word.
 #[tactic(auto, using(std::proofs::lemmas::Bool::Decides::nat_tests), unfolding(crate::specs::Sizes::size_in))]
 pub fn size_in(word: &[u8]) -> Option<u32>
     ensures { result ≡ size_in word.now }

@@ -1,6 +1,6 @@
-//! The built-in table of parts, byte for byte the file share/parts.txt.
+//! The built-in table of parts, which is byte for byte the file share/parts.txt.
 
-/// Text of the table.
+/// Text of the built-in table, in the format that `part_in` reads.
 pub const PARTS: &str = "\
 # Parts for `dfu plan`. A line is a region of sectors of one size: the part, the region's address, the bytes of a sector, the number of
 # sectors, and behind # where the numbers are from. The regions of a part stand in the order of their addresses. Sizes are 16K, 0x4000

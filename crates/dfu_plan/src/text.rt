@@ -1,4 +1,4 @@
-//! Text of a plan: where gates, headers, data and run area lie, and their initialiser in C.
+//! Text of a plan: the addresses of the gates, headers, data and run area, and their initialiser in C.
 
 ghost use Rattle.std.specs.Prelude.{◌≡◌, ◌++◌, ◌<◌, ◌^◌, IfOk, OnOk};
 ghost use Rattle.std.specs.String.{string_bytes};
@@ -9,31 +9,31 @@ use crate::pieces::push_pieces;
 use dfu_places::{Placement, SlotPlaces, Span};
 use std::alloc::{AllocError, Global};
 
-/// A placement, and the part and the bootloader that it is made for.
+/// A placement, with the part and the bootloader for which it was made.
 #[derive(Clone, Copy)]
 pub struct Plan<'p> {
     /// Name of the part.
     pub part: &'p str,
-    /// Note on the source of its sectors; empty if there is none.
+    /// Note on the source of the part's sectors; empty if there is none.
     pub note: &'p str,
     /// Address and length of the bootloader.
     pub boot: Span,
-    /// The placement on the part.
+    /// Addresses of the gates, headers, data and run area on the part.
     pub placement: Placement,
 }
 
-/// Form of the lines of a plan.
+/// Form of the lines of a plan: words, JSON objects, or an initialiser in C.
 #[derive(Clone, Copy)]
 pub(crate) enum Form {
-    /// Lines of words.
+    /// Lines of words, as in `part NAME boot LENGTH`.
     Words,
     /// JSON objects (RFC 8259).
     Objects,
-    /// Arguments of an initialiser in C, DFU_PLACEMENT of dfu_places.h.
+    /// Arguments of DFU_PLACEMENT of dfu_places.h, an initialiser in C.
     Arguments,
 }
 
-/// Returns the number of areas of a placement.
+/// Returns the number of areas of a placement: two, or three with a run area.
 fn area_count(placement: &Placement) -> u32
     ensures { result ≡ area_count placement.now.run }
 {
@@ -43,7 +43,7 @@ fn area_count(placement: &Placement) -> u32
     }
 }
 
-/// Adds the line of the part, the bootloader, the areas, the largest image and the sector; in C, the text before the places.
+/// Appends the first lines: the part, the bootloader, the areas, the largest image and the sector. In C, appends the text before the spans.
 #[rattlefmt::skip]
 #[tactic(auto, unfolding(crate::specs::PlanText::head_text))]
 fn push_head(alloc: Global, text: &mut String, form: Form, plan: &Plan<'_>, areas: u32) -> Result<(), AllocError>
@@ -72,7 +72,7 @@ fn push_head(alloc: Global, text: &mut String, form: Form, plan: &Plan<'_>, area
     }
 }
 
-/// Adds the note on the source of the sectors, if there is one.
+/// Appends the note on the source of the sectors, if there is one.
 #[tactic(auto, unfolding(crate::specs::PlanText::note_line))]
 fn push_note(alloc: Global, text: &mut String, note: &str) -> Result<(), AllocError>
     ensures { OnOk result (string_bytes text.new ≡ string_bytes text.old ++ note_line note.now) }
@@ -83,7 +83,7 @@ fn push_note(alloc: Global, text: &mut String, note: &str) -> Result<(), AllocEr
     push_pieces(alloc, text, &[Word("sectors "), Word(note), Word("\n")])
 }
 
-/// Adds the line of a place: its name, its address and length on the part, and, but not in C, its address in the virtual flash.
+/// Appends the line of a span: its name, its address and its length on the part. Its address in the virtual flash follows, except in C.
 #[rattlefmt::skip]
 #[tactic(auto, unfolding(crate::specs::PlanText::place_line))]
 fn push_place(alloc: Global, text: &mut String, form: Form, name: &str, span: Span, place: u64) -> Result<(), AllocError>
@@ -106,7 +106,8 @@ fn push_place(alloc: Global, text: &mut String, form: Form, name: &str, span: Sp
     }
 }
 
-/// Adds the line of the data of a slot. In C, the line lacks their length, which is printed before all places, and `end` ends it.
+/// Appends the line of the data of a slot. In C, `end` follows the address, and the length is left out, because it is printed once before
+/// all spans.
 #[rattlefmt::skip]
 fn push_data<'t>(alloc: Global, text: &mut String, form: Form, name: &'t str, end: &'t str, span: Span, place: u64) -> Result<(), AllocError>
     ensures { OnOk result (string_bytes text.new ≡ string_bytes text.old ++ data_line form name.now end.now span place) }
@@ -119,7 +120,7 @@ fn push_data<'t>(alloc: Global, text: &mut String, form: Form, name: &'t str, en
     }
 }
 
-/// Adds the lines of the first slot.
+/// Appends the lines of the first slot: its gate, header and data.
 fn push_first(
     alloc: Global,
     text: &mut String,
@@ -135,7 +136,7 @@ fn push_first(
     push_data(alloc, text, form, "first data", ",", slot.data, 2 * sector)
 }
 
-/// Adds the lines of the second slot, which begins at `place` of the virtual flash.
+/// Appends the lines of the second slot, its gate, header and data. The slot begins at offset `place` of the virtual flash.
 fn push_second(
     alloc: Global,
     text: &mut String,
@@ -168,7 +169,7 @@ fn push_second(
     )
 }
 
-/// Adds the lines of both slots.
+/// Appends the lines of both slots.
 fn push_places(
     alloc: Global,
     text: &mut String,
@@ -183,7 +184,7 @@ fn push_places(
     push_second(alloc, text, form, placement.second, half, sector)
 }
 
-/// Adds the line of a run area, which has no place in the virtual flash.
+/// Appends the line of a run area, which has no address in the virtual flash.
 #[rattlefmt::skip]
 #[tactic(auto, unfolding(crate::specs::PlanText::run_line))]
 fn push_run_line(alloc: Global, text: &mut String, form: Form, span: Span) -> Result<(), AllocError>
@@ -199,7 +200,7 @@ fn push_run_line(alloc: Global, text: &mut String, form: Form, span: Span) -> Re
     }
 }
 
-/// Adds the line of the run area, if there is one.
+/// Appends the line of the run area, if there is one.
 fn push_run(
     alloc: Global,
     text: &mut String,
@@ -214,7 +215,7 @@ fn push_run(
     }
 }
 
-/// Adds the lines of a plan, without the note.
+/// Appends the lines of a plan, without the note.
 fn push_lines(
     alloc: Global,
     text: &mut String,
@@ -228,7 +229,7 @@ fn push_lines(
     push_run(alloc, text, form, plan.placement.run)
 }
 
-/// Adds the text of a plan.
+/// Appends the text of a plan: its lines, the note, and the initialiser in C.
 fn push_plan(alloc: Global, text: &mut String, plan: &Plan<'_>) -> Result<(), AllocError>
     ensures { OnOk result (string_bytes text.new ≡ string_bytes text.old ++ plan_text plan.now) }
 {
@@ -237,8 +238,8 @@ fn push_plan(alloc: Global, text: &mut String, plan: &Plan<'_>) -> Result<(), Al
     push_lines(alloc, text, Form::Arguments, plan)
 }
 
-/// Returns the text of a plan: a line for the part, with the largest image, a line for each place, the note on the source of the sectors,
-/// and the initialiser of the places in C.
+/// Returns the text of a plan: a line for the part, with the largest image, a line for each gate, header, data and run area, the note on
+/// the source of the sectors, and the initialiser in C.
 ///
 /// # Errors
 ///
@@ -251,7 +252,7 @@ pub fn plan_text(alloc: Global, plan: &Plan<'_>) -> Result<String, AllocError>
     Ok(text)
 }
 
-/// Returns the JSON objects of a plan, a line each: one for the part, and one for each place.
+/// Returns the JSON objects of a plan, one in each line: one for the part, and one for each gate, header, data and run area.
 ///
 /// # Errors
 ///

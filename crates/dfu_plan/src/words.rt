@@ -5,14 +5,14 @@ ghost use Rattle.std.specs.Option.{ForSome};
 ghost use Rattle.std.specs.List.{position};
 ghost use Rattle.dfu_plan.specs.Words.{without_front_blanks, cut_at, first_line, is_space_or_tab, is_line_feed_byte, is_in_word, lines_after_first, next_word};
 
-/// Returns whether a byte is a space or a tab.
+/// Returns true for a space or a tab.
 pub(crate) fn is_space_or_tab(byte: u8) -> bool
     ensures { result ≡ is_space_or_tab byte }
 {
     byte == b' ' || byte == b'\t'
 }
 
-/// Returns the index of the first blank, a space or a tab; None if there is none.
+/// Returns the index of the first blank, which is a space or a tab, or None if there is none.
 fn first_blank(text: &[u8]) -> Option<usize>
     ensures value { result ≡ position is_space_or_tab text.now }
     ensures within { IfSome result (λ at. at < length text.now) }
@@ -20,7 +20,7 @@ fn first_blank(text: &[u8]) -> Option<usize>
     text.iter().position(|byte| is_space_or_tab(*byte))
 }
 
-/// Returns the index of the first byte that is no blank; None if there is none.
+/// Returns the index of the first byte that is neither a space nor a tab, or None if there is none.
 fn first_word_byte(text: &[u8]) -> Option<usize>
     ensures value { result ≡ position is_in_word text.now }
     ensures within { IfSome result (λ at. at < length text.now) }
@@ -28,7 +28,7 @@ fn first_word_byte(text: &[u8]) -> Option<usize>
     text.iter().position(|byte| !is_space_or_tab(*byte))
 }
 
-/// Returns the index of the first line feed; None if there is none.
+/// Returns the index of the first line feed, or None if there is none.
 fn first_line_feed(text: &[u8]) -> Option<usize>
     ensures value { result ≡ position is_line_feed_byte text.now }
     ensures within { IfSome result (λ at. at < length text.now) }
@@ -36,7 +36,7 @@ fn first_line_feed(text: &[u8]) -> Option<usize>
     text.iter().position(|byte| *byte == b'\n')
 }
 
-/// Splits a text at an index; without an index, returns the text and an empty one.
+/// Splits a text at an index. Without an index, returns the text and an empty one.
 fn cut_at(place: Option<usize>, text: &[u8]) -> (&[u8], &[u8])
     requires within { ForSome place (λ at. at < length text.now) }
     ensures front { result.0.now ≡ (cut_at place text.now).0 }
@@ -65,7 +65,7 @@ pub(crate) fn next_word(text: &[u8]) -> (&[u8], &[u8])
     cut_at(first_blank(text), text)
 }
 
-/// Returns the first line without its line feed, and the text after the line feed, empty if there is no line feed.
+/// Returns the first line without its line feed, and the text after the line feed. That text is empty if there is no line feed.
 pub(crate) fn next_line(text: &[u8]) -> (&[u8], &[u8])
     ensures line { result.0.now ≡ first_line text.now }
     ensures rest { result.1.now ≡ lines_after_first text.now }

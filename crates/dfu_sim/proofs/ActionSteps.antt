@@ -1,4 +1,4 @@
--- An action of a live host, whatever its fate, is a step of the session machine.
+-- An action of a live host with any fate is a step of the session machine.
 use Rattle.std.proofs.Common.{◌≡◌, ℕ, suc, ◌<◌, Bool, List, length, Option, Some, refl, sym, subst}
 use Rattle.dfu_device.specs.Stage.{Profile, InAppIdle}
 use Rattle.dfu_device.specs.Outcome.{Situation, Luck}
@@ -15,17 +15,17 @@ use Rattle.dfu_sim.specs.LinkView.{HostSession}
 use Rattle.dfu_sim.specs.LinkAgreement.{pending_of, ClosedWasOffered}
 use Rattle.dfu_sim.specs.Agreement.{live_session_of_goal, live_session_of, IsLiveOffer}
 use Rattle.dfu_sim.specs.Fact.{GoalFact, HasBlocks, HostFact, SessionFact}
-use Rattle.dfu_sim.proofs.Quiet.{Quiet, stays, pending_forgotten, commits}
+use Rattle.dfu_sim.proofs.MovesWithoutBlocks.{Quiet, stays, pending_forgotten, commits}
 use Rattle.dfu_sim.proofs.Blocks.{ImageMoves, moves_quietly, moves_by_block, moves_by_lost_block}
 use Rattle.dfu_sim.proofs.GoDownload.{download_phase_goes_well}
 use Rattle.dfu_sim.proofs.GoUpload.{upload_phase_goes_quietly}
-use Rattle.dfu_sim.proofs.Fates.{UnlessRestarted, heard_fact_weakens}
+use Rattle.dfu_sim.proofs.FateEffects.{UnlessRestarted, heard_fact_weakens}
 use Rattle.dfu_sim.proofs.GoCommon.{GoesQuietly}
 use Rattle.dfu_sim.proofs.GoCompare.{compare_phase_goes_quietly}
 use Rattle.dfu_sim.proofs.GoalLaws.{Next, unchanged_goal_has_next_fact, verify_deed_is_load_deed, verify_phase_follows_load}
-use Rattle.dfu_sim.proofs.Taking.{shown, goal_outcome_holds, task_of_descriptor_unique}
+use Rattle.dfu_sim.proofs.HeardResults.{shown, goal_outcome_holds, task_of_descriptor_unique}
 
--- The machine m moves to m': it takes or installs a part, or neither, and then drops its pending bytes, or not.
+-- The machine takes a block, installs a payload or does neither, and then drops its pending bytes or keeps them.
 record MachineMoves (t : ℕ) (m m' : Machine) : Type 0 where
   mid : Machine
   takes_or_installs_part : TakesOrInstalls t m mid
@@ -38,7 +38,7 @@ taken : {p : List ℕ} (offers : List (List ℕ)) (t : ℕ) (i : List ℕ) (q : 
 taken {p = p} offers t i q up n more b f e = subst (λ (x : List ℕ). TakesOrInstalls t (shown offers i q (LoadingPayload p) up)
     (shown offers i (Some x) (LoadingPayload p) up)) (sym e) (takes n refl b f)
 
--- A quiet move of the image and the pending bytes is a move of the shown machine, with any live session.
+-- A quiet change of the image and the pending bytes is a move of the session machine, with any live session.
 quiet_move_is_step : {offers : List (List ℕ)} {t : ℕ} {i j : List ℕ} {q r : Option (List ℕ)} (live : LiveSession) (up : List ℕ)
     → Quiet offers i q j r
     → MachineMoves t (shown offers i q live up) (shown offers j r live up)
@@ -46,7 +46,7 @@ quiet_move_is_step live up stays = record { mid = _; takes_or_installs_part = ta
 quiet_move_is_step live up pending_forgotten = record { mid = _; takes_or_installs_part = takes_nothing; drops_part = drops }
 quiet_move_is_step live up (commits h) = record { mid = _; takes_or_installs_part = installs refl h; drops_part = drops_nothing }
 
--- A move of the image and the pending bytes in a download is a move of the shown machine.
+-- A change of the image and the pending bytes in a download is a move of the session machine.
 image_move_is_step : {offers : List (List ℕ)} {p : List ℕ} {t : ℕ} {i j : List ℕ} {q r : Option (List ℕ)} (up : List ℕ) →
     ImageMoves offers p t i q j r
     → MachineMoves t (shown offers i q (LoadingPayload p) up) (shown offers j r (LoadingPayload p) up)
@@ -56,7 +56,7 @@ image_move_is_step {offers = offers} {p = p} {t = t} {i = i} {q = q} up (moves_b
 image_move_is_step {offers = offers} {p = p} {t = t} {i = i} {q = q} up (moves_by_lost_block n more b f e) =
     record { mid = _; takes_or_installs_part = taken offers t i q up n more b f e; drops_part = drops }
 
--- An event is simulated: the machine that the link shows makes a legal step with the report, and the facts of the link hold after it.
+-- An event is simulated: the session machine of the link makes a legal step with the report, and the facts of the link hold after it.
 pub record IsSimulated (c : Profile) (offers : List (List ℕ)) (w : Link) (up : List ℕ) (kind : Kind) (r : PlayResult)
     (offers' : List (List ℕ)) : Type 0 where
   pub step : MachineStep c.tolerant c.transfer kind (shown offers w.device.image (pending_of w.device.stage) (live_session_of w.session) up)
@@ -69,14 +69,15 @@ pub record IsSimulated (c : Profile) (offers : List (List ℕ)) (w : Link) (up :
   pub done : IsInPlaceReport r.answer.report → r.link.device.stage ≡ InAppIdle
 
 module _ (c : Profile) (sized : 0 < c.transfer) (offers : List (List ℕ)) where
-  -- Result of an action by its fate: the machine that the link shows may move so, and the facts hold after the result that the host hears.
+  -- The result of an action is allowed: the session machine of the link moves, and the facts of the link hold unless the host learns of a
+  -- restart.
   record EventResult (g : Goal) (phase : Phase) (s : Situation) (up : List ℕ) (d : ActionResult) : Type 0 where
     moves : MachineMoves c.transfer (shown offers s.image (pending_of s.stage) (live_session_of_goal g) up)
         (shown offers d.device.image (pending_of d.device.stage) (live_session_of_goal g) up)
     sound : ClosedWasOffered offers d.device.stage
     next : UnlessRestarted d.heard (Next c g d.device phase)
 
-  -- An action that goes quietly has a result that the session machine allows, if the last reset leaves the goal's facts as they are.
+  -- If each fact of a goal implies that of the goal after the last reset, the result of a quiet action is allowed.
   quiet_action_has_result : (g : Goal) (phase : Phase) (s : Situation) (up : List ℕ) (d : ActionResult)
       → ((x : Phase) (y : Situation) → GoalFact c g x y → GoalFact c (goal_after_reset g) x y)
       → GoesQuietly c offers g (host_row (task_for c g) phase) s d → EventResult g phase s up d
@@ -86,7 +87,7 @@ module _ (c : Profile) (sized : 0 < c.transfer) (offers : List (List ℕ)) where
     next = heard_fact_weakens d.heard (λ heard. unchanged_goal_has_next_fact c g f d.device phase heard) q.next;
   }
 
-  -- Each action of a live host for which the facts of the link hold has a result that the session machine allows.
+  -- If the facts of the link hold, each action of its live host has an allowed result.
   live_host_action_has_result : (s : Situation) (g : Goal) (phase : Phase) (up : List ℕ) (delivery : Delivery) (l k : Luck) →
       ClosedWasOffered offers s.stage
       → IsLiveOffer offers (live_session_of_goal g) → IsLivePhase phase → GoalFact c g phase s → HasBlocks c g
@@ -114,7 +115,8 @@ module _ (c : Profile) (sized : 0 < c.transfer) (offers : List (List ℕ)) where
       quiet_action_has_result (CompareGoal p) phase s up _ (λ x y h. h) (compare_phase_goes_quietly c offers p some sized phase s on f q
       delivery l k)
 
-  -- An action of a live host with the task for a goal is a step of the session machine, and the facts of the link hold after it.
+  -- If the facts of a link hold, and its live host has the task for a goal, the host's action is a step of the session machine, and the
+  -- facts still hold after it.
   goal_action_simulated : (s : Situation) (g : Goal) (phase : Phase) (left again : ℕ) (up : List ℕ) (fate : Fate) (l k : Luck) (room : Bool)
       → ClosedWasOffered offers s.stage → IsLiveOffer offers (live_session_of_goal g) → IsLivePhase phase → GoalFact c g phase s →
       HasBlocks c g
@@ -140,7 +142,7 @@ module _ (c : Profile) (sized : 0 < c.transfer) (offers : List (List ℕ)) where
             = t.done;
       }
 
-  -- Each action of a live host is a step of the session machine, and the facts of the link hold after it.
+  -- If the facts of a link hold, each action of its live host is a step of the session machine, and the facts still hold after it.
   pub host_action_simulated : (s : Situation) (h : HostState) (up : List ℕ) (fate : Fate) (l k : Luck) (room : Bool)
       → ClosedWasOffered offers s.stage
       → IsLiveOffer offers (live_session_of_goal h.task.goal) → HostFact c s h

@@ -1,4 +1,4 @@
--- An action with its bytes is an action of the table of fates.
+-- An action in bytes is an action of the table of fates.
 use Rattle.std.proofs.Common.{◌≡◌, ℕ, Bool, true, false, List, Option, Some, None, refl, sym, ap, ◌∙◌, subst, inl, inr}
 use Rattle.dfu_wire.specs.declared.requests.Request.{Request as Asked}
 use Rattle.dfu_slots.specs.Medium.{Fuse}
@@ -22,25 +22,25 @@ use Rattle.dfu_sim.specs.declared.delivery.MediumFault.TheVariants.{CutsPower}
 use Rattle.dfu_sim.specs.Delivery.{Delivery}
 use Rattle.dfu_sim.specs.Play.{heard_of_reply, heard_with_room, reached, heard_back, heard_after_action, situation_after_harm, wait_by_handling, situation_after_slip, plan_with_refusal, action_result}
 use Rattle.dfu_sim.specs.Bytes.{armed_device, device_after_bus_reset, HeardOfAnswer, HeardOfResponse, SetupResult, ReachesDevice, unseen, once, again, late, response_if_delivered, response_if_powered, RequestDelivered, WaitDelivered, SlipsTime, BusResetDelivered, ActionDelivered}
-use Rattle.dfu_sim.proofs.Fates.{memory_keeps_heard_meaning}
+use Rattle.dfu_sim.proofs.FateEffects.{memory_keeps_heard_meaning}
 use Rattle.dfu_sim.proofs.Replies.{IsHostRequest, IsHostDeed, plan_answer_is_heard, served}
 use Rattle.dfu_sim.proofs.Closing.{closeless_request_goes_by_table, refused_close_is_error, host_close_request_closes, other_host_request_closes_nothing}
 
--- Arming a medium leaves the device's profile as it is.
+-- Arming a medium does not change the device's profile.
 pub arming_keeps_profile : (w : DeviceView) (fuse : Fuse) → profile (armed_device w fuse) ≡ profile w
 arming_keeps_profile w fuse = λ k. record (profile w) {
   capacity = (fuse_changes_nothing_visible w.slots fuse w.slots.held
       w.slots.put_end).room k;
 }
 
--- Arming a medium leaves the device's situation as it is.
+-- Arming a medium does not change the device's situation.
 pub arming_keeps_situation : (w : DeviceView) (fuse : Fuse) → situation (armed_device w fuse) ≡ situation w
 arming_keeps_situation w fuse = λ k. record {
   image = (fuse_changes_nothing_visible w.slots fuse w.slots.held w.slots.put_end).image k;
   stage = w.stage;
 }
 
--- The device moved as the table says for its situation, at some luck; with a whole fuse, at the luck of a medium that works.
+-- The device changes its situation according to the table, for some luck of the medium. If the fuse is whole, no write fails.
 pub record Went (fuse : Fuse) (c : Profile) (s : Situation) (d : Deed) (delivery : Delivery) (w' : DeviceView) (heard : Heard)
     : Type 0 where
   pub first : Luck
@@ -51,7 +51,7 @@ pub record Went (fuse : Fuse) (c : Profile) (s : Situation) (d : Deed) (delivery
   pub fixed : profile w' ≡ c
   pub works_with_whole_fuse : fuse ≡ Whole → (first ≡ Works) × (second ≡ Works)
 
--- The host hears the response, or Nothing if it was lost, or the restart if the power was cut.
+-- The host receives the response of the device, Nothing if the response was lost, and Restarted if the power was cut.
 heard_matches_delivery : (d : Deed) (harming : MediumFault) (back : Bool) (came : Response) (out : List ℕ) (heard x : Heard)
     → ((h : Heard) → HeardOfResponse d came out h → (room : Bool) × (h ≡ heard_with_room x room))
     → HeardOfResponse d (response_if_powered harming (response_if_delivered back came)) out heard
@@ -60,12 +60,12 @@ heard_matches_delivery d CutsPower back came out heard x f h = (true, h)
 heard_matches_delivery d harming true came out heard x f h = f heard h
 heard_matches_delivery d harming false came out heard x f h = (true, h)
 
--- The plan of a request on a device whose program refuses the image that it closes, or refuses none.
+-- Plan of a request, even if the program refuses the image of the download that the request closes.
 abbrev pub plan_with_objection : Asked → (body : List ℕ) → Option Objection → DeviceView → Plan
 plan_with_objection q body x w = plan_with_refusal x (profile w) (image_of w.slots) w.stage (request_for_table q body)
 
 module _ (q : Asked) (setup body : List ℕ) (is : IsHostRequest q body) (asked : IsSetupOf q setup) where
-  -- If the setup closes the download, and the program refuses the image, the plan is an error.
+  -- If the setup closes the download and the program refuses the image, the device answers with an error.
   refused_close_fails : (why : Objection) (w : DeviceView) → ClosesDownload setup w → plan_with_objection q body (Some why) w
       ≡ error_plan (objection_code why)
   refused_close_fails why w (close, may) =
@@ -89,13 +89,13 @@ module _ (q : Asked) (setup body : List ℕ) (is : IsHostRequest q body) (asked 
         may,
       )))
 
-  -- A request makes the row of its plan, by any eight bytes that ask for it.
+  -- If a device handles a setup that encodes a request, the device carries out the table's plan of that request.
   request_makes_row_of_plan : (w w' : DeviceView) (a : Answer) (out : List ℕ) → Handles setup body w a out w'
       → RowDone (plan (profile w) (image_of w.slots) w.stage (request_for_table q body)) (asked_length q) w a out w'
   request_makes_row_of_plan w w' a out h =
       rw (served asked.setup q body is asked.asks) at (row_follows_reading asked.setup q setup body w a out w' asked.fields asked.asks h)
 
-  -- The result of a setup is a row of the plan that `plan_with_objection` gives, whatever the program refuses.
+  -- The result of a setup is a row of the plan of `plan_with_objection`.
   pub setup_result_is_row : (x : Option Objection) (w w' : DeviceView) (a : Answer) (out : List ℕ) → SetupResult x setup body w a out w'
       → RowDone (plan_with_objection q body x w) (asked_length q) w a out w'
   setup_result_is_row None w w' a out h = request_makes_row_of_plan w w' a out h
@@ -105,13 +105,13 @@ module _ (q : Asked) (setup body : List ℕ) (is : IsHostRequest q body) (asked 
       subst (λ (p : Plan). RowDone p (asked_length q) w a out w') (sym (no_close_keeps_plan why w other)) (request_makes_row_of_plan w w' a
       out h)
 
-  -- The result of a setup is the outcome of its plan at some luck.
+  -- The result of a setup is the outcome of its plan, for some luck of the medium.
   setup_result_has_outcome : (x : Option Objection) (w w' : DeviceView) (a : Answer) (out : List ℕ) → SetupResult x setup body w a out w'
       → PlanOutcome (plan_with_objection q body x w) (asked_length q) w a out w'
   setup_result_has_outcome x w w' a out h = came (plan_with_objection q body x w) (asked_length q) w a out w' (setup_result_is_row x w w' a
       out h)
 
-  -- The meaning of a row's answer is the meaning of the reply of its plan.
+  -- The host reads the answer of a setup with the meaning of the plan's reply.
   row_answer_is_heard : (x : Option Objection) (w w' : DeviceView) (a : Answer) (out : List ℕ) (heard : Heard)
       (y : PlanOutcome (plan_with_objection q body x w) (asked_length q) w a out w')
       → HeardOfAnswer (Send q body) a out heard
@@ -121,7 +121,8 @@ module _ (q : Asked) (setup body : List ℕ) (is : IsHostRequest q body) (asked 
       plan_answer_is_heard x q body (profile w) (image_of w.slots) w.stage y.luck a out heard is
       (subst (λ (r : Reply). ReplyAnswer (asked_length q) r a out) (sym (ap (λ (o : Outcome). o.reply) y.same)) y.answers) h
 
-  -- A request that reaches a device moves the device's situation as the table says, at some luck.
+  -- The device handled a request. The device's situation changed according to the table, for some luck of the medium, and the host receives
+  -- the table's meaning of the answer.
   record RequestMovesByTable (x : Option Objection) (w w' : DeviceView) (how : Handled) (came : Response) (out : List ℕ) : Type 0 where
     first : Luck
     second : Luck
@@ -132,7 +133,7 @@ module _ (q : Asked) (setup body : List ℕ) (is : IsHostRequest q body) (asked 
     fixed : profile w' ≡ profile w
     works_with_whole_fuse : w.slots.medium.fuse ≡ Whole → (first ≡ Works) × (second ≡ Works)
 
-  -- A request that reaches the device moves its situation as the table says.
+  -- A request that reaches the device changes the device's situation according to the table.
   reached_request_moves_situation : {x : Option Objection} {w w' : DeviceView} {how : Handled} {came : Response} {out : List ℕ}
       → ReachesDevice x setup body how w came out w' → RequestMovesByTable x w w' how came out
   reached_request_moves_situation unseen = record {
@@ -181,7 +182,7 @@ module _ (q : Asked) (setup body : List ℕ) (is : IsHostRequest q body) (asked 
         works_with_whole_fuse = λ e. let k = y.unarmed e in (k.0, (z.unarmed k.1).0);
       }
 
-  -- A delivered request moves the situation as the table says.
+  -- A delivered request changes the situation according to the table.
   request_moves_device : (delivery : Delivery) (w w' : DeviceView) (heard : Heard) → RequestDelivered q setup body delivery w w' heard
       → Went w.slots.medium.fuse (profile w) (situation w) (Send q body) delivery w' heard
   request_moves_device delivery w w' heard s =
@@ -197,7 +198,7 @@ module _ (q : Asked) (setup body : List ℕ) (is : IsHostRequest q body) (asked 
         works_with_whole_fuse = x.works_with_whole_fuse;
       }
 
--- A delivered wait moves the situation as the table says.
+-- A delivered wait changes the situation according to the table.
 wait_moves_device : (ms : ℕ) (delivery : Delivery) (w w' : DeviceView) (heard : Heard) → WaitDelivered ms delivery w w' heard
     → Went w.slots.medium.fuse (profile w) (situation w) (Wait ms) delivery w' heard
 wait_moves_device ms delivery w w' heard (e, h) = let y = times_have_outcomes (wait_by_handling delivery.handling ms) w w' e in
@@ -211,14 +212,14 @@ wait_moves_device ms delivery w w' heard (e, h) = let y = times_have_outcomes (w
       works_with_whole_fuse = λ whole. ((y.unarmed whole).0, refl);
     }
 
--- Time that slips in moves the device's situation as the table says, at some luck.
+-- The time of a slip changed the device's situation according to the table, for some luck of the medium.
 record SlippedTimeMovesByTable (fuse : Fuse) (c : Profile) (s : Situation) (how : Handled) (w' : DeviceView) : Type 0 where
   luck : Luck
   device : situation_after_slip c s how luck ≡ situation w'
   fixed : profile w' ≡ c
   works_with_whole_fuse : fuse ≡ Whole → luck ≡ Works
 
--- The time that slips in moves the situation as the table says.
+-- The time of a slip changes the situation according to the table.
 slip_moves_device : (how : Handled) (w w' : DeviceView) → SlipsTime how w w' →
     SlippedTimeMovesByTable w.slots.medium.fuse (profile w) (situation w) how w'
 slip_moves_device (Late ms) w w' e = let y = times_have_outcomes ms w w' e in
@@ -237,10 +238,10 @@ slip_moves_device how w w' e = record {
       whole. refl;
 }
 
--- A delivered reset of the bus moves the situation as the table says.
-reset_moves_device : (delivery : Delivery) (w w' : DeviceView) (heard : Heard) → BusResetDelivered delivery w w' heard
+-- A delivered reset of the bus changes the situation according to the table.
+bus_reset_follows_table : (delivery : Delivery) (w w' : DeviceView) (heard : Heard) → BusResetDelivered delivery w w' heard
     → Went w.slots.medium.fuse (profile w) (situation w) Reset delivery w' heard
-reset_moves_device delivery w w' heard (e, h) = let y = slip_moves_device delivery.handling (device_after_bus_reset w) w' e in
+bus_reset_follows_table delivery w w' heard (e, h) = let y = slip_moves_device delivery.handling (device_after_bus_reset w) w' e in
     record {
       first = y.luck;
       second = Works;
@@ -251,12 +252,12 @@ reset_moves_device delivery w w' heard (e, h) = let y = slip_moves_device delive
       works_with_whole_fuse = λ whole. (y.works_with_whole_fuse whole, refl);
     }
 
--- An action of a host in bytes moves the situation as the table says for its delivery.
+-- An action of a host in bytes changes the situation according to the table, by its delivery.
 pub action_moves_device : (d : Deed) (delivery : Delivery) (w w' : DeviceView) (heard : Heard) → IsHostDeed d →
     ActionDelivered d delivery w w' heard
     → Went w.slots.medium.fuse (profile w) (situation w) d delivery w' heard
 action_moves_device (Send q body) delivery w w' heard is (setup, asked, h) = request_moves_device q setup body is asked delivery w w'
     heard h
 action_moves_device (Wait ms) delivery w w' heard is h = wait_moves_device ms delivery w w' heard h
-action_moves_device Reset delivery w w' heard is h = reset_moves_device delivery w w' heard h
+action_moves_device Reset delivery w w' heard is h = bus_reset_follows_table delivery w w' heard h
 action_moves_device (Done report) delivery w w' heard is h = elim h [ ]

@@ -1,4 +1,4 @@
--- The phases that send a block, or the empty block that closes the download.
+-- Phases that send a block, or the empty block that closes the download.
 use Rattle.std.proofs.Common.{◌≡◌, ℕ, suc, ◌+◌, ◌%◌, ◌<◌, ◌==◌, nat_lt, nat_le, not, Bool, true, false, cond, List, [], ◌∷◌, ◌++◌, length, slice_index_or, Option, Some, None, refl, sym, ap, ◌∙◌, subst, arith}
 use Rattle.dfu_wire.specs.declared.codes.Code.{Code}
 use Rattle.dfu_wire.specs.declared.codes.Code.TheVariants.{StalledPkt as ErrStalledPkt, Address as ErrAddress, NotDone as ErrNotDone}
@@ -20,11 +20,12 @@ use Rattle.dfu_sim.specs.Opening.{task_for}
 use Rattle.dfu_sim.specs.Play.{ActionResult, reached, heard_back, action_end_by_harm, request_result_of_plan, send_result}
 use Rattle.dfu_sim.specs.LinkAgreement.{pending_of, ClosedWasOffered}
 use Rattle.dfu_sim.specs.Fact.{IsAtBlock, WholePayloadAccepted, PhaseFact}
-use Rattle.dfu_sim.proofs.Quiet.{Quiet, stays, pending_forgotten, quiet_moves_compose}
+use Rattle.dfu_sim.proofs.MovesWithoutBlocks.{Quiet, stays, pending_forgotten, quiet_moves_compose}
 use Rattle.dfu_sim.proofs.Closing.{closeless_request_goes_by_table, block_closes_nothing, close_errs_or_works}
-use Rattle.dfu_sim.proofs.Fates.{UnlessRestarted, heard_fact_holds_unless_restart}
+use Rattle.dfu_sim.proofs.FateEffects.{UnlessRestarted, heard_fact_holds_unless_restart}
 
--- An action moves the image and the pending bytes: quietly, or it takes the next block, which stays pending or is lost.
+-- Change of the image and the pending bytes in a download: a quiet move, or the device takes the next block, and then all blocks so far are
+-- pending, or all are lost.
 pub data ImageMoves (offers : List (List ℕ)) (p : List ℕ) (t : ℕ) : List ℕ → Option (List ℕ) → List ℕ → Option (List ℕ) → Type 0 where
   moves_quietly : {i j : List ℕ} {q r : Option (List ℕ)} → Quiet offers i q j r → ImageMoves offers p t i q j r
   moves_by_block : {i : List ℕ} {q : Option (List ℕ)} (n : ℕ) (more : List ℕ) → n < length (blocks p t) → AreFirstBlocks p t n q
@@ -37,29 +38,30 @@ pub equal_bytes_are_offer : (offers : List (List ℕ)) {x y : List ℕ} → x �
 equal_bytes_are_offer offers e h = subst (λ z. IsOneOf z offers) (sym e) h
 
 module _ (c : Profile) (offers : List (List ℕ)) (p : List ℕ) where
-  -- A request of a phase goes well by its delivery: the image and the pending bytes move as they may, closed bytes stay an offer, and the
-  -- fact of the next phase holds.
+  -- The result of a phase's request is correct: the image and the pending bytes change as in a download, closed bytes are an offer, and the
+  -- fact of the next phase holds unless the host learns of a restart.
   pub record GoesWell (phase : Phase) (s : Situation) (d : ActionResult) : Type 0 where
     pub moves : ImageMoves offers p c.transfer s.image (pending_of s.stage) d.device.image (pending_of d.device.stage)
     pub sound : ClosedWasOffered offers d.device.stage
     pub next : UnlessRestarted d.heard (λ heard. PhaseFact c p (host_row (task_for c (LoadGoal p)) phase heard) d.device)
 
-  -- The request of a phase was handled: image and pending bytes moved as they may, closed bytes are an offer, and the fact of the next
-  -- phase holds both with the answer and without it.
+  -- The result of a handled request is allowed: the image and the pending bytes changed as in a download, closed bytes are an offer, and
+  -- the fact of the next phase holds both with the answer and without it.
   record Reached (phase : Phase) (s : Situation) (d : ActionResult) : Type 0 where
     moves : ImageMoves offers p c.transfer s.image (pending_of s.stage) d.device.image (pending_of d.device.stage)
     sound : ClosedWasOffered offers d.device.stage
     next : PhaseFact c p (host_row (task_for c (LoadGoal p)) phase d.heard) d.device
     lost : PhaseFact c p (host_row (task_for c (LoadGoal p)) phase Nothing) d.device
 
-  -- A move after which the power is cut, so that the pending bytes are forgotten, is a move too.
+  -- If the power is cut after a change in a download, and the pending bytes are lost, the change and the cut together are one change in a
+  -- download.
   move_may_end_in_cut : {i j : List ℕ} {q r : Option (List ℕ)} → ImageMoves offers p c.transfer i q j r →
       ImageMoves offers p c.transfer i q j None
   move_may_end_in_cut (moves_quietly m) = moves_quietly (quiet_moves_compose m pending_forgotten)
   move_may_end_in_cut (moves_by_block n more b f e) = moves_by_lost_block n more b f e
   move_may_end_in_cut (moves_by_lost_block n more b f e) = moves_by_lost_block n more b f e
 
-  -- An action whose result is allowed goes well, also if the power is cut at its end.
+  -- If the result of an action is allowed, it is correct, even if the power is cut at the end of the action.
   action_end_goes_well : (phase : Phase) (s : Situation) (harming : MediumFault) (d : ActionResult)
       → ImageMoves offers p c.transfer s.image (pending_of s.stage) d.device.image (pending_of d.device.stage)
       → ClosedWasOffered offers d.device.stage
@@ -67,14 +69,14 @@ module _ (c : Profile) (offers : List (List ℕ)) (p : List ℕ) where
   action_end_goes_well phase s CutsPower d m h n = record { moves = move_may_end_in_cut m; sound = tt; next = tt }
   action_end_goes_well phase s harming d m h n = record { moves = m; sound = h; next = heard_fact_holds_unless_restart d.heard _ n }
 
-  -- A request of a phase goes well, if its results with the answer and without it are allowed.
+  -- If the results of a phase's request are allowed with the answer and without it, the result of its delivery is correct.
   reached_result_goes_well : (phase : Phase) (s : Situation) (harming : MediumFault) (back : Bool) (d : ActionResult) → Reached phase s d
       → GoesWell phase s (action_end_by_harm harming (record { device = d.device; heard = heard_back back d.heard }))
   reached_result_goes_well phase s harming true d r = action_end_goes_well phase s harming d r.moves r.sound r.next
   reached_result_goes_well phase s harming false d r =
       action_end_goes_well phase s harming (record { device = d.device; heard = Nothing }) r.moves r.sound r.lost
 
-  -- Block n of a device that may be at it has an allowed result, if the device answers with an error.
+  -- If the device may expect block n and answers it with an error, the result is allowed.
   faulty_block_is_reached : (n num : ℕ) (body : List ℕ) (s : Situation) (code : Code) → n < length (blocks p c.transfer) →
       PhaseFact c p (Ask n) s
       → ClosedWasOffered offers s.stage → (how : Handled) (l k : Luck)
@@ -88,7 +90,7 @@ module _ (c : Profile) (offers : List (List ℕ)) (p : List ℕ) where
         (b, tt);
   }
 
-  -- Block n has an allowed result, if the device takes it after the first n blocks.
+  -- If the device takes block n after the first n blocks, the result is allowed.
   taken_block_is_reached : (n num : ℕ) (before body : List ℕ) (number : ℕ) (s : Situation) → n < length (blocks p c.transfer) →
       PhaseFact c p (Ask n) s
       → ClosedWasOffered offers s.stage → AreFirstBlocks p c.transfer n (pending_of s.stage)
@@ -107,14 +109,14 @@ module _ (c : Profile) (offers : List (List ℕ)) (p : List ℕ) where
   taken_block_is_reached n num before body number s b a h f e how l k =
       record { moves = moves_by_block n _ b f e; sound = tt; next = (b, e); lost = (b, e) }
 
-  -- The close has an allowed result, if the device answers with an error.
+  -- If the device answers the request that closes the download with an error, the result is allowed.
   faulty_close_is_reached : (num : ℕ) (s : Situation) (code : Code) → PhaseFact c p AskLast s → ClosedWasOffered offers s.stage
       → (how : Handled) (l k : Luck)
       → Reached Close s (reached c s (Dnload num []) (error_plan code) how l k)
   faulty_close_is_reached num s code a h Unseen l k = record { moves = moves_quietly stays; sound = h; next = a; lost = a }
   faulty_close_is_reached num s code a h how l k = record { moves = moves_quietly pending_forgotten; sound = tt; next = tt; lost = tt }
 
-  -- The close has an allowed result, if the device takes it after the whole payload, which is an offer.
+  -- If the device closes the download after the whole payload, which is an offer, the result is allowed.
   taken_close_is_reached : (num : ℕ) (image taken : List ℕ) (number : ℕ) → taken ≡ p → IsOneOf taken offers → (how : Handled) (l k : Luck)
       → let s : Situation = record { image = image; stage = InDownloadIdle taken number } in
       Reached Close s (reached c s (Dnload num []) (Sure Ack (InManifestSync taken)) how l k)
@@ -127,7 +129,7 @@ module _ (c : Profile) (offers : List (List ℕ)) (p : List ℕ) where
   }
   taken_close_is_reached num image taken number e o how l k = record { moves = moves_quietly stays; sound = o; next = e; lost = e }
 
--- A property of a block's plan holds if it holds of each error, and of the plan that takes the block.
+-- A property of a block's plan holds if it holds for each error, and for the plan that takes the block.
 block_errs_or_takes : (P : Plan → Type 0) (c : Profile) (before : List ℕ) (expected number : ℕ) (body : List ℕ)
     → ((code : Code) → P (error_plan code))
     → P (Sure Ack (InDownloadSync before body (number_after expected))) → P (block_plan c before expected number body)
@@ -136,14 +138,14 @@ block_errs_or_takes P c before expected number body pf pt =
     (holds_in_both_branches P (not (number == expected)) _ _ (pf ErrAddress)
     (holds_in_both_branches P (nat_lt c.capacity (length before + length body)) _ _ (pf ErrAddress) pt))
 
--- A property of the first block's plan holds if it holds of each error, and of the plan that takes the block.
+-- A property of the first block's plan holds if it holds for each error, and for the plan that takes the block.
 first_errs_or_takes : (P : Plan → Type 0) (c : Profile) (number : ℕ) (body : List ℕ) → ((code : Code) → P (error_plan code))
     → P (Sure Ack (InDownloadSync [] body (number_after 0))) → P (first_plan c number body)
 first_errs_or_takes P c number body pf pt =
     holds_in_both_branches P (not c.can_download) _ _ (pf ErrStalledPkt)
     (holds_in_both_branches P (has_no_bytes body) _ _ (pf ErrStalledPkt) (block_errs_or_takes P c [] 0 number body pf pt))
 
--- A property of a further block's plan holds if it holds of each error, and of the plan that takes the block.
+-- A property of a later block's plan holds if it holds for each error, and for the plan that takes the block.
 further_errs_or_takes : (P : Plan → Type 0) (c : Profile) (taken : List ℕ) (expected number : ℕ) (body : List ℕ) → has_no_bytes body ≡ false
     → ((code : Code) → P (error_plan code)) → P (Sure Ack (InDownloadSync taken body (number_after expected)))
     → P (next_dnload_plan c taken expected number body)
@@ -157,13 +159,13 @@ bytes_are_not_empty [] h = absurd (omega arith)
 bytes_are_not_empty (x ∷ xs) h = refl
 
 module _ (c : Profile) (sized : 0 < c.transfer) (offers : List (List ℕ)) (p : List ℕ) where
-  -- No bytes followed by block 0 are the first block of the payload.
+  -- If n is 0, block n of the payload is the first n + 1 blocks joined.
   first_block_is_prefix : (n : ℕ) → n < length (blocks p c.transfer) → n ≡ 0
       → [] ++ slice_index_or (blocks p c.transfer) n [] ≡ first_blocks p c.transfer (suc n)
   first_block_is_prefix n b e = sym (next_block_extends_first p c.transfer n b ∙ ap (λ m. first_blocks p c.transfer m
       ++ slice_index_or (blocks p c.transfer) n []) e)
 
-  -- A DNLOAD of block n to a device that waits for it goes well, whatever its delivery, by the table's plan.
+  -- If the device expects block n, the result of the block's DNLOAD by the table's plan is correct, with any delivery.
   block_request_goes_well : (n : ℕ) (i : List ℕ) (stage : Stage) → n < length (blocks p c.transfer) → IsAtBlock p c.transfer n stage
       → ClosedWasOffered offers stage
       → (delivery : Delivery) (l k : Luck) → let s : Situation = record { image = i; stage = stage } in
@@ -188,7 +190,7 @@ module _ (c : Profile) (sized : 0 < c.transfer) (offers : List (List ℕ)) (p : 
       delivery.handling l k))
   block_request_goes_well n i stage b g h delivery l k = elim g [ ]
 
-  -- In a phase with block n to send, its request goes well, whatever the delivery.
+  -- If the device expects block n, the result of the request that sends the block is correct, with any delivery.
   pub block_phase_goes_well : (n : ℕ) (i : List ℕ) (stage : Stage) → n < length (blocks p c.transfer) → IsAtBlock p c.transfer n stage →
       ClosedWasOffered offers stage
       → (delivery : Delivery) (l k : Luck) → let s : Situation = record { image = i; stage = stage } in
@@ -201,7 +203,8 @@ module _ (c : Profile) (sized : 0 < c.transfer) (offers : List (List ℕ)) (p : 
       (block_closes_nothing c.least stage (n % 65536) body (bytes_are_not_empty body (nth_block_has_byte p c.transfer n sized b)))))
       (block_request_goes_well n i stage b g h delivery l k)
 
-  -- In the phase that closes the download, its request goes well, whatever the delivery.
+  -- If the device has taken the whole payload, which is an offer, the result of the request that closes the download is correct, with any
+  -- delivery.
   pub close_phase_goes_well : (num : ℕ) (i : List ℕ) (stage : Stage) → WholePayloadAccepted p stage → ClosedWasOffered offers stage →
       IsOneOf p offers
       → (delivery : Delivery) (l k : Luck) → let s : Situation = record { image = i; stage = stage } in

@@ -12,7 +12,7 @@ use Rattle.dfu_sim.specs.declared.fault.LinkFault.TheVariants as fault
 use Rattle.dfu_sim.specs.Session.{Machine, IsOneOf, Kind, Legal, stops, and_then, report_list}
 use Rattle.dfu_sim.specs.Play.{Answered, uploaded_after}
 use Rattle.dfu_sim.specs.Agreement.{AgreesOn}
-use Rattle.dfu_sim.proofs.Saying.{only_offered}
+use Rattle.dfu_sim.proofs.MachineReports.{only_offered}
 use Rattle.dfu_sim.specs.LinkView.{LinkView, WorldView, world_of_bench}
 use Rattle.dfu_sim.specs.UploadResults.{UploadOrUnchanged}
 use Rattle.dfu_sim.specs.Happening.{Happening, Resets, happening}
@@ -23,20 +23,20 @@ use Rattle.dfu_sim.specs.Sure.{HasSameSetting, EventFollowsTable}
 use Rattle.dfu_sim.specs.Running.{EventsRun, rests, comes, happenings, StopsWithFault, RunStopsAt}
 use Rattle.dfu_sim.specs.FollowingRun.{EventsHaveKinds, IsFollowedRun}
 
--- An event came and was not refused, with its report.
+-- An event was applied by `World::step` and not refused. Its report and the clauses of `step` are known.
 pub record EventCame (w : WorldView) (h : Happening) (w' : WorldView) (report : Option Report) : Type 0 where
   pub play : WorldEventResult w h w' (Ok report)
   pub legal : (m : Machine) → AgreesOn w.bench w.up m → MachineFollows w h w' report m
   pub sure : EventFollowsTable w.bench h w'.bench report
   pub gives : UploadOrUnchanged w w' (Ok report)
 
--- Events, each of which came after the one before and was not refused, with their reports.
+-- Events that were applied in order and not refused, with their reports.
 pub data EventChain : WorldView → List Happening → List Report → WorldView → Type 0 where
   empty_chain : {b : WorldView} → EventChain b [] [] b
   one_more : {b mid b' : WorldView} {h : Happening} {hs : List Happening} {report : Option Report} {reports : List Report}
       → EventCame b h mid report → EventChain mid hs reports b' → EventChain b (h ∷ hs) (report_list report ++ reports) b'
 
--- A chain followed by one more event that came is a chain.
+-- A chain with one more event that was not refused is a chain.
 pub event_extends_chain : {b mid b' : WorldView} {hs : List Happening} {reports : List Report} {h : Happening} {report : Option Report}
     → EventChain b hs reports mid → EventCame mid h b' report → EventChain b (hs ++ h ∷ []) (reports ++ report_list report) b'
 event_extends_chain {b = b} {b' = b'} {h = h} {report = report} empty_chain s =
@@ -55,7 +55,8 @@ chain_is_run (one_more s more) = comes s.play s.gives (chain_is_run more)
 pub same_setting_has_same_profile : (w w' : DeviceView) → HasSameSetting w w' → profile w' ≡ profile w
 same_setting_has_same_profile w w' same = λ k. profile_of (same.config k) (same.room k)
 
--- If the image of a machine is active before a legal run, its image after the run is active before it too, or is one of its offers.
+-- If a machine's image is active before a legal run, the image after the run was active before the run too, or is one of the machine's
+-- offers after the run.
 run_image_is_kept_or_offered : (before : MediumState) (c : Profile) (m after : Machine) (kinds : List Kind) (reports : List Report) →
     Active before m.cur
     → Legal c.tolerant c.transfer m kinds reports after
@@ -67,7 +68,7 @@ run_image_is_kept_or_offered before c m after kinds reports active legal = elim 
           (sym (only_offered c.tolerant c.transfer m after kinds reports legal).0) one)
     ]
 
--- If a machine made a legal run along a chain, the chain is a run that it follows.
+-- If a machine makes a legal run along a chain of events, it follows the run of the chain.
 machine_follows_chain : {b b' : WorldView} {hs : List Happening} {reports : List Report} (m : Machine) (kinds : List Kind) (after : Machine)
     → AgreesOn b.bench b.up m → EventsHaveKinds hs kinds
     → Legal (profile b.bench.device).tolerant (profile b.bench.device).transfer m kinds reports after → AgreesOn b'.bench b'.up after
@@ -81,7 +82,7 @@ machine_follows_chain {b = b} {reports = reports} m kinds after a are legal d = 
   active = run_image_is_kept_or_offered b.bench.device.slots.medium (profile b.bench.device) m after kinds reports a.active legal;
 }
 
--- Each machine that agrees with the first link follows a chain by a legal run.
+-- Each machine that agrees with the first link of a chain makes a legal run that follows the chain.
 pub chain_is_followed_run : {b b' : WorldView} {hs : List Happening} {reports : List Report} → EventChain b hs reports b' → (m : Machine)
     → AgreesOn b.bench b.up m → IsFollowedRun b hs reports b' m
 chain_is_followed_run empty_chain m agrees = machine_follows_chain m [] m agrees tt stops agrees
@@ -92,7 +93,7 @@ chain_is_followed_run {b = b} (one_more {mid = mid} {hs = hs} {reports = reports
     machine_follows_chain m (f.kind ∷ rest.kinds) rest.after agrees (f.is, rest.are)
     (and_then f.step (subst (λ (c : Profile). Legal c.tolerant c.transfer f.after rest.kinds reports rest.after) e rest.legal)) rest.agrees
 
--- Refused events.
+-- Lemmas about refused events.
 
 -- If the caller of an event gets a fault, the event changed nothing, and it is refused with that fault.
 refused_result_is_fault : {b b' : LinkView} {h : Happening} {answer : Result Answered LinkFault} (up : List ℕ) (why : LinkFault)
@@ -115,13 +116,13 @@ pub refusal_stops_run : (b : LinkView) (next : Happening) (why : LinkFault) → 
 refusal_stops_run b next fault.NoMemory h = tt
 refusal_stops_run b next why h = h
 
--- Runs of the first events of a list.
+-- Lemmas about runs of the first events of a list.
 
--- The first n events ran, one after the other.
+-- The first n events were applied in order, and none was refused.
 abbrev pub FirstEventsRan : WorldView → List GivenEvent → (n : ℕ) → List Report → WorldView → Type 0
 FirstEventsRan b events n reports mid = EventChain b (take n (happenings events)) reports mid
 
--- If the first n events ran, and the next one came and was not refused, the first n + 1 events ran.
+-- If the first n events ran and the next one is not refused, the first n + 1 events ran.
 pub next_event_extends_run : {b mid b' : WorldView} {reports : List Report} {report : Option Report} (events : List GivenEvent) (n : ℕ) (d :
     GivenEvent)
     → n < length events → FirstEventsRan b events n reports mid
@@ -132,12 +133,12 @@ next_event_extends_run {b = b} {b' = b'} {reports = reports} {report = report} e
     ∙ ap (λ (hs : List Happening). hs ++ happening (get_or events n d) ∷ []) (sym (take-map happening n events)) in
     subst (λ (hs : List Happening). EventChain b hs (reports ++ report_list report) b') (sym next) (event_extends_chain chain s)
 
--- A run stopped before the event `at` with the fault `why`, after a chain of the events before it.
+-- A run stopped before the event with index `at` with the fault `why`, after a chain of the events before it.
 pub record Stopped (b : WorldView) (hs : List Happening) (why : LinkFault) (at : ℕ) (reports : List Report) (b' : WorldView) : Type 0 where
   pub runs : RunStopsAt b hs why at reports b'
   pub chain : EventChain b (take at hs) reports b'
 
--- If the first n events ran and there are more, a run that has no memory for a report stopped before event n with NoMemory.
+-- If the first n events ran and there is no memory for the report of event n, the run stopped before event n with NoMemory.
 pub run_stops_without_memory : {b mid : WorldView} {reports : List Report} (events : List GivenEvent) (n : ℕ) → n < length events
     → FirstEventsRan b events n reports mid → Stopped b (happenings events) fault.NoMemory n reports mid
 run_stops_without_memory events n h chain =
@@ -162,7 +163,7 @@ run_stops_at_refusal {b = b} {mid = mid} {reports = reports} {why = why} events 
       chain = chain;
     })
 
--- If the first n events ran and the list has no more, all events of the list form a chain.
+-- If the first n events ran and the list has no more than n, all events of the list form a chain.
 pub all_events_form_chain : {b b' : WorldView} {reports : List Report} (events : List GivenEvent) (n : ℕ) → length events ≤ n →
     FirstEventsRan b events n reports b'
     → EventChain b (happenings events) reports b'

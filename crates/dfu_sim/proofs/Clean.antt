@@ -1,4 +1,4 @@
--- The clean run, with its count.
+-- The clean run, with its number of passes.
 use Rattle.std.proofs.Common.{◌≡◌, ℕ, suc, ◌+◌, ◌*◌, ◌-◌, ◌/◌, ◌<◌, ◌≤◌, ◌==◌, nat_lt, max, Bool, true, false, cond, List, [], length, slice_index_or, Some, None, refl, sym, ap, ◌∙◌, subst, arith, length-append}
 use Rattle.std.proofs.lemmas.Bool.Decides.{nat_tests}
 use Rattle.dfu_device.specs.Stage.{Profile, InAppIdle, InDfuIdle}
@@ -14,21 +14,22 @@ use Rattle.dfu_sim.specs.CleanRun.{clean_actions_of_purpose, PassesTo, QuietPass
 use Rattle.dfu_sim.proofs.Blocks.{bytes_are_not_empty}
 use Rattle.dfu_sim.proofs.Choices.{fact_by_both_outcomes}
 use Rattle.dfu_sim.proofs.Passes.{quiet_passes_compose, at, Leads}
-use Rattle.dfu_sim.proofs.Turns.{BlockFits, whole_download_goes_well}
+use Rattle.dfu_sim.proofs.DownloadTurns.{BlockFits, whole_download_goes_well}
 use Rattle.dfu_sim.proofs.Verified.{verify_passes_quietly}
 use Rattle.dfu_sim.proofs.CleanCompare.{whole_comparison_goes_well}
 
--- A choice by a test for a number over 0 is the opposite choice by a test for 0.
+-- A choice that tests if a number is over 0 equals the choice that tests if it is 0, with its two values exchanged.
 choice_by_zero_test : (n x y : ℕ) → cond (nat_lt 0 n) y x ≡ cond (n == 0) x y
 choice_by_zero_test n x y = fact_by_both_outcomes (n == 0)
     (λ e. let f : nat_lt 0 n ≡ false = grind (arith, nat_tests) in rw (e, f))
     (λ e. let f : nat_lt 0 n ≡ true = grind (arith, nat_tests) in rw (e, f))
 
--- The clean count of a download, as a sum.
+-- Clean count of a download: each block takes 2 passes, or 4 with a busy time; manifestation takes 2, or 4 with a manifestation time; and 5
+-- more are needed.
 clean_count_is_sum : (b busy manifest : ℕ) → clean b busy manifest ≡ cond (busy == 0) 2 4 * b + cond (manifest == 0) 2 4 + 5
 clean_count_is_sum b busy manifest = λ i. choice_by_zero_test busy 2 4 i * b + choice_by_zero_test manifest 2 4 i + 5
 
--- The passes of the phases of a clean download, added up, are its clean count less the last pass.
+-- The passes of the phases of a clean download add up to one less than the clean count, because the last pass is not among them.
 clean_count_adds_up : (b : ℕ) (x y : Bool) → 0 < b → 1 + (1 + (1 + (1 + (suc (b - 1) * (1 + cond x 1 3) + (1 + cond y 1 3)))))
     ≡ cond x 2 4 * b + cond y 2 4 + 5 - 1
 clean_count_adds_up b true true h = omega arith
@@ -42,7 +43,7 @@ last_pass_installs : (c : Profile) (p : List ℕ) (again left : ℕ)
     (record { report = Some Installed; gave = None })
 last_pass_installs c p again left other room = refl
 
--- Each block of a payload that fits into the room has a byte, and fits into the transfer size and the room.
+-- If a payload fits the room, each of its blocks has a byte, and fits the transfer size and the room.
 every_block_fits : (c : Profile) (p : List ℕ) (again n : ℕ) → 0 < c.transfer → length p ≤ c.capacity → n < length (blocks p c.transfer)
     → BlockFits c p again n
 every_block_fits c p again n sized room h = record {
@@ -65,7 +66,7 @@ module _ (c : Profile) (p : List ℕ) (again : ℕ) where
   abbrev most : ℕ
   most = clean b c.busy c.manifest - 1
 
-  -- A clean download comes from Find in appIDLE to its last reset in dfuIDLE, with the payload active, in `most` passes.
+  -- In `most` passes a clean download goes from the phase Find in appIDLE to its last reset in dfuIDLE, with the payload active.
   clean_download_takes_passes : (i : List ℕ) → c.tolerant ≡ true → c.can_download ≡ true → 0 < c.transfer → 0 < b → c.least ≤ length p
       → length p ≤ c.capacity → Leads c (LoadGoal p) again i InAppIdle Find most p InDfuIdle (Last Installed)
   clean_download_takes_passes i tol can sized some least room =
@@ -85,7 +86,8 @@ module _ (c : Profile) (p : List ℕ) (again : ℕ) where
       (λ z. Leads c (LoadGoal p) again i InAppIdle Find z (first_blocks p c.transfer (suc (b - 1))) InDfuIdle (Last Installed)) count run in
       subst (λ z. Leads c (LoadGoal p) again i InAppIdle Find most z InDfuIdle (Last Installed)) whole r
 
-  -- If a download comes to its last reset in `most` passes, and its actions suffice, it installs the payload in its clean count of passes.
+  -- If a download reaches its last reset in `most` passes, and enough actions are left, it installs the payload in its clean count of
+  -- passes.
   clean_download_installs : (i : List ℕ) (left : ℕ) → Leads c (LoadGoal p) again i InAppIdle Find most p InDfuIdle (Last Installed)
       → clean b c.busy c.manifest ≤ left
       → InstalledAfter c (at c (LoadGoal p) again i InAppIdle Find left) (clean b c.busy c.manifest) p Installed
@@ -99,7 +101,7 @@ module _ (c : Profile) (p : List ℕ) (again : ℕ) where
         last = last_pass_installs c p again (suc l);
       }
 
-  -- The pass of the last reset takes a session that verifies to Find, to compare, and reports nothing.
+  -- After the last reset of the download, a session that verifies begins its comparison in the phase Find, and has reported nothing.
   reset_begins_comparison : (left : ℕ) → PassesTo c (at c (VerifyGoal p) again p InDfuIdle (Last Installed) (suc (suc left)))
       (at c (CompareGoal p) again p InAppIdle Find (suc left)) silent
   reset_begins_comparison left other room = refl
@@ -113,8 +115,8 @@ module _ (c : Profile) (p : List ℕ) (again : ℕ) where
   abbrev compare_passes : ℕ
   compare_passes = 1 + (1 + (1 + (1 + (length p / c.transfer + 1))))
 
-  -- If a download and a comparison come to their last resets in their counts of passes, and the actions suffice, a verified download
-  -- installs and verifies the payload in its clean count of passes.
+  -- If a download reaches its last reset in `most` passes, a comparison reaches its last reset in `compare_passes` passes, and enough
+  -- actions are left, a verified download installs and verifies the payload in its clean count of passes.
   verified_download_installs : (i : List ℕ) (left : ℕ) → Leads c (LoadGoal p) again i InAppIdle Find most p InDfuIdle (Last Installed)
       → Leads c (CompareGoal p) again p InAppIdle Find compare_passes p InDfuIdle (Last Verified)
       → clean b c.busy c.manifest + 6 + length p / c.transfer ≤ left

@@ -1,4 +1,4 @@
--- The phases of a clean comparison: each block of the image comes back, and then the rest after the last full one.
+-- Phases of a clean comparison: the device answers with each full block of the image, and then with the shorter rest.
 use Rattle.std.proofs.Common.{◌≡◌, ℕ, zero, suc, ◌+◌, ◌-◌, ◌*◌, ◌%◌, ◌/◌, ◌<◌, ◌≤◌, ◌==◌, nat_lt, min, Bool, true, false, if◌then◌else◌, List, [], length, slice_index_or, take, drop, refl, sym, ap, ◌∙◌, subst, arith, length-take, length-drop}
 use Rattle.std.proofs.Math.Nat.{suc-mul, div-mul-le_self, lt-div-mul-add}
 use Rattle.std.proofs.lemmas.Bool.Decides.{nat_tests}
@@ -18,28 +18,28 @@ use Rattle.dfu_sim.proofs.Passes.{Leads, leading_passes_compose, none, one, acti
 use Rattle.dfu_sim.proofs.Finding.{host_finds_app_idle, detach, host_enters_dfu_idle}
 
 module _ (c : Profile) (p : List ℕ) (again : ℕ) where
-  -- Within any budget, a comparison comes from one stage and phase to another in k passes, and keeps the image.
+  -- In k passes a comparison goes from one stage and phase to another, with any budget that suffices, and the image is unchanged.
   abbrev GoesWell : Stage → Phase → ℕ → Stage → Phase → Type 0
   GoesWell s phase k t next = Leads c (CompareGoal p) again p s phase k p t next
 
-  -- In one pass a host that compares finds the device in dfuIDLE, and goes to part 0.
+  -- In one pass a host that compares finds the device in dfuIDLE, and then compares part 0.
   compare_finds_dfu_idle : GoesWell InDfuIdle Find 1 InDfuIdle (Compare 0)
   compare_finds_dfu_idle = one c (CompareGoal p) again (λ l k room. refl)
 
-  -- Stage of the device after it gave k full parts.
+  -- Stage of the device after it uploaded k full parts.
   abbrev Given : ℕ → Stage
   Given zero = InDfuIdle
   Given (suc k) = InUploadIdle (suc k * c.transfer) (suc k % 65536)
 
-  -- Part k of the payload: the bytes from k full parts on, at most as many as the transfer size.
+  -- Part k of the payload: the bytes after k full parts, at most as many as the transfer size.
   abbrev part : ℕ → List ℕ
   part k = take c.transfer (drop (k * c.transfer) p)
 
-  -- Block k of the payload; empty past the last block.
+  -- Block k of the payload; empty after the last block.
   abbrev block : ℕ → List ℕ
   block k = slice_index_or (blocks p c.transfer) k []
 
-  -- The device answers the UPLOAD of part k with the bytes at its place, and waits for the next if the part is full.
+  -- After k full parts, the device answers the UPLOAD of part k with the part's bytes, and expects the next UPLOAD if the part is full.
   gives : (k : ℕ) → c.can_upload ≡ true → 0 < c.transfer → plan c p (Given k) (Upload (k % 65536) c.transfer)
       ≡ (if nat_lt (length (part k)) c.transfer then Sure (Data (part k)) InDfuIdle else Sure (Data (part k)) (Given (suc k)))
   gives zero can sized =
@@ -56,7 +56,7 @@ module _ (c : Profile) (p : List ℕ) (again : ℕ) where
       let n : number_after (suc k % 65536) ≡ suc (suc k) % 65536 = omega arith in
       rw (e, f, g, z, n) refl
 
-  -- A plan that answers with bytes is heard as a part with these bytes.
+  -- If the device replies with bytes, the host receives them as a part of the image.
   part_answer_is_heard : (q : Plan) (stage : Stage) (bytes : List ℕ) → q ≡ Sure (Data bytes) stage
       → ◌≡◌ {A = ActionResult} (let o = plan_outcome p q Works in record { device = o.after; heard = heard_of_reply o.reply })
       (record { device = record { image = p; stage = stage }; heard = Part bytes })
@@ -80,7 +80,7 @@ module _ (c : Profile) (p : List ℕ) (again : ℕ) where
     size : (k : ℕ) → length (part k) ≡ min c.transfer (length p - k * c.transfer)
     size k = omega (arith, length-take c.transfer (drop (k * c.transfer) p), length-drop (k * c.transfer) p)
 
-    -- The request for part k leads to the phase that a full part or a shorter one has next.
+    -- The pass for part k leads to the phase that follows a full part or a short one.
     compared_part_goes_well : (k : ℕ) (short : Bool) (stage : Stage) (next : Phase) → nat_lt (length (part k)) c.transfer ≡ short
         → (if short then Sure (Data (part k)) InDfuIdle else Sure (Data (part k)) (Given (suc k))) ≡ Sure (Data (part k)) stage
         → (if short then Last Verified else if suc k == 65535 then Over TooManyBlocks else Compare (suc k)) ≡ next → IsLivePhase next
@@ -89,20 +89,20 @@ module _ (c : Profile) (p : List ℕ) (again : ℕ) where
         action_leads_to_phase c (CompareGoal p) again (Part (part k)) (compared_phase c.transfer k (block k) (part k))
         (λ l. part_answer_is_heard _ stage (part k) (gives k can sized ∙ rw e gave)) (λ l room. refl) (rw (fits k, same k, e) row) on
 
-    -- If the payload has a full part k, and it isn't one too many, its request leads to the next part.
+    -- If the payload has a full part k, and the block limit is not reached, the request for part k leads to the next part.
     full : (k : ℕ) → suc k < 65535 → suc k * c.transfer ≤ length p → GoesWell (Given k) (Compare k) 1 (Given (suc k)) (Compare (suc k))
     full k less inside =
         let long : nat_lt (length (part k)) c.transfer ≡ false = grind (arith, nat_tests, size k, suc-mul k c.transfer) in
         let more : (suc k == 65535) ≡ false = grind (arith, nat_tests) in
         compared_part_goes_well k false (Given (suc k)) (Compare (suc k)) long refl (rw more refl) tt
 
-    -- If the payload ends before a full part k, its request leads to the last reset.
+    -- If the payload ends before a full part k, the request for part k leads to the last reset.
     last : (k : ℕ) → length p < suc k * c.transfer → GoesWell (Given k) (Compare k) 1 InDfuIdle (Last Verified)
     last k past =
         let short : nat_lt (length (part k)) c.transfer ≡ true = grind (arith, nat_tests, size k, suc-mul k c.transfer) in
         compared_part_goes_well k true InDfuIdle (Last Verified) short refl refl tt
 
-    -- If the payload has k full parts, the first k passes of a comparison compare them.
+    -- If the payload has at least k full parts, and k is below the block limit, the first k passes of a comparison compare these parts.
     parts : (k : ℕ) → k < 65535 → k * c.transfer ≤ length p → GoesWell InDfuIdle (Compare 0) k (Given k) (Compare k)
     parts zero less inside = none c (CompareGoal p) again
     parts (suc k) less inside =

@@ -24,28 +24,28 @@ use Rattle.dfu_sim.proofs.Clean.{clean_run, clean_run_takes_actions}
 use Rattle.dfu_sim.proofs.Events.{offered_device_has_transfer, can_download, can_upload, bytes_of}
 use Rattle.dfu_sim.proofs.Chains.{EventChain, empty_chain, one_more, same_setting_has_same_profile}
 
--- Each step of a chain is a sure step.
+-- Each step of a chain follows the table of fates.
 pub chain_steps_are_sure : {w w' : WorldView} {hs : List Happening} {reports : List Report} → EventChain w hs reports w'
     → StepsFollowTable w.bench hs reports w'.bench
 chain_steps_are_sure empty_chain = no_sure_step
 chain_steps_are_sure (one_more s more) = one_step s.sure (chain_steps_are_sure more)
 
--- Event of the host's next action, which passes and in which no write is harmed.
+-- Event in which the host's next action has the fate Pass, and no write is harmed.
 abbrev pub pass : Happening
 pass = Goes Pass no_write_harmed
 
--- If an event without harm equals another, and that one has the result of a play, so has the event.
+-- If two events are equal, and one has the result of a play, the other has that result too.
 event_plays_as_meant : (b mid : LinkView) (report : Option Report) (event now : Happening) → event ≡ now → IsHarmless now
     → (IsHarmless event → IsResultOfPlay b event mid report) → IsResultOfPlay b now mid report
 event_plays_as_meant b mid report event now e harmless w =
     subst (λ (x : Happening). IsResultOfPlay b x mid report) e (w (subst IsHarmless (sym e) harmless))
 
--- The bench after an event shows the link `w`, and the event gave the report of `answer`.
+-- The bench after an event shows the link `w`, and the report of the event is that of `answer`.
 record LeadsToLink (mid : LinkView) (report : Option Report) (w : Link) (answer : Answered) : Type 0 where
   link : link_of_bench mid ≡ w
   told : report ≡ answer.report
 
--- If the table leads an event from a bench to one link and answer, with memory or without, its result has that link and report.
+-- If the table gives one link and one answer for an event, with memory or without, the event leads to that link and its report.
 sure_event_leads_to_play : (b mid : LinkView) (report : Option Report) (event : Happening) (c : Profile) (w : Link) (answer : Answered)
     → profile b.device ≡ c
     → IsResultOfPlay b event mid report
@@ -56,20 +56,20 @@ sure_event_leads_to_play b mid report event c w answer e x f =
     sym x.same ∙ ap (λ (d : Profile). play_of_event d (link_of_bench b) event Works Works x.room) e ∙ f x.room in
     record { link = ap (λ (p : PlayResult). p.link) same; told = x.told ∙ ap (λ (p : PlayResult). p.answer.report) same }
 
--- A sure event that is a pass leads to the link and the report to which the pass leads by the table.
+-- A pass leads to the link and the report that the table gives for it.
 sure_pass_leads_to_link : (b mid : LinkView) (report : Option Report) (c : Profile) (w : Link) (answer : Answered) → profile b.device ≡ c
     → EventFollowsTable b pass mid report → PassesTo c (link_of_bench b) w answer → LeadsToLink mid report w answer
 sure_pass_leads_to_link b mid report c w answer e s f = sure_event_leads_to_play b mid report pass c w answer e
     (event_plays_as_meant b mid report s.event pass s.means tt s.works)
     (λ room. f Works room)
 
--- Passes that report nothing came: they gave no report, and n further quiet passes lead from their link to `end`.
+-- Some quiet passes reported nothing, and n more quiet passes lead from the link after them to `end`.
 pub record QuietPassesRan (c : Profile) (b' : LinkView) (reports : List Report) (n : ℕ) (end : Link) : Type 0 where
   pub none : reports ≡ []
   pub rest : QuietPasses c (link_of_bench b') n end
   pub fixed : profile b'.device ≡ c
 
--- If m passes report nothing, the first k of them gave no report, and m - k passes are left.
+-- If m passes report nothing, the first k of them report nothing, and m - k passes remain.
 pub quiet_passes_report_nothing : {b b' : LinkView} {reports : List Report} {c : Profile} {end : Link} (k m : ℕ) → k ≤ m
     → StepsFollowTable b (replicate k pass) reports b' → profile b.device ≡ c → QuietPasses c (link_of_bench b) m end →
     QuietPassesRan c b' reports (m - k) end
@@ -91,12 +91,12 @@ quiet_passes_report_nothing {b = b} {b' = b'} {c = c} {end = end} (suc k) (suc m
     }
 quiet_passes_report_nothing (suc k) zero h chain e q = absurd (omega (arith, h))
 
--- The last pass came and gave its report alone, and left the link `end`.
+-- Only the last pass made a report, and it led to the link `end`.
 record LastPassReported (b' : LinkView) (reports : List Report) (end : Link) (report : Report) : Type 0 where
   says : reports ≡ report ∷ []
   link : link_of_bench b' ≡ end
 
--- After quiet passes the last pass gives its report alone, and leads to the end.
+-- If n passes are quiet, and the next one reports and leads to the link `end`, these n + 1 passes make only that report and lead to `end`.
 last_pass_reports : {b b' : LinkView} {reports : List Report} {c : Profile} {before end : Link} {last : Report} (n : ℕ)
     → StepsFollowTable b (replicate (suc n) pass) reports b' → profile b.device ≡ c → QuietPasses c (link_of_bench b) n before
     → PassesTo c before end (record { report = Some last; gave = None }) → LastPassReported b' reports end last
@@ -111,13 +111,14 @@ last_pass_reports {b = b} {c = c} {before = before} (suc n) (one_step {mid = mid
     f in
     record { says = ap (λ (r : Option Report). report_list r ++ later) t.told ∙ rest.says; link = rest.link }
 
--- A device that takes a file for a purpose can serve that purpose.
+-- If a device accepts a file for a purpose, it downloads, and it also uploads if the file is to be verified.
 offered_device_can_serve : (purpose : Purpose) {s : Setting} {file payload : List ℕ} (room : ℕ) → IsOffered s purpose file payload
     → ProfileServesPurpose purpose (profile_of s room)
 offered_device_can_serve Install room offered = can_download offered
 offered_device_can_serve Verify room offered = (can_download offered, can_upload offered)
 
--- A session was opened: nothing was reported, and quiet passes and one that reports lead from here to the end of a clean run.
+-- A session was opened without a report. Quiet passes, and then one that reports, lead from the link after the opening to the end of a
+-- clean run.
 pub record SessionOpened (b : LinkView) (purpose : Purpose) (payload : List ℕ) (mid : LinkView) (report : Option Report) : Type 0 where
   pub before : Link
   pub quiet : QuietPasses (profile b.device) (link_of_bench mid) (clean_passes purpose b.device.config payload - 1) before
@@ -125,7 +126,7 @@ pub record SessionOpened (b : LinkView) (purpose : Purpose) (payload : List ℕ)
   pub fixed : profile mid.device ≡ profile b.device
   pub told : report ≡ None
 
--- After the offer of a file that can be installed, its session has begun, and nothing is reported.
+-- The offer of a file that can be installed begins its session, and reports nothing.
 pub offer_opens_session : (b mid : LinkView) (report : Option Report) (purpose : Purpose) (file : List ℕ) (limits : Limits) (payload : List
     ℕ)
     → CanInstall b purpose file limits payload
@@ -158,7 +159,7 @@ offer_opens_session b mid report purpose file limits payload can s =
       told = lead.told;
     }
 
--- Steps of an offer and at most the passes of a clean run that follow the table report as a clean run does.
+-- If an offer and at most the passes of a clean run follow the table, they report what a clean run reports.
 pub steps_install_cleanly : StepsInstallCleanly
 steps_install_cleanly b b' purpose file limits payload count reports can most (one_step {mid = mid} {report = report} {reports = later} s
     more) =
@@ -179,7 +180,7 @@ steps_install_cleanly b b' purpose file limits payload count reports can most (o
       installed = λ k. (ends k).link;
     }
 
--- A chain of an offer and at most the passes of a clean run reports as a clean run does.
+-- A chain of an offer and at most the passes of a clean run reports what a clean run reports.
 pub chain_runs_cleanly : {w w' : WorldView} {hs : List Happening} {reports : List Report} → EventChain w hs reports w'
     → (purpose : Purpose) (file : List ℕ) (limits : Limits) (payload : List ℕ) (count : ℕ) → CanInstall w.bench purpose file limits payload
     → hs ≡ offer_and_passes purpose file limits count → count ≤ clean_passes purpose w.bench.device.config payload

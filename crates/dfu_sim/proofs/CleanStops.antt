@@ -22,7 +22,7 @@ use Rattle.dfu_sim.proofs.Chains.{Stopped, refusal_stops_run}
 use Rattle.dfu_sim.specs.CleanSteps.{StepsFollowTable, no_sure_step, one_step, CleanStepsSucceed}
 use Rattle.dfu_sim.proofs.CleanRuns.{chain_steps_are_sure, pass, quiet_passes_report_nothing, offer_opens_session}
 
--- Passes without a session leave the link without one.
+-- If a link has no session, passes do not begin one.
 no_session_stays : {c : Profile} {w end : Link} {n : ℕ} → QuietPasses c w n end → w.session ≡ NoLiveSession → end.session ≡ NoLiveSession
 no_session_stays here e = e
 no_session_stays {c = c} {w = w} (there {mid = mid} p q) e =
@@ -40,7 +40,7 @@ no_session_reports_nothing c w end r p e =
     ≡ Some r = ap (λ (x : PlayResult). x.answer.report) (p Works true) in
     absurd cc
 
--- A run stops before an offer that can be installed only for want of memory.
+-- If a run stops before the offer of a file that can be installed, its fault is NoMemory.
 offer_fails_only_for_memory : (b : LinkView) (purpose : Purpose) (file : List ℕ) (limits : Limits) (payload : List ℕ)
     → CanInstall b purpose file limits payload
     → (why : LinkFault)
@@ -51,14 +51,14 @@ offer_fails_only_for_memory b purpose file limits payload can fault.NoHost h = e
 offer_fails_only_for_memory b purpose file limits payload can (fault.BadOffer f) h =
     absurd (taken_offer_is_not_bad b.device.config purpose file payload f can.offered h.1)
 
--- While a session is live, a run stops before a pass only for want of memory.
+-- If a run stops before a pass while a session is live, its fault is NoMemory.
 pass_fails_only_for_memory : (b : LinkView) → (b.session ≡ NoLiveSession → ⊥) → (why : LinkFault) → StopsWithFault b pass why → why
     ≡ fault.NoMemory
 pass_fails_only_for_memory b live fault.NoMemory h = refl
 pass_fails_only_for_memory b live fault.NoHost h = absurd (live h)
 pass_fails_only_for_memory b live why h = elim h [ ]
 
--- Among `count` passes, the event after the first k is a pass, and k is less than `count`.
+-- In a list of `count` passes, the event after the first k is a pass too, and k is less than `count`.
 next_of_passes_is_pass : (count k : ℕ) {next : Happening} {more : List Happening} → drop k (replicate count pass) ≡ next ∷ more
     → (k < count) × (next ≡ pass)
 next_of_passes_is_pass zero zero e = absurd cc
@@ -66,12 +66,12 @@ next_of_passes_is_pass zero (suc k) e = absurd cc
 next_of_passes_is_pass (suc count) zero e = (omega arith, cc)
 next_of_passes_is_pass (suc count) (suc k) e = let x = next_of_passes_is_pass count k e in (omega (arith, x.0), x.1)
 
--- No event is refused for want of memory, because only a run has that fault.
+-- No event is refused with NoMemory, because only a run has that fault.
 no_event_is_refused_for_memory : (b : LinkView) (h : Happening) → ¬ IsRefused b h fault.NoMemory
 no_event_is_refused_for_memory b Aborts refused = refused
 no_event_is_refused_for_memory b h refused = refused
 
--- A clean run stops before an event only for want of memory.
+-- If a clean run stops before an event, its fault is NoMemory.
 clean_run_stops_for_memory : {b b' : LinkView} {next : Happening} {more : List Happening} {why : LinkFault} {reports : List Report}
     (purpose : Purpose)
     (file : List ℕ)
@@ -98,7 +98,7 @@ clean_run_stops_for_memory {b = b} {b' = b'} {why = why} purpose file limits pay
       ap (λ (r : Option Report). report_list r ++ later) x.told ∙ q.none,
     )
 
--- A run of an offer and at most the passes of a clean run that stops early had no memory for a report, and reported nothing.
+-- If a run of an offer and at most the passes of a clean run stops early, there was no memory for a report, and nothing was reported.
 pub stopped_clean_run_lacked_memory : {w w' : WorldView} {hs : List Happening} {why : LinkFault} {at : ℕ} {reports : List Report}
     → Stopped w hs why at reports w' → (purpose : Purpose) (file : List ℕ) (limits : Limits) (payload : List ℕ) (count : ℕ)
     → CanInstall w.bench purpose file limits payload → hs ≡ offer_and_passes purpose file limits count
@@ -108,7 +108,7 @@ stopped_clean_run_lacked_memory {w = w} {w' = w'} {at = at} {reports = reports} 
     (subst (λ (hs : List Happening). drop at hs ≡ s.runs.next ∷ s.runs.more) is s.runs.here)
     (subst (λ (hs : List Happening). StepsFollowTable w.bench (take at hs) reports w'.bench) is (chain_steps_are_sure s.chain)) s.runs.why
 
--- If the steps of a clean run so far follow the table, its next step is not refused.
+-- If the first steps of a clean run follow the table, its next step is not refused.
 pub clean_steps_succeed : CleanStepsSucceed
 clean_steps_succeed b b' purpose file limits payload count at reports next more why can most steps next_is refused =
     let x = clean_run_stops_for_memory purpose file limits payload count at can most next_is steps (refusal_stops_run b' next why refused)

@@ -1,4 +1,4 @@
--- Plan of a request on a device whose program refuses the image that the request closes.
+-- Plan of a request on a device whose program refuses the image of the download that the request closes.
 use Rattle.std.proofs.Common.{◌≡◌, ℕ, ◌==◌, nat_le, Bool, true, false, cond, List, [], ◌∷◌, length, Option, Some, None, refl, ap, arith}
 use Rattle.std.proofs.lemmas.Bool.Decides.{nat_tests}
 use Rattle.dfu_wire.specs.declared.codes.Code.{Code}
@@ -11,34 +11,34 @@ use Rattle.dfu_device.specs.Table.{Plan, Sure, error_plan, plan, has_no_bytes, m
 use Rattle.dfu_device.specs.Rows.{request_for_table, is_close}
 use Rattle.dfu_device.specs.Cases.{holds_in_both_branches}
 use Rattle.dfu_sim.specs.Play.{request_closes, plan_with_refusal}
-use Rattle.dfu_sim.proofs.Quiet.{IsBlocklessRequest}
+use Rattle.dfu_sim.proofs.MovesWithoutBlocks.{IsBlocklessRequest}
 use Rattle.dfu_sim.proofs.Replies.{IsHostRequest}
 
--- A request that closes nothing has the table's plan, whatever the program refuses.
+-- A request that does not close a download has the table's plan, even if the program has an objection.
 pub closeless_request_goes_by_table : (x : Option Objection) (c : Profile) (i : List ℕ) (stage : Stage) (r : Request) →
     request_closes c.least stage r ≡ false
     → plan_with_refusal x c i stage r ≡ plan c i stage r
 closeless_request_goes_by_table None c i stage r e = refl
 closeless_request_goes_by_table (Some why) c i stage r e = ap (λ (t : Bool). cond t (error_plan (objection_code why)) (plan c i stage r)) e
 
--- The plan of a request that closes a download whose image the program refuses is an error with the code of the objection.
+-- If a request closes a download and the program refuses the image, the plan is an error with the code of the objection.
 pub refused_close_is_error : (why : Objection) (c : Profile) (i : List ℕ) (stage : Stage) (r : Request) →
     request_closes c.least stage r ≡ true
     → plan_with_refusal (Some why) c i stage r ≡ error_plan (objection_code why)
 refused_close_is_error why c i stage r e = ap (λ (t : Bool). cond t (error_plan (objection_code why)) (plan c i stage r)) e
 
--- A request that moves no block closes nothing.
+-- A request that transfers no block does not close a download.
 pub blockless_request_closes_nothing : (least : ℕ) (stage : Stage) (r : Request) → IsBlocklessRequest r
     → request_closes least stage r ≡ false
 blockless_request_closes_nothing least stage (Dnload number body) p = elim p [ ]
 blockless_request_closes_nothing least stage r p = refl
 
--- A DNLOAD with a body that is not empty closes nothing.
+-- A DNLOAD with a body that is not empty does not close a download.
 pub block_closes_nothing : (least : ℕ) (stage : Stage) (number : ℕ) (body : List ℕ) → has_no_bytes body ≡ false
     → request_closes least stage (Dnload number body) ≡ false
 block_closes_nothing least stage number body e = ap (λ (t : Bool). cond t (may_close least stage) false) e
 
--- A property of the plan of a closing request holds if it holds of each error, and of the plan that closes the bytes taken.
+-- A property of the plan of a closing request holds if it holds for each error, and for the plan that closes the download.
 pub close_errs_or_works : (P : Plan → Type 0) (x : Option Objection) (c : Profile) (i taken : List ℕ) (expected number : ℕ)
     → ((code : Code) → P (error_plan code)) → P (Sure Ack (InManifestSync taken))
     → P (plan_with_refusal x c i (InDownloadIdle taken expected) (Dnload number []))
@@ -47,14 +47,14 @@ close_errs_or_works P (Some why) c i taken expected number pf pt =
     holds_in_both_branches P (nat_le c.least (length taken)) _ _ (pf (objection_code why))
     (holds_in_both_branches P (nat_le c.least (length taken)) _ _ pt (pf ErrNotDone))
 
--- Requests that hosts send.
+-- Lemmas about the requests that hosts send.
 
 -- A Boolean that is not true is false.
 not_true_is_false : (b : Bool) → (b ≡ true → ⊥) → b ≡ false
 not_true_is_false true f = absurd (f refl)
 not_true_is_false false f = refl
 
--- The request with which a host closes a download closes it, if the download may be closed.
+-- If a download may be closed, the closing request of a host closes it.
 pub host_close_request_closes : (q : Asked) (body : List ℕ) (least : ℕ) (stage : Stage) → IsHostRequest q body → is_close q ≡ true
     → may_close least stage ≡ true → request_closes least stage (request_for_table q body) ≡ true
 host_close_request_closes (request.Dnload block len) [] least stage i e may = may
@@ -62,7 +62,7 @@ host_close_request_closes (request.Dnload block len) (x ∷ xs) least stage i e 
     let none : len ≡ 0 = grind (arith, nat_tests) in absurd (omega (arith, none, i))
 host_close_request_closes q body least stage i e may = absurd cc
 
--- A request of a host closes nothing if it is not the one that closes a download, or if the download may not be closed then.
+-- A request of a host does not close a download if it is not the closing request, or if the download may not be closed yet.
 pub other_host_request_closes_nothing : (q : Asked) (body : List ℕ) (least : ℕ) (stage : Stage) → IsHostRequest q body
     → (is_close q ≡ true → may_close least stage ≡ true → ⊥) → request_closes least stage (request_for_table q body) ≡ false
 other_host_request_closes_nothing (request.Dnload block len) [] least stage i request_closes =

@@ -1,4 +1,4 @@
--- A device keeps its setting in each event.
+-- No event changes the setting of the device.
 use Rattle.std.proofs.Common.{◌≡◌, ℕ, List, [], Option, Some, None, inl, inr, refl, ap, ◌∙◌}
 use Rattle.dfu_device.specs.declared.objection.Objection.{Objection}
 use Rattle.dfu_device.specs.declared.answer.Answer.{Answer}
@@ -20,16 +20,16 @@ use Rattle.dfu_sim.specs.Bytes.{fuse_of, armed_device, device_after_bus_reset, S
 use Rattle.dfu_sim.specs.LinkView.{LinkView}
 use Rattle.dfu_sim.proofs.DoneOnce.{done_plan_has_ending}
 
--- A setup keeps the setting.
+-- A setup does not change the setting.
 handling_keeps_config : {setup body out : List ℕ} {w w' : DeviceView} {a : Answer} → Handles setup body w a out w' → w'.config ≡ w.config
 handling_keeps_config {body = body} {out = out} {w = w} {w' = w'} {a = a} (handled_by_reading p q reads asks done) =
     (done_plan_has_ending (setup_plan w p q body) (asked_length q) w a out w' done).config
 
--- A time that passes keeps the setting.
+-- The passing of time does not change the setting.
 elapsed_time_keeps_config : (ms : ℕ) (w w' : DeviceView) → Elapses ms w w' → w'.config ≡ w.config
 elapsed_time_keeps_config ms w w' h = (done_plan_has_ending (time_plan (profile w) w.stage ms) 0 w answer.Ack [] w' h).config
 
--- A setup whose image the program may refuse keeps the setting.
+-- A setup does not change the setting, even if the program refuses the image of the closed download.
 setup_result_keeps_config : (x : Option Objection) (setup body out : List ℕ) (w w' : DeviceView) (a : Answer) →
     SetupResult x setup body w a out w'
     → w'.config ≡ w.config
@@ -37,7 +37,7 @@ setup_result_keeps_config None setup body out w w' a h = handling_keeps_config h
 setup_result_keeps_config (Some why) setup body out w w' a (inl (stalls, none, closing, same)) = ap (λ (x : DeviceView). x.config) same
 setup_result_keeps_config (Some why) setup body out w w' a (inr (other, h)) = handling_keeps_config h
 
--- A request that reaches the device keeps the setting.
+-- A request does not change the setting, however often the device handles it.
 reached_device_keeps_config : {x : Option Objection} {setup body : List ℕ} {how : Handled} {w w' : DeviceView} {came : Response} {out :
     List ℕ}
     → ReachesDevice x setup body how w came out w' → w'.config ≡ w.config
@@ -47,19 +47,19 @@ reached_device_keeps_config {x = x} (again mid a out h k) = handling_keeps_confi
 reached_device_keeps_config {x = x} {w' = w'} (late {ms = ms} mid h k) = elapsed_time_keeps_config ms mid w' k
     ∙ setup_result_keeps_config x _ _ _ _ _ _ h
 
--- A time that slips in keeps the setting.
+-- The time of a slip does not change the setting.
 slipped_time_keeps_config : (how : Handled) (w w' : DeviceView) → SlipsTime how w w' → w'.config ≡ w.config
 slipped_time_keeps_config (Late ms) w w' h = elapsed_time_keeps_config ms w w' h
 slipped_time_keeps_config how w w' h = ap (λ (x : DeviceView). x.config) h
 
--- An action of the host keeps the setting.
+-- An action of the host does not change the setting.
 action_keeps_config : (d : Deed) (f : Delivery) (w w' : DeviceView) (heard : Heard) → ActionDelivered d f w w' heard → w'.config ≡ w.config
 action_keeps_config (Send q body) f w w' heard h = reached_device_keeps_config h.2.reaches
 action_keeps_config (Wait ms) f w w' heard h = elapsed_time_keeps_config (wait_by_handling f.handling ms) w w' h.0
 action_keeps_config Reset f w w' heard h = slipped_time_keeps_config f.handling (device_after_bus_reset w) w' h.0
 action_keeps_config (IsDone report) f w w' heard h = elim h [ ]
 
--- The end of an action keeps the setting.
+-- The end of an action does not change the setting.
 action_end_keeps_config : (harming : MediumFault) (w : DeviceView) → (device_after_action harming w).config ≡ w.config
 action_end_keeps_config CutsPower w = refl
 action_end_keeps_config harming w = refl

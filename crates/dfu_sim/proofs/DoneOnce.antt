@@ -1,4 +1,5 @@
--- A plan that is carried out twice from one device gives one reply and one device, but for the count of failed writes.
+-- If the fuse is known, a plan that is carried out from one device has one reply and leads to one device, except for the number of failed
+-- writes.
 use Rattle.std.proofs.Common.{◌≡◌, inl, inr, ℕ, List, ◌∷◌, [], length, refl, sym, ap, ◌∙◌, subst}
 use Rattle.dfu_slots.specs.Medium.Fuse.{Whole}
 use Rattle.dfu_slots.specs.StoreView.{SlotsState, image_of, StoreCall, Commit, Ending, AllWorked, BrokenBy, CallsEnd}
@@ -12,11 +13,11 @@ use Rattle.dfu_device.specs.Rows.{ReplyAnswer, block_calls, Done}
 use Rattle.dfu_sim.specs.Bytes.{armed_device, device_after_power_cycle}
 use Rattle.dfu_sim.specs.OneAnswer.{SameDevice}
 
--- Each store is the same as itself, in the sense of `SameStore`.
+-- `SameStore` is reflexive.
 store_is_same_as_itself : (s : SlotsState) → SameStore s s
 store_is_same_as_itself s = record { medium = record { bytes = refl; fuse = refl; grain = refl }; held = refl; put_end = refl }
 
--- Equal devices are the same device in the sense of `SameDevice`.
+-- Equal devices are the same in the sense of `SameDevice`.
 pub equal_devices_are_same : {w v : DeviceView} → w ≡ v → SameDevice w v
 equal_devices_are_same {w = w} e = subst (λ (z : DeviceView). SameDevice w z) e (record {
   config = refl;
@@ -25,7 +26,7 @@ equal_devices_are_same {w = w} e = subst (λ (z : DeviceView). SameDevice w z) e
       w.slots;
 })
 
--- Two devices that are equal but for failed writes stay so after their power came back.
+-- Two devices that are equal but for failed writes remain so after a power cycle.
 pub powered_devices_stay_same : {w v : DeviceView} → SameDevice w v → SameDevice (device_after_power_cycle w) (device_after_power_cycle v)
 powered_devices_stay_same same = record {
   config = same.config;
@@ -37,7 +38,7 @@ powered_devices_stay_same same = record {
   };
 }
 
--- Two devices that are equal but for failed writes stay so once their media are disarmed.
+-- Two devices that are equal but for failed writes remain so after their media are disarmed.
 pub disarmed_devices_stay_same : {w v : DeviceView} → SameDevice w v → SameDevice (armed_device w Whole) (armed_device v Whole)
 disarmed_devices_stay_same same = record {
   config = same.config;
@@ -49,7 +50,7 @@ disarmed_devices_stay_same same = record {
   };
 }
 
--- Two results of one plan on one device agree: both have one reply, and the devices are equal but for the count of failed writes.
+-- Two results of one plan from one device agree: they have one reply, and the devices are equal but for the count of failed writes.
 pub record DoneOnce (p : Plan) (len : ℕ) (w w' v' : DeviceView) (a b : Answer) (out other : List ℕ) : Type 0 where
   pub luck : Luck
   pub first : ReplyAnswer len (plan_outcome (image_of w.slots) p luck).reply a out
@@ -62,7 +63,8 @@ store_calls_of_plan (Sure reply stage) = []
 store_calls_of_plan (Writes before block reply stage bad) = block_calls before block
 store_calls_of_plan (Commits taken reply stage bad) = Commit (length taken) ∷ []
 
--- The luck of a plan by the ending of its calls; a failed commit may leave the old image or the new one, and here counts as the old one.
+-- Luck of a plan, by the ending of its calls. A failed commit may leave the old image or the new one; here it counts as leaving the old
+-- one.
 abbrev luck_of_ending : Ending → Luck
 luck_of_ending AllWorked = Works
 luck_of_ending (BrokenBy fault) = FailsOld fault
@@ -90,7 +92,7 @@ done_plan_has_ending p len w a out w' (inl (says, h)) =
 done_plan_has_ending p len w a out w' (inr (fault, says, h)) =
     record { ending = BrokenBy fault; answers = says; config = h.config_is; stage = h.stage_is; called = h.calls }
 
--- A plan is carried out in one way from one device, if the fuse of the device is known.
+-- If the fuse of the device is known, a plan has only one result, except for the count of failed writes.
 pub plan_ends_in_one_way : (p : Plan) (len : ℕ) (w w' v' : DeviceView) (a b : Answer) (out other : List ℕ) → IsKnownFuse w.slots.medium.fuse
     → Done p len w a out w' → Done p len w b other v' → DoneOnce p len w w' v' a b out other
 plan_ends_in_one_way p len w w' v' a b out other known h k =

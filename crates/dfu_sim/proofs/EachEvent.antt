@@ -19,10 +19,10 @@ use Rattle.dfu_sim.specs.Agreement.{live_session_of_goal, live_session_of, IsLiv
 use Rattle.dfu_sim.specs.Fact.{HasBlocks, SessionFact}
 use Rattle.dfu_sim.specs.Simulation.{StepIsFollowed}
 use Rattle.dfu_sim.proofs.CommonFacts.{common_phase_has_goal_fact}
-use Rattle.dfu_sim.proofs.Taking.{shown, restart_outcome_holds, restart_report_promises_nothing, task_goes_by_descriptor}
-use Rattle.dfu_sim.proofs.Saying.{in_place_step_had_live_payload}
+use Rattle.dfu_sim.proofs.HeardResults.{shown, restart_outcome_holds, restart_report_promises_nothing, task_goes_by_descriptor}
+use Rattle.dfu_sim.proofs.MachineReports.{in_place_step_had_live_payload}
 use Rattle.dfu_sim.proofs.PassingTime.{time_installs_or_stays, time_keeps_session_fact}
-use Rattle.dfu_sim.proofs.Objecting.{refusal_may_drop_pending, refusal_keeps_closed_offer, refusal_keeps_session_fact}
+use Rattle.dfu_sim.proofs.RefusedImages.{refusal_may_drop_pending, refusal_keeps_closed_offer, refusal_keeps_session_fact}
 use Rattle.dfu_sim.proofs.ActionSteps.{IsSimulated, host_action_simulated}
 
 module _ (c : Profile) (offers : List (List ℕ)) where
@@ -31,12 +31,13 @@ module _ (c : Profile) (offers : List (List ℕ)) where
   reset_leaves_nothing_pending (InAppDetach timer passed) = refl
   reset_leaves_nothing_pending stage = refl
 
-  -- After a reset of the bus no bytes are closed.
+  -- After a reset of the bus no closed bytes wait, so the condition that closed bytes are an offer holds.
   nothing_closed_after_reset : (stage : Stage) → ClosedWasOffered offers (reset_stage stage)
   nothing_closed_after_reset (InAppDetach timer passed) = tt
   nothing_closed_after_reset stage = tt
 
-  -- A restart from outside, after which no bytes are pending, is a step of the session machine, and the facts of the link hold after it.
+  -- A restart that no action of the host caused, and after which no bytes are pending, is a step of the session machine, and the facts of
+  -- the link still hold after it.
   outside_restart_simulated : (s : Situation) (next : Stage) (session : Session) (up : List ℕ) → pending_of next ≡ None
       → ClosedWasOffered offers next
       → IsLiveOffer offers (live_session_of session) → SessionFact c s session
@@ -66,36 +67,37 @@ module _ (c : Profile) (offers : List (List ℕ)) where
         done = t.done;
       }
 
-  -- Closed bytes stay an offer when an offer is added.
+  -- If the closed bytes are an offer, they are still one after another offer.
   closed_offer_stays_with_more : (p : List ℕ) (stage : Stage) → ClosedWasOffered offers stage → ClosedWasOffered (p ∷ offers) stage
   closed_offer_stays_with_more p (InManifestSync taken) h = inr h
   closed_offer_stays_with_more p (InManifest taken passed) h = inr h
   closed_offer_stays_with_more p stage h = tt
 
--- The session machine loads the payload of an offer for the session that the offer begins.
+-- The session that an offer begins loads the offer's payload.
 offered_goal_is_loaded : (purpose : Purpose) (payload : List ℕ) → live_session_of_goal (goal_of_purpose purpose payload)
     ≡ LoadingPayload payload
 offered_goal_is_loaded Install payload = refl
 offered_goal_is_loaded Verify payload = refl
 
--- The offers after an event: the payload of an offer comes in front.
+-- Offers after an event; the payload of a new offer is the first.
 abbrev offers_after_event : Happening → List (List ℕ) → List (List ℕ)
 offers_after_event (Offers purpose payload limits) offers = payload ∷ offers
 offers_after_event event offers = offers
 
--- The transfer size is at least one byte, if the event needs one: an offer without a session does, and an action of a live host.
+-- The transfer size is at least one byte if the event needs one. Such events are an offer without a live session, and an action of a live
+-- host.
 abbrev pub IsSized : Profile → Session → Happening → Type 0
 IsSized c NoLiveSession (Offers purpose payload limits) = 0 < c.transfer
 IsSized c (HostSession h) (Goes fate harm) = 0 < c.transfer
 IsSized c session event = Unit {0}
 
--- A transfer size of at least one byte is enough for each event.
+-- If the transfer size is at least one byte, it is large enough for each event.
 pub event_has_needed_transfer : (c : Profile) (session : Session) (event : Happening) → 0 < c.transfer → IsSized c session event
 event_has_needed_transfer c NoLiveSession (Offers purpose payload limits) h = h
 event_has_needed_transfer c (HostSession host) (Goes fate harm) h = h
 event_has_needed_transfer c session event h = tt
 
--- A live host that is aborted goes to the phase GiveUp.
+-- An aborted live host is in the phase GiveUp.
 aborted_live_host_gives_up : (h : HostState) (phase : Phase) → IsLivePhase phase → host_given_up_in_phase h phase
     ≡ record h { phase = GiveUp }
 aborted_live_host_gives_up h (Over r) on = elim on [ ]
@@ -103,16 +105,16 @@ aborted_live_host_gives_up h (OverUploaded kept) on = elim on [ ]
 aborted_live_host_gives_up h phase on = refl
 
 module _ (c : Profile) where
-  -- A payload of at least one byte has a block, if the transfer size is at least one byte.
+  -- If the transfer size is at least one byte, a payload of at least one byte has a block.
   payload_has_blocks : (p : List ℕ) → 0 < c.transfer → 0 < length p → 0 < length (blocks p c.transfer)
   payload_has_blocks p sized h = started_block_is_counted p c.transfer 0 sized (omega (arith, h))
 
-  -- The goal of an offer of at least one byte has a block, if the transfer size is at least one byte.
+  -- If the transfer size and the payload of an offer are at least one byte each, the payload has a block.
   offered_goal_has_blocks : (purpose : Purpose) (p : List ℕ) → 0 < c.transfer → 0 < length p → HasBlocks c (goal_of_purpose purpose p)
   offered_goal_has_blocks Install p sized h = payload_has_blocks p sized h
   offered_goal_has_blocks Verify p sized h = payload_has_blocks p sized h
 
-  -- Each event of a play is a step of the session machine, and the facts of the link hold after it.
+  -- Each event of a play is a step of the session machine, and the facts of the link still hold after it.
   event_play_simulated : (offers : List (List ℕ)) (s : Situation) (session : Session) (up : List ℕ) (event : Happening) (l k : Luck) (room
       : Bool)
       → IsSized c session event → MayHappen session event → ClosedWasOffered offers s.stage → IsLiveOffer offers (live_session_of session)
@@ -176,7 +178,7 @@ module _ (c : Profile) where
   }
   event_play_simulated offers s session up event l k room z a q o f = elim a [ ]
 
-  -- A machine that agrees with a link equals the machine that shows the link's image, pending bytes, live session and last upload.
+  -- If a machine agrees with a link, the machine's image, pending bytes, live session and last upload are those of the link.
   agreeing_machine_is_shown : (w : Link) (up : List ℕ) (m : Machine) → Agrees w up m
       → shown m.offers w.device.image (pending_of w.device.stage) (live_session_of w.session) up ≡ m
   agreeing_machine_is_shown w up m a = λ i. record {
@@ -187,7 +189,7 @@ module _ (c : Profile) where
     up = sym a.up_is i;
   }
 
-  -- The machine that shows a link follows an event that is simulated.
+  -- If an event is simulated, the session machine of the link follows it.
   simulated_play_is_followed : (w : Link) (up : List ℕ) (offers offers' : List (List ℕ)) (event : Happening) (r : PlayResult)
       → IsSimulated c offers w up (kind_of event) r offers' → StepIsFollowed c
       (shown offers w.device.image (pending_of w.device.stage) (live_session_of w.session) up) event r.link
@@ -203,7 +205,7 @@ module _ (c : Profile) where
         in_place = λ e. (s.done e, in_place_step_had_live_payload s.step e);
       }
 
-  -- The session machine follows a play, if the transfer size is enough for its event.
+  -- If the transfer size is large enough for an event, the session machine follows its play.
   pub sized_play_is_followed : (w w' : Link) (up : List ℕ) (m : Machine) (event : Happening) (answer : Answered) → IsSized c w.session event
       → SessionFact c w.device w.session → Agrees w up m → Play c w event w' answer
       → StepIsFollowed c m event w' (uploaded_after answer.gave up) answer.report
@@ -216,7 +218,7 @@ module _ (c : Profile) where
       (agreeing_machine_is_shown w up m a) e)
 
 module _ (c : Profile) (sized : 0 < c.transfer) where
-  -- If the transfer size is at least one byte, the session machine that agrees with a link follows each of its plays.
+  -- If the transfer size is at least one byte, each session machine that agrees with a link follows each of its plays.
   pub follows : (w w' : Link) (up : List ℕ) (m : Machine) (event : Happening) (answer : Answered) → SessionFact c w.device w.session
       → Agrees w up m → Play c w event w' answer → StepIsFollowed c m event w' (uploaded_after answer.gave up) answer.report
   follows w w' up m event answer f a p = sized_play_is_followed c w w' up m event answer (event_has_needed_transfer c w.session event

@@ -1,4 +1,4 @@
--- Each event, put together from its parts: a play in bytes, or a refusal.
+-- Result of each event, from the clauses of its parts: a play in bytes, or a refusal.
 use Rattle.std.proofs.Common.{◌≡◌, ◌↔◌, ℕ, ◌+◌, ◌<◌, ◌==◌, not, cond, is_some, Bool, true, false, List, length, Option, Some, None, Result, Ok, Err, refl, ap, ◌∙◌, subst, arith}
 use Rattle.std.proofs.lemmas.Bool.Decides.{nat_tests}
 use Rattle.dfu_slots.specs.Medium.Fuse.{Whole}
@@ -31,17 +31,17 @@ use Rattle.dfu_sim.specs.LinkInvariant.{session_of, given_by, bench_of, link_sta
 use Rattle.dfu_sim.specs.inside.Acting.{session_outcome, SessionOpened}
 use Rattle.dfu_sim.proofs.Counted.{heard_outcome_gives_bytes, restart_outcome_gives_bytes}
 
--- An event may come in any session, if it may come with each live session and without one.
+-- An event may happen in any session if it may happen with each live host and without one.
 event_may_happen_in_session : (s : Session) (h : Happening) → MayHappen NoLiveSession h → ((k : HostState) →
     MayHappen (HostSession k) h) → MayHappen s h
 event_may_happen_in_session NoLiveSession h none live = none
 event_may_happen_in_session (HostSession k) h none live = live k
 
--- An event that is refused changes nothing.
+-- A refused event changes nothing.
 pub refused_event_leaves_link : (b : LinkView) (h : Happening) (why : LinkFault) → IsRefused b h why → WorldEventAlone b h b (Err why)
 refused_event_leaves_link b h why is up = record { answer = Err why; comes = refuses is; whole = tt; up_is = refl; told = refl }
 
--- An event that is a play has its result: the report of the play's answer, and its bytes in place of those before.
+-- If a caller's event is a play, its result is the report of the play's answer, and any uploaded bytes replace those of the last upload.
 pub allowed_event_has_result : {b b' : LinkView} {h : Happening} {up up' : List ℕ} {report : Option Report} (event : Happening) (answer :
     Answered)
     → EventMeaning b.device.config h event → BytePlay b event b' answer → BytesOnlyWithUploaded (Ok answer)
@@ -50,7 +50,7 @@ pub allowed_event_has_result : {b b' : LinkView} {h : Happening} {up up' : List 
 allowed_event_has_result event answer means play whole kept says =
     record { answer = Ok answer; comes = happens {event = event} means play; whole = whole; up_is = kept; told = ap Ok says }
 
--- Time that passes is an event with no report.
+-- Time that passes is an event without a report.
 pub time_event_has_result : (ms : ℕ) (w w' : DeviceView) (host gave : Option HostState) → w.slots.medium.fuse ≡ Whole → Elapses ms w w'
     → WorldEventResult (link_state w host gave) (Passes ms) (link_state w' host gave) (Ok None)
 time_event_has_result ms w w' host gave e row = allowed_event_has_result (Passes ms) silent refl (record {
@@ -59,7 +59,7 @@ time_event_has_result ms w w' host gave e row = allowed_event_has_result (Passes
   happens = (row, refl, refl);
 }) tt refl refl
 
--- A refusal by the program is an event with no report.
+-- A refusal by the program is an event without a report.
 pub refusal_event_has_result : (why : Objection) (w w' : DeviceView) (host gave : Option HostState) → w.slots.medium.fuse ≡ Whole
     → w' ≡ refused_device why w
     → WorldEventResult (link_state w host gave) (Refuses why) (link_state w' host gave) (Ok None)
@@ -69,7 +69,7 @@ refusal_event_has_result why w w' host gave e row = allowed_event_has_result (Re
   happens = ((λ i. record { device = row i; session = session_of host }), refl);
 }) tt refl refl
 
--- A restart from outside, by a reset of the bus or a cut of the power, is an event with the report of the session that it ends.
+-- A reset of the bus or a cut of the power between actions is an event with the report of the session that it ends.
 pub restart_event_has_result : (h : Happening) (w w' : DeviceView) (host host' gave gave' : Option HostState) (report : Option Report)
     → EventMeaning w.config h h → MayHappen NoLiveSession h → ((k : HostState) → MayHappen (HostSession k) h) → SendsBytes (session_of host)
     → SessionIsCounted (session_of host) → w.slots.medium.fuse ≡ Whole
@@ -114,7 +114,7 @@ pub action_without_host_is_refused : (f : Fate) (harm : WriteHarm) (w : DeviceVi
     → WorldEventResult (link_state w None gave) (Goes f harm) (link_state w None gave) (Err fault.NoHost)
 action_without_host_is_refused f harm w gave = refused_event_leaves_link (bench_of w None) (Goes f harm) fault.NoHost refl (given_by gave)
 
--- If a list of faults has no first fault, the fault at its head does not hold, and the rest of the list has no first fault.
+-- If no fault of a list applies, its first fault does not apply, and no fault of the rest applies.
 pub no_first_fault_is_no_fault : (t : Bool) (fault : HostFault) (rest : Option HostFault) → cond t (Some fault) rest ≡ None → (t ≡ false)
     × (rest ≡ None)
 no_first_fault_is_no_fault true fault rest e = absurd cc
@@ -124,14 +124,14 @@ not_false_is_true : (t : Bool) → not t ≡ false → t ≡ true
 not_false_is_true true e = refl
 not_false_is_true false e = absurd cc
 
--- Facts of a payload and a descriptor for which an offer has no fault.
+-- Facts of a payload and a descriptor, if the offer of that payload has no fault.
 record NoFault (purpose : Purpose) (payload : List ℕ) (f : Functional) : Type 0 where
   some : (length payload == 0) ≡ false
   can_download_flag : f.can_download ≡ true
   gives : purpose ≡ Verify → f.can_upload ≡ true
   sized : (f.transfer == 0) ≡ false
 
--- An offer without a first fault has all facts of `NoFault`.
+-- If an offer has no first fault, all facts of `NoFault` hold.
 offer_without_first_fault : (purpose : Purpose) (file : Content) (f : Functional) (ids : Ids) → first_offer_fault purpose file f ids ≡ None
     → NoFault purpose file.payload f
 offer_without_first_fault Install file f ids e =
@@ -155,39 +155,39 @@ offer_has_no_fault : {s : Setting} {purpose : Purpose} {file payload : List ℕ}
     → NoFault purpose payload s.functional
 offer_has_no_fault {s = s} {purpose = purpose} offered = offer_without_first_fault purpose _ s.functional s.ids offered.taken
 
--- A file that a device takes has a payload of at least one byte.
+-- A file that a device accepts has a payload of at least one byte.
 pub bytes_of : {s : Setting} {purpose : Purpose} {file payload : List ℕ} → IsOffered s purpose file payload → 0 < length payload
 bytes_of {payload = payload} offered = let e : (length payload == 0) ≡ false = (offer_has_no_fault offered).some in grind (arith, nat_tests)
 
--- A device to which a file can be offered has a transfer size of at least one byte.
+-- A device that accepts a file has a transfer size of at least one byte.
 pub offered_device_has_transfer : {s : Setting} {purpose : Purpose} {file payload : List ℕ} → IsOffered s purpose file payload →
     0 < s.functional.transfer
 offered_device_has_transfer {s = s} offered = let e : (s.functional.transfer == 0)
     ≡ false = (offer_has_no_fault offered).sized in grind (arith, nat_tests)
 
--- A device to which a file can be offered has bitCanDnload 1.
+-- A device that accepts a file has bitCanDnload 1.
 pub can_download : {s : Setting} {purpose : Purpose} {file payload : List ℕ} → IsOffered s purpose file payload
     → s.functional.can_download ≡ true
 can_download offered = (offer_has_no_fault offered).can_download_flag
 
--- A device to which a file can be offered for verification has bitCanUpload 1.
+-- A device that accepts a file for verification has bitCanUpload 1.
 pub can_upload : {s : Setting} {file payload : List ℕ} → IsOffered s Verify file payload → s.functional.can_upload ≡ true
 can_upload offered = (offer_has_no_fault offered).gives refl
 
--- An event that must not come in a session is refused with HostBusy while one is live.
+-- If each live session refuses an event with HostBusy, the event has that result while a session is live.
 pub event_in_session_is_refused : (h : Happening) (w : DeviceView) (host : Option HostState)
     → ((k : HostState) → IsRefused (bench_of w (Some k)) h fault.HostBusy) → is_some host ≡ true
     → WorldEventAlone (bench_of w host) h (bench_of w host) (Err fault.HostBusy)
 event_in_session_is_refused h w (Some k) busy e = refused_event_leaves_link (bench_of w (Some k)) h fault.HostBusy (busy k)
 event_in_session_is_refused h w None busy e = absurd cc
 
--- An event that is refused without a session is refused while no session is live.
+-- If no session is live, and an event is refused on a bench without a session, the result of the event is the fault of that refusal.
 pub sessionless_event_is_refused : (h : Happening) (why : LinkFault) (w : DeviceView) (host : Option HostState) → is_some host ≡ false
     → IsRefused (bench_of w None) h why → WorldEventAlone (bench_of w host) h (bench_of w host) (Err why)
 sessionless_event_is_refused h why w None e is = refused_event_leaves_link (bench_of w None) h why is
 sessionless_event_is_refused h why w (Some k) e is = absurd cc
 
--- While no session is live, an event that begins a session has its result, and reports nothing.
+-- While no session is live, an event that begins a session is a play without a report.
 pub beginning_event_has_result : (h event : Happening) (w : DeviceView) (host : Option HostState) (k : HostState) → is_some host ≡ false
     → w.slots.medium.fuse ≡ Whole → EventMeaning w.config h event → MayHappen NoLiveSession event
     → HappensOnBench event (bench_of w None) (bench_of w (Some k)) silent
@@ -196,7 +196,7 @@ beginning_event_has_result h event w None k n e means allowed row up =
     allowed_event_has_result event silent means (record { allowed = allowed; unarmed = e; happens = row }) tt refl refl
 beginning_event_has_result h event w (Some j) k n e means allowed row up = absurd cc
 
--- While no session is live, an offer for which a session opens begins that session.
+-- If an offer opens a session, and no session is live, the session begins without a report.
 pub offer_makes_session : (purpose : Purpose) (file : List ℕ) (limits : Limits) (w : DeviceView) (host : Option HostState) (h : HostState)
     → is_some host ≡ false
     → w.slots.medium.fuse ≡ Whole → SessionOpened w.config purpose file limits h
@@ -206,7 +206,7 @@ offer_makes_session purpose file limits w host h n e begun =
     (begun.content.payload, begun.offered, refl) (bytes_of begun.offered)
     ((λ i. record { device = w; session = HostSession (begun.host i) }), refl)
 
--- The fault of an offer depends on the file only by its payload and its identifiers.
+-- The fault of an offer depends only on the payload and the identifiers of the file.
 pub equal_offers_fail_alike : (purpose : Purpose) (c d : Content) (f : Functional) (ids : Ids) → c.payload ≡ d.payload → c.ids ≡ d.ids
     → first_offer_fault purpose c f ids ≡ first_offer_fault purpose d f ids
 equal_offers_fail_alike Install c d f ids p q = λ i. first_download_fault (record {
@@ -218,12 +218,12 @@ equal_offers_fail_alike Install c d f ids p q = λ i. first_download_fault (reco
 equal_offers_fail_alike Verify c d f ids p q = λ i. first_verify_fault (record { payload = p i; ids = q i; dfu = c.dfu; suffix = c.suffix })
     f ids
 
--- The bytes are a file with this content, and its suffix has this length.
+-- The bytes are a file with this content. Its suffix has 16 bytes, and more if there are extra ones.
 abbrev FileHasContent : List ℕ → Content → Type 0
 FileHasContent file content = (extra : List ℕ) × IsFile content.payload content.ids content.dfu extra file × (content.suffix
     ≡ 16 + length extra)
 
--- The offer of a file that was read, and whose session has a fault, is refused with the first fault.
+-- The offer of a valid file whose session has a fault is refused with the first fault.
 pub faulty_offer_is_bad : (s : Setting) (purpose : Purpose) (file : List ℕ) (content : Content) (f : Functional) (ids : Ids) (why :
     HostFault)
     → f ≡ s.functional
@@ -236,13 +236,13 @@ faulty_offer_is_bad s purpose file content f ids why e k found h = (
       (subst (λ (y : Ids). first_offer_fault purpose content f y ≡ Some why) k h),
 )
 
--- If a call fails exactly with its first fault, and it began a session, there is no first fault.
+-- If a call fails with the first fault exactly if there is one, and the call made a host, then there is no fault.
 pub begun_session_has_no_fault : (o : Option HostFault) (h : HostState) → ((why : HostFault)
     → (◌≡◌ {A = Result HostState HostFault} (Ok h) (Err why)) ↔ (o ≡ Some why)) → o ≡ None
 begun_session_has_no_fault None h f = refl
 begun_session_has_no_fault (Some why) h f = let e : ◌≡◌ {A = Result HostState HostFault} (Ok h) (Err why) = (f why).1 refl in absurd cc
 
--- A file that was read, and whose session has no fault, opens a session.
+-- A valid file whose session has no fault opens a session.
 pub faultless_offer_opens_session : (s : Setting) (purpose : Purpose) (file : List ℕ) (limits : Limits) (content : Content) (f :
     Functional) (ids : Ids)
     (h : HostState)

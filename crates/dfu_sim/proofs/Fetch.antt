@@ -17,24 +17,26 @@ use Rattle.dfu_sim.specs.Delivery.{Delivery}
 use Rattle.dfu_sim.specs.Play.{heard_of_reply, ActionResult, reached, heard_back, action_end_by_harm, request_result_of_plan, send_result}
 use Rattle.dfu_sim.specs.LinkAgreement.{pending_of, ClosedWasOffered}
 use Rattle.dfu_sim.specs.Fact.{FetchedSoFar, FetchFact}
-use Rattle.dfu_sim.proofs.Quiet.{Quiet, stays, pending_forgotten, quiet_moves_compose}
+use Rattle.dfu_sim.proofs.MovesWithoutBlocks.{Quiet, stays, pending_forgotten, quiet_moves_compose}
 use Rattle.dfu_sim.proofs.Choices.{choice_has_fact}
 use Rattle.dfu_sim.proofs.Closing.{closeless_request_goes_by_table}
-use Rattle.dfu_sim.proofs.Fates.{heard_fact_holds_unless_restart}
+use Rattle.dfu_sim.proofs.FateEffects.{heard_fact_holds_unless_restart}
 use Rattle.dfu_sim.proofs.GoCommon.{GoesQuietly}
 
 module _ (c : Profile) (offers : List (List ℕ)) (k : ℕ) (kept : List ℕ) where
-  -- The request for part k went quietly: image and pending bytes moved quietly, and the fact of the phase that follows holds.
+  -- The request for part k has a quiet result: the change of the image and the pending bytes is quiet, and the fact of the next phase holds
+  -- unless the host learns of a restart.
   abbrev pub FetchedQuietly : Situation → ActionResult → Type 0
   FetchedQuietly s d = GoesQuietly c offers FetchGoal (on_part c.transfer k kept) s d
 
-  -- An UPLOAD of part k was handled: the move is quiet, closed bytes are an offer, and the fact of the phase after the answer holds.
+  -- An UPLOAD of part k was handled with an allowed result: the change is quiet, closed bytes are an offer, and the fact of the phase after
+  -- the answer holds.
   record Reached (s : Situation) (d : ActionResult) : Type 0 where
     moves : Quiet offers s.image (pending_of s.stage) d.device.image (pending_of d.device.stage)
     sound : ClosedWasOffered offers d.device.stage
     next : FetchFact (on_part c.transfer k kept d.heard) d.device
 
-  -- An UPLOAD with an allowed result goes quietly, also if the power is cut at its end.
+  -- If an UPLOAD has an allowed result, that result is quiet, even if the power is cut at the end of the action.
   action_end_keeps_fetch : (s : Situation) (harming : MediumFault) (d : ActionResult) → Reached s d →
       FetchedQuietly s (action_end_by_harm harming d)
   action_end_keeps_fetch s CutsPower d r = record {
@@ -44,7 +46,7 @@ module _ (c : Profile) (offers : List (List ℕ)) (k : ℕ) (kept : List ℕ) wh
   action_end_keeps_fetch s harming d r =
       record { quiet = record { moves = r.moves; sound = r.sound }; next = heard_fact_holds_unless_restart d.heard _ r.next }
 
-  -- An UPLOAD with an allowed result goes quietly, both if its answer comes back and if it is lost.
+  -- If an UPLOAD has an allowed result, that result is quiet, both if the host gets the answer and if the answer is lost.
   delivery_keeps_fetch : (s : Situation) (harming : MediumFault) (back : Bool) (d : ActionResult) → Reached s d
       → FetchedQuietly s (action_end_by_harm harming (record { device = d.device; heard = heard_back back d.heard }))
   delivery_keeps_fetch s harming true d r = action_end_keeps_fetch s harming d r
@@ -58,7 +60,7 @@ module _ (c : Profile) (offers : List (List ℕ)) (k : ℕ) (kept : List ℕ) wh
   faulty_upload_is_reached number size s code h Unseen l r = record { moves = stays; sound = h; next = tt }
   faulty_upload_is_reached number size s code h how l r = record { moves = pending_forgotten; sound = tt; next = tt }
 
-  -- If the kept bytes are the image up to a place, and the part there is shorter than a full one, they make the image with it.
+  -- If the kept bytes are the image up to an offset, and a short part follows there, the kept bytes and the part are the complete image.
   short_part_ends_image : (image : List ℕ) (place t : ℕ) → length (take t (drop place image)) < t → kept ≡ take place image
       → kept ++ take t (drop place image) ≡ image
   short_part_ends_image image place t h e =
@@ -66,7 +68,7 @@ module _ (c : Profile) (offers : List (List ℕ)) (k : ℕ) (kept : List ℕ) wh
       ap (λ x. x ++ take t (drop place image)) e ∙ ap (λ x. take place image ++ x) (take_all t (drop place image) f)
       ∙ take-append-drop place image
 
-  -- The fact of an upload holds after a last part that completes the image.
+  -- The fact of an upload holds after a short part that completes the image.
   short_part_gives_fetch_fact : (image part : List ℕ) → length part < c.transfer → kept ++ part ≡ image
       → FetchFact (fetched_phase c.transfer k kept part) (record { image = image; stage = InDfuIdle })
   short_part_gives_fetch_fact image part h e =
@@ -83,7 +85,7 @@ module _ (c : Profile) (offers : List (List ℕ)) (k : ℕ) (kept : List ℕ) wh
       rw f (choice_has_fact (λ (x : Phase). FetchFact x (record { image = image; stage = InUploadIdle place number })) (suc k == 65535) _ _
       (λ many. tt) (λ fewer. (grind (arith, nat_tests), (omega arith, n, e))))
 
-  -- A property of an UPLOAD's plan holds if it holds of each error, of a short part, and of a full one.
+  -- A property of an UPLOAD's plan holds if it holds for each error, for a short part, and for a full one.
   upload_errs_or_gives : (P : Plan → Type 0) (image : List ℕ) (place expected number : ℕ) → let part = take c.transfer (drop place image) in
       ((code : Code) → P (error_plan code)) →
       (number ≡ expected → length part < c.transfer → P (Sure (Data part) InDfuIdle))
@@ -98,7 +100,8 @@ module _ (c : Profile) (offers : List (List ℕ)) (k : ℕ) (kept : List ℕ) wh
       choice_has_fact P (nat_lt (length part) c.transfer) _ _ (λ f. ps n (grind (arith, nat_tests))) (λ f. pl n
       (let h : c.transfer ≤ length part = grind (arith, nat_tests) in omega (arith, length-take c.transfer (drop place image)))))))
 
-  -- An UPLOAD of part k may reach a device a second time: at each luck its plan moves quietly, and the host may take the answer as part k.
+  -- The device may handle an UPLOAD of part k a second time: for each luck of the medium the plan of the second handling is quiet, and the
+  -- host may take the answer as part k.
   record PartMayComeTwice (image : List ℕ) (p : Plan) : Type 0 where
     moves : (luck : Luck) → Quiet offers image None (plan_outcome image p luck).after.image
         (pending_of (plan_outcome image p luck).after.stage)
@@ -106,11 +109,11 @@ module _ (c : Profile) (offers : List (List ℕ)) (k : ℕ) (kept : List ℕ) wh
     next : (luck : Luck) → FetchFact (on_part c.transfer k kept (heard_of_reply (plan_outcome image p luck).reply))
         (plan_outcome image p luck).after
 
-  -- An error may be the answer to an UPLOAD that comes a second time.
+  -- The device may answer the second handling of an UPLOAD with an error.
   second_upload_may_fail : (image : List ℕ) (code : Code) → PartMayComeTwice image (error_plan code)
   second_upload_may_fail image code = record { moves = λ luck. pending_forgotten; sound = λ luck. tt; next = λ luck. tt }
 
-  -- In dfuIDLE an UPLOAD of part k may reach the device a second time.
+  -- In dfuIDLE the device may handle an UPLOAD of part k a second time.
   idle_allows_second_upload : (image : List ℕ) → k < 65535 → (k ≡ 0 → kept ≡ []) →
       PartMayComeTwice image (plan c image InDfuIdle (Upload (k % 65536) c.transfer))
   idle_allows_second_upload image b e =
@@ -159,14 +162,15 @@ module _ (c : Profile) (offers : List (List ℕ)) (k : ℕ) (kept : List ℕ) wh
   }
   full_part_is_fetched part place number s h n q how l r = record { moves = pending_forgotten; sound = tt; next = n }
 
-  -- In dfuUPLOAD-IDLE an UPLOAD of part k may reach the device a second time, when its number has passed.
+  -- In dfuUPLOAD-IDLE the device may handle an UPLOAD of part k a second time after the device's block number has advanced, because the
+  -- repeated number is an error.
   passed_number_is_allowed_again : (image : List ℕ) (place number : ℕ) → number ≡ k % 65536
       → PartMayComeTwice image (plan c image (InUploadIdle place (number_after number)) (Upload (k % 65536) c.transfer))
   passed_number_is_allowed_again image place number e =
       upload_errs_or_gives (PartMayComeTwice image) image place (number_after number) (k % 65536) (second_upload_may_fail image)
       (λ n h. absurd (omega arith)) (λ n h. absurd (omega arith))
 
-  -- An UPLOAD of part k has an allowed result, if the kept bytes are the image as far as the device's place.
+  -- If the kept bytes are the image up to the device's offset, an UPLOAD of part k has an allowed result.
   next_part_is_reached : (s : Situation) (place expected : ℕ) → k < 65535 → expected ≡ k % 65536 → kept ≡ take place s.image → (k ≡ 0 →
       kept ≡ [])
       → ClosedWasOffered offers s.stage → (how : Handled) (l r : Luck)
@@ -180,7 +184,8 @@ module _ (c : Profile) (offers : List (List ℕ)) (k : ℕ) (kept : List ℕ) wh
       (ap (λ x. x ++ take c.transfer (drop place s.image)) e ∙ sym (take-add place c.transfer s.image)))
       (passed_number_is_allowed_again s.image _ expected (sym n)) how l r)
 
-  -- The UPLOAD of a phase goes quietly by the table's plan.
+  -- If the kept bytes are the image up to the device's offset, and the device handles the UPLOAD of part k by the table's plan, the result
+  -- is quiet.
   fetch_by_plan_goes_quietly : (image : List ℕ) (stage : Stage) → k < 65535 → FetchedSoFar k kept image stage →
       ClosedWasOffered offers stage
       → (delivery : Delivery) (l r : Luck) → let s : Situation = record { image = image; stage = stage } in
@@ -201,7 +206,7 @@ module _ (c : Profile) (offers : List (List ℕ)) (k : ℕ) (kept : List ℕ) wh
       delivery.handling l r)
   fetch_by_plan_goes_quietly image stage b f h delivery l r = elim f [ ]
 
-  -- Fetching part k goes quietly, whatever the delivery.
+  -- If the kept bytes are the image up to the device's offset, the request for part k has a quiet result, with any delivery.
   pub fetch_phase_goes_quietly : (image : List ℕ) (stage : Stage) → k < 65535 → FetchedSoFar k kept image stage →
       ClosedWasOffered offers stage
       → (delivery : Delivery) (l r : Luck) → let s : Situation = record { image = image; stage = stage } in

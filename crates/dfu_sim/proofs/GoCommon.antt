@@ -12,18 +12,19 @@ use Rattle.dfu_sim.specs.Opening.{task_for}
 use Rattle.dfu_sim.specs.Play.{ActionResult, situation_after_slip, wait_by_handling, send_result, waited, bus_reset, action_result}
 use Rattle.dfu_sim.specs.LinkAgreement.{ClosedWasOffered}
 use Rattle.dfu_sim.specs.Fact.{PhaseFact, GoalFact, HasBlocks}
-use Rattle.dfu_sim.proofs.Quiet.{IsQuiet, IsBlocklessRequest}
-use Rattle.dfu_sim.proofs.Tells.{ToldByHeard, Asks}
-use Rattle.dfu_sim.proofs.Fates.{UnlessRestarted, action_end_keeps_fact, heard_fact_weakens, fact_of_all_holds_of_heard, PhaseKnows, blockless_delivery_is_quiet, delivered_wait_is_quiet, delivered_reset_is_quiet, asked_delivery_keeps_knowledge}
+use Rattle.dfu_sim.proofs.MovesWithoutBlocks.{IsQuiet, IsBlocklessRequest}
+use Rattle.dfu_sim.proofs.AnswerFacts.{ToldByHeard, Asks}
+use Rattle.dfu_sim.proofs.FateEffects.{UnlessRestarted, action_end_keeps_fact, heard_fact_weakens, fact_of_all_holds_of_heard, PhaseKnows, blockless_delivery_is_quiet, delivered_wait_is_quiet, delivered_reset_is_quiet, asked_delivery_keeps_knowledge}
 use Rattle.dfu_sim.proofs.CommonFacts.{goal_has_common_facts}
 
 module _ (c : Profile) (offers : List (List ℕ)) (g : Goal) where
-  -- An action goes quietly: the image and the pending bytes move quietly, and the fact of the phase that follows holds.
+  -- The result of an action is quiet: the change of the image and the pending bytes is quiet, and the fact of the next phase holds unless
+  -- the host learns of a restart.
   pub record GoesQuietly (follows : Heard → Phase) (s : Situation) (d : ActionResult) : Type 0 where
     pub quiet : IsQuiet offers s d.device
     pub next : UnlessRestarted d.heard (λ heard. GoalFact c g (follows heard) d.device)
 
-  -- A wait goes quietly, if the fact of the phase after it holds once the time has passed, and closed bytes are an offer.
+  -- If the fact of the next phase holds after the time of a wait, and closed bytes are an offer, the result of the wait is quiet.
   pub wait_goes_quietly : (next again : Phase) (s : Situation) (ms : ℕ) (delivery : Delivery) (l : Luck)
       → GoalFact c g next (situation_after_ms c s (wait_by_handling delivery.handling ms) l) → ClosedWasOffered offers s.stage
       → GoesQuietly (λ heard. on_waited heard next again) s (waited c s ms delivery l)
@@ -32,7 +33,7 @@ module _ (c : Profile) (offers : List (List ℕ)) (g : Goal) where
     next = action_end_keeps_fact delivery.harming _ (λ heard x. GoalFact c g (on_waited heard next again) x) f;
   }
 
-  -- A reset of the bus goes quietly, if the fact of the phase after it holds of the device once the time that slips in has passed.
+  -- If the fact of the next phase holds after a reset of the bus and the time of a slip, the result of the reset is quiet.
   pub reset_goes_quietly : (next again : Phase) (s : Situation) (delivery : Delivery) (l : Luck)
       → GoalFact c g next (situation_after_slip c (after_reset s) delivery.handling l)
       → GoesQuietly (λ heard. on_reset heard next again) s (bus_reset c s delivery l)
@@ -41,7 +42,7 @@ module _ (c : Profile) (offers : List (List ℕ)) (g : Goal) where
     next = action_end_keeps_fact delivery.harming _ (λ heard x. GoalFact c g (on_reset heard next again) x) f;
   }
 
-  -- A phase that asks goes quietly, if the facts that it knows after the answer give the fact of the next phase.
+  -- If the facts of a phase after its answer imply the fact of the next phase, the result of the phase's request is quiet.
   pub asking_phase_goes_quietly : (r : Request) (p : List ℕ) (phase : Phase) (follows : Heard → Phase) (s : Situation) →
       IsBlocklessRequest r → Asks r phase
       → PhaseFact c p phase s → ClosedWasOffered offers s.stage → (delivery : Delivery) (l k : Luck)
@@ -55,11 +56,12 @@ module _ (c : Profile) (offers : List (List ℕ)) (g : Goal) where
       }
 
   module _ (some : HasBlocks c g) where
-    -- Next phase, by the result that the host hears.
+    -- Next phase, by the result that the host receives.
     abbrev PhaseThatFollows : Phase → Heard → Phase
     PhaseThatFollows phase = host_row (task_for c g) phase
 
-    -- A common phase goes quietly when it sends GETSTATUS, if closed bytes are an offer. Nothing is known of the device in that phase.
+    -- In a common phase that sends GETSTATUS, nothing is known about the device. If closed bytes are an offer, the result of the phase is
+    -- quiet.
     seeking_phase_goes_quietly : (phase : Phase) (s : Situation) → IsCommonPhase phase → ClosedWasOffered offers s.stage →
         (delivery : Delivery) (l k : Luck)
         → GoesQuietly (PhaseThatFollows phase) s (send_result c s GetStatus delivery l k)
@@ -69,7 +71,7 @@ module _ (c : Profile) (offers : List (List ℕ)) (g : Goal) where
         (goal_has_common_facts c g some d) phase heard a
         (λ x. w.told))
 
-    -- A common phase that asks for no status goes quietly, whichever result is heard, if the situation moves quietly.
+    -- If a common phase does not send GETSTATUS, and its action is a quiet change, the result of the phase is quiet.
     brings : (phase : Phase) (s : Situation) (d : ActionResult) → IsCommonPhase phase → (IsSeekingPhase phase → ⊥)
         → IsQuiet offers s d.device
         → GoesQuietly (PhaseThatFollows phase) s d
@@ -80,7 +82,7 @@ module _ (c : Profile) (offers : List (List ℕ)) (g : Goal) where
           (goal_has_common_facts c g some d.device) phase heard a (λ x. elim (n x) [ ]));
     }
 
-    -- Each common phase goes quietly, whatever the delivery, if closed bytes are an offer.
+    -- If closed bytes are an offer, the result of each common phase is quiet, with any delivery.
     pub common_phase_goes_quietly : (phase : Phase) (s : Situation) → IsCommonPhase phase → ClosedWasOffered offers s.stage
         → (delivery : Delivery) (l k : Luck)
         → GoesQuietly (PhaseThatFollows phase) s (action_result c s (deed (task_for c g) phase) delivery l k)

@@ -17,25 +17,25 @@ use Rattle.dfu_sim.specs.Play.{action_result}
 use Rattle.dfu_sim.specs.LinkAgreement.{ClosedWasOffered}
 use Rattle.dfu_sim.specs.Fact.{FetchedSoFar, FetchFact, CompareFact}
 use Rattle.dfu_sim.proofs.Choices.{choice_has_fact}
-use Rattle.dfu_sim.proofs.Fates.{heard_fact_weakens}
+use Rattle.dfu_sim.proofs.FateEffects.{heard_fact_weakens}
 use Rattle.dfu_sim.proofs.Fetch.{fetch_phase_goes_quietly}
 use Rattle.dfu_sim.proofs.GoCommon.{GoesQuietly, reset_goes_quietly, common_phase_goes_quietly}
 use Rattle.dfu_sim.proofs.GoDownload.{last_reset_keeps_report_meaning}
 
 module _ (c : Profile) (offers : List (List ℕ)) (p : List ℕ) (some : 0 < length (blocks p c.transfer)) (sized : 0 < c.transfer) where
-  -- The payload's first k blocks, joined.
+  -- The first k blocks of the payload, joined.
   abbrev front : ℕ → List ℕ
   front k = first_blocks p c.transfer k
 
-  -- Block k of the payload; empty past the last block.
+  -- Block k of the payload; empty after the last block.
   abbrev block : ℕ → List ℕ
   block k = slice_index_or (blocks p c.transfer) k []
 
-  -- Fact of an upload's phase after part k, if it keeps the first k blocks of the payload.
+  -- Fact of an upload's phase after part k, if the upload keeps the first k blocks of the payload.
   abbrev FactAfterPart : ℕ → List ℕ → Situation → Type 0
   FactAfterPart k part d = FetchFact (fetched_phase c.transfer k (front k) part) d
 
-  -- If a part shorter than a full one equals block k, and its fact holds after it was fetched, the image is the payload.
+  -- If a short part equals block k, and `FactAfterPart` holds for that part, the image is the payload, and the device is in dfuIDLE.
   short_part_ends_comparison : (k : ℕ) (part : List ℕ) (d : Situation) → nat_lt (length part) c.transfer ≡ true → part ≡ block k →
       FactAfterPart k part d
       → CompareFact c p (Last Verified) d
@@ -47,7 +47,7 @@ module _ (c : Profile) (offers : List (List ℕ)) (p : List ℕ) (some : 0 < len
       ∙ short_block_ends_payload p c.transfer k sized (subst (λ (x : List ℕ). length x < c.transfer) same less) in
       (sym f.0 ∙ whole, f.1)
 
-  -- If a full part equals block k and isn't one too many, and its fact holds after it was fetched, the comparison's fact of the next part
+  -- If a full part equals block k, `FactAfterPart` holds for that part, and the block limit is not reached, the fact of the next part
   -- holds.
   full_part_continues_comparison : (k : ℕ) (part : List ℕ) (d : Situation) → (suc k == 65535) ≡ false → length part ≡ c.transfer → part
       ≡ block k
@@ -59,7 +59,7 @@ module _ (c : Profile) (offers : List (List ℕ)) (p : List ℕ) (some : 0 < len
       let more : front k ++ part ≡ front (suc k) = ap (λ x. front k ++ x) same ∙ sym (full_block_extends_first p c.transfer k long) in
       (f.0, subst (λ (x : List ℕ). FetchedSoFar (suc k) x d.image d.stage) more f.1)
 
-  -- If a part's fact holds after it was fetched, the comparison's fact holds after it was compared with block k.
+  -- If the fact of an upload holds after part k was fetched, the fact of the comparison holds after the part was compared with block k.
   comparison_fact_after_part : (k : ℕ) (heard : Heard) (d : Situation) → FetchFact (on_part c.transfer k (front k) heard) d
       → CompareFact c p (on_compared c.transfer k (block k) heard) d
   comparison_fact_after_part k (Part part) d h =
@@ -75,7 +75,7 @@ module _ (c : Profile) (offers : List (List ℕ)) (p : List ℕ) (some : 0 < len
       (λ other. tt))
   comparison_fact_after_part k heard d h = tt
 
-  -- Each phase of a host that compares goes quietly until the host is done, whatever the delivery.
+  -- If the fact of a live phase of a comparison holds, the result of the phase's action is quiet, with any delivery.
   pub compare_phase_goes_quietly : (phase : Phase) (s : Situation) → IsLivePhase phase → CompareFact c p phase s →
       ClosedWasOffered offers s.stage
       → (delivery : Delivery)

@@ -1,4 +1,4 @@
--- One action of a download's host, in each phase and with each fate: it goes well.
+-- Results of one action of a download's host, in each phase and with each fate.
 use Rattle.std.proofs.Common.{◌≡◌, ℕ, ◌%◌, ◌<◌, List, length}
 use Rattle.dfu_device.specs.Stage.{Request, GetStatus, GetState, Profile, Stage, InDfuIdle}
 use Rattle.dfu_device.specs.Table.{reset_stage}
@@ -17,10 +17,10 @@ use Rattle.dfu_sim.specs.Opening.{task_for}
 use Rattle.dfu_sim.specs.Play.{ActionResult, wait_by_handling, situation_after_slip, send_result, action_result}
 use Rattle.dfu_sim.specs.LinkAgreement.{ClosedWasOffered}
 use Rattle.dfu_sim.specs.Fact.{IsDfuIdle, IsAppIdle, ReportMeaning, PhaseFact}
-use Rattle.dfu_sim.proofs.Quiet.{IsBlocklessRequest}
-use Rattle.dfu_sim.proofs.Tells.{ToldByHeard, Asks}
+use Rattle.dfu_sim.proofs.MovesWithoutBlocks.{IsBlocklessRequest}
+use Rattle.dfu_sim.proofs.AnswerFacts.{ToldByHeard, Asks}
 use Rattle.dfu_sim.proofs.Kept.{time_keeps_phase_fact}
-use Rattle.dfu_sim.proofs.Fates.{PhaseKnows, slipped_time_keeps_phase_fact}
+use Rattle.dfu_sim.proofs.FateEffects.{PhaseKnows, slipped_time_keeps_phase_fact}
 use Rattle.dfu_sim.proofs.Next.{poll_gives_phase_fact, manifest_poll_gives_phase_fact, block_question_gives_phase_fact, last_question_gives_phase_fact}
 use Rattle.dfu_sim.proofs.GoCommon.{GoesQuietly, wait_goes_quietly, asking_phase_goes_quietly, reset_goes_quietly, common_phase_goes_quietly}
 use Rattle.dfu_sim.proofs.Blocks.{moves_quietly, GoesWell, block_phase_goes_well, close_phase_goes_well}
@@ -30,13 +30,13 @@ module _ (c : Profile) (offers : List (List ℕ)) (p : List ℕ) (some : 0 < len
   abbrev b : ℕ
   b = length (blocks p c.transfer)
 
-  -- An action of a download that goes quietly goes well.
+  -- If an action of a download has a quiet result, the result is correct.
   quiet_download_goes_well : (phase : Phase) {s : Situation} {d : ActionResult} →
       GoesQuietly c offers (LoadGoal p) (host_row (task_for c (LoadGoal p)) phase) s d
       → GoesWell c offers p phase s d
   quiet_download_goes_well phase g = record { moves = moves_quietly g.quiet.moves; sound = g.quiet.sound; next = g.next }
 
-  -- A phase of a download that asks goes well, if the facts that it knows after the answer give the fact of the next phase.
+  -- If the facts of a download's phase after its answer imply the fact of the next phase, the result of the phase's request is correct.
   asking_download_goes_well : (r : Request) (phase : Phase) (s : Situation) → IsBlocklessRequest r → Asks r phase →
       PhaseFact c p phase s → ClosedWasOffered offers s.stage
       → (delivery : Delivery) (l k : Luck) → ((d : Situation) (heard : Heard) → PhaseKnows c offers p phase d heard
@@ -45,13 +45,13 @@ module _ (c : Profile) (offers : List (List ℕ)) (p : List ℕ) (some : 0 < len
       quiet_download_goes_well phase (asking_phase_goes_quietly c offers (LoadGoal p) r p phase (host_row (task_for c (LoadGoal p)) phase)
       s polite a h q delivery l k f)
 
-  -- A reset leads from dfuIDLE to appIDLE, and leaves the image that is in place.
+  -- A reset in dfuIDLE leads to appIDLE, and the active image is unchanged.
   reset_keeps_image_in_place : (s : Situation) (stage : Stage) → (s.image ≡ p) × IsDfuIdle stage → (s.image ≡ p)
       × IsAppIdle (reset_stage stage)
   reset_keeps_image_in_place s InDfuIdle h = h
   reset_keeps_image_in_place s stage h = elim h.1 [ ]
 
-  -- A report that has its meaning in dfuIDLE has it in appIDLE after a reset of the bus.
+  -- A report that has its meaning in dfuIDLE has the same meaning in appIDLE after a reset of the bus.
   reset_keeps_report_meaning : (s : Situation) (stage : Stage) (report : Report)
       → ReportMeaning c p (record { image = s.image; stage = stage }) IsDfuIdle report
       → ReportMeaning c p (record { image = s.image; stage = reset_stage stage }) IsAppIdle report
@@ -59,19 +59,19 @@ module _ (c : Profile) (offers : List (List ℕ)) (p : List ℕ) (some : 0 < len
   reset_keeps_report_meaning s stage Verified h = reset_keeps_image_in_place s stage h
   reset_keeps_report_meaning s stage report h = h
 
-  -- A report that has its meaning in dfuIDLE has it in appIDLE after the last reset, whatever time slips in.
+  -- A report that has its meaning in dfuIDLE has the same meaning in appIDLE after the last reset and the time of a slip.
   pub last_reset_keeps_report_meaning : (s : Situation) (report : Report) (how : Handled) (l : Luck) → ReportMeaning c p s IsDfuIdle report
       → ReportMeaning c p (situation_after_slip c (after_reset s) how l) IsAppIdle report
   last_reset_keeps_report_meaning s report how l h = slipped_time_keeps_phase_fact c offers p (Over report) s how l
       (reset_keeps_report_meaning s s.stage report h)
 
-  -- The fact of a phase stays while the time of a wait passes.
+  -- The fact of a phase holds while the time of a wait passes.
   wait_keeps_download_fact : (phase : Phase) (s : Situation) (ms : ℕ) (delivery : Delivery) (l : Luck) → PhaseFact c p phase s
       → PhaseFact c p phase (situation_after_ms c s (wait_by_handling delivery.handling ms) l)
   wait_keeps_download_fact phase s ms delivery l h = time_keeps_phase_fact c s.image p phase (wait_by_handling delivery.handling ms)
       s.stage h l
 
-  -- Each phase of a download goes well until its host is done, whatever the delivery.
+  -- If the fact of a live phase of a download holds, the result of the phase's action is correct, with any delivery.
   pub download_phase_goes_well : (phase : Phase) (s : Situation) → IsLivePhase phase → PhaseFact c p phase s
       → ClosedWasOffered offers s.stage
       → IsOneOf p offers

@@ -1,4 +1,4 @@
--- One action of an upload's host, in each phase and with each fate: it goes quietly.
+-- Results of one action of an upload's host, in each phase and with each fate.
 use Rattle.std.proofs.Common.{◌≡◌, ℕ, List, refl, sym, ◌∙◌}
 use Rattle.dfu_device.specs.Stage.{Profile, Stage, InAppDetach}
 use Rattle.dfu_device.specs.Table.{reset_stage}
@@ -23,12 +23,12 @@ module _ (c : Profile) (offers : List (List ℕ)) where
   time_after_reset_keeps_image image (InAppDetach timer passed) ms l = refl
   time_after_reset_keeps_image image stage ms l = refl
 
-  -- Time that slips in after a reset does not change the image.
+  -- The time of a slip after a reset does not change the image.
   slipped_time_keeps_image : (s : Situation) (how : Handled) (l : Luck) → (situation_after_slip c (after_reset s) how l).image ≡ s.image
   slipped_time_keeps_image s (Late ms) l = time_after_reset_keeps_image s.image s.stage ms l
   slipped_time_keeps_image s how l = refl
 
-  -- Each phase of an upload goes quietly until its host is done, whatever the delivery.
+  -- If the fact of a live phase of an upload holds, the result of the phase's action is quiet, with any delivery.
   pub upload_phase_goes_quietly : (phase : Phase) (s : Situation) → IsLivePhase phase → FetchFact phase s → ClosedWasOffered offers s.stage
       → (delivery : Delivery) (l k : Luck)
       → GoesQuietly c offers FetchGoal (host_row (task_for c FetchGoal) phase) s

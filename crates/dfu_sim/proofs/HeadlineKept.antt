@@ -15,10 +15,10 @@ use Rattle.dfu_sim.specs.Following.{MachineFollows, AllMachinesFollow}
 use Rattle.dfu_sim.specs.Headline.{SessionBeginning, BeginningWithOffer, BeginningAsUpload, sessions_now, WasOffered, IsLastPayload, IsWaiting, IsGoalPayload, IsLivePayload, HeadlineInvariant, StepPreservesHeadline, no_event, one_event, EventsPreserveHeadline, HeadlineAtStart}
 use Rattle.dfu_sim.specs.SessionStarts.{sessions_after_event}
 use Rattle.dfu_sim.proofs.Offered.{MachineHasPastOffers, event_keeps_past_offers, reported_image_is_last_payload}
-use Rattle.dfu_sim.proofs.Agreeing.{closed_bytes_in, goal_payload_in, live_payload_in, closed_bytes_are_offer, live_payload_is_offer, machine_from_parts}
+use Rattle.dfu_sim.proofs.AgreeingMachines.{closed_bytes_in, goal_payload_in, live_payload_in, closed_bytes_are_offer, live_payload_is_offer, machine_from_parts}
 use Rattle.dfu_sim.proofs.Chains.{EventChain, empty_chain, one_more}
 
--- Lists of offers.
+-- Lemmas about lists of offers.
 
 -- An element of two lists joined is an element of one of them.
 joined_offer_is_in_either_list : (a b : List (List ℕ)) (x : List ℕ) → IsOneOf x (a ++ b) → IsOneOf x a ⊎ IsOneOf x b
@@ -31,18 +31,18 @@ joined_offer_is_in_either_list (y ∷ a) b x one = elim one [
   ]
 ]
 
--- An element of a list of one element is that element.
+-- A list of one element contains no other element.
 single_list_has_one_offer : (x y : List ℕ) → IsOneOf x (y ∷ []) → x ≡ y
 single_list_has_one_offer x y (inl e) = e
 single_list_has_one_offer x y (inr none) = absurd none
 
--- The last session's payload was offered.
+-- The payload of the last session was offered.
 last_payload_was_offered : (past : List SessionBeginning) (x : List ℕ) → IsLastPayload past x → WasOffered past x
 last_payload_was_offered [] x last = last
 last_payload_was_offered (BeginningWithOffer file ∷ past) x last = inl last
 last_payload_was_offered (BeginningAsUpload ∷ past) x last = absurd last
 
--- Payloads of a device's stage and of a session, as lists of offers.
+-- Lemmas about the payloads of a device's stage and of a session, as lists of offers.
 
 -- The closed bytes of a stage are an image that waits to be put in place.
 closed_bytes_are_waiting : (stage : Stage) (x : List ℕ) → IsOneOf x (closed_bytes_in stage) → IsWaiting stage x
@@ -50,7 +50,7 @@ closed_bytes_are_waiting (InManifestSync taken) x one = single_list_has_one_offe
 closed_bytes_are_waiting (InManifest taken passed) x one = single_list_has_one_offer x taken one
 closed_bytes_are_waiting stage x one = absurd one
 
--- If the closed bytes of a stage are an offer, an image that waits in it is one of the offers.
+-- If the closed bytes of a stage are an offer, an image that waits in that stage is one of the offers.
 pub waiting_image_is_offer : (stage : Stage) (offers : List (List ℕ)) (x : List ℕ) → IsClosedOffer offers (intake_of_stage stage) →
     IsWaiting stage x
     → IsOneOf x offers
@@ -58,12 +58,12 @@ waiting_image_is_offer (InManifestSync taken) offers x one is = subst (λ (y : L
 waiting_image_is_offer (InManifest taken passed) offers x one is = subst (λ (y : List ℕ). IsOneOf y offers) (sym is) one
 waiting_image_is_offer stage offers x one is = absurd is
 
--- The bytes in the list of a goal's payload are its payload.
+-- An element of `goal_payload_in` is the goal's payload.
 goal_offer_is_payload : (goal : Goal) (x : List ℕ) → IsOneOf x (goal_payload_in goal) → IsGoalPayload goal x
 goal_offer_is_payload FetchGoal x one = one
 goal_offer_is_payload goal x one = single_list_has_one_offer x _ one
 
--- The bytes in the list of a session's payload are its live payload.
+-- An element of `live_payload_in` is the session's live payload.
 session_offer_is_live_payload : (session : Session) (x : List ℕ) → IsOneOf x (live_payload_in session) → IsLivePayload session x
 session_offer_is_live_payload NoLiveSession x one = one
 session_offer_is_live_payload (HostSession h) x one = goal_offer_is_payload h.task.goal x one
@@ -88,11 +88,11 @@ pub live_payload_is_loaded : (session : Session) (x : List ℕ) → IsLivePayloa
 live_payload_is_loaded NoLiveSession x is = absurd is
 live_payload_is_loaded (HostSession h) x is = goal_payload_is_loaded h.task.goal x is
 
--- The session machine of a link for which the headline holds.
+-- Session machine of a link that satisfies the headline with this image.
 abbrev machine_of_headline : WorldView → List ℕ → Machine
 machine_of_headline w image = machine_from_parts image w.bench.device.stage w.bench.session w.up
 
--- While the headline holds, its session machine agrees with the world.
+-- While the headline holds, `machine_of_headline` agrees with the world.
 headline_machine_agrees : {factory : List ℕ} {past : List SessionBeginning} {before : Option Report} {w : WorldView}
     (k : HeadlineInvariant factory past before w.bench) → AgreesOn w.bench w.up (machine_of_headline w k.says.image)
 headline_machine_agrees {w = w} k = record {
@@ -104,7 +104,8 @@ headline_machine_agrees {w = w} k = record {
   offered = live_payload_is_offer w.bench.session (closed_bytes_in w.bench.device.stage);
 }
 
--- While the headline holds, the image of its session machine is the factory image or was offered, and its offers were.
+-- While the headline holds, the image of `machine_of_headline` is the factory image or was offered, and each of the machine's offers was
+-- offered.
 headline_machine_is_of_past : {factory : List ℕ} {past : List SessionBeginning} {before : Option Report} {w : WorldView}
     (k : HeadlineInvariant factory past before w.bench) → MachineHasPastOffers factory past (machine_of_headline w k.says.image)
 headline_machine_is_of_past {past = past} {w = w} k = record {
@@ -116,7 +117,8 @@ headline_machine_is_of_past {past = past} {w = w} k = record {
   live = λ x e. k.kept.live x (loaded_session_is_live_payload w.bench.session x e);
 }
 
--- The headline holds, if a machine agrees whose offers were offered, and if a report of Installed or Verified is true.
+-- If a session machine agrees with the bench, its image, offers and live payload belong to the past sessions, and a report of Installed or
+-- Verified is true, then the headline holds.
 abbrev pub machine_has_headline : {factory : List ℕ} {past : List SessionBeginning} {report : Option Report} {b : LinkView} {up : List ℕ} {m
     : Machine}
     → AgreesOn b up m → MachineHasPastOffers factory past m → (IsInPlaceReport report → (b.device.stage ≡ InAppIdle)
@@ -130,7 +132,7 @@ machine_has_headline {b = b} {m = m} agrees of_past in_place = record {
   };
 }
 
--- The headline holds after an event, if a session machine whose offers were offered follows that event.
+-- If a session machine with past offers follows an event, the headline holds after the event.
 abbrev pub followed_event_gives_headline : {factory : List ℕ} {past : List SessionBeginning} {m : Machine} {w w' : WorldView}
     (h : Happening) {report : Option Report}
     → MachineHasPastOffers factory past m → MachineFollows w h w' report m →
@@ -140,7 +142,7 @@ followed_event_gives_headline h of_past f = machine_has_headline f.agrees (event
   reported_image_is_last_payload h of_past f e,
 ))
 
--- An event of the table that each agreeing session machine follows keeps the headline.
+-- If each agreeing session machine follows an event of the table of fates, the event preserves the headline.
 pub event_keeps_headline : {factory : List ℕ} {past : List SessionBeginning} {before : Option Report} {w w' : WorldView}
     (h : Happening) {report : Option Report}
     → ((m : Machine) → AgreesOn w.bench w.up m → MachineFollows w h w' report m) → HeadlineInvariant factory past before w.bench
@@ -148,15 +150,15 @@ pub event_keeps_headline : {factory : List ℕ} {past : List SessionBeginning} {
 event_keeps_headline {w = w} h follow k = followed_event_gives_headline h (headline_machine_is_of_past k) (follow (machine_of_headline w
     k.says.image) (headline_machine_agrees k))
 
--- The events of callers.
+-- Lemmas about the events of callers.
 
--- A caller's event and its event of the table begin equal sessions.
+-- A caller's event and its event in the table of fates begin the same sessions.
 event_begins_same_sessions : (event : Event) (past : List SessionBeginning) → sessions_after_event (happening event) past
     ≡ sessions_now event past
 event_begins_same_sessions Abort past = refl
 event_begins_same_sessions event past = refl
 
--- A caller's event that each agreeing session machine follows keeps the headline.
+-- If each agreeing session machine follows a caller's event, the event preserves the headline.
 followed_event_keeps_headline : {factory : List ℕ} {past : List SessionBeginning} {before : Option Report} {w w' : WorldView}
     (event : Event) {report : Option Report}
     → ((m : Machine) → AgreesOn w.bench w.up m → MachineFollows w (happening event) w' report m)
@@ -166,14 +168,14 @@ followed_event_keeps_headline {factory = factory} {past = past} {w' = w'} event 
     subst (λ (sessions : List SessionBeginning). HeadlineInvariant factory sessions report w'.bench) (event_begins_same_sessions event past)
     (event_keeps_headline (happening event) follow k)
 
--- The result of a caller's event keeps the headline, if each agreeing session machine follows the event.
+-- If each agreeing session machine follows a caller's event, the result of the event preserves the headline.
 pub step_keeps_headline : (w w' : WorldView) (event : Event) (result : Result (Option Report) LinkFault)
     → AllMachinesFollow w (happening event) w' result
     → StepPreservesHeadline w event w' result
 step_keeps_headline w w' event (Ok report) follow = λ factory past before k. followed_event_keeps_headline event follow k
 step_keeps_headline w w' event (Err fault) follow = follow
 
--- A chain of events keeps the headline.
+-- A chain of events preserves the headline.
 pub chain_keeps_headline : {w w' : WorldView} {reports : List Report} (events : List Event) → EventChain w (map happening events) reports w'
     → EventsPreserveHeadline w events reports w'
 chain_keeps_headline [] empty_chain factory past before k = no_event
@@ -181,13 +183,13 @@ chain_keeps_headline (event ∷ events) (one_more {report = report} s more) fact
     let next = followed_event_keeps_headline event s.legal k in
     one_event next (chain_keeps_headline events more factory (sessions_now event past) report next)
 
--- A run that stopped keeps the headline through the events before the stop.
+-- A run that stopped preserves the headline through the events before the stop.
 pub stopped_run_keeps_headline : {w w' : WorldView} {reports : List Report} (n : ℕ) (events : List Event)
     → EventChain w (take n (map happening events)) reports w' → EventsPreserveHeadline w (take n events) reports w'
 stopped_run_keeps_headline {w = w} {w' = w'} {reports = reports} n events chain =
     chain_keeps_headline (take n events) (subst (λ (hs : List Happening). EventChain w hs reports w') (take-map happening n events) chain)
 
--- The headline holds at the start.
+-- The headline holds at the start, if no session is live and no image waits to be put in place.
 pub headline_at_start : HeadlineAtStart
 headline_at_start b factory active none still = record {
   says = record { image = factory; active = active; known = inl refl; in_place = λ e. absurd e };

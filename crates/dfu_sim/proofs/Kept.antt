@@ -1,4 +1,4 @@
--- Facts that stay as the host polls and as time passes.
+-- Facts that hold while the host polls and while time passes.
 use Rattle.std.proofs.Common.{◌≡◌, ℕ, suc, ◌+◌, ◌==◌, nat_le, List, length}
 use Rattle.dfu_device.specs.Pace.{block_ms, image_ms}
 use Rattle.dfu_device.specs.Stage.{Request, GetStatus, GetState, Ack, Profile, Stage, InAppIdle, InDfuIdle, InDownloadSync, InDownloadBusy, InDownloadIdle, InManifestSync, InManifestSyncComplete, InManifest, InManifestWaitReset}
@@ -10,14 +10,14 @@ use Rattle.dfu_host.specs.declared.report.Report.TheVariants.{Installed, Verifie
 use Rattle.dfu_host.specs.Blocks.{first_blocks}
 use Rattle.dfu_host.specs.Phases.{Phase, Block, Ask, Poll, WaitPoll, Close, AskLast, Manifest, WaitManifest, Last, Over}
 use Rattle.dfu_sim.specs.Fact.{IsDfuIdle, IsAppIdle, IsAtBlock, MayBeAtBlock, BlockAccepted, WholePayloadAccepted, MayBeAtLastBlock, IsManifesting, ReportMeaning, PhaseFact}
-use Rattle.dfu_sim.proofs.Tells.{Asks}
+use Rattle.dfu_sim.proofs.AnswerFacts.{Asks}
 
 module _ (c : Profile) (i : List ℕ) where
-  -- The property holds after a plan, at each luck of the medium.
+  -- The property holds after a plan, for each luck of the medium.
   abbrev pub HoldsAfterPlan : (Situation → Type 0) → Plan → Type 0
   HoldsAfterPlan F p = (luck : Luck) → F (plan_outcome i p luck).after
 
-  -- GETSTATUS keeps the bytes up to the polled block, or the device is in dfuERROR.
+  -- After GETSTATUS the device still has the bytes up to the polled block, or it is in dfuERROR.
   status_keeps_accepted_block : (x : List ℕ) (stage : Stage) → BlockAccepted x stage →
       HoldsAfterPlan (λ s. BlockAccepted x s.stage) (plan c i stage GetStatus)
   status_keeps_accepted_block x (InDownloadSync before block number) h =
@@ -26,7 +26,7 @@ module _ (c : Profile) (i : List ℕ) where
       (λ luck. h)
   status_keeps_accepted_block x stage h = λ luck. search
 
-  -- The bytes up to the polled block stay as time passes, or the device is in dfuERROR.
+  -- As time passes the device keeps the bytes up to the polled block, or it enters dfuERROR.
   time_keeps_accepted_block : (x : List ℕ) (ms : ℕ) (stage : Stage) → BlockAccepted x stage →
       HoldsAfterPlan (λ s. BlockAccepted x s.stage) (time_plan c stage ms)
   time_keeps_accepted_block x ms (InDownloadBusy before block number passed) h =
@@ -36,7 +36,7 @@ module _ (c : Profile) (i : List ℕ) where
       (elim [ Works ↦ h | FailsOld fault ↦ tt | FailsNew fault ↦ tt ]) (λ luck. h))
   time_keeps_accepted_block x ms stage h = λ luck. search
 
-  -- The manifestation of a payload stays through GETSTATUS.
+  -- After GETSTATUS the fact of manifestation still holds.
   status_keeps_manifesting : (p : List ℕ) (stage : Stage) → IsManifesting p i stage
       → HoldsAfterPlan (λ s. IsManifesting p s.image s.stage) (plan c i stage GetStatus)
   status_keeps_manifesting p (InManifestSync taken) h =
@@ -45,7 +45,7 @@ module _ (c : Profile) (i : List ℕ) where
       (λ luck. h)
   status_keeps_manifesting p stage h = λ luck. search
 
-  -- The manifestation of a payload stays as time passes.
+  -- As time passes, the fact of manifestation still holds.
   time_keeps_manifesting : (p : List ℕ) (ms : ℕ) (stage : Stage) → IsManifesting p i stage
       → HoldsAfterPlan (λ s. IsManifesting p s.image s.stage) (time_plan c stage ms)
   time_keeps_manifesting p ms (InManifest taken passed) h =
@@ -58,37 +58,37 @@ module _ (c : Profile) (i : List ℕ) where
       (λ luck. h))
   time_keeps_manifesting p ms stage h = λ luck. search
 
-  -- The states that Ask n allows stay allowed through GETSTATE.
+  -- After GETSTATE in the phase Ask n, the fact of that phase still holds.
   getstate_keeps_block_question : (p : List ℕ) (t n : ℕ) (stage : Stage) → MayBeAtBlock p t n stage
       → HoldsAfterPlan (λ s. MayBeAtBlock p t n s.stage) (plan c i stage GetState)
   getstate_keeps_block_question p t n InDfuIdle h luck = h
   getstate_keeps_block_question p t n stage h luck = search
 
-  -- The states that Ask n allows stay allowed as time passes.
+  -- As time passes, the fact of the phase Ask n still holds.
   time_keeps_block_question : (p : List ℕ) (t n ms : ℕ) (stage : Stage) → MayBeAtBlock p t n stage
       → HoldsAfterPlan (λ s. MayBeAtBlock p t n s.stage) (time_plan c stage ms)
   time_keeps_block_question p t n ms InDfuIdle h luck = h
   time_keeps_block_question p t n ms stage h luck = search
 
-  -- A device that waits for block n still does as time passes.
+  -- A device that expects block n still expects it after some time.
   time_keeps_block_place : (p : List ℕ) (t n ms : ℕ) (stage : Stage) → IsAtBlock p t n stage →
       HoldsAfterPlan (λ s. IsAtBlock p t n s.stage) (time_plan c stage ms)
   time_keeps_block_place p t n ms InDfuIdle h luck = h
   time_keeps_block_place p t n ms stage h luck = search
 
-  -- The states that Ask last allows stay allowed through GETSTATE.
+  -- After GETSTATE in the phase AskLast, the fact of that phase still holds.
   getstate_keeps_last_question : (p : List ℕ) (stage : Stage) → MayBeAtLastBlock p stage →
       HoldsAfterPlan (λ s. MayBeAtLastBlock p s.stage) (plan c i stage GetState)
   getstate_keeps_last_question p (InDownloadIdle taken number) h luck = h
   getstate_keeps_last_question p stage h luck = search
 
-  -- The states that Ask last allows stay allowed as time passes.
+  -- As time passes, the fact of the phase AskLast still holds.
   time_keeps_last_question : (p : List ℕ) (ms : ℕ) (stage : Stage) → MayBeAtLastBlock p stage →
       HoldsAfterPlan (λ s. MayBeAtLastBlock p s.stage) (time_plan c stage ms)
   time_keeps_last_question p ms (InDownloadIdle taken number) h luck = h
   time_keeps_last_question p ms stage h luck = search
 
-  -- A device that has taken the whole payload still has it as time passes.
+  -- A device that has taken the whole payload keeps it as time passes.
   time_keeps_whole_payload : (p : List ℕ) (ms : ℕ) (stage : Stage) → WholePayloadAccepted p stage
       → HoldsAfterPlan (λ s. WholePayloadAccepted p s.stage) (time_plan c stage ms)
   time_keeps_whole_payload p ms (InDownloadIdle taken number) h luck = h
@@ -100,7 +100,7 @@ module _ (c : Profile) (i : List ℕ) where
   time_keeps_image_in_idle p ms InDfuIdle h luck = h
   time_keeps_image_in_idle p ms stage h luck = elim h.1 [ ]
 
-  -- The meaning of a report before the last reset stays as time passes.
+  -- The meaning of a report before the last reset holds as time passes.
   time_keeps_last_report : (p : List ℕ) (ms : ℕ) (report : Report) (stage : Stage)
       → ReportMeaning c p (record { image = i; stage = stage }) IsDfuIdle report
       → HoldsAfterPlan (λ s. ReportMeaning c p s IsDfuIdle report) (time_plan c stage ms)
@@ -114,7 +114,7 @@ module _ (c : Profile) (i : List ℕ) where
   time_keeps_image_in_app p ms InAppIdle h luck = h
   time_keeps_image_in_app p ms stage h luck = elim h.1 [ ]
 
-  -- The meaning of a report after the last reset stays as time passes.
+  -- The meaning of a report after the last reset holds as time passes.
   time_keeps_final_report : (p : List ℕ) (ms : ℕ) (report : Report) (stage : Stage)
       → ReportMeaning c p (record { image = i; stage = stage }) IsAppIdle report
       → HoldsAfterPlan (λ s. ReportMeaning c p s IsAppIdle report) (time_plan c stage ms)
@@ -122,7 +122,7 @@ module _ (c : Profile) (i : List ℕ) where
   time_keeps_final_report p ms Verified stage h luck = time_keeps_image_in_app p ms stage h luck
   time_keeps_final_report p ms report stage h luck = h
 
-  -- The fact of each phase stays as time passes.
+  -- The fact of each phase holds as time passes.
   pub time_keeps_phase_fact : (p : List ℕ) (phase : Phase) (ms : ℕ) (stage : Stage) →
       PhaseFact c p phase (record { image = i; stage = stage })
       → HoldsAfterPlan (PhaseFact c p phase) (time_plan c stage ms)
@@ -146,7 +146,7 @@ module _ (c : Profile) (i : List ℕ) where
   time_keeps_phase_fact p (Over report) ms stage h luck = time_keeps_final_report p ms report stage h luck
   time_keeps_phase_fact p phase ms stage h luck = h
 
-  -- The request for which a phase asks keeps the fact of the phase, at each luck.
+  -- The request of a phase preserves the fact of the phase, for each luck of the medium.
   pub request_keeps_phase_fact : (r : Request) (p : List ℕ) (phase : Phase) (stage : Stage) → Asks r phase
       → PhaseFact c p phase (record { image = i; stage = stage }) → HoldsAfterPlan (PhaseFact c p phase) (plan c i stage r)
   request_keeps_phase_fact GetStatus p (Poll n) stage a h luck = (

@@ -1,8 +1,8 @@
 pub mod Choices
-pub mod Quiet
-pub mod Tells
+pub mod MovesWithoutBlocks
+pub mod AnswerFacts
 pub mod Kept
-pub mod Fates
+pub mod FateEffects
 pub mod CommonFacts
 pub mod GoCommon
 pub mod Next
@@ -12,7 +12,7 @@ pub mod Fetch
 pub mod GoUpload
 pub mod GoalLaws
 pub mod GoCompare
-pub mod Taking
+pub mod HeardResults
 pub mod ActionSteps
 pub mod PassingTime
 pub mod EachEvent
@@ -20,18 +20,18 @@ pub mod Passes
 pub mod Finding
 pub mod Verified
 pub mod CleanCompare
-pub mod Turns
+pub mod DownloadTurns
 pub mod Clean
-pub mod Saying
+pub mod MachineReports
 pub mod Replies
 pub mod Actions
 pub mod Projected
-pub mod Acts
+pub mod ActionClauses
 pub mod Events
 pub mod Uploads
 pub mod Counted
-pub mod Agreeing
-pub mod Steady
+pub mod AgreeingMachines
+pub mod EventFacts
 pub mod Config
 pub mod Chains
 pub mod Offered
@@ -39,9 +39,9 @@ pub mod HeadlineKept
 pub mod CleanRuns
 pub mod CleanStops
 pub mod DoneOnce
-mod Harmed
+mod HarmedActions
 pub mod Closing
-pub mod Objecting
+pub mod RefusedImages
 pub mod Refusals
 mod Placing
 mod Placed

@@ -15,7 +15,7 @@ use Rattle.dfu_host.specs.RowLaws.{trouble_gives_property}
 use Rattle.dfu_sim.specs.Opening.{task_for}
 use Rattle.dfu_sim.specs.Fact.{MayBeAtBlock, BlockAccepted, MayBeAtLastBlock, IsManifesting, PhaseFact}
 use Rattle.dfu_sim.proofs.Choices.{choice_has_fact}
-use Rattle.dfu_sim.proofs.Tells.{Tells, ToldByHeard}
+use Rattle.dfu_sim.proofs.AnswerFacts.{Tells, ToldByHeard}
 use Rattle.dfu_sim.proofs.CommonFacts.{goal_has_common_facts}
 
 module _ (c : Profile) (p : List ℕ) (some : 0 < length (blocks p c.transfer)) (sized : 0 < c.transfer) where
@@ -23,14 +23,14 @@ module _ (c : Profile) (p : List ℕ) (some : 0 < length (blocks p c.transfer)) 
   abbrev b : ℕ
   b = length (blocks p c.transfer)
 
-  -- If the status that a device reported is still true of it, the fact of the phase after Trouble holds.
+  -- If the device is in the state that it reported in the phase Trouble, the fact of the next phase holds.
   trouble_phase_has_fact : (code : Code) (poll : ℕ) (state : State) (s : Situation) → Tells state s.stage
       → PhaseFact c p (phase_in_trouble (Block 0) code poll state) s
   trouble_phase_has_fact code poll state s h = trouble_gives_property (task_for c (LoadGoal p)) (λ x. PhaseFact c p x s) (λ x. ToldByHeard x
       s.stage)
       (goal_has_common_facts c (LoadGoal p) some s) code poll state h
 
-  -- The fact of the next phase holds after a status in Poll n, if that status is true of the device.
+  -- If the fact of the phase Poll n holds, and the device is in the state that it reported, the fact of the next phase holds.
   pub poll_gives_phase_fact : (n : ℕ) (code : Code) (poll : ℕ) (state : State) (image : List ℕ) (stage : Stage) → n < b
       → BlockAccepted (first_blocks p c.transfer (suc n)) stage → Tells state stage
       → PhaseFact c p (polled_phase (Block 0) b n code poll state) (record { image = image; stage = stage })
@@ -47,7 +47,7 @@ module _ (c : Profile) (p : List ℕ) (some : 0 < length (blocks p c.transfer)) 
     stage = stage;
   }) t
 
-  -- The fact of the next phase holds after a status in Manifest, if that status is true of the device.
+  -- If the fact of the phase Manifest holds, and the device is in the state that it reported, the fact of the next phase holds.
   pub manifest_poll_gives_phase_fact : (tolerant : Bool) (code : Code) (poll : ℕ) (state : State) (image : List ℕ) (stage : Stage)
       → (IsTrue tolerant → IsTrue c.tolerant) → IsManifesting p image stage → Tells state stage
       → PhaseFact c p (manifest_phase (Block 0) tolerant code poll state) (record { image = image; stage = stage })
@@ -62,7 +62,7 @@ module _ (c : Profile) (p : List ℕ) (some : 0 < length (blocks p c.transfer)) 
   manifest_poll_gives_phase_fact tolerant code poll state image stage f h t =
       trouble_phase_has_fact code poll state (record { image = image; stage = stage }) t
 
-  -- The fact of the next phase holds after a state in Ask n, if that state is true of the device.
+  -- If the fact of the phase Ask n holds, and the device is in the state that it reported, the fact of the next phase holds.
   pub block_question_gives_phase_fact : (n : ℕ) (state : State) (image : List ℕ) (stage : Stage) → n < b →
       MayBeAtBlock p c.transfer n stage → Tells state stage
       → PhaseFact c p (asked_phase n state) (record { image = image; stage = stage })
@@ -71,7 +71,7 @@ module _ (c : Profile) (p : List ℕ) (some : 0 < length (blocks p c.transfer)) 
   block_question_gives_phase_fact (suc n) DownloadIdle image (InDownloadIdle taken number) l h t = (l, h)
   block_question_gives_phase_fact n state image stage l h t = search
 
-  -- The fact of the next phase holds after a state in AskLast, if that state is true of the device.
+  -- If the fact of the phase AskLast holds, and the device is in the state that it reported, the fact of the next phase holds.
   pub last_question_gives_phase_fact : (state : State) (image : List ℕ) (stage : Stage) → MayBeAtLastBlock p stage → Tells state stage
       → PhaseFact c p (asked_last_phase state) (record { image = image; stage = stage })
   last_question_gives_phase_fact ManifestSync image (InManifestSync taken) h t = h

@@ -1,4 +1,4 @@
--- The payload of a session machine was offered by the sessions that have begun.
+-- The payloads of a session machine were offered in the sessions that have begun.
 use Rattle.std.proofs.Common.{◌≡◌, ◌⊎◌, inl, inr, ℕ, Bool, List, [], ◌∷◌, ◌++◌, Option, sym, ◌∙◌, subst}
 use Rattle.dfu_host.specs.declared.report.Report.{Report}
 use Rattle.dfu_sim.specs.Session.{Machine, LoadingPayload, IsOneOf, ReportStep, reports_nothing, Kind, OfferKind, UploadKind, IsInPlaceReport, MachineStep, offered, uploads, restarts, refuses, goes, stops, and_then, report_list}
@@ -8,25 +8,25 @@ use Rattle.dfu_sim.specs.Happening.{Happening, Offers, Uploads}
 use Rattle.dfu_sim.specs.Following.{EventHasKind, MachineFollows}
 use Rattle.dfu_sim.specs.SessionStarts.{sessions_after_event}
 use Rattle.dfu_sim.specs.Headline.{SessionBeginning, IsPayload, WasOffered, IsLastPayload}
-use Rattle.dfu_sim.proofs.Saying.{taking_keeps_live_session, dropping_keeps_live_session, only_offered, in_place_step_had_live_payload}
+use Rattle.dfu_sim.proofs.MachineReports.{taking_keeps_live_session, dropping_keeps_live_session, only_offered, in_place_step_had_live_payload}
 
--- Payloads that are live after a step.
+-- Lemmas about the live payload after a step.
 
--- A report leaves no other payload live than the one that was live before it.
+-- If a payload is live after a report, the payload was live before the report too.
 live_payload_before_report : {tolerant : Bool} {m m' : Machine} {report : Option Report} (x : List ℕ) → ReportStep tolerant m report m' →
     m'.live ≡ LoadingPayload x
     → m.live ≡ LoadingPayload x
 live_payload_before_report x reports_nothing e = e
 live_payload_before_report x s e = absurd cc
 
--- A payload may be live after an event of this kind: an offer must have offered it, an upload leaves none, and any other event leaves the
--- one before.
+-- The payload may be live after an event of this kind: after an offer only the offer's payload, after the start of an upload none, and
+-- after any other event only the payload that was live before.
 abbrev IsLivePayloadBy : Kind → Machine → List ℕ → Type 0
 IsLivePayloadBy (OfferKind payload) m x = payload ≡ x
 IsLivePayloadBy UploadKind m x = ⊥
 IsLivePayloadBy kind m x = m.live ≡ LoadingPayload x
 
--- A payload that is live after a step may be live by the kind of its event.
+-- If a payload is live after a step, the event of the step offered it, or it was live before.
 live_payload_was_offered_or_live : {tolerant : Bool} {t : ℕ} {kind : Kind} {m m' : Machine} {report : Option Report} (x : List ℕ)
     → MachineStep tolerant t kind m report m' → m'.live ≡ LoadingPayload x → IsLivePayloadBy kind m x
 live_payload_was_offered_or_live x (offered none) e = cc
@@ -37,7 +37,7 @@ live_payload_was_offered_or_live x (goes b d s) e = sym (dropping_keeps_live_ses
     ∙ live_payload_before_report x s e
 live_payload_was_offered_or_live x s e = e
 
--- An image that a step reports as in place may be live by the kind of the step's event.
+-- If a step reports Installed or Verified, the event of the step offered the active image, or that image was the live payload before.
 in_place_image_was_offered : {tolerant : Bool} {t : ℕ} {kind : Kind} {m m' : Machine} {report : Option Report} →
     MachineStep tolerant t kind m report m'
     → IsInPlaceReport report → IsLivePayloadBy kind m m'.cur
@@ -47,7 +47,7 @@ in_place_image_was_offered {tolerant = tolerant} {t = t} (goes b d s) e = in_pla
     b d s) e
 in_place_image_was_offered s e = elim e [ ]
 
--- Offers of the past sessions.
+-- Lemmas about the offers of the past sessions.
 
 -- The machine's image is the factory image or was offered, each of its offers was offered, and its live payload is the last session's
 -- payload.
@@ -56,7 +56,7 @@ pub record MachineHasPastOffers (factory : List ℕ) (past : List SessionBeginni
   pub offers : (x : List ℕ) → IsOneOf x m.offers → WasOffered past x
   pub live : (x : List ℕ) → m.live ≡ LoadingPayload x → IsLastPayload past x
 
--- A payload that was offered still counts as offered after a further event.
+-- A payload that was offered before an event is still among the offered payloads after the event.
 past_offer_stays : (h : Happening) (past : List SessionBeginning) (x : List ℕ) → WasOffered past x →
     WasOffered (sessions_after_event h past) x
 past_offer_stays (Offers purpose file limits) past x was = inr was
@@ -75,7 +75,7 @@ event_offers_were_offered (Offers purpose file limits) kind past offers x is all
     ]
 event_offers_were_offered h kind past offers x is all one = all x (subst (λ (k : Kind). IsOneOf x (offers_after (k ∷ []) offers)) is one)
 
--- If a live payload is that of the last session, one that may be live after an event is that of the last session then.
+-- If the live payload before an event is the last session's, the live payload after it is the last session's too.
 live_payload_is_last_offer : (h : Happening) (kind : Kind) (past : List SessionBeginning) (m : Machine) (x : List ℕ) → EventHasKind h kind
     → ((y : List ℕ) → m.live ≡ LoadingPayload y → IsLastPayload past y) → IsLivePayloadBy kind m x →
     IsLastPayload (sessions_after_event h past) x
@@ -85,7 +85,7 @@ live_payload_is_last_offer (Offers purpose file limits) kind past m x is all by 
 live_payload_is_last_offer (Uploads limits) kind past m x is all by = absurd (subst (λ (k : Kind). IsLivePayloadBy k m x) is by)
 live_payload_is_last_offer h kind past m x is all by = all x (subst (λ (k : Kind). IsLivePayloadBy k m x) is by)
 
--- After an event that the machine follows, its image, offers and live payload are still those of the sessions that have begun.
+-- After an event that the machine follows, the machine's image, offers and live payload are those of the sessions that have begun.
 pub event_keeps_past_offers : {factory : List ℕ} {past : List SessionBeginning} {m : Machine} {w w' : WorldView}
     (h : Happening) {report : Option Report}
     → MachineHasPastOffers factory past m → (f : MachineFollows w h w' report m) →

@@ -19,18 +19,18 @@ use Rattle.dfu_sim.specs.Headline.{IsWaiting}
 use Rattle.dfu_sim.specs.Accepting.{MayPlaceImage}
 use Rattle.dfu_sim.proofs.Placing.{HasNoWaitingImage, IsDone, IsDnloadRequest, IsManifestSyncStage, done_stage_has_no_waiting_image, Leads, refused_plan_places_nothing, TimePlacesClosedImage, time_places_waiting, IsCalmPlan, calm_plan_of_done_stage, calm_time_plan_of_done_stage}
 
--- The image stays; or the image that waited is in place, and no image waits then.
+-- The image is unchanged; or the image that waited is in place, and no image waits after that.
 abbrev pub Placed : Situation → Situation → Type 0
 Placed s s' = (s'.image ≡ s.image) ⊎ (IsWaiting s.stage s'.image × HasNoWaitingImage s'.stage)
 
--- After the first request or time: the image stays, and an image that waits now waited before, unless the request is a DNLOAD; or the
--- waiting image is in place.
+-- Effect of the first handling of a request. Either the image is unchanged, and only a DNLOAD can make an image wait; or the waiting image
+-- is in place.
 abbrev FirstOutcomePlaced : Request → Situation → Situation → Type 0
 FirstOutcomePlaced r s s' = ((s'.image ≡ s.image) × ((t : List ℕ) → IsWaiting s'.stage t → IsWaiting s.stage t ⊎ (IsDnloadRequest r
     × IsManifestSyncStage s'.stage)))
     ⊎ (IsWaiting s.stage s'.image × IsDone s'.stage × (IsDnloadRequest r → ⊥))
 
--- At each luck, a plan that puts only a waiting image in place has a first outcome.
+-- If a plan puts only a waiting image in place, it has the effect of a first handling, for each luck of the medium.
 plan_has_first_outcome : (s : Situation) (r : Request) (p : Plan) (luck : Luck) → Leads s.stage r p →
     FirstOutcomePlaced r s (plan_outcome s.image p luck).after
 plan_has_first_outcome s r (Sure reply next) luck h = inl (refl, h)
@@ -41,11 +41,12 @@ plan_has_first_outcome s r (Commits taken reply next bad) Works h = inr h
 plan_has_first_outcome s r (Commits taken reply next bad) (FailsOld fault) h = inl (refl, λ t m. absurd m)
 plan_has_first_outcome s r (Commits taken reply next bad) (FailsNew fault) h = inr (h.0, tt, h.2)
 
--- A time has passed: the image stays; or the image that waited is in place, the device is done, and it was not in dfuMANIFEST-SYNC.
+-- Effect of passing time. Either the image is unchanged; or the waiting image is in place, the device is done, and it was not in
+-- dfuMANIFEST-SYNC.
 abbrev ImagePlacedByTime : Situation → Situation → Type 0
 ImagePlacedByTime s s' = (s'.image ≡ s.image) ⊎ (IsWaiting s.stage s'.image × IsDone s'.stage × (IsManifestSyncStage s.stage → ⊥))
 
--- At each luck, a plan of a time that puts only a waiting image in place has such an effect.
+-- If a plan for passing time puts only a waiting image in place, it has the effect of passing time, for each luck of the medium.
 time_has_outcome : (s : Situation) (p : Plan) (luck : Luck) → TimePlacesClosedImage s.stage p →
     ImagePlacedByTime s (plan_outcome s.image p luck).after
 time_has_outcome s (Sure reply next) luck h = inl refl
@@ -56,7 +57,7 @@ time_has_outcome s (Commits taken reply next bad) Works h = inr h
 time_has_outcome s (Commits taken reply next bad) (FailsOld fault) h = inl refl
 time_has_outcome s (Commits taken reply next bad) (FailsNew fault) h = inr (h.0, tt, h.2)
 
--- A calm plan keeps the image, and none waits after it.
+-- A calm plan does not change the image, and no image waits after it.
 calm_plan_keeps_image : (image : List ℕ) (p : Plan) (luck : Luck) → IsCalmPlan p
     → ((plan_outcome image p luck).after.image ≡ image) × HasNoWaitingImage (plan_outcome image p luck).after.stage
 calm_plan_keeps_image image (Sure reply next) luck h = (refl, h)
@@ -71,13 +72,13 @@ module _ (c : Profile) where
     | inr placed ↦ inr (placed.0, done_stage_has_no_waiting_image _ placed.1)
   ]
 
-  -- After the waiting image was put in place, a calm plan leaves it there, and no image waits then.
+  -- If the waiting image was put in place, a calm plan keeps that image, and no image waits after the plan.
   calm_plan_after_placing : (s s1 : Situation) (p : Plan) (luck : Luck) → IsWaiting s.stage s1.image → IsCalmPlan p
       → Placed s (plan_outcome s1.image p luck).after
   calm_plan_after_placing s s1 p luck waits h =
       let o = calm_plan_keeps_image s1.image p luck h in inr (subst (λ (x : List ℕ). IsWaiting s.stage x) (sym o.0) waits, o.1)
 
-  -- A request that comes a second time puts at most the waiting image in place.
+  -- A request that is handled a second time puts at most the waiting image in place.
   second_request_places_waiting : (s s1 : Situation) (r : Request) (luck : Luck) → FirstOutcomePlaced r s s1
       → Placed s (plan_outcome s1.image (plan c s1.image s1.stage r) luck).after
   second_request_places_waiting s s1 r luck (inr placed) =
@@ -91,7 +92,7 @@ module _ (c : Profile) where
         ]
       ]
 
-  -- A time after a request puts at most the waiting image in place.
+  -- Time that passes after a request puts at most the waiting image in place.
   later_time_places_waiting : (s s1 : Situation) (r : Request) (ms : ℕ) (luck : Luck) → FirstOutcomePlaced r s s1 →
       Placed s (situation_after_ms c s1 ms luck)
   later_time_places_waiting s s1 r ms luck (inr placed) = calm_plan_after_placing s s1 (time_plan c s1.stage ms) luck placed.0
@@ -105,7 +106,7 @@ module _ (c : Profile) where
         ]
       ]
 
-  -- A request puts at most the waiting image in place, however it reaches the device.
+  -- A request puts at most the waiting image in place, however often the device handles it.
   request_places_waiting : (s : Situation) (r : Request) (x : Option Objection) (how : Handled) (l k : Luck)
       → Placed s (reached c s r (plan_with_refusal x c s.image s.stage r) how l k).device
   request_places_waiting s r x Unseen l k = inl refl
@@ -121,7 +122,7 @@ module _ (c : Profile) where
       later_time_places_waiting s (plan_outcome s.image (plan_with_refusal x c s.image s.stage r) l).after r ms k
       (plan_has_first_outcome s r (plan_with_refusal x c s.image s.stage r) l (refused_plan_places_nothing x c s.image s.stage r))
 
-  -- If an action put at most the waiting image in place, that still holds after the power cut that may end the action.
+  -- If an action puts at most the waiting image in place, a cut of the power at its end puts no other image in place.
   power_cut_keeps_placed : (s s' : Situation) (harming : MediumFault) → Placed s s' → Placed s (situation_after_harm harming s')
   power_cut_keeps_placed s s' CutsPower (inl same) = inl same
   power_cut_keeps_placed s s' CutsPower (inr placed) = inr (placed.0, λ t m. m)
@@ -132,7 +133,7 @@ module _ (c : Profile) where
   no_image_waits_after_reset (InAppDetach timer passed) = λ t m. m
   no_image_waits_after_reset st = λ t m. m
 
-  -- Time that slips in after a reset does not change the image.
+  -- The time of a slip after a reset does not change the image.
   slipped_time_places_none : (s : Situation) (how : Handled) (l : Luck) → (situation_after_slip c (after_reset s) how l).image ≡ s.image
   slipped_time_places_none s (Late ms) l = elim (passing_time_places_waiting (after_reset s) ms l) [
     | inl same ↦ same
@@ -157,7 +158,8 @@ module _ (c : Profile) where
   host_action_places_waiting w NoLiveSession fate l k room = inl refl
   host_action_places_waiting w (HostSession h) fate l k room = action_places_waiting w.device (deed h.task h.phase) (delivery_of fate) l k
 
-  -- After an event the image stays; or the event may put an image in place, the image that waited is in place, and no image waits then.
+  -- The image is unchanged after an event; or the event may put an image in place, the image that waited is in place, and no image waits
+  -- after that.
   abbrev pub EventResult : Happening → Situation → Situation → Type 0
   EventResult h s s' = (s'.image ≡ s.image) ⊎ (MayPlaceImage h × IsWaiting s.stage s'.image × HasNoWaitingImage s'.stage)
 

@@ -1,4 +1,4 @@
--- The tables of a link put an image in place only if the image waited before.
+-- The device table puts an image in place only if the image waited before.
 use Rattle.std.proofs.Common.{◌⊎◌, inl, inr, ℕ, ◌+◌, ◌==◌, nat_lt, nat_le, max, not, List, [], ◌∷◌, length, take, drop, Option, Some, None, refl}
 use Rattle.dfu_device.specs.Pace.{block_ms, image_ms}
 use Rattle.dfu_device.specs.declared.objection.Objection.{Objection}
@@ -12,7 +12,7 @@ use Rattle.dfu_sim.specs.Headline.{IsWaiting}
 abbrev pub HasNoWaitingImage : Stage → Type 0
 HasNoWaitingImage st = (t : List ℕ) → IsWaiting st t → ⊥
 
--- The device is in a stage in which it may be once it put an image in place, or tried to.
+-- In this stage a device has put an image in place, or failed to.
 abbrev pub IsDone : Stage → Type 0
 IsDone InDfuIdle = Unit {0}
 IsDone InManifestSyncComplete = Unit {0}
@@ -25,12 +25,12 @@ abbrev pub IsDnloadRequest : Request → Type 0
 IsDnloadRequest (Dnload number body) = Unit {0}
 IsDnloadRequest r = ⊥
 
--- The device is in dfuMANIFEST-SYNC, not complete.
+-- The device is in dfuMANIFEST-SYNC, and manifestation is not complete.
 abbrev pub IsManifestSyncStage : Stage → Type 0
 IsManifestSyncStage (InManifestSync taken) = Unit {0}
 IsManifestSyncStage st = ⊥
 
--- In a done stage no image waits.
+-- After a device has put an image in place, or failed to, no image waits.
 pub done_stage_has_no_waiting_image : (st : Stage) → IsDone st → HasNoWaitingImage st
 done_stage_has_no_waiting_image InDfuIdle d = λ t m. m
 done_stage_has_no_waiting_image InManifestSyncComplete d = λ t m. m
@@ -38,10 +38,9 @@ done_stage_has_no_waiting_image InManifestWaitReset d = λ t m. m
 done_stage_has_no_waiting_image (InError code) d = λ t m. m
 done_stage_has_no_waiting_image st d = absurd d
 
--- Plans that put an image in place or make one wait.
+-- Lemmas about plans that put an image in place or make one wait.
 
--- An image that waits after a request waited before, or the request is a DNLOAD. No DNLOAD puts an image in place, and any other request
--- only a waiting one.
+-- Only a DNLOAD can make an image wait. No DNLOAD puts an image in place, and any other request puts only a waiting image in place.
 abbrev pub Leads : Stage → Request → Plan → Type 0
 Leads st r (Sure reply next) = (t : List ℕ) → IsWaiting next t → IsWaiting st t ⊎ (IsDnloadRequest r × IsManifestSyncStage next)
 Leads st r (Writes before block reply next bad) = HasNoWaitingImage next
@@ -56,7 +55,7 @@ block_plan_places_nothing c st before expected number body =
     (holds_in_both_branches P (not (number == expected)) _ _ (λ t m. absurd m)
     (holds_in_both_branches P (nat_lt c.capacity (length before + length body)) _ _ (λ t m. absurd m) (λ t m. absurd m)))
 
--- The plan of a further DNLOAD puts no image in place.
+-- The plan of a later DNLOAD puts no image in place.
 further_plan_places_nothing : (c : Profile) (taken : List ℕ) (expected number : ℕ) (body : List ℕ)
     → Leads (InDownloadIdle taken expected) (Dnload number body) (next_dnload_plan c taken expected number body)
 further_plan_places_nothing c taken expected number [] =
@@ -95,7 +94,7 @@ request_row_places_waiting c image (InUploadIdle place number) (Upload k size) =
 request_row_places_waiting c image st GetState = λ t m. absurd m
 request_row_places_waiting c image st r = λ t m. absurd m
 
--- The plan of a request puts an image in place only if the image waited, also if the program refuses that image.
+-- The plan of a request puts only a waiting image in place, even if the program refuses an image.
 pub refused_plan_places_nothing : (x : Option Objection) (c : Profile) (image : List ℕ) (st : Stage) (r : Request)
     → Leads st r (plan_with_refusal x c image st r)
 refused_plan_places_nothing None c image st r = request_row_places_waiting c image st r
@@ -104,13 +103,13 @@ refused_plan_places_nothing (Some why) c image st r =
     (λ t m. absurd m)
     (request_row_places_waiting c image st r)
 
--- The plan of a time commits no image except a waiting one, and then not in dfuMANIFEST-SYNC; it leads to a done stage.
+-- A plan for passing time commits only a waiting image, and not in dfuMANIFEST-SYNC. The device is done after the commit.
 abbrev pub TimePlacesClosedImage : Stage → Plan → Type 0
 TimePlacesClosedImage st (Sure reply next) = Unit {0}
 TimePlacesClosedImage st (Writes before block reply next bad) = Unit {0}
 TimePlacesClosedImage st (Commits taken reply next bad) = IsWaiting st taken × IsDone next × (IsManifestSyncStage st → ⊥)
 
--- The row of a time puts only a waiting image in place.
+-- The row for passing time puts only a waiting image in place.
 pub time_places_waiting : (c : Profile) (st : Stage) (ms : ℕ) → TimePlacesClosedImage st (time_plan c st ms)
 time_places_waiting c (InAppDetach timer passed) ms =
     let P : Plan → Type 0 = TimePlacesClosedImage (InAppDetach timer passed) in
@@ -130,7 +129,7 @@ time_places_waiting c (InManifest taken passed) ms =
     tt)
 time_places_waiting c st ms = tt
 
--- A calm plan writes and commits nothing, and no image waits after it. Each plan is calm once the image is in place.
+-- A calm plan writes and commits nothing, and no image waits after it. Once the image is in place, every plan is calm.
 abbrev pub IsCalmPlan : Plan → Type 0
 IsCalmPlan (Sure reply next) = HasNoWaitingImage next
 IsCalmPlan (Writes before block reply next bad) = ⊥
@@ -151,7 +150,7 @@ upload_plan_is_calm c image number size =
     (holds_in_both_branches IsCalmPlan (not (number == 0)) _ _ (λ t m. absurd m)
     (holds_in_both_branches IsCalmPlan (nat_lt (length (take size (drop 0 image))) size) _ _ (λ t m. absurd m) (λ t m. absurd m))))
 
--- In a done stage the plan of each request is calm.
+-- After a device has put an image in place, or failed to, the plan of each request is calm.
 pub calm_plan_of_done_stage : (c : Profile) (image : List ℕ) (st : Stage) (r : Request) → IsDone st → IsCalmPlan (plan c image st r)
 calm_plan_of_done_stage c image InDfuIdle (Dnload number body) d =
     holds_in_both_branches IsCalmPlan (not c.can_download) _ _ (λ t m. absurd m)
@@ -170,7 +169,7 @@ calm_plan_of_done_stage c image (InError code) GetState d = λ t m. absurd m
 calm_plan_of_done_stage c image (InError code) r d = λ t m. absurd m
 calm_plan_of_done_stage c image st r d = absurd d
 
--- In a done stage the plan of each time is calm.
+-- After a device has put an image in place, or failed to, the plan for passing time is calm.
 pub calm_time_plan_of_done_stage : (c : Profile) (st : Stage) (ms : ℕ) → IsDone st → IsCalmPlan (time_plan c st ms)
 calm_time_plan_of_done_stage c InDfuIdle ms d = λ t m. absurd m
 calm_time_plan_of_done_stage c InManifestSyncComplete ms d = λ t m. absurd m

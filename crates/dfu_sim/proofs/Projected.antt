@@ -22,7 +22,7 @@ use Rattle.dfu_sim.specs.Understood.{PlayIsShown, PlaysMatchLinks}
 use Rattle.dfu_sim.proofs.Replies.{phase_has_host_deed}
 use Rattle.dfu_sim.proofs.Actions.{arming_keeps_profile, arming_keeps_situation, Went, action_moves_device}
 
--- An action that goes by the table for the device with its medium armed goes by the table for the device before.
+-- If an action follows the table for the device with an armed medium, it follows the table for the device before the medium was armed.
 armed_action_goes_as_unarmed : (d : Deed) (delivery : Delivery) (fuse : Fuse) (w w' : DeviceView) (heard : Heard)
     → Went fuse (profile (armed_device w fuse)) (situation (armed_device w fuse)) d delivery w' heard
     → Went fuse (profile w) (situation w) d delivery w' heard
@@ -30,11 +30,11 @@ armed_action_goes_as_unarmed d delivery fuse w w' heard x =
     subst (λ (s : Situation). Went fuse (profile w) s d delivery w' heard) (arming_keeps_situation w fuse)
     (subst (λ (c : Profile). Went fuse c (situation (armed_device w fuse)) d delivery w' heard) (arming_keeps_profile w fuse) x)
 
--- Once its power came back, a device is in the situation that the table gives after a loss of power.
+-- After a power cycle a device is in the situation that the table gives after a loss of power.
 power_cycle_moves_situation : (w : DeviceView) → situation (device_after_power_cycle w) ≡ situation_after_power (situation w)
 power_cycle_moves_situation w = λ k. record { image = (fuse_changes_nothing_visible w.slots Whole [] 0).image k; stage = InAppIdle }
 
--- A device whose power went and came back keeps its profile.
+-- A power cycle does not change the profile of the device.
 power_cycle_keeps_profile : (w : DeviceView) → profile (device_after_power_cycle w) ≡ profile w
 power_cycle_keeps_profile w = λ k. record (profile w) { capacity = (fuse_changes_nothing_visible w.slots Whole [] 0).room k }
 
@@ -44,7 +44,7 @@ action_end_moves_situation : (harming : MediumFault) (w : DeviceView) → situat
 action_end_moves_situation CutsPower w = power_cycle_moves_situation w
 action_end_moves_situation harming w = arming_keeps_situation w Whole
 
--- A device keeps its profile at the end of an action.
+-- The end of an action does not change the profile of the device.
 action_end_keeps_profile : (harming : MediumFault) (w : DeviceView) → profile (device_after_action harming w) ≡ profile w
 action_end_keeps_profile CutsPower w = power_cycle_keeps_profile w
 action_end_keeps_profile harming w = arming_keeps_profile w Whole
@@ -54,18 +54,18 @@ action_end_leaves_fuse_whole : (harming : MediumFault) (w : DeviceView) → (dev
 action_end_leaves_fuse_whole CutsPower w = refl
 action_end_leaves_fuse_whole harming w = refl
 
--- The fuse of the medium in an event: whole, except in an action in which a write is harmed.
+-- Fuse of the medium in an event: whole, except in an action in which a write is harmed.
 abbrev pub fuse_of_event : Happening → Fuse
 fuse_of_event (Goes fate harm) = fuse_of (delivery_of fate).harming harm
 fuse_of_event event = Whole
 
--- The event is a play of the links that the benches show. With a whole fuse it goes by the table of fates for a medium that works.
+-- The event is a play of the links that the benches show. With a whole fuse it follows the table of fates for a medium that works.
 record EventIsShown (b : LinkView) (event : Happening) (fuse : Fuse) (b' : LinkView) (answer : Answered) : Type 0 where
   shown : PlayIsShown b event b' answer
   sure : fuse ≡ Whole → (room : Bool) × (play_of_event (profile b.device) (link_of_bench b) event Works Works room
       ≡ record { link = link_of_bench b'; answer = answer })
 
--- If a host hears NoRoom only in a phase that needs memory, it hears its result with memory wherever its phase needs none.
+-- If the host receives NoRoom only in phases that need memory, memory changes the received meaning only in those phases.
 pub heard_in : (phase : Phase) (heard x : Heard) (room : Bool) → heard ≡ heard_with_room x room
     → (heard ≡ NoRoom → IsTrue (wants_memory phase)) → heard ≡ heard_with_room x (has_room phase room)
 heard_in (Fetch k kept) heard x room e h = e
@@ -108,7 +108,7 @@ next_action_is_shown fate harm b b' answer allowed g =
       );
     }
 
--- An event that goes by the table for a medium that works, and keeps the profile and leaves the fuse whole, is a play of the links that the
+-- If an event follows the table for a medium that works, keeps the profile, and leaves the fuse whole, it is a play of the links that the
 -- benches show.
 working_event_is_shown : (b b' : LinkView) (event : Happening) (answer : Answered) → MayHappen b.session event
     → play_of_event (profile b.device) (link_of_bench b) event Works Works true ≡ record { link = link_of_bench b'; answer = answer }
@@ -122,7 +122,8 @@ working_event_is_shown b b' event answer allowed same fixed whole = record {
   sure = λ always. (true, same);
 }
 
--- An event without harm whose next bench and answer are known is a play of the links that the benches show.
+-- If the bench and the answer after an event equal those that the table gives for a medium that works, the event is a play of the links
+-- that the benches show.
 unharmed_event_is_shown : (b b' now : LinkView) (event : Happening) (answer said : Answered) → MayHappen b.session event
     → play_of_event (profile b.device) (link_of_bench b) event Works Works true ≡ record { link = link_of_bench now; answer = said }
     → profile now.device ≡ profile b.device → now.device.slots.medium.fuse ≡ Whole
@@ -155,7 +156,7 @@ event_on_bench_is_shown event b b' answer allowed unarmed h = unharmed_event_is_
 pub bytes_show : PlaysMatchLinks
 bytes_show b b' event answer p = (event_on_bench_is_shown event b b' answer p.allowed p.unarmed p.happens).shown
 
--- If the fuse is whole in an event, its play in bytes goes by the table of fates for a medium that works.
+-- If the fuse is whole in an event, its play in bytes follows the table of fates for a medium that works.
 pub unharmed_play_works : (b b' : LinkView) (event : Happening) (answer : Answered) → BytePlay b event b' answer
     → fuse_of_event event ≡ Whole
     → (room : Bool) × (play_of_event (profile b.device) (link_of_bench b) event Works Works room

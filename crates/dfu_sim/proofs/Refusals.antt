@@ -1,4 +1,4 @@
--- An event has one answer: one refusal, or one play.
+-- Each event has one meaning: it is refused with one fault, or it corresponds to one event of the table of fates.
 use Rattle.std.proofs.Common.{◌≡◌, ℕ, List, Option, Some, None, refl, sym, ap, ◌∙◌, subst}
 use Rattle.dfu_suffix.proofs.ForCallers.{grammar_file_is_faultless, one_reading}
 use Rattle.dfu_host.specs.declared.fault.HostFault.{HostFault}
@@ -15,7 +15,7 @@ use Rattle.dfu_sim.specs.Refusing.{first_offer_fault, IsOffered, IsBadOffer, Ser
 use Rattle.dfu_sim.proofs.Events.{equal_offers_fail_alike}
 use Rattle.dfu_sim.specs.OneAnswer.{EventHasOneRefusal, RefusedEventIsNoPlay, EventHasOneMeaning}
 
--- An offer of a file that the device takes is refused with no fault.
+-- The offer of a file that the device accepts has no fault.
 pub taken_offer_is_not_bad : (s : Setting) (purpose : Purpose) (file payload : List ℕ) (why : OfferFault) → IsOffered s purpose file payload
     → IsBadOffer s purpose file why → ⊥
 taken_offer_is_not_bad s purpose file payload (offer_fault.Suffix f) o first =
@@ -47,12 +47,12 @@ bad_upload_has_one_fault s (offer_fault.Host f) (offer_fault.Host g) x y = let e
 bad_upload_has_one_fault s (offer_fault.Host f) other x y = elim y [ ]
 bad_upload_has_one_fault s why other x y = elim x [ ]
 
--- An upload from a device that serves uploads is refused with no fault.
+-- An upload from a device that serves uploads has no fault.
 served_upload_is_not_bad : (s : Setting) (why : OfferFault) → IsBadUpload s why → ServesUpload s → ⊥
 served_upload_is_not_bad s (offer_fault.Host f) x gives = let e : ◌≡◌ {A = Option HostFault} (Some f) None = sym x ∙ gives in absurd cc
 served_upload_is_not_bad s why x gives = x
 
--- Fault of each refusal.
+-- Lemmas about the fault of each refusal.
 
 -- An event is refused with at most one fault.
 pub event_has_one_refusal : EventHasOneRefusal
@@ -68,15 +68,15 @@ event_has_one_refusal b Aborts fault.NoHost fault.NoHost x y = refl
 event_has_one_refusal b (Goes fate harm) fault.NoHost fault.NoHost x y = refl
 event_has_one_refusal b h why other x y = search
 
--- Events while a session is live.
+-- Lemmas about events while a session is live.
 
--- An event that no live session allows may not happen while a session is live.
+-- If an event may not happen with any live host, it may not happen while a session is live.
 live_session_prevents_event : (s : Session) (h : Happening) → ((k : HostState) → MayHappen (HostSession k) h → ⊥) → IsLive s →
     MayHappen s h → ⊥
 live_session_prevents_event NoLiveSession h never live a = live
 live_session_prevents_event (HostSession k) h never live a = never k a
 
--- If an event is refused, no event that it means may happen.
+-- If an event is refused, no play of it may happen.
 pub refused_event_is_no_play : RefusedEventIsNoPlay
 refused_event_is_no_play b (Offers purpose file limits) fault.HostBusy event x m a =
     live_session_prevents_event b.session (Offers purpose m.0 limits) (λ k no. no) x (subst (MayHappen b.session) m.2 a)
@@ -91,7 +91,7 @@ refused_event_is_no_play b (Goes fate harm) fault.NoHost event x m a =
     subst (λ (s : Session). MayHappen s (Goes fate harm)) x (subst (MayHappen b.session) m a)
 refused_event_is_no_play b h why event x m a = elim x [ ]
 
--- Meaning of each event.
+-- Lemmas about the meaning of each event.
 
 -- Each event has at most one meaning.
 pub one_event : EventHasOneMeaning

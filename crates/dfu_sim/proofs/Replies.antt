@@ -1,4 +1,4 @@
--- The answer of a device fits the request, and is heard as it was meant.
+-- The answer of a device fits the request, and the host reads it with the meaning that the device gave it.
 use Rattle.std.proofs.Common.{◌≡◌, ℕ, ◌==◌, Bool, true, false, List, [], ◌∷◌, length, take, Option, Some, None, sym, ap, ◌∙◌, subst, arith, inl, inr}
 use Rattle.std.proofs.lemmas.Bool.Decides.{nat_tests}
 use Rattle.dfu_device.specs.declared.objection.Objection.{Objection}
@@ -36,17 +36,17 @@ IsHostRequest request.ClrStatus body = body ≡ []
 IsHostRequest request.Abort body = body ≡ []
 IsHostRequest q body = ⊥
 
--- The deed is one of a host: a request that hosts send, a wait, a reset of the bus, or the end.
+-- The deed is a request that hosts send, a wait, a reset of the bus, or the end of a session.
 abbrev pub IsHostDeed : Deed → Type 0
 IsHostDeed (Send q body) = IsHostRequest q body
 IsHostDeed d = Unit {0}
 
--- In any phase the deed of a host's table is one of a host.
+-- Each deed of the host's table satisfies `IsHostDeed`.
 pub phase_has_host_deed : (task : Task) (phase : Phase) → IsHostDeed (deed task phase)
 phase_has_host_deed task Enter = holds_in_both_branches IsHostDeed task.will_detach _ _ tt tt
 phase_has_host_deed task phase = search
 
--- Each request that a host sends is one of the requests that `IsHostRequest` lists.
+-- Each request of the host's table satisfies `IsHostRequest`.
 pub host_request_is_known : (task : Task) (phase : Phase) (q : Asked) (body : List ℕ) → deed task phase ≡ Send q body → IsHostRequest q body
 host_request_is_known task phase q body e = subst IsHostDeed e (phase_has_host_deed task phase)
 
@@ -55,11 +55,11 @@ equal_answers_mean_same : (d : Deed) (a x : Answer) (out : List ℕ) (heard : He
     HeardOfAnswer d x out heard
 equal_answers_mean_same d a x out heard e h = subst (λ (y : Answer). HeardOfAnswer d y out heard) e h
 
--- The meaning is that of the reply, or there was no memory for its part.
+-- The received meaning is that of the reply, or NoRoom for a part without memory.
 abbrev HeardAsReply : Reply → Heard → Type 0
 HeardAsReply reply heard = (room : Bool) × (heard ≡ heard_with_room (heard_of_reply reply) room)
 
--- A reply that fits its request, in bytes, is heard as the reply.
+-- The host receives the meaning of a reply that fits its request.
 pub reply_answer_is_heard : (most : ℕ) (q : Asked) (body : List ℕ) (reply : Reply) (a : Answer) (out : List ℕ) (heard : Heard) →
     IsHostRequest q body
     → ReplyMatches most reply (request_for_table q body)
@@ -91,7 +91,7 @@ reply_answer_is_heard most (request.Upload block len) body (Data bytes) a out he
     ]
 reply_answer_is_heard most q body reply a out heard i f says h = search
 
--- At any luck the reply of the plan of a request fits the request, whatever the program of the device refuses.
+-- For each luck of the medium, the reply of a request's plan fits the request, even if the program refuses an image.
 plan_reply_fits_request : (x : Option Objection) (c : Profile) (i : List ℕ) (st : Stage) (r : Meant) (luck : Luck)
     → ReplyMatches c.transfer (plan_outcome i (plan_with_refusal x c i st r) luck).reply r
 plan_reply_fits_request None c i st r luck =
@@ -102,7 +102,7 @@ plan_reply_fits_request (Some why) c i st r luck =
     (reply_of_plan (λ reply. ReplyMatches c.transfer reply r) i (plan c i st r) luck (row_reply_matches_request c i st r (plan c i st r)
     (row_form c i st r)))
 
--- The answer to a plan, of the table or of a program that refuses an image, is heard as its reply.
+-- The host receives the meaning of the reply of a plan, even if the program refuses an image.
 pub plan_answer_is_heard : (x : Option Objection) (q : Asked) (body : List ℕ) (c : Profile) (i : List ℕ) (st : Stage) (luck : Luck) (a :
     Answer)
     (out : List ℕ) (heard : Heard) → IsHostRequest q body → let reply = (plan_outcome i (plan_with_refusal x c i st (request_for_table q
@@ -111,22 +111,22 @@ pub plan_answer_is_heard : (x : Option Objection) (q : Asked) (body : List ℕ) 
 plan_answer_is_heard x q body c i st luck a out heard is says h =
     reply_answer_is_heard c.transfer q body _ a out heard is (plan_reply_fits_request x c i st (request_for_table q body) luck) says h
 
--- The answer of a device to a request of a host is heard as the device meant it, but for missing memory.
+-- A host receives each answer of a device with the meaning that the device gave it, or NoRoom for a part of an upload without memory.
 pub understood : ResponsesUnderstood
 understood task phase q body c image stage luck a out heard e says h =
     plan_answer_is_heard None q body c image stage luck a out heard (host_request_is_known task phase q body e) says h
 
--- A body of wLength bytes fits a host-to-device request.
+-- A body of wLength bytes has the length that a host-to-device request requires.
 host_write_fits_its_body : (p : Setup) (body : List ℕ) → p.kind ≡ 0x21 → length body ≡ p.length → (length body == body_length p) ≡ true
 host_write_fits_its_body p body k e = let f : (p.kind == 0x21) ≡ true = grind (arith, nat_tests) in
     let g : (length body == p.length) ≡ true = grind (arith, nat_tests) in rw f g
 
--- An empty body fits each device-to-host request.
+-- An empty body has the length that each device-to-host request requires.
 empty_body_fits_host_read : (p : Setup) (body : List ℕ) → p.kind ≡ 0xa1 → length body ≡ 0 → (length body == body_length p) ≡ true
 empty_body_fits_host_read p body k e = let f : (p.kind == 0x21) ≡ false = grind (arith, nat_tests) in
     let g : (length body == 0) ≡ true = grind (arith, nat_tests) in rw f g
 
--- The device's table serves each request that a host sends.
+-- Each request that a host sends is one of the DFU class, and its body has the length that the setup packet requires.
 pub served : (p : Setup) (q : Asked) (body : List ℕ) → IsHostRequest q body → SetupAsksFor p q → is_served p q body ≡ true
 served p (request.Dnload block len) body i a = host_write_fits_its_body p body a.0.kind (sym i ∙ a.2)
 served p (request.Upload block len) body i a = empty_body_fits_host_read p body a.0.kind (ap length i)

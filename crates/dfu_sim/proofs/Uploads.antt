@@ -1,4 +1,4 @@
--- Uploads and aborts, put together from their parts: a play in bytes, or a refusal.
+-- Results of uploads and aborts, from the clauses of their parts: a play in bytes, or a refusal.
 use Rattle.std.proofs.Common.{◌≡◌, ◌↔◌, ◌<◌, ◌==◌, not, is_some, false, Option, Some, None, Result, Ok, Err, refl, sym, ap, ◌∙◌, subst, arith}
 use Rattle.std.proofs.lemmas.Bool.Decides.{nat_tests}
 use Rattle.dfu_slots.specs.Medium.Fuse.{Whole}
@@ -31,7 +31,7 @@ upload_device_has_transfer s gives =
     let e : (s.functional.transfer == 0) ≡ false = z.0 in
     grind (arith, nat_tests)
 
--- While no session is live, an upload from a device that serves none is refused with the first fault of an upload.
+-- While no session is live, an upload from a device that does not serve uploads is refused with the first fault of an upload.
 pub faulty_upload_is_refused : (limits : Limits) (w : DeviceView) (host : Option HostState) (f : Functional) (why : HostFault) →
     is_some host ≡ false
     → f ≡ w.config.functional → first_upload_fault f ≡ Some why
@@ -53,7 +53,7 @@ upload_makes_session limits w host h f n e k none is =
     (subst (λ (x : Functional). first_upload_fault x ≡ None) k (begun_session_has_no_fault (first_upload_fault f) h none), refl) tt
     ((λ i. record { device = w; session = HostSession (begun i) }), refl)
 
--- An abort is an event that gives the session up, or is refused without a session.
+-- An abort makes the live host give up, or is refused without a session.
 pub abort_event_has_result : (w : DeviceView) (host host' gave : Option HostState) (result : Result (Option Report) LinkFault)
     → w.slots.medium.fuse ≡ Whole
     → session_of host' ≡ session_aborted (session_of host) → result ≡ abort_answer (session_of host)

@@ -1,4 +1,4 @@
--- A verified download goes as one that is not verified, up to its last reset.
+-- Up to its last reset, a verified download is the same as one that is not verified.
 use Rattle.std.proofs.Common.{◌≡◌, ℕ, zero, suc, Bool, true, false, List, Some, None, refl, sym, ap, ◌∙◌, subst}
 use Rattle.dfu_device.specs.Stage.{Profile, Reply, Ack}
 use Rattle.dfu_device.specs.Table.{plan}
@@ -21,44 +21,44 @@ abbrev IsBeforeLastReset : Phase → Type 0
 IsBeforeLastReset (Last r) = ⊥
 IsBeforeLastReset phase = Unit {0}
 
--- No reply means that the device left by itself.
+-- The meaning of a reply is never Left.
 reply_is_not_leaving : (r : Reply) → heard_of_reply r ≡ Left → ⊥
 reply_is_not_leaving Ack e = absurd cc
 reply_is_not_leaving r e = absurd cc
 
--- A result that is no leaving is none with missing memory either.
+-- Missing memory does not turn a result into Left.
 no_memory_is_no_leaving : (heard : Heard) (room : Bool) → (heard ≡ Left → ⊥) → heard_with_room heard room ≡ Left → ⊥
 no_memory_is_no_leaving (Part bytes) false never e = absurd cc
 no_memory_is_no_leaving heard room never e = never e
 
 module _ (c : Profile) (p : List ℕ) where
-  -- The host never hears from a pass that the device left by itself.
+  -- In an action with the fate Pass the host never receives Left.
   pass_is_not_leaving : (s : Situation) (d : Deed) (l k : Luck) → (action_result c s d (delivery_of Pass) l k).heard ≡ Left → ⊥
   pass_is_not_leaving s (Send q body) l k e = reply_is_not_leaving (plan_outcome s.image (plan c s.image s.stage (request_for_table q
       body)) l).reply e
   pass_is_not_leaving s d l k e = absurd cc
 
-  -- The task of the download.
+  -- Task of the download.
   abbrev plain : Task
   plain = task_for c (LoadGoal p)
 
-  -- The task of the verified download.
+  -- Task of the verified download.
   abbrev checked : Task
   checked = task_for c (VerifyGoal p)
 
-  -- Before the last reset both downloads have the same rows.
+  -- Before the last reset the host's table has the same rows for both downloads.
   verify_row_is_load_row : (phase : Phase) (heard : Heard) → IsBeforeLastReset phase → host_row checked phase heard
       ≡ host_row plain phase heard
   verify_row_is_load_row (Last r) heard b = elim b [ ]
   verify_row_is_load_row phase heard b = refl
 
-  -- Before the last reset a verified download keeps its goal.
+  -- Before the last reset the goal of a verified download does not change.
   verify_goal_before_last_reset : (phase : Phase) (heard : Heard) → IsBeforeLastReset phase → goal_after (VerifyGoal p) phase heard
       ≡ VerifyGoal p
   verify_goal_before_last_reset (Last r) heard b = elim b [ ]
   verify_goal_before_last_reset phase heard b = refl
 
-  -- A download keeps its goal.
+  -- The goal of a download does not change.
   load_goal_stays : (phase : Phase) (heard : Heard) → goal_after (LoadGoal p) phase heard ≡ LoadGoal p
   load_goal_stays (Last r) WasReset = refl
   load_goal_stays (Last r) heard = refl
@@ -68,11 +68,11 @@ module _ (c : Profile) (p : List ℕ) where
   abbrev pub host_verifying : HostState → HostState
   host_verifying h = record h { task = checked }
 
-  -- The host of a task in a phase.
+  -- Host with this task, in this phase, that may still perform `left` actions and survive `again` restarts.
   abbrev host : Task → Phase → (left again : ℕ) → HostState
   host task phase left again = record { task = task; phase = phase; actions = left; restarts = again }
 
-  -- A restart changes the host of the verified download as it changes that of the download.
+  -- A restart changes the hosts of both downloads in the same way.
   verified_host_restarts_alike : (phase : Phase) (left again restarts : ℕ)
       → host_after_restart (host checked phase left again) phase restarts ≡ host_verifying
       (host_after_restart (host plain phase left again) phase restarts)
@@ -80,7 +80,7 @@ module _ (c : Profile) (p : List ℕ) where
   verified_host_restarts_alike phase left again zero = refl
   verified_host_restarts_alike phase left again (suc restarts) = refl
 
-  -- Before the last reset, a result other than a leaving changes a live host of the verified download as it changes that of the download.
+  -- Before the last reset, each result but Left changes live hosts of both downloads in the same way.
   verified_host_told_alike : (phase : Phase) (heard : Heard) (left again : ℕ) → IsBeforeLastReset phase → (heard ≡ Left → ⊥)
       → host_after_result (host checked phase left again) phase heard
       ≡ host_verifying (host_after_result (host plain phase left again) phase heard)
@@ -92,7 +92,7 @@ module _ (c : Profile) (p : List ℕ) where
         heard b,
   ) refl
 
-  -- Before the last reset, a result other than a leaving changes the host of the verified download as it changes that of the download.
+  -- Before the last reset, each result but Left changes the hosts of both downloads in the same way.
   verified_host_hears_alike : (phase : Phase) (heard : Heard) (left again : ℕ) → IsBeforeLastReset phase → (heard ≡ Left → ⊥)
       → host_after_phase (host checked phase left again) phase heard
       ≡ host_verifying (host_after_phase (host plain phase left again) phase heard)
@@ -110,13 +110,13 @@ module _ (c : Profile) (p : List ℕ) where
   abbrev outcome_verifying : HostOutcome → HostOutcome
   outcome_verifying t = record { session = session_verifying t.session; answer = t.answer }
 
-  -- Both downloads settle alike.
+  -- In each phase the sessions of both downloads stay live, or both end with the same report.
   verified_host_settles_alike : (h : HostState) (phase : Phase) → settled_session (host_verifying h) phase
       ≡ outcome_verifying (settled_session h phase)
   verified_host_settles_alike h (Over r) = refl
   verified_host_settles_alike h phase = refl
 
-  -- Before the last reset, both downloads have the same outcome for each result other than a leaving.
+  -- Before the last reset, both downloads have the same outcome for each result but Left.
   verified_outcome_is_alike : (phase : Phase) (heard : Heard) (left again : ℕ) → IsBeforeLastReset phase → (heard ≡ Left → ⊥)
       → host_outcome (host checked phase left again) heard ≡ outcome_verifying (host_outcome (host plain phase left again) heard)
   verified_outcome_is_alike phase heard left again b never = let h = host_after_phase (host plain phase left again) phase heard in
@@ -136,7 +136,7 @@ module _ (c : Profile) (p : List ℕ) where
   verify_deed_is_alike Find = refl
   verify_deed_is_alike phase = refl
 
-  -- Before the last reset, both downloads have the same result of an action that passes.
+  -- Before the last reset, both downloads have the same result of an action with the fate Pass.
   verified_action_is_alike : (s : Situation) (phase : Phase) (left again : ℕ) (other : Luck) (room : Bool) → IsBeforeLastReset phase
       → let w : Session → Link = λ x. record { device = s; session = x } in
       let v : Session = HostSession (host checked phase left again) in
@@ -154,13 +154,13 @@ module _ (c : Profile) (p : List ℕ) where
   IsDownload NoLiveSession = Unit {0}
   IsDownload (HostSession h) = h.task ≡ plain
 
-  -- A settled session of a download still is the download's, or none is live.
+  -- If a download's session stays live, it still has the task of the download.
   settled_session_is_download : (h : HostState) (phase : Phase) → h.task ≡ plain → IsDownload (settled_session h phase).session
   settled_session_is_download h (Over r) e = tt
   settled_session_is_download h (OverUploaded kept) e = tt
   settled_session_is_download h phase e = e
 
-  -- After a result other than a leaving, the session of a download still is the download's, or none is live.
+  -- If a download's session stays live after any result but Left, it still has the task of the download.
   outcome_session_is_download : (phase : Phase) (heard : Heard) (left again : ℕ) → (heard ≡ Left → ⊥)
       → IsDownload (host_outcome (host plain phase left again) heard).session
   outcome_session_is_download phase heard left again never =
@@ -168,18 +168,19 @@ module _ (c : Profile) (p : List ℕ) where
       settled_session_is_download (after h heard) (after h heard).phase
       (host_gives_task_after h heard never ∙ ap (λ (g : Goal). task_for c g) (load_goal_stays phase heard))
 
-  -- A pass from the last reset of a download is not silent.
+  -- The pass of a download's last reset makes a report.
   last_pass_is_not_silent : (s : Situation) (r : Report) (left again : ℕ) (w' : Link)
       → PassesTo c (record { device = s; session = HostSession (host plain (Last r) left again) }) w' silent → ⊥
   last_pass_is_not_silent s r left again w' f =
       let e : Some r ≡ None = ap (λ (x : PlayResult). x.answer.report) (f Works true) in absurd cc
 
-  -- A silent pass leads from w to w' for the verified download too, and leaves a session of the download, or none.
+  -- The silent pass from w to w' is a silent pass of the verified download too. After the pass the session of the download is live, or no
+  -- session is live.
   record PassesAlike (w w' : Link) : Type 0 where
     passes : PassesTo c (link_verifying w) (link_verifying w') silent
     stays : IsDownload w'.session
 
-  -- A silent pass of a download is one of the verified download.
+  -- A silent pass of a download is a silent pass of the verified download too.
   verified_pass_is_alike : (s : Situation) (phase : Phase) (left again : ℕ) (w' : Link)
       → PassesTo c (record { device = s; session = HostSession (host plain phase left again) }) w' silent
       → PassesAlike (record { device = s; session = HostSession (host plain phase left again) }) w'
@@ -193,7 +194,7 @@ module _ (c : Profile) (p : List ℕ) where
             (no_memory_is_no_leaving d.heard (has_room phase true) (pass_is_not_leaving s (deed plain phase) Works Works)));
       }
 
-  -- A silent pass of a link with a download is one of the verified download.
+  -- If the live session of a link is a download, or none is live, a silent pass is a silent pass of the verified download too.
   verified_link_passes_alike : (s : Situation) (session : Session) (w' : Link) → IsDownload session
       → PassesTo c (record { device = s; session = session }) w' silent → PassesAlike (record { device = s; session = session }) w'
   verified_link_passes_alike s NoLiveSession w' e f = record {

@@ -1,4 +1,4 @@
--- Facts of the session machine that a link shows: its pending bytes and its live session.
+-- Agreement of a link with a session machine: its image, its pending bytes, its live session and its offers.
 use Rattle.std.specs.Prelude.{◌≡◌, ℕ, List, ◌++◌, Option, Some, None}
 use Rattle.dfu_slots.specs.Image.{Active}
 use Rattle.dfu_device.specs.Stage.{Stage, InAppIdle, InAppDetach, InDfuIdle, InDownloadSync, InDownloadSyncWritten, InDownloadBusy, InDownloadIdle, InManifestSync, InManifestSyncComplete, InManifest, InManifestWaitReset, InUploadIdle, InError}
@@ -6,14 +6,14 @@ use Rattle.dfu_host.specs.Phases.{Goal, LoadGoal, FetchGoal, VerifyGoal, Compare
 use Rattle.dfu_sim.specs.Session.{IsOneOf, Machine, LiveSession, NothingLive, LoadingPayload, Fetching}
 use Rattle.dfu_sim.specs.LinkView.{Session, NoLiveSession, HostSession, LinkView}
 
--- Progress of an image that a device takes and has not put in place: no bytes; bytes, and more may come; or all bytes, once the host has
--- closed the download.
+-- Progress of an image that is not active yet: the device has no bytes of it; it has some bytes, and the download is still open; or it has
+-- all bytes, and the download is closed.
 pub data Intake : Type 0 where
   NoImageTaken : Intake
   Open : (taken : List ℕ) → Intake
   Shut : (taken : List ℕ) → Intake
 
--- Progress of a device's image, by its stage.
+-- Progress of the image that a device receives, by the device's stage.
 abbrev pub intake_of_stage : Stage → Intake
 intake_of_stage InAppIdle = NoImageTaken
 intake_of_stage (InAppDetach timer passed) = NoImageTaken
@@ -29,7 +29,7 @@ intake_of_stage InManifestWaitReset = NoImageTaken
 intake_of_stage (InUploadIdle place number) = NoImageTaken
 intake_of_stage (InError code) = NoImageTaken
 
--- Pending bytes of an image in progress: all bytes taken so far; None if no image is in progress.
+-- Bytes of the image in progress that the device has so far; None if no image is in progress.
 abbrev pub pending_bytes_in : Intake → Option (List ℕ)
 pending_bytes_in NoImageTaken = None
 pending_bytes_in (Open taken) = Some taken
@@ -47,7 +47,7 @@ abbrev pub live_session_of : Session → LiveSession
 live_session_of NoLiveSession = NothingLive
 live_session_of (HostSession h) = live_session_of_goal h.task.goal
 
--- The bytes that a host closed, if there are any, are one of the offers.
+-- If the download is closed, its bytes are one of the offers.
 abbrev pub IsClosedOffer : List (List ℕ) → Intake → Type 0
 IsClosedOffer offers NoImageTaken = Unit {0}
 IsClosedOffer offers (Open taken) = Unit {0}
@@ -59,9 +59,9 @@ IsLiveOffer offers NothingLive = Unit {0}
 IsLiveOffer offers (LoadingPayload payload) = IsOneOf payload offers
 IsLiveOffer offers Fetching = Unit {0}
 
--- A bench, with the bytes that the last reported upload gave, agrees with a session machine. The machine's active image is the active image
--- of the medium's bytes, and its pending bytes, live session and last upload are those of the bench. Bytes that were closed, and the
--- payload of the live session, are among its offers. The bench therefore fixes everything of the machine but its offers.
+-- A bench, with the bytes of the last upload, agrees with a session machine. The machine's active image is the active image of the medium's
+-- bytes, and its pending bytes, live session and last upload are those of the bench. Its offers contain the bytes of a closed download and
+-- the payload of the live session. The bench therefore determines the machine, except for its offers.
 pub record AgreesOn (b : LinkView) (up : List ℕ) (m : Machine) : Type 0 where
   pub active : Active b.device.slots.medium m.cur
   pub pending : m.pending ≡ pending_bytes_in (intake_of_stage b.device.stage)

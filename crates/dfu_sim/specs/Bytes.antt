@@ -1,4 +1,4 @@
--- A play in bytes: requests and answers go as bytes, and the device has a medium.
+-- Plays in bytes: setups, bodies and answers are bytes, and the device has a medium.
 use Rattle.std.specs.Prelude.{◌≡◌, ◌⊎◌, ℕ, Bool, true, false, IsTrue, List, Option, Some, None}
 use Rattle.dfu_wire.specs.declared.requests.Request.{Request as Asked}
 use Rattle.dfu_slots.specs.Medium.{Fuse}
@@ -27,51 +27,50 @@ use Rattle.dfu_sim.specs.LinkView.{LinkView, Session, HostSession}
 use Rattle.dfu_sim.specs.Opening.{goal_of_purpose, opened}
 use Rattle.dfu_sim.specs.Play.{heard_after_action, wait_by_handling, Link, Answered, silent, host_outcome, notify_restart, session_aborted, MayHappen}
 
--- The fuse of the medium in an action: after a cut no further write works, while a failure and a lie concern only the harmed write.
+-- Fuse of the medium in an action: a cut harms the write and all later ones, while a failure or a lie harms one write only.
 abbrev pub fuse_of : MediumFault → WriteHarm → Fuse
 fuse_of NoWrite harm = Whole
 fuse_of CutsPower harm = Armed harm.writes harm.tear true
 fuse_of FailsWrite harm = Armed harm.writes harm.tear false
 fuse_of LiesInWrite harm = Lying harm.writes harm.tear
 
--- A device whose medium has this fuse.
+-- The device, with this fuse on its medium.
 abbrev pub armed_device : DeviceView → Fuse → DeviceView
 armed_device w fuse = record w { slots = store_with_fuse w.slots fuse }
 
--- A device after its power went and came back: it is in appIDLE, its medium is not armed, and bytes that were put and not committed are
--- forgotten.
+-- The device after a power cycle: it is in appIDLE, its medium is disarmed, and bytes that were not committed are lost.
 abbrev pub device_after_power_cycle : DeviceView → DeviceView
 device_after_power_cycle w = record { config = w.config; slots = store_restarted w.slots Whole; stage = InAppIdle }
 
--- A device after a reset of the bus.
+-- The device after a reset of the bus.
 abbrev pub device_after_bus_reset : DeviceView → DeviceView
 device_after_bus_reset w = record w { stage = reset_stage w.stage }
 
--- A device whose program has refused the image that was closed, if one was.
+-- The device after its program refused the image of the closed download, if a download is closed.
 abbrev pub refused_device : Objection → DeviceView → DeviceView
 refused_device why w = record w { stage = refuse_stage why w.stage }
 
--- Meaning that a host reads from a device's answer and its bytes, by the host's table.
+-- A host reads the device's answer and its bytes with the meaning `heard`, by the host's table.
 abbrev pub HeardOfAnswer : Deed → Answer → List ℕ → Heard → Type 0
 HeardOfAnswer d answer.Ack out heard = heard ≡ Acked
 HeardOfAnswer d answer.Stall out heard = heard ≡ Stalled
 HeardOfAnswer d answer.Bytes out heard = BytesMeaning d out heard
 
--- Meaning that a host reads from the response to its request.
+-- A host reads the response to its request with the meaning `heard`.
 abbrev pub HeardOfResponse : Deed → Response → List ℕ → Heard → Type 0
 HeardOfResponse d (response.Answered a) out heard = HeardOfAnswer d a out heard
 HeardOfResponse d response.Lost out heard = heard ≡ Nothing
 HeardOfResponse d response.Restarted out heard = heard ≡ Restarted
 
--- Result of a setup with its body. If the setup closes a download whose image the program refuses, the row is that of the refusal;
+-- Result of a setup with its body. If the setup closes a download and the program has an objection, the program refuses the image;
 -- otherwise the device handles the setup.
 abbrev pub SetupResult : Option Objection → (setup body : List ℕ) → DeviceView → Answer → List ℕ → DeviceView → Type 0
 SetupResult None setup body w a out w' = Handles setup body w a out w'
 SetupResult (Some why) setup body w a out w' =
     Row w (RefusingClose setup why) a out w' ⊎ ((¬ ClosesDownload setup w) × Handles setup body w a out w')
 
--- The rows that a request makes at the device, and the device's last answer. The second time the request is always handled, because no
--- request closes a download twice.
+-- Effect of a request on the device, by the number of times that the device handles it, with the device's last answer. The objection
+-- applies only the first time, because no request closes a download twice.
 pub data ReachesDevice (refusing : Option Objection) (setup body : List ℕ) : Handled → DeviceView → Response → List ℕ → DeviceView
     → Type 0 where
   unseen : {w : DeviceView} {out : List ℕ} → ReachesDevice refusing setup body Unseen w response.Lost out w
@@ -84,7 +83,7 @@ pub data ReachesDevice (refusing : Option Objection) (setup body : List ℕ) : H
       → Elapses ms mid w'
       → ReachesDevice refusing setup body (Late ms) w (response.Answered a) out w'
 
--- The response, or Lost if it does not come back.
+-- The response, or Lost if it does not reach the host.
 abbrev pub response_if_delivered : Bool → Response → Response
 response_if_delivered true b = b
 response_if_delivered false b = response.Lost
@@ -96,40 +95,38 @@ response_if_powered CutsPower b = response.Restarted
 response_if_powered FailsWrite b = b
 response_if_powered LiesInWrite b = b
 
--- A request is delivered: the device handles it as the delivery says, and the host hears the response that comes back.
+-- A request is delivered: the device handles it according to the delivery, and the host receives the response that reaches it.
 pub record RequestDelivered (q : Asked) (setup body : List ℕ) (delivery : Delivery) (w w' : DeviceView) (heard : Heard) : Type 0 where
   pub came : Response
   pub out : List ℕ
   pub reaches : ReachesDevice delivery.refusing setup body delivery.handling w came out w'
   pub hears : HeardOfResponse (Send q body) (response_if_powered delivery.harming (response_if_delivered delivery.back came)) out heard
 
--- A wait is delivered: its time passes, and the host hears that it is over, or hears of the restart.
+-- A wait is delivered: its time passes, and the host receives Waited, or Restarted if the power was cut.
 abbrev pub WaitDelivered : ℕ → Delivery → DeviceView → DeviceView → Heard → Type 0
 WaitDelivered ms delivery w w' heard = Elapses (wait_by_handling delivery.handling ms) w w' × (heard
     ≡ heard_after_action delivery.harming Waited)
 
--- Time passes after a reset of the bus, if its delivery adds any.
+-- The time of a slip, if there is one, passes after a reset of the bus.
 abbrev pub SlipsTime : Handled → DeviceView → DeviceView → Type 0
 SlipsTime Unseen w w' = w' ≡ w
 SlipsTime Once w w' = w' ≡ w
 SlipsTime Again w w' = w' ≡ w
 SlipsTime (Late ms) w w' = Elapses ms w w'
 
--- A reset of the bus is delivered: the time that slips in passes after it, and the host hears that the bus was reset, or hears of the
--- restart.
+-- A reset of the bus is delivered: the time of a slip passes after it, and the host receives WasReset, or Restarted if the power was cut.
 abbrev pub BusResetDelivered : Delivery → DeviceView → DeviceView → Heard → Type 0
 BusResetDelivered delivery w w' heard = SlipsTime delivery.handling (device_after_bus_reset w) w' × (heard
     ≡ heard_after_action delivery.harming WasReset)
 
--- An action of the host is delivered; a request goes as the bytes of a setup that asks for it. A live host is not done, so it has an
--- action.
+-- An action of the host is delivered. A request is delivered as the bytes of its setup. A host that is done has no action.
 abbrev pub ActionDelivered : Deed → Delivery → DeviceView → DeviceView → Heard → Type 0
 ActionDelivered (Send q body) delivery w w' heard = (setup : List ℕ) × IsSetupOf q setup × RequestDelivered q setup body delivery w w' heard
 ActionDelivered (Wait ms) delivery w w' heard = WaitDelivered ms delivery w w' heard
 ActionDelivered Reset delivery w w' heard = BusResetDelivered delivery w w' heard
 ActionDelivered (Done report) delivery w w' heard = ⊥
 
--- The device once an action is over: its medium is not armed, and if the power was cut, the device has started again.
+-- The device after an action: its medium is disarmed, and if the power was cut, it has restarted.
 abbrev pub device_after_action : MediumFault → DeviceView → DeviceView
 device_after_action NoWrite w = armed_device w Whole
 device_after_action CutsPower w = device_after_power_cycle w
@@ -140,20 +137,20 @@ device_after_action LiesInWrite w = armed_device w Whole
 abbrev pub link_of_bench : LinkView → Link
 link_of_bench b = record { device = situation b.device; session = b.session }
 
--- A host's action is delivered, and the host takes the result that it hears. It hears NoRoom only if its phase needs memory.
+-- The host's action is delivered, and the host takes the result that it receives. It receives NoRoom only if its phase needs memory.
 pub record HostActs (h : HostState) (delivery : Delivery) (w w' : DeviceView) (h' : HostState) : Type 0 where
   pub heard : Heard
   pub acts : ActionDelivered (deed h.task h.phase) delivery w w' heard
   pub room : heard ≡ NoRoom → IsTrue (wants_memory h.phase)
   pub same : h' ≡ after h heard
 
--- A host acts on a medium that is armed for the action, and the medium is disarmed after it.
+-- The host acts while the medium is armed for the action, and the medium is disarmed afterwards.
 pub record HostActsArmed (h : HostState) (delivery : Delivery) (harm : WriteHarm) (w w' : DeviceView) (h' : HostState) : Type 0 where
   pub last : DeviceView
   pub acted : HostActs h delivery (armed_device w (fuse_of delivery.harming harm)) last h'
   pub device : w' ≡ device_after_action delivery.harming last
 
--- The host's next action on a bench. A host that is done then ends its session with its report.
+-- The bench's host performs its next action. If the host is done after it, the session ends with the host's report.
 pub record NextAction (h : Session) (fate : Fate) (harm : WriteHarm) (b b' : LinkView) (answer : Answered) : Type 0 where
   pub host : HostState
   pub live : h ≡ HostSession host
@@ -162,7 +159,7 @@ pub record NextAction (h : Session) (fate : Fate) (harm : WriteHarm) (b b' : Lin
   pub session : b'.session ≡ (host_outcome host gone.acted.heard).session
   pub answered : answer ≡ (host_outcome host gone.acted.heard).answer
 
--- An event leads from one bench to another, with its answer.
+-- An event changes one bench to another, and has this answer.
 abbrev pub HappensOnBench : Happening → LinkView → LinkView → Answered → Type 0
 HappensOnBench (Offers purpose payload limits) b b' answer =
     (b' ≡ record {
@@ -182,7 +179,7 @@ HappensOnBench Cuts b b' answer = let t = notify_restart b.session in
     (b' ≡ record { device = device_after_power_cycle b.device; session = t.session }) × (answer ≡ t.answer)
 HappensOnBench (Refuses why) b b' answer = (b' ≡ record { device = refused_device why b.device; session = b.session }) × (answer ≡ silent)
 
--- A play with its bytes: an event that is not refused, on a bench whose medium is not armed.
+-- A play in bytes: an event that may happen, on a bench whose medium is not armed.
 pub record BytePlay (b : LinkView) (event : Happening) (b' : LinkView) (answer : Answered) : Type 0 where
   pub allowed : MayHappen b.session event
   pub unarmed : b.device.slots.medium.fuse ≡ Whole

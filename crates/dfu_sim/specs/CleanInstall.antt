@@ -1,4 +1,4 @@
--- The clean run of a link: a download, verified or not, in which nothing is lost and no time is wasted, with its exact count of passes.
+-- The clean run of a link: a download, verified or not, in which nothing is lost and no time is wasted, with its exact number of passes.
 use Rattle.std.specs.Prelude.{◌≡◌, ℕ, ◌<◌, ◌≤◌, true, List, [], ◌∷◌, length, replicate, Result, Ok, Err}
 use Rattle.std.specs.declared.vec.Vec.{Vec}
 use Rattle.std.specs.declared.alloc.Global.{Global}
@@ -16,13 +16,13 @@ use Rattle.dfu_sim.specs.Bytes.{link_of_bench}
 use Rattle.dfu_sim.specs.CleanRun.{clean_actions_of_purpose, report_of_purpose, ComparesFewBlocks, resting_link}
 use Rattle.dfu_sim.specs.Refusing.{IsOffered}
 
--- Number of passes that install a payload on a device with a setting, and verify it if the purpose says so.
+-- Number of passes that install a payload on a device with this setting, and verify it if that is the purpose.
 abbrev pub clean_passes : Purpose → Setting → List ℕ → ℕ
 clean_passes purpose s payload = clean_actions_of_purpose purpose s.functional.transfer s.busy_ms s.manifest_ms payload
 
--- A file can be installed cleanly, and verified if the purpose says so. A tolerant device rests in appIDLE with no session and takes the
--- file; its payload has at least the device's fewest bytes, fits the room, and has fewer than 65,535 full blocks if it is to be verified;
--- and the actions suffice.
+-- A file can be installed cleanly, and verified if that is the purpose. A tolerant device rests in appIDLE with no session and accepts the
+-- file; the payload has at least the device's least length, at most its room, and fewer than 65,535 full blocks if it is to be verified;
+-- and the limits allow enough actions.
 pub record CanInstall (b : LinkView) (purpose : Purpose) (file : List ℕ) (limits : Limits) (payload : List ℕ) : Type 0 where
   pub free : b.session ≡ NoLiveSession
   pub rests : b.device.stage ≡ InAppIdle
@@ -38,19 +38,19 @@ abbrev pub offer_and_passes : Purpose → List ℕ → Limits → ℕ → List H
 offer_and_passes purpose file limits count = Offers purpose file limits ∷ replicate count (Goes Pass no_write_harmed)
 
 -- With fewer passes than a clean run takes, nothing is reported. With exactly as many, the last pass reports Installed or Verified, and the
--- payload is the active image of a device in appIDLE.
+-- device is in appIDLE with the payload active.
 pub record InstallsCleanly (b : LinkView) (purpose : Purpose) (payload : List ℕ) (count : ℕ) (reports : List Report) (b' : LinkView)
     : Type 0 where
   pub early : count < clean_passes purpose b.device.config payload → reports ≡ []
   pub reported : count ≡ clean_passes purpose b.device.config payload → reports ≡ report_of_purpose purpose ∷ []
   pub installed : count ≡ clean_passes purpose b.device.config payload → link_of_bench b' ≡ resting_link payload
 
--- Answer of a clean run: its reports; or NoMemory, and then nothing was reported.
+-- Result of a clean run: its reports, or NoMemory before anything was reported.
 abbrev pub CleanRunResult : LinkView → Purpose → List ℕ → ℕ → LinkView → Result (Vec Report Global) Stop → Type 0
 CleanRunResult b purpose payload count b' (Ok reports) = InstallsCleanly b purpose payload count reports.items b'
 CleanRunResult b purpose payload count b' (Err stop) = (stop.fault ≡ NoMemory) × (stop.reports.items ≡ [])
 
--- A run of an offer and at most the passes of a clean run answers as a clean run does.
+-- A run of an offer and at most the passes of a clean run has the result of a clean run.
 abbrev pub RunsCleanly : LinkView → List Happening → LinkView → Result (Vec Report Global) Stop → Type 0
 RunsCleanly b hs b' result = (purpose : Purpose) (file : List ℕ) (limits : Limits) (payload : List ℕ) (count : ℕ)
     → CanInstall b purpose file limits payload → hs ≡ offer_and_passes purpose file limits count

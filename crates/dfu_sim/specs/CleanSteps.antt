@@ -18,14 +18,14 @@ pub data StepsFollowTable : LinkView → List Happening → List Report → Link
       → EventFollowsTable b h mid report → StepsFollowTable mid hs reports b'
       → StepsFollowTable b (h ∷ hs) (report_list report ++ reports) b'
 
--- An offer and at most the passes of a clean run, each taken by `World::step`, report as a clean run does, whatever memory there is.
+-- An offer and at most the passes of a clean run, each applied by `World::step`, report what a clean run reports, with or without memory.
 abbrev pub StepsInstallCleanly : Type 0
 StepsInstallCleanly = (b b' : LinkView) (purpose : Purpose) (file : List ℕ) (limits : Limits) (payload : List ℕ) (count : ℕ)
     (reports : List Report)
     → CanInstall b purpose file limits payload → count ≤ clean_passes purpose b.device.config payload
     → StepsFollowTable b (offer_and_passes purpose file limits count) reports b' → InstallsCleanly b purpose payload count reports b'
 
--- If the steps of a clean run so far follow the table, its next step is not refused.
+-- If the first steps of a clean run follow the table, its next step is not refused.
 abbrev pub CleanStepsSucceed : Type 0
 CleanStepsSucceed = (b b' : LinkView) (purpose : Purpose) (file : List ℕ) (limits : Limits) (payload : List ℕ) (count at : ℕ)
     (reports : List Report)

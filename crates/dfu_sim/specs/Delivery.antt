@@ -1,4 +1,4 @@
--- Delivery of each fate, as data, so that statements on plays compute on it.
+-- Delivery of each fate, as a record from which the results of plays are computed.
 use Rattle.std.specs.Prelude.{Bool, true, false, Option, Some, None}
 use Rattle.dfu_device.specs.declared.objection.Objection.{Objection}
 use Rattle.dfu_sim.specs.declared.delivery.Handled.{Handled}
@@ -7,15 +7,15 @@ use Rattle.dfu_sim.specs.declared.delivery.MediumFault.{MediumFault}
 use Rattle.dfu_sim.specs.declared.delivery.MediumFault.TheVariants.{NoWrite, CutsPower, FailsWrite, LiesInWrite}
 use Rattle.dfu_sim.specs.Happening.{Fate, Pass, LostOut, LostBack, Twice, TwiceLostBack, Slip, CutInWrite, Fail, Lie, Refusing}
 
--- The delivery of an action: how the device handles a request, why its program refuses the image that the request closes, if it does,
--- whether the answer comes back, and which write is harmed.
+-- Delivery of an action: how often the device handles a request, the objection of its program to the image that the request closes, whether
+-- the host gets the answer, and the harm to a write.
 pub record Delivery : Type 0 where
   pub handling : Handled
   pub refusing : Option Objection
   pub back : Bool
   pub harming : MediumFault
 
--- The delivery of each fate.
+-- Delivery of each fate.
 abbrev pub delivery_of : Fate → Delivery
 delivery_of Pass = record { handling = Once; refusing = None; back = true; harming = NoWrite }
 delivery_of LostOut = record { handling = Unseen; refusing = None; back = false; harming = NoWrite }

@@ -10,7 +10,7 @@ use Rattle.dfu_sim.specs.Agreement.{AgreesOn}
 use Rattle.dfu_sim.specs.Happening.{Happening, Offers, Uploads, Aborts, Goes, Passes, Resets, Cuts, Refuses}
 use Rattle.dfu_sim.specs.LinkView.{WorldView}
 
--- Kind of an event for the session machine: the offer of a file is an offer of its payload.
+-- The event has this kind for the session machine. The offer of a file is an offer of its payload.
 abbrev pub EventHasKind : Happening → Kind → Type 0
 EventHasKind (Offers purpose file limits) kind =
     (payload : List ℕ) × (ids : Ids) × (dfu : ℕ) × (extra : List ℕ) × IsFile payload ids dfu extra file × (kind ≡ OfferKind payload)

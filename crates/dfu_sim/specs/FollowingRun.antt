@@ -11,14 +11,14 @@ use Rattle.dfu_sim.specs.Happening.{Happening}
 use Rattle.dfu_sim.specs.LinkView.{WorldView}
 use Rattle.dfu_sim.specs.Following.{EventHasKind}
 
--- Kinds of a list of events, one for each event, in their order.
+-- The events of a list have these kinds, one for each event, in their order.
 abbrev pub EventsHaveKinds : List Happening → List Kind → Type 0
 EventsHaveKinds [] [] = Unit {0}
 EventsHaveKinds (h ∷ hs) (kind ∷ kinds) = EventHasKind h kind × EventsHaveKinds hs kinds
 EventsHaveKinds hs kinds = ⊥
 
 -- The session machine follows a run: it makes a legal run with the reports in their order, and then agrees with the link again, so its
--- active image is that of the medium's bytes. The image was active before the run, or is the whole payload of a file offered so far.
+-- active image is that of the medium's bytes. That image was active before the run, or is the whole payload of a file offered so far.
 pub record IsFollowedRun (w : WorldView) (hs : List Happening) (reports : List Report) (w' : WorldView) (m : Machine) : Type 0 where
   pub kinds : List Kind
   pub are : EventsHaveKinds hs kinds
@@ -27,7 +27,7 @@ pub record IsFollowedRun (w : WorldView) (hs : List Happening) (reports : List R
   pub agrees : AgreesOn w'.bench w'.up after
   pub active : Active w.bench.device.slots.medium after.cur ⊎ IsOneOf after.cur after.offers
 
--- Each session machine that agrees with a world follows a run, up to where it stopped.
+-- Each session machine that agrees with a world follows a run, up to the event at which the run stopped.
 abbrev pub AllMachinesFollowRun : WorldView → List Happening → WorldView → Result (Vec Report Global) Stop → Type 0
 AllMachinesFollowRun w hs w' (Ok reports) = (m : Machine) → AgreesOn w.bench w.up m → IsFollowedRun w hs reports.items w' m
 AllMachinesFollowRun w hs w' (Err stop) = (m : Machine) → AgreesOn w.bench w.up m →

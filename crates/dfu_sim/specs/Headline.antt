@@ -1,4 +1,4 @@
--- The headline: which image is active after any events, and what a report of Installed or Verified means.
+-- The headline: which image is active after any events, and the meaning of a report of Installed or Verified.
 use Rattle.std.specs.Prelude.{◌≡◌, ◌⊎◌, ℕ, List, [], ◌∷◌, ◌++◌, take, Option, None, Result, Ok, Err}
 use Rattle.std.specs.declared.vec.Vec.{Vec}
 use Rattle.std.specs.declared.alloc.Global.{Global}
@@ -20,8 +20,7 @@ pub data SessionBeginning : Type 0 where
   BeginningWithOffer : (file : List ℕ) → SessionBeginning
   BeginningAsUpload : SessionBeginning
 
--- Sessions that have begun once a caller's event came, the last one first: those of the past, and the one that the event begins, if it
--- begins one.
+-- Beginnings of sessions after a caller's event, the last one first. An offer or an upload adds one.
 abbrev pub sessions_now : Event → List SessionBeginning → List SessionBeginning
 sessions_now (Offer file limits) past = BeginningWithOffer file.now ∷ past
 sessions_now (OfferVerified file limits) past = BeginningWithOffer file.now ∷ past
@@ -52,7 +51,7 @@ pub record HeadlineStatement (factory : List ℕ) (past : List SessionBeginning)
   pub known : (image ≡ factory) ⊎ WasOffered past image
   pub in_place : IsInPlaceReport report → (b.device.stage ≡ InAppIdle) × IsLastPayload past image
 
--- The device has all bytes of an image, and has not put the image in place yet.
+-- The device has all bytes of an image, and has not put it in place yet.
 abbrev pub IsWaiting : Stage → List ℕ → Type 0
 IsWaiting (InManifestSync taken) x = x ≡ taken
 IsWaiting (InManifest taken passed) x = x ≡ taken
@@ -70,24 +69,24 @@ abbrev pub IsLivePayload : Session → List ℕ → Type 0
 IsLivePayload NoLiveSession x = ⊥
 IsLivePayload (HostSession host) x = IsGoalPayload host.task.goal x
 
--- Facts that keep the headline: an image that waits to be put in place was offered, and a live session's payload is that of the last offer.
+-- Facts that preserve the headline: an image that waits to be put in place was offered, and a live session's payload is that of the last
+-- offer.
 pub record HeadlineSupport (past : List SessionBeginning) (b : LinkView) : Type 0 where
   pub waiting : (x : List ℕ) → IsWaiting b.device.stage x → WasOffered past x
   pub live : (x : List ℕ) → IsLivePayload b.session x → IsLastPayload past x
 
--- The headline holds: its statement is true, and so are the facts that keep it.
+-- The headline holds, and so do the facts that preserve it.
 pub record HeadlineInvariant (factory : List ℕ) (past : List SessionBeginning) (report : Option Report) (b : LinkView) : Type 0 where
   pub says : HeadlineStatement factory past report b
   pub kept : HeadlineSupport past b
 
--- If the headline holds before an event, it holds after it, with the report of the event. A refused event changes nothing.
+-- If the headline holds before an event, it holds after the event, with the event's report. A refused event changes nothing.
 abbrev pub StepPreservesHeadline : WorldView → Event → WorldView → Result (Option Report) LinkFault → Type 0
 StepPreservesHeadline w event w' (Ok report) = (factory : List ℕ) (past : List SessionBeginning) (before : Option Report)
     → HeadlineInvariant factory past before w.bench → HeadlineInvariant factory (sessions_now event past) report w'.bench
 StepPreservesHeadline w event w' (Err fault) = w' ≡ w
 
--- The headline holds after each event of a list, with the report of that event; the reports follow in their order, and the link is the one
--- at the end.
+-- The headline holds after each event of a list, with the report of that event.
 pub data HeadlineAfterEach (factory : List ℕ) : (past : List SessionBeginning) → WorldView → List Event → List Report → WorldView
     → Type 0 where
   no_event : {past : List SessionBeginning} {w : WorldView} → HeadlineAfterEach factory past w [] [] w
@@ -102,12 +101,12 @@ abbrev pub EventsPreserveHeadline : WorldView → List Event → List Report →
 EventsPreserveHeadline w events reports w' = (factory : List ℕ) (past : List SessionBeginning) (before : Option Report)
     → HeadlineInvariant factory past before w.bench → HeadlineAfterEach factory past w events reports w'
 
--- A run keeps the headline through all of its events, or through the events before the one at which it stopped.
+-- A run preserves the headline through all of its events, or through the events before the one at which it stopped.
 abbrev pub RunPreservesHeadline : WorldView → List Event → WorldView → Result (Vec Report Global) Stop → Type 0
 RunPreservesHeadline w events w' (Ok reports) = EventsPreserveHeadline w events reports.items w'
 RunPreservesHeadline w events w' (Err stop) = EventsPreserveHeadline w (take stop.at events) stop.reports.items w'
 
--- The headline holds at the start: no session has begun, no complete image waits to be put in place, and the factory image is the image
+-- The headline holds at the start, if no session is live and no complete image waits to be put in place. The factory image is the image
 -- that is active then.
 abbrev pub HeadlineAtStart : Type 0
 HeadlineAtStart = (b : LinkView) (factory : List ℕ) → Active b.device.slots.medium factory → b.session ≡ NoLiveSession

@@ -1,4 +1,5 @@
--- Agreement of a link of values with a session machine: some machine agrees, and still agrees once a new world is made over the device.
+-- Agreement of a link with a session machine: for each link some machine agrees, and it still agrees after a new world is made over the
+-- device.
 use Rattle.std.specs.Prelude.{◌≡◌, ℕ, List, [], Option}
 use Rattle.dfu_slots.specs.Medium.Fuse.{Whole}
 use Rattle.dfu_device.specs.Stage.{Stage}
@@ -12,12 +13,12 @@ use Rattle.dfu_sim.specs.Agreement.{Intake, NoImageTaken, Open, Shut, intake_of_
 abbrev pub pending_of : Stage → Option (List ℕ)
 pending_of stage = pending_bytes_in (intake_of_stage stage)
 
--- The closed bytes of a device in this stage, if there are any, are one of the offers.
+-- If the device holds the bytes of a closed download, they are one of the offers.
 abbrev pub ClosedWasOffered : List (List ℕ) → Stage → Type 0
 ClosedWasOffered offers stage = IsClosedOffer offers (intake_of_stage stage)
 
--- A link agrees with a session machine: the machine has the link's image, pending bytes, live session and last upload, and the link's
--- closed bytes and live payload are among its offers.
+-- A link agrees with a session machine: the machine has the link's image, pending bytes, live session and last upload, and the bytes of the
+-- link's closed download and its live payload are among the machine's offers.
 pub record Agrees (w : Link) (up : List ℕ) (m : Machine) : Type 0 where
   pub cur : m.cur ≡ w.device.image
   pub pending : m.pending ≡ pending_of w.device.stage
@@ -26,7 +27,7 @@ pub record Agrees (w : Link) (up : List ℕ) (m : Machine) : Type 0 where
   pub sound : ClosedWasOffered m.offers w.device.stage
   pub offered : IsLiveOffer m.offers (live_session_of w.session)
 
--- Statements that some machine agrees.
+-- Statements about the session machines that agree with a link.
 
 -- The image in progress, if there is one, is not closed.
 abbrev pub IntakeNotClosed : Intake → Type 0
@@ -42,11 +43,11 @@ NothingClosed stage = IntakeNotClosed (intake_of_stage stage)
 abbrev pub fresh_machine : Link → Machine
 fresh_machine w = record { cur = w.device.image; offers = []; pending = pending_of w.device.stage; live = NothingLive; up = [] }
 
--- Some session machine agrees with each link, whatever the last reported upload gave.
+-- For each link and any bytes of the last upload, some session machine agrees.
 abbrev pub SomeMachineAgrees : Type 0
 SomeMachineAgrees = (w : Link) (up : List ℕ) → (m : Machine) × Agrees w up m
 
--- If no session is live and no bytes are closed, a session machine agrees to which nothing was offered.
+-- If no session is live and no closed bytes wait to be put in place, the machine without offers agrees with the link.
 abbrev pub FreshMachineAgrees : Type 0
 FreshMachineAgrees = (w : Link) → w.session ≡ NoLiveSession → NothingClosed w.device.stage → Agrees w [] (fresh_machine w)
 
@@ -54,8 +55,8 @@ FreshMachineAgrees = (w : Link) → w.session ≡ NoLiveSession → NothingClose
 abbrev pub LinkAgreesOn : Type 0
 LinkAgreesOn = (b : LinkView) (up : List ℕ) (m : Machine) → BenchMatchesFlash b → Agrees (link_of_bench b) up m → AgreesOn b up m
 
--- If a world with no session is taken apart, and a new one is made over its device, whose medium is disarmed, each session machine that
--- agreed still agrees, with nothing uploaded so far.
+-- If a world with no session is replaced by a new world over its device, whose medium is disarmed, each session machine that agreed still
+-- agrees, with nothing uploaded so far.
 abbrev pub SessionsContinue : Type 0
 SessionsContinue = (w : WorldView) (m : Machine) → w.bench.session ≡ NoLiveSession → AgreesOn w.bench w.up m
     → AgreesOn (record { device = armed_device w.bench.device Whole; session = NoLiveSession }) [] (record m { up = [] })

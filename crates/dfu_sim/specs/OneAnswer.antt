@@ -17,7 +17,7 @@ use Rattle.dfu_sim.specs.EventResults.{EventMeaning, EventResult}
 abbrev pub EventHasOneRefusal : Type 0
 EventHasOneRefusal = (b : LinkView) (h : Happening) (fault other : LinkFault) → IsRefused b h fault → IsRefused b h other → fault ≡ other
 
--- If an event is refused, no event that it means may happen.
+-- If an event is refused, no play of it may happen.
 abbrev pub RefusedEventIsNoPlay : Type 0
 RefusedEventIsNoPlay = (b : LinkView) (h : Happening) (fault : LinkFault) (event : Happening) → IsRefused b h fault
     → EventMeaning b.device.config h event
@@ -27,14 +27,14 @@ RefusedEventIsNoPlay = (b : LinkView) (h : Happening) (fault : LinkFault) (event
 abbrev pub EventHasOneMeaning : Type 0
 EventHasOneMeaning = (s : Setting) (h event other : Happening) → EventMeaning s h event → EventMeaning s h other → event ≡ other
 
--- Two devices are equal, but for the number of failed writes of their media.
+-- Two devices are equal, except for the number of failed writes of their media.
 pub record SameDevice (w v : DeviceView) : Type 0 where
   pub config : w.config ≡ v.config
   pub stage : w.stage ≡ v.stage
   pub store : SameStore w.slots v.slots
 
--- Two results of one event are equal: the devices are, and the sessions and answers depend only on whether there was memory for a part of
--- an upload.
+-- Two results of one event agree: the devices are equal but for failed writes, and the sessions and answers depend only on whether there
+-- was memory for a part of an upload.
 pub record AreOneResult (c d : LinkView) (x y : Answered) : Type 0 where
   pub device : SameDevice c.device d.device
   pub rule : (room : Bool) → HostOutcome

@@ -1,4 +1,4 @@
--- Task of a session on a link: it follows from the device's profile and the session's goal.
+-- Task of a session on a link, which follows from the device's profile and the session's goal.
 use Rattle.std.specs.Prelude.{ℕ, List}
 use Rattle.dfu_wire.specs.declared.functionals.Functional.{Functional}
 use Rattle.dfu_device.specs.Stage.{Profile}
@@ -29,6 +29,6 @@ abbrev pub goal_of_purpose : Purpose → (payload : List ℕ) → Goal
 goal_of_purpose Install payload = LoadGoal payload
 goal_of_purpose Verify payload = VerifyGoal payload
 
--- A session that begins, with the task for its goal.
+-- A new session, with the task for its goal.
 abbrev pub opened : Profile → Goal → (actions restarts : ℕ) → Session
 opened c goal actions restarts = HostSession (initial_host (task_for c goal) actions restarts)

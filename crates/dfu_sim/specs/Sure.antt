@@ -1,4 +1,4 @@
--- Events without a cut, a failure or a lie.
+-- Events in which no write is harmed by a cut, a failure or a lie: their result follows from the table of fates.
 use Rattle.std.specs.Prelude.{◌≡◌, Bool, Option, Result, Ok, Err}
 use Rattle.dfu_slots.specs.StoreView.{room_of}
 use Rattle.dfu_device.specs.Outcome.{Works}
@@ -14,7 +14,7 @@ use Rattle.dfu_sim.specs.LinkView.{LinkView}
 use Rattle.dfu_sim.specs.Bytes.{link_of_bench}
 use Rattle.dfu_sim.specs.EventResults.{EventMeaning}
 
--- A device keeps its setting and its room for images.
+-- The setting of the device and its room for images are unchanged.
 pub record HasSameSetting (w w' : DeviceView) : Type 0 where
   pub config : w'.config ≡ w.config
   pub room : room_of w'.slots ≡ room_of w.slots
@@ -26,7 +26,7 @@ HarmsNothing CutsPower = ⊥
 HarmsNothing FailsWrite = ⊥
 HarmsNothing LiesInWrite = ⊥
 
--- The event is anything but an action in which a write is harmed.
+-- The event is not an action in which a write is harmed.
 abbrev pub IsHarmless : Happening → Type 0
 IsHarmless (Goes fate harm) = HarmsNothing (delivery_of fate).harming
 IsHarmless (Offers purpose payload limits) = Unit {0}
@@ -44,14 +44,14 @@ pub record IsResultOfPlay (b : LinkView) (event : Happening) (b' : LinkView) (re
   pub same : play_of_event (profile b.device) (link_of_bench b) event Works Works room ≡ record { link = link_of_bench b'; answer = answer }
   pub told : report ≡ answer.report
 
--- A sure event: the device keeps its setting, and if no write is harmed, all goes as the table of fates says of a medium that works.
+-- The setting of the device is unchanged, and if no write is harmed, the event follows the table of fates for a medium that works.
 pub record EventFollowsTable (b : LinkView) (h : Happening) (b' : LinkView) (report : Option Report) : Type 0 where
   pub event : Happening
   pub means : EventMeaning b.device.config h event
   pub kept : HasSameSetting b.device b'.device
   pub works : IsHarmless event → IsResultOfPlay b event b' report
 
--- If an event is not refused, it is a sure one: without harm it goes as the table of fates says.
+-- If the event is not refused, the setting of the device is unchanged, and without harm to a write the event follows the table of fates.
 abbrev pub EventFollowsTableIfPlayed : LinkView → Happening → LinkView → Result (Option Report) LinkFault → Type 0
 EventFollowsTableIfPlayed b h b' (Ok report) = EventFollowsTable b h b' report
 EventFollowsTableIfPlayed b h b' (Err fault) = Unit {0}

@@ -1,4 +1,4 @@
--- Statements that bytes and values mean the same.
+-- Statements that a play in bytes has the meaning of a play of values.
 use Rattle.std.specs.Prelude.{◌≡◌, ℕ, List, Bool}
 use Rattle.dfu_slots.specs.Medium.Fuse.{Whole}
 use Rattle.dfu_slots.specs.Image.{Active, HasImage}
@@ -18,7 +18,7 @@ use Rattle.dfu_sim.specs.Bytes.{HeardOfAnswer, link_of_bench, BytePlay}
 use Rattle.dfu_sim.specs.Happening.{Happening}
 use Rattle.dfu_sim.specs.LinkView.{LinkView, BenchMatchesFlash}
 
--- A host hears the bytes of a device's answer as the device meant them; for a part of an upload there may be no memory.
+-- A host reads the bytes of a device's answer with the meaning that the device gave them, or as NoRoom for a part without memory.
 abbrev pub ResponsesUnderstood : Type 0
 ResponsesUnderstood = (task : Task) (phase : Phase) (q : Asked) (body : List ℕ) (c : Profile) (image : List ℕ) (stage : Stage) (luck : Luck)
     (a : Answer) (out : List ℕ) (heard : Heard)
@@ -26,7 +26,7 @@ ResponsesUnderstood = (task : Task) (phase : Phase) (q : Asked) (body : List ℕ
     ReplyAnswer (asked_length q) reply a out → HeardOfAnswer (Send q body) a out heard
     → (room : Bool) × (heard ≡ heard_with_room (heard_of_reply reply) room)
 
--- A play with its bytes is a play of the links that the benches show; the device keeps its setting, and its medium is not armed afterwards.
+-- A play in bytes is a play of the links that the benches show. The device keeps its profile, and its medium is not armed afterwards.
 pub record PlayIsShown (b : LinkView) (event : Happening) (b' : LinkView) (answer : Answered) : Type 0 where
   pub play : Play (profile b.device) (link_of_bench b) event (link_of_bench b') answer
   pub fixed : profile b'.device ≡ profile b.device
@@ -41,7 +41,6 @@ abbrev pub BenchImageIsActive : Type 0
 BenchImageIsActive = (b : LinkView) → (HasImage b.device.slots.medium → BenchMatchesFlash b)
     × ((image : List ℕ) → Active b.device.slots.medium image → image ≡ (link_of_bench b).device.image)
 
--- A device can start on the medium of a bench that shows the active image of its bytes: none of the faults for which a start is refused
--- holds.
+-- A device can power on from the medium of a bench that shows the active image of its bytes: no fault of `Device::power_on` applies.
 abbrev pub PowerOnSucceeds : Type 0
 PowerOnSucceeds = (b : LinkView) (fault : OpenFault) → BenchMatchesFlash b → ¬ FirstOpenFault fault b.device.slots.medium

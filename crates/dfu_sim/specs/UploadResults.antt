@@ -1,4 +1,4 @@
--- Bytes that an upload gives.
+-- Bytes that an event uploads.
 use Rattle.std.specs.Prelude.{◌≡◌, ◌*◌, ◌<◌, length, Option, Some, Result, Ok}
 use Rattle.dfu_slots.specs.Medium.Fuse.{Whole}
 use Rattle.dfu_device.specs.DeviceView.{DeviceView}
@@ -12,17 +12,17 @@ use Rattle.dfu_sim.specs.Happening.{Happening}
 use Rattle.dfu_sim.specs.EventResults.{EventResult}
 use Rattle.dfu_sim.specs.LinkInvariant.{IsSteadyLink}
 
--- The uploaded bytes are the active image of the device, and fewer than 65,535 blocks.
+-- The uploaded bytes are the active image of the device, and fewer than 65,535 times its transfer size.
 pub record UploadIsActive (w : WorldView) : Type 0 where
   pub image : w.up ≡ (link_of_bench w.bench).device.image
   pub short : length w.up < 65535 * w.bench.device.config.functional.transfer
 
--- With Uploaded the upload is the active image; with any other answer the bytes of the last upload stay.
+-- If the report is Uploaded, the uploaded bytes are the active image; otherwise the bytes of the last upload remain.
 abbrev pub UploadOrUnchanged : WorldView → WorldView → Result (Option Report) LinkFault → Type 0
 UploadOrUnchanged w w' (Ok (Some Uploaded)) = UploadIsActive w'
 UploadOrUnchanged w w' result = w'.up ≡ w.up
 
--- An event of a steady link leaves it steady, and with Uploaded gives the bytes of the active image.
+-- After an event a steady link is steady again, and an event that reports Uploaded returns the bytes of the active image.
 abbrev pub UploadsAreActive : Type 0
 UploadsAreActive = (b b' : LinkView) (h : Happening) (answer : Answered) → IsSteadyLink b → EventResult b h b' (Ok answer)
     → IsSteadyLink b' × (answer.report ≡ Some Uploaded → answer.gave ≡ Some (link_of_bench b').device.image)

@@ -19,8 +19,8 @@ use dfu_device::{Answer, Device, Objection};
 use dfu_host::{Action, Host, Seen};
 use dfu_slots::{Faulty, Medium};
 
-/// Delivers a request with `setup` and `body` to `device`. If the request closes an image, the program refuses that image by `refusing`, or
-/// refuses none. `out` gets the answer's bytes.
+/// Delivers a request with `setup` and `body` to `device`, and puts the bytes of the answer into `out`. If the request closes a download
+/// and `refusing` holds an objection, the device's program refuses the image with that objection.
 fn take_in<M: Medium>(
     device: &mut Device<M>,
     setup: &[u8; 8],
@@ -42,8 +42,8 @@ fn take_in<M: Medium>(
     }
 }
 
-/// Delivers a request with `setup` and `body` to `device`, which handles it by `handling`. `out` gets the answer's bytes. The program
-/// refuses an image only the first time, because no request closes a download twice.
+/// Delivers a request with `setup` and `body` to `device` according to `handling`, and puts the bytes of the last answer into `out`. If the
+/// request is handled twice, `refusing` applies only the first time, because no request closes a download twice.
 fn reach<M: Medium>(
     device: &mut Device<M>,
     setup: &[u8; 8],
@@ -69,7 +69,8 @@ fn reach<M: Medium>(
     }
 }
 
-/// Returns the response that the host gets to a request: Lost if the answer doesn't come back, and Restarted if the power is cut.
+/// Returns the response that the host gets to a request: `Restarted` if the power is cut, `Lost` if the answer is lost, and otherwise
+/// `back`.
 fn come_back(delivery: Delivery<'_>, back: Response) -> Response
     ensures { result ≡ response_if_powered delivery.entry.harming (response_if_delivered delivery.entry.back back) }
 {
@@ -81,7 +82,7 @@ fn come_back(delivery: Delivery<'_>, back: Response) -> Response
     }
 }
 
-/// Returns the time that passes in a wait; a time that slips in replaces the wait.
+/// Returns the number of milliseconds that pass in a wait of `ms`. A slip replaces the time of the wait.
 fn time_of(handling: Handled, ms: u32) -> u32
     ensures { result ≡ wait_by_handling handling ms }
 {
@@ -91,7 +92,7 @@ fn time_of(handling: Handled, ms: u32) -> u32
     }
 }
 
-/// Returns the result that the host sees of a wait or a reset: after a cut, the restart.
+/// Returns the result of a wait or a reset that the host receives: `Restarted` if the power is cut, else `seen`.
 fn seen_after(harming: MediumFault, seen: Seen<'static>) -> Seen<'static>
     ensures { result ≡ seen_after_action harming seen.entry }
 {
@@ -101,7 +102,7 @@ fn seen_after(harming: MediumFault, seen: Seen<'static>) -> Seen<'static>
     }
 }
 
-/// Waits `ms` milliseconds; a time that slips in replaces the wait.
+/// Lets `ms` milliseconds pass, or instead the time of a slip, and returns the result that the host receives.
 fn wait<M: Medium>(device: &mut Device<M>, ms: u32, delivery: Delivery<'_>) -> Seen<'static>
     ensures hears { (d : Deed) (heard : Heard) → SeenMeaning d result heard
         → WaitDelivered ms (delivery_of_given delivery.entry) device.old device.new heard }
@@ -111,7 +112,7 @@ fn wait<M: Medium>(device: &mut Device<M>, ms: u32, delivery: Delivery<'_>) -> S
     seen_after(delivery.harming, Seen::Waited)
 }
 
-/// Lets the time pass that slips in by `handling` after a reset of the bus.
+/// Lets the time of a slip pass after a reset of the bus.
 fn slip<M: Medium>(device: &mut Device<M>, handling: Handled)
     ensures { SlipsTime handling device.old device.new }
 {
@@ -121,7 +122,7 @@ fn slip<M: Medium>(device: &mut Device<M>, handling: Handled)
     }
 }
 
-/// Resets the bus, and lets the time pass that slips in after the reset.
+/// Resets the bus, lets the time of a slip pass, and returns the result that the host receives.
 fn reset_bus<M: Medium>(device: &mut Device<M>, delivery: Delivery<'_>) -> Seen<'static>
     ensures hears { (d : Deed) (heard : Heard) → SeenMeaning d result heard
         → BusResetDelivered (delivery_of_given delivery.entry) device.old device.new heard }
@@ -132,7 +133,7 @@ fn reset_bus<M: Medium>(device: &mut Device<M>, delivery: Delivery<'_>) -> Seen<
     seen_after(delivery.harming, Seen::WasReset)
 }
 
-/// Gives the host the response to its request.
+/// Passes the response to a request on to the host.
 fn tell(host: &mut Host<'_>, back: Response, out: &[u8])
     ensures { HostTakesResponse host.old back out.now host.new }
 {
@@ -145,9 +146,9 @@ fn tell(host: &mut Host<'_>, back: Response, out: &[u8])
     }
 }
 
-/// Performs the next action of `host`, which is not done, by `delivery`. The caller must arm the medium, if a write is to be harmed. `out`
-/// is room for an answer; its bytes before the call are not read. Returns the device's response, if the device got the action, even if the
-/// response did not come back.
+/// Performs the next action of `host` according to `delivery`. The host must not be done, and the caller must have armed the medium if a
+/// write is to be harmed. The bytes that `out` holds before the call are not read. Returns the device's response to a request, even if the
+/// host never gets it; for a wait and a reset it returns `Lost`.
 fn act<M: Medium>(
     device: &mut Device<M>,
     host: &mut Host<'_>,
@@ -185,7 +186,7 @@ fn act<M: Medium>(
     }
 }
 
-/// Arms the medium for an action by `delivery`: after a cut no write works, after a failure or a lie all further writes do.
+/// Arms the medium for an action. In a cut the harmed write and all later ones fail; a failure or a lie harms one write only.
 fn arm<M: Faulty>(device: &mut Device<M>, delivery: Delivery<'_>)
     requires { device.old.slots.medium.fuse ≡ Whole }
     ensures { device.new ≡ armed_device device.old (fuse_of delivery.entry.harming (harm_at delivery.entry)) }
@@ -198,8 +199,8 @@ fn arm<M: Faulty>(device: &mut Device<M>, delivery: Delivery<'_>)
     }
 }
 
-/// Cuts a device's power and brings it back: the device starts anew on its medium as the medium is then, disarmed. A restart is never
-/// refused, because a device keeps an active image on its medium, whatever is cut or fails.
+/// Cuts a device's power and restores it. The device restarts from the bytes of its medium, which is disarmed. The restart always succeeds,
+/// because the medium keeps an active image through cuts and failed writes.
 pub(crate) fn power_cycle<M: Faulty>(device: &mut Device<M>)
     ensures { device.new ≡ device_after_power_cycle device.old }
 {
@@ -207,7 +208,7 @@ pub(crate) fn power_cycle<M: Faulty>(device: &mut Device<M>)
     device.restart();
 }
 
-/// Ends an action: after a cut the power comes back, and the medium is disarmed.
+/// Ends an action: disarms the medium, and restarts the device if the power was cut.
 fn settle<M: Faulty>(device: &mut Device<M>, harming: MediumFault)
     ensures { device.new ≡ device_after_action harming device.old }
 {
@@ -218,8 +219,8 @@ fn settle<M: Faulty>(device: &mut Device<M>, harming: MediumFault)
     }
 }
 
-/// Performs the next action of `host`, which is not done, by `fate`, and keeps the device's answer. If the action closes an image, the
-/// device's program refuses that image by `refusing`, or refuses none.
+/// Performs the next action of `host` with `fate`, and stores the device's response in `out`. The host must not be done. If the action
+/// closes a download and `refusing` holds an objection, the device's program refuses the image.
 pub(crate) fn carry_out<M: Faulty>(
     device: &mut Device<M>,
     host: &mut Host<'_>,

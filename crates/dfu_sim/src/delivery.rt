@@ -1,4 +1,4 @@
-//! Delivery of each fate, and result of an action, as data that the code of an action follows.
+//! The delivery of each fate, and the result of an action.
 
 ghost use Rattle.std.specs.Prelude.{◌≡◌};
 ghost use Rattle.dfu_sim.specs.Happening.{fate_of, harm_of_fate, fate_with_refusal};
@@ -9,10 +9,10 @@ use crate::fate::Fate;
 use arrayvec::ArrayVec;
 use dfu_device::{Answer, Objection};
 
-/// Result of a request in a device or a board.
+/// Number of times that a device or a board handles a request, and the time that passes after it.
 #[derive(Clone, Copy)]
 pub enum Handled {
-    /// The device doesn't see the request.
+    /// The request is lost on its way to the device.
     Unseen,
     /// The device handles the request once.
     Once,
@@ -22,21 +22,22 @@ pub enum Handled {
     Late(u32),
 }
 
-/// Write of an action that is harmed.
+/// Harm to one write of an action.
 #[derive(Clone, Copy)]
 pub(crate) enum MediumFault {
     /// No write is harmed.
     NoWrite,
-    /// A write is harmed, and from that write on the power is gone.
+    /// The power is cut at a write: that write is torn, and no later one reaches the medium.
     CutsPower,
-    /// A write fails, and no other is harmed.
+    /// One write is torn and fails.
     FailsWrite,
-    /// A write lies, and no other is harmed: the medium answers that the write worked.
+    /// One write is torn, but the medium reports a success.
     LiesInWrite,
 }
 
-/// The delivery of an action: how the device handles a request, why its program refuses the image that the request closes, if it does,
-/// whether the answer comes back, and how a write is harmed.
+/// Delivery of an action: how often the device handles a request, the objection of its program to the image that the request closes,
+/// whether the host gets the answer, and the harm to a write. The `writes` writes before the harmed one succeed, and `tear` holds the bytes
+/// of the torn write.
 #[derive(Clone, Copy)]
 pub(crate) struct Delivery<'t> {
     pub(crate) handling: Handled,
@@ -58,15 +59,15 @@ pub(crate) enum Response {
     Restarted,
 }
 
-/// Result of the last action, and room for the bytes of an answer. The room is kept, because making it clears 4,096 bytes, which costs more
-/// than a pass.
+/// Response to the last action, and a buffer for the bytes of an answer. The buffer is kept from action to action, because clearing 4,096
+/// bytes for a new one costs more than a whole action.
 #[derive(Drop)]
 pub(crate) struct Answered {
     pub came: Response,
     pub bytes: ArrayVec<u8, 4096>,
 }
 
-/// Returns the delivery of a fate, if the device's program refuses nothing.
+/// Returns the delivery of a fate if the device's program refuses no image.
 fn plain_delivery(fate: Fate<'_>) -> Delivery<'_>
     ensures delivery { delivery_of_given result ≡ delivery_of (fate_of fate.entry) }
     ensures harm { harm_at result ≡ harm_of_fate fate.entry }
@@ -92,8 +93,7 @@ fn plain_delivery(fate: Fate<'_>) -> Delivery<'_>
     }
 }
 
-/// Returns the delivery of a fate, with the objection of the device's program to the image that the action
-/// closes, if it has one.
+/// Returns the delivery of a fate. If `refusing` holds an objection, the device's program refuses the image that the action closes.
 pub(crate) fn delivery_by(fate: Fate<'_>, refusing: Option<Objection>) -> Delivery<'_>
     ensures delivery { delivery_of_given result ≡ delivery_of (fate_with_refusal refusing (fate_of fate.entry)) }
     ensures harm { harm_at result ≡ harm_of_fate fate.entry }

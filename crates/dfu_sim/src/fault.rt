@@ -1,22 +1,21 @@
-//! Faults for which an event is refused.
+//! Faults with which events are refused.
 
 use dfu_host::HostFault;
 use dfu_suffix::SuffixFault;
 use std::fmt;
 use thiserror::Error;
 
-/// A fault for which an event is refused.
+/// Fault with which an event is refused.
 #[derive(Clone, Copy, Debug, Error)]
 pub enum LinkFault {
-    /// An offer or an upload comes while a session is live. This is checked first.
+    /// The event is an offer or an upload, but a session is live. This is checked first.
     HostBusy,
-    /// An abort or an action comes while no session is live.
+    /// The event is an abort or an action, but no session is live.
     NoHost,
-    /// While no session is live: for an offer, the fault of `dfu_suffix::read`, else that of
-    /// `Host::download`, or of `Host::download_verified` if the file is to be verified; for an upload, the
-    /// fault of `Host::upload`.
+    /// No session is live, and the offer or the upload is refused. For an offer the fault is that of `dfu_suffix::read`, else that of
+    /// `Host::download`, or of `Host::download_verified` if the file is to be verified. For an upload it is that of `Host::upload`.
     BadOffer(OfferFault),
-    /// There was no memory for a report. Only `run` returns this fault.
+    /// Memory for a report is exhausted. Only `run` returns this fault.
     NoMemory,
 }
 
@@ -31,14 +30,13 @@ impl fmt::Display for LinkFault {
     }
 }
 
-/// A fault for which an offer or an upload is refused.
+/// Fault of a refused offer or upload.
 #[derive(Clone, Copy, Debug, Error)]
 pub enum OfferFault {
-    /// The bytes are no DFU file; this is the first fault of `dfu_suffix::read`. Only an offer has it.
+    /// The bytes are not a DFU file. This is the first fault of `dfu_suffix::read`; only an offer is refused with it.
     Suffix(SuffixFault),
-    /// The file was read, and this is the first fault of `Host::download`, or of `Host::download_verified` if
-    /// the file is to be verified, with the device's descriptor and identifiers; or that of `Host::upload`
-    /// with the descriptor.
+    /// The host refuses the session. For an offer this is the first fault of `Host::download`, or of `Host::download_verified` if the file
+    /// is to be verified, with the device's descriptor and identifiers. For an upload it is that of `Host::upload` with the descriptor.
     Host(HostFault),
 }
 

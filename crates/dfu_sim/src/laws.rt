@@ -1,5 +1,5 @@
-//! Laws of plays. Each is the contract of a function that does nothing, which is proved and not to
-//! be called by programs. `World::step` calls `image_shown`, only for its law.
+//! Laws of plays, which are events with their effects on a link. Each law is the contract of a function with no effect, which programs need
+//! not call.
 
 ghost use Rattle.dfu_sim.specs.Headline.{HeadlineAtStart};
 ghost use Rattle.dfu_sim.specs.LinkAgreement.{SomeMachineAgrees, FreshMachineAgrees, LinkAgreesOn, SessionsContinue};
@@ -13,40 +13,38 @@ ghost use Rattle.dfu_sim.specs.Understood.{BenchImageIsActive, PlaysMatchLinks, 
 
 use dfu_slots::laws::active_image_is_one;
 
-/// Each play of an event, from a link that agrees with a session machine, is one legal step of it.
-/// Agreement and the phase fact hold again, and Installed and Verified are reported only in appIDLE
-/// with exactly that session's payload active.
+/// If blocks have at least one byte and the phase fact holds, each play of an event is one legal step of every session machine with which
+/// the link agrees. Agreement and the phase fact hold after the play. Installed and Verified are reported only if the device is in appIDLE
+/// and exactly the session's payload is active.
 pub fn simulation()
     ensures { Simulation }
 {}
 
-/// A clean run. A tolerant device that downloads, in blocks of at least one byte, is in appIDLE
-/// with no session. It is offered a payload of at least one byte, at least its fewest bytes and at
-/// most its room, and the limits allow as many actions as the clean count. If the payload is to be
-/// verified, the device uploads too, and the payload has fewer than 65,535 full blocks. If then
-/// nothing is lost and nothing fails, the last action of the clean count reports Installed, or
-/// Verified, with the payload active and the device in appIDLE, and none before it reports
-/// anything.
+/// A clean run. The device is tolerant, downloads in blocks of at least one byte, and is in appIDLE with no session. The payload of the
+/// offer has at least one byte, at least the device's least length, and at most its capacity, and the limits allow the number of actions
+/// that a clean run takes. If the payload is to be verified, the device uploads too, and the payload has fewer than 65,535 full blocks.
+/// Then, if nothing is lost and nothing fails, the last of these actions reports Installed or Verified, with the payload active and the
+/// device in appIDLE, and no earlier action reports anything.
 pub fn clean_run()
     ensures { CleanRun }
 {}
 
-/// A clean run by steps, with no premise on memory. The steps are an offer and at most the passes of a clean run, each as the clause `sure`
-/// of `World::step` says. Then the reports are those of a clean run, and no step is refused.
+/// A clean run, step by step, with or without memory for uploads. The steps are an offer and at most the passes of a clean run, and for
+/// each step the clause `sure` of `World::step` holds. Their reports are those of a clean run, and no step is refused.
 pub fn clean_steps()
     ensures install { StepsInstallCleanly }
     ensures stand { CleanStepsSucceed }
 {}
 
-/// After a legal run the active image is the one before the run, or the whole payload of a file offered so
-/// far.
+/// After a legal run the active image is the one before the run, or the whole payload of a file offered so far.
 pub fn only_offered()
     ensures { ActiveImageWasOffered }
 {}
 
-/// For any events of a `World`, and any check by its device's program: if each image that the check refuses was refused before an action of
-/// the host or a time could put it in place, the active image is the one before, or one that the check accepts. With the headline it is the
-/// factory image, or one whole payload that was offered and that the check accepts. A program without a check takes every image.
+/// Assume that the device's program enforces a check: it refuses each image that the check rejects, before an action of the host or passing
+/// time could put that image in place. Then after any events of a `World` the active image is the one before them, or one that the check
+/// accepts. With the headline it is the factory image, or the whole payload of an offer that the check accepts. For a program without a
+/// check, take the check that accepts every image.
 pub fn worlds_take_what_is_accepted()
     ensures image { LinkImagesAccepted }
     ensures offered { OfferedImagesAccepted }
@@ -54,22 +52,23 @@ pub fn worlds_take_what_is_accepted()
     active_image_is_one();
 }
 
-/// Agreement is always possible. Some session machine agrees with each link; and if no session is live and no bytes are closed, a machine
-/// to which nothing was offered agrees. If the bench shows the active image of the medium's bytes, the machine agrees with the bench too.
+/// For each link, some session machine agrees with it. If no session is live and no closed download waits to be put in place, a machine
+/// with no offers agrees. If the bench shows the active image of the medium's bytes, each machine that agrees with its link agrees with the
+/// bench too.
 pub fn machine_agrees()
-    ensures some { SomeMachineAgrees }
+    ensures machine_exists { SomeMachineAgrees }
     ensures fresh { FreshMachineAgrees }
-    ensures on { LinkAgreesOn }
+    ensures over_device { LinkAgreesOn }
 {}
 
-/// If a world with no session is taken apart, and the next is made over its device, a session machine that agreed still agrees, with
-/// nothing uploaded so far.
+/// If a world with no session is replaced by a new world over its device, each session machine that agreed with the old one agrees with the
+/// new one, with nothing uploaded so far.
 pub fn sessions_go_on()
     ensures { SessionsContinue }
 {}
 
-/// Messages on the wire are understood: the answer of a device to a request of a host, in bytes, is heard as the device meant it. A part of
-/// an upload may find no memory.
+/// The host reads each answer of the device with the meaning that the device gave it. If there is no memory for a part of an upload, the
+/// host receives NoRoom instead.
 pub fn understood()
     ensures { ResponsesUnderstood }
 {}
@@ -79,9 +78,10 @@ pub fn bytes_show()
     ensures { PlaysMatchLinks }
 {}
 
-/// An event has one meaning: it is refused with one fault and is then no play, or it means one event. If no write is harmed, `sure` of
-/// `World::step` fixes the result of a play. If a write is harmed, `result` fixes it: one device but for the count of failed writes, and
-/// one session and one answer, which depend only on whether there was memory for a part of an upload.
+/// Each event has one meaning: it is refused with one fault and may not be played, or it corresponds to one event of the table of fates. If
+/// no write is harmed, the clause `sure` of `World::step` determines the result of a play. If a write is harmed, the clause `result` of
+/// this law determines it: the device is determined except for its count of failed writes, and the session and the answer depend only on
+/// whether there was memory for a part of an upload.
 pub fn one_answer()
     ensures fault { EventHasOneRefusal }
     ensures no_play { RefusedEventIsNoPlay }
@@ -89,8 +89,8 @@ pub fn one_answer()
     ensures result { HarmedActionHasOneResult }
 {}
 
-/// In each sequence of events on a link that began with a device at rest, also in a script, the bytes that come with Uploaded are those of
-/// the active image.
+/// In each sequence of events on a link that began with a device at rest, the bytes of a session that reports Uploaded are those of the
+/// active image.
 pub fn uploads_give_the_image()
     ensures gives { UploadsAreActive }
     ensures rest { RestIsSteady }
@@ -103,16 +103,16 @@ pub fn image_shown()
     active_image_is_one();
 }
 
-/// The power comes back: `Device::power_on` is not refused on the medium of a bench that shows the active
-/// image of the medium's bytes. The bench of a `World` always does.
+/// Power-on succeeds: `Device::power_on` is not refused on the medium of a bench that shows the active image of the medium's bytes. The
+/// bench of a `World` always shows that image.
 pub fn power_comes_back()
     ensures { PowerOnSucceeds }
 {
     active_image_is_one();
 }
 
-/// The headline holds for a device with no session and no image to put in place: its factory image is the
-/// image that is active then.
+/// The headline holds for a device with no session and no image that waits to be put in place. Its factory image is the image that is
+/// active at that time.
 pub fn headline_at_rest()
     ensures { HeadlineAtStart }
 {}

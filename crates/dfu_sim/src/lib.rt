@@ -1,8 +1,8 @@
-//! The link of a host and a device of USB device firmware upgrade (USB DFU 1.1): the effect of each
-//! event on both, and the laws that hold for all events.
+//! The link between a host and a device of USB device firmware upgrade (USB DFU 1.1): the effect of each event on both, and the laws that
+//! hold for all events.
 //!
-//! A `World` takes one event, `run` a list of them. Memory is taken by `step` for the parts of an
-//! upload, and by `run` for its reports too.
+//! `World::step` applies one event, `run` a list of them. `step` allocates memory for the parts of an upload, and `run` for its reports
+//! too.
 #![tactic(auto)]
 
 mod acting;

@@ -1,4 +1,4 @@
-//! The start of a session.
+//! Begins sessions, by the offer of a file or by an upload.
 
 ghost use Rattle.std.specs.Prelude.{◌≡◌, ◌↔◌, Some, Err, IfOk, IfErr};
 ghost use Rattle.dfu_device.specs.Setting.{Setting};
@@ -18,7 +18,7 @@ use dfu_suffix::{File, read};
 use dfu_wire::{Functional, Ids};
 use std::alloc::Global;
 
-/// Purpose for which a file is offered. No call takes a purpose; the clause `clean` of `run` uses it.
+/// Purpose of the offer of a file, for `begin`. The clause `clean` of `run` uses it too.
 #[derive(Clone, Copy)]
 pub enum Purpose {
     /// The file is installed.
@@ -27,7 +27,7 @@ pub enum Purpose {
     Verify,
 }
 
-/// Makes a host for a file that was read and the purpose of its offer, by the device's descriptor and identifiers.
+/// Makes a host for a parsed file and the purpose of its offer, from the device's descriptor and identifiers.
 fn open<'f>(
     file: &File<'f>,
     functional: &Functional,
@@ -72,7 +72,7 @@ pub fn begin<'f>(
     }
 }
 
-/// Begins an upload, or returns the fault for which it is refused. The host takes no memory yet, and keeps the allocator.
+/// Begins an upload, or returns the fault if the upload is refused. The host allocates no memory yet, but keeps the allocator.
 pub(crate) fn upload<M: Medium>(
     alloc: Global,
     device: &Device<M>,

@@ -19,7 +19,7 @@ use dfu_host::{Action, Host, Limits, Report, Seen};
 use dfu_slots::{Faulty, Medium};
 use std::alloc::Global;
 
-/// Returns the report of a host that is done; None for any other host.
+/// Returns the report of a host that is done, or None for any other host.
 fn report(host: &Host<'_>) -> Option<Report>
     ensures { result ≡ report_of_phase host.now.phase }
 {
@@ -29,7 +29,8 @@ fn report(host: &Host<'_>) -> Option<Report>
     }
 }
 
-/// Ends the session of a host that is done, and returns its report; None if no host is done. A host that reports Uploaded is kept.
+/// Ends the session of a host that is done, and returns its report, or None if no host is done. A host that reports Uploaded is kept in
+/// `gave`, because it holds the uploaded bytes.
 fn end<'f>(host: &mut Option<Host<'f>>, gave: &mut Option<Host<'f>>) -> Option<Report>
     requires { SessionIsCounted (session_of host.old) }
     ensures session { session_of host.new ≡ (session_outcome (session_of host.old)).session }
@@ -48,8 +49,7 @@ fn end<'f>(host: &mut Option<Host<'f>>, gave: &mut Option<Host<'f>>) -> Option<R
     report
 }
 
-/// Tells the live host, if there is one, that the device was restarted, and returns the report with which its session then ends, if it
-/// does.
+/// Notifies the live host, if there is one, of a restart of the device. If the restart ends its session, returns the session's report.
 fn restart<'f>(host: &mut Option<Host<'f>>, gave: &mut Option<Host<'f>>) -> Option<Report>
     requires sized { SendsBytes (session_of host.old) }
     requires counted { SessionIsCounted (session_of host.old) }
@@ -63,7 +63,7 @@ fn restart<'f>(host: &mut Option<Host<'f>>, gave: &mut Option<Host<'f>>) -> Opti
     end(host, gave)
 }
 
-/// Begins a session for the offer of `file`, or returns the fault for which the offer is refused.
+/// Begins a session for the offer of `file`, or returns the fault if the offer is refused.
 fn offer<'f, M: Medium>(
     device: &Device<M>,
     host: &mut Option<Host<'f>>,
@@ -86,7 +86,7 @@ fn offer<'f, M: Medium>(
     }
 }
 
-/// Gives up the live session, or returns `NoHost` if none is live.
+/// Aborts the live session, or returns `NoHost` if none is live.
 fn abort(host: &mut Option<Host<'_>>) -> Result<Option<Report>, LinkFault>
     requires { SessionIsNotDone (session_of host.old) }
     ensures session { session_of host.new ≡ session_aborted (session_of host.old) }
@@ -101,8 +101,8 @@ fn abort(host: &mut Option<Host<'_>>) -> Result<Option<Report>, LinkFault>
     }
 }
 
-/// Takes the next action of the host, by `fate`. If the action closes an image, the device's program refuses that image by `refusing`, or
-/// refuses none. `out` is room for an answer.
+/// Performs the next action of the host with `fate`. If the action closes a download and `refusing` holds an objection, the device's
+/// program refuses the image. `out` receives the device's response.
 fn take_action<'f, M: Faulty>(
     device: &mut Device<M>,
     host: &mut Option<Host<'f>>,
@@ -122,7 +122,7 @@ fn take_action<'f, M: Faulty>(
     Ok(end(host, gave))
 }
 
-/// Applies `event`. A refused event changes nothing. `out` is room for an answer.
+/// Applies `event`. A refused event changes nothing. `out` receives the device's response to an action.
 pub(crate) fn apply_event<'f, M: Faulty>(
     alloc: Global,
     device: &mut Device<M>,

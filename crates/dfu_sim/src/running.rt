@@ -1,4 +1,4 @@
-//! Runs a list of events.
+//! Runs a list of events, up to the first that is refused.
 
 ghost use Rattle.std.specs.Prelude.{◌≡◌, ◌++◌, ◌<◌, vec_len, vec_capacity};
 ghost use Rattle.dfu_sim.specs.Session.{report_list};
@@ -14,8 +14,8 @@ use dfu_host::Report;
 use dfu_slots::Faulty;
 use std::alloc::Global;
 
-/// Stop of a run, before the event `at` (counted from 0): the event was refused, or there was no memory for its report. `reports` are the
-/// reports of the events before it.
+/// Fault that stopped a run at the event with index `at` (counted from 0): the event was refused, or there was no memory for its report.
+/// `reports` holds the reports of the events before it.
 #[derive(Drop)]
 pub struct Stop {
     pub fault: LinkFault,
@@ -23,7 +23,7 @@ pub struct Stop {
     pub reports: Vec<Report>,
 }
 
-/// Adds `report` to the reports, if there is one.
+/// Appends `report`, if there is one.
 fn note(reports: &mut Vec<Report>, report: Option<Report>)
     requires { vec_len reports.old < vec_capacity reports.old }
     ensures { reports.new.items ≡ reports.old.items ++ report_list report }
@@ -33,17 +33,16 @@ fn note(reports: &mut Vec<Report>, report: Option<Report>)
     }
 }
 
-/// Takes `events` one after the other, up to the first that is refused, and returns their reports. Room for a report is made before each
+/// Applies `events` in order, up to the first that is refused, and returns their reports. Memory for a report is reserved before each
 /// event.
 ///
-/// By `headline` the headline holds after each of the events, if it held before the first: the active image is the factory image or the
-/// payload of a file offered so far. If the event reports Installed or Verified, the device is in appIDLE with the payload of the last
-/// session.
+/// By `headline`, if the headline holds before the first event, it holds after each: the active image is the factory image or the payload
+/// of a file offered so far. If an event reports Installed or Verified, the device is in appIDLE with the payload of the last session.
 ///
 /// # Errors
 ///
-/// `Stop` if an event is refused, with its fault, or if there is no memory for a report, `NoMemory`. The link is then as it was before
-/// that event.
+/// `Stop` with the fault of an event that is refused, or with `NoMemory` if there is no memory for the report of an event. The link is then
+/// in its state before that event.
 pub fn run<'f, M: Faulty>(
     world: &mut World<'f, M>,
     alloc: Global,

@@ -24,13 +24,13 @@ use std::marker::Model;
 
 /// A device, the host of the live session, if there is one, and the bytes of the last upload.
 ///
-/// Contracts see it as a `WorldView`. Only `step` takes memory, and only in an upload.
+/// Contracts describe it as a `WorldView`. Only `step` allocates memory, and only in an upload.
 #[derive(Drop)]
 pub struct World<'f, M: Faulty> {
     alloc: Global,
     device: Device<M>,
     host: Option<Host<'f>>,
-    // The host of the last session that reported Uploaded, if one did.
+    // The host of the last session that reported Uploaded, if there was one.
     gave: Option<Host<'f>>,
     out: Answered,
 }
@@ -47,15 +47,15 @@ impl<'f, M: Faulty> Model for World<'f, M> {
 }
 
 impl<'f, M: Faulty> World<'f, M> {
-    /// Makes a link to a device, with no session and nothing uploaded. The call disarms the device's medium,
-    /// and keeps the allocator for uploads to come.
+    /// Makes a link to a device, with no session and nothing uploaded. The device's medium is disarmed, and the allocator is kept for
+    /// uploads.
     pub fn new(alloc: Global, device: Device<M>) -> World<'f, M>
         ensures link { result ≡ record { bench = record { device = armed_device device Whole; session = NoLiveSession }; up = [] } }
         ensures active { BenchMatchesFlash result.bench }
     {
         let mut device = device;
         device.disarm();
-        // Called for its clause `image`, which `active` needs; its result isn't used.
+        // The proof of `active` needs the clause `image` of this call; its result is not used.
         let _ = device.slots().capacity();
         World {
             alloc,
@@ -69,21 +69,21 @@ impl<'f, M: Faulty> World<'f, M> {
         }
     }
 
-    /// Applies an event, and returns the report of the session that it ends, if it ends one. Only the parts of an upload take memory;
-    /// if none is left, the session ends with the report NoMemory.
+    /// Applies an event. If the event ends a session, returns the report of that session. Only the parts of an upload take memory; if none
+    /// is left, the session ends with the report NoMemory.
     ///
-    /// By `headline` the headline holds after the event with the report that is returned, if it held before: the active image is the
-    /// factory image or the payload of a file offered so far. If the report is Installed or Verified, the device is then in appIDLE,
-    /// and the payload of the session that reports is the active image.
+    /// By `headline`, if the headline holds before the event, it holds after it with the returned report: the active image is the factory
+    /// image or the payload of a file offered so far. If the report is Installed or Verified, the device is in appIDLE, and the payload of
+    /// the session that reports is the active image.
     ///
     /// # Errors
     ///
     /// A refused event changes nothing. The faults, in the order in which they are checked:
     ///
     /// 1. `HostBusy`: an offer or an upload while a session is live.
-    /// 2. `NoHost`: an abort or an action, whatever its fate and whether the program refuses an image in it, while no session is live.
-    /// 3. `BadOffer`: of an offer, the fault of `dfu_suffix::read`, else that of `Host::download` or
-    ///    `Host::download_verified`; of an upload, that of `Host::upload`.
+    /// 2. `NoHost`: an abort or an action of any fate (`Go`, `GoRefused`) while no session is live.
+    /// 3. `BadOffer`: for an offer, the fault of `dfu_suffix::read`, else that of `Host::download` or
+    ///    `Host::download_verified`; for an upload, that of `Host::upload`.
     pub fn step(&mut self, event: Event<'f, '_>) -> Result<Option<Report>, LinkFault>
         ensures play { WorldEventResult self.old (happening event.entry) self.new result }
         ensures legal { AllMachinesFollow self.old (happening event.entry) self.new result }
@@ -100,12 +100,12 @@ impl<'f, M: Faulty> World<'f, M> {
             event,
             &mut self.out,
         );
-        // Called for its clause `image`, which `active` needs; its result isn't used.
+        // The proof of `active` needs the clause `image` of this call; its result is not used.
         let _ = self.device.slots().capacity();
         told
     }
 
-    /// Returns the phase of the live host and its next action; None if no session is live.
+    /// Returns the phase of the live host and its next action, or None if no session is live.
     pub fn asks(&self) -> Option<(Phase, Action<'f>)>
         ensures { IfNone result (self.now.bench.session ≡ NoLiveSession) }
     {
@@ -115,8 +115,9 @@ impl<'f, M: Faulty> World<'f, M> {
         }
     }
 
-    /// Returns the answer of the device to the host's last action, with its bytes, also if the answer was lost on its way back. No contract
-    /// covers the result, because it is for a trace.
+    /// Returns the answer of the device to the host's last action, with its bytes, even if the answer was lost on its way to the host.
+    /// Returns None if that action was no request, if the request did not reach the device, or if there was no action yet. No contract
+    /// covers the result, because only traces use it.
     pub fn answered(&self) -> Option<(Answer, &[u8])> {
         match self.out.came {
             Response::Answered(answer) => Some((answer, self.out.bytes.as_slice())),
@@ -124,8 +125,8 @@ impl<'f, M: Faulty> World<'f, M> {
         }
     }
 
-    /// Returns the bytes of the last session that reported Uploaded: by `gives` of `step` the device's active image at that time. Before
-    /// the first such session there are none.
+    /// Returns the bytes of the last session that reported Uploaded; by `gives` of `step` they were the device's active image at that time.
+    /// Before the first such session the slice is empty.
     pub fn uploaded(&self) -> &[u8]
         ensures { result.now ≡ self.now.up }
     {
@@ -135,7 +136,7 @@ impl<'f, M: Faulty> World<'f, M> {
         }
     }
 
-    /// Returns the device.
+    /// Returns the device in its state after all events so far.
     pub fn device(&self) -> &Device<M>
         ensures device { result.now ≡ self.now.bench.device }
         ensures active { BenchMatchesFlash self.now.bench }
@@ -143,7 +144,7 @@ impl<'f, M: Faulty> World<'f, M> {
         &self.device
     }
 
-    /// Returns the device, and drops the uploaded bytes; while a session is live, returns the link unchanged, as the error.
+    /// Returns the device, and drops the uploaded bytes. While a session is live, returns the unchanged link as the error.
     pub fn into_device(self) -> Result<Device<M>, World<'f, M>>
         ensures ok { IfOk result (λ device. (self.entry.bench.session ≡ NoLiveSession) × (device ≡ self.entry.bench.device)) }
         ensures err { IfErr result (λ world. IsLive self.entry.bench.session × (world ≡ self.entry)) }
@@ -156,7 +157,7 @@ impl<'f, M: Faulty> World<'f, M> {
         }
     }
 
-    /// Returns whether a session is live.
+    /// Returns true if a session is live.
     pub fn is_live(&self) -> bool
         ensures live { result ≡ true → IsLive self.now.bench.session }
         ensures none { result ≡ false → self.now.bench.session ≡ NoLiveSession }
@@ -167,8 +168,8 @@ impl<'f, M: Faulty> World<'f, M> {
         }
     }
 
-    /// Returns the device, also while a session is live, which ends with the link and reports nothing. The bytes of an upload are dropped.
-    /// (A function of its own: within `into_device` the device would be moved piece by piece, in half a megabyte of code.)
+    /// Returns the device, even while a session is live. That session ends without a report, and the bytes of an upload are dropped. This
+    /// is a separate function, because inside `into_device` the compiler would move the device field by field, in half a megabyte of code.
     #[inline(never)]
     pub fn release(self) -> Device<M>
         ensures device { result ≡ self.entry.bench.device }

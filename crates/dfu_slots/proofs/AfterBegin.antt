@@ -1,4 +1,4 @@
--- Store after `begin`.
+-- Facts about the store that `begin` leaves.
 use Rattle.std.proofs.Common.{◌≡◌, ℕ, true, Result, Ok, Err, OnErr, sym, ◌∙◌, ap, subst}
 use Rattle.dfu_slots.specs.declared.fault.PutFault.{PutFault}
 use Rattle.dfu_slots.specs.Layout.{Slot, HasOpenGate}
@@ -9,12 +9,12 @@ use Rattle.dfu_slots.specs.Changes.{CallIsBroken, CallChanges}
 use Rattle.dfu_slots.specs.CallResults.{StoreBeginResult}
 use Rattle.dfu_slots.specs.inside.PlaceMemory.{RemembersPlaces}
 use Rattle.dfu_slots.proofs.Stands.{active_image_at_its_place}
-use Rattle.dfu_slots.proofs.Begun.{begin_keeps_size, begin_keeps_active_image, begin_keeps_spare_data, begin_closes_gate}
-use Rattle.dfu_slots.proofs.Seeing.{closed_gate_is_begun, fresh_spare_is_medium_data, medium_makes_store, store_is_fresh}
-use Rattle.dfu_slots.proofs.Stays.{ActiveImageStays, places_kept_by_store, staying_image_keeps_places, staying_image_exists, active_slot_stays, staying_image_is_seen, staying_room_is_kept, spare_same_by_grain}
+use Rattle.dfu_slots.proofs.BeginMedium.{begin_keeps_size, begin_keeps_active_image, begin_keeps_spare_data, begin_closes_gate}
+use Rattle.dfu_slots.proofs.VisibleStores.{closed_gate_is_begun, fresh_spare_is_medium_data, medium_makes_store, store_is_fresh}
+use Rattle.dfu_slots.proofs.UnchangedSlots.{ActiveImageStays, places_kept_by_store, staying_image_keeps_places, staying_image_exists, active_slot_stays, staying_image_is_seen, staying_room_is_kept, spare_same_by_grain}
 use Rattle.dfu_slots.proofs.AfterCall.{begin_is_never_refused, CallWasNotRefused, holds_after_any_result, holds_after_ok_call, store_is_fresh_after_fault, calls_share_one_result}
 
--- Facts after a `begin` whose write worked, or was broken off.
+-- Facts after a `begin` that worked or that a fault interrupted.
 module _ (s now : SlotsState) (has : HasImage s.medium) (came : CallWasNotRefused s now Begin) where
   image_stays_after_begin : ActiveImageStays s now has
   image_stays_after_begin =
@@ -44,13 +44,13 @@ image_stays_at_begin s now has result fault changes =
     holds_after_any_result s now Begin result (begin_is_never_refused s result fault) changes (image_stays_after_begin s now has)
     (active_slot_stays s now has)
 
--- After any result of `begin` nothing is held back, and the puts end at 0.
+-- After any result of `begin` no bytes are held back, and put_end is 0.
 store_is_fresh_after_begin : {T : Type 0} (s now : SlotsState) (result : Result T PutFault) → OnErr result (CallIsBroken result)
     → CallChanges s Begin result now → now ≡ store_on now.medium
 store_is_fresh_after_begin s now (Ok x) fault worked = store_is_fresh now.medium now.held now.put_end worked.held_is worked.end_is
 store_is_fresh_after_begin {T} s now (Err e) fault changes = store_is_fresh_after_fault {T = T} s now Begin (Err e) changes fault
 
--- The result of `steps::begin` on a store that is seen as `v` is what `begin` promises for `v`, and the store keeps its places.
+-- The contract of `begin` holds for the result of `steps::begin`, and the offsets that the store caches stay valid.
 pub begin_keeps_places : {T : Type 0} {s v : SlotsState} {active spare : ℕ} → s ≡ v → RemembersPlaces s active spare → (now : SlotsState)
     (result : Result T PutFault) → OnErr result (CallIsBroken result) → CallChanges s Begin result now
     → RemembersPlaces now active spare × StoreBeginResult v result now

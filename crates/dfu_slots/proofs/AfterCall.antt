@@ -1,4 +1,4 @@
--- Facts of the store that hold after `begin`, `put` and `commit` alike.
+-- Facts about the store that hold after `begin`, `put` and `commit` alike.
 use Rattle.std.proofs.Common.{◌≡◌, ◌⊎◌, inl, inr, ⊎_elim, true, false, ℕ, ◌+◌, ◌≤◌, ◌<◌, List, length, Result, Ok, Err, OnOk, OnErr, IsErrOf, ◌↔◌, refl, sym, ◌∙◌, subst, arith}
 use Rattle.std.proofs.lemmas.Bool.{cases_lt, true_from_ne_false, true≢false}
 use Rattle.dfu_slots.specs.declared.fault.PutFault.{PutFault}
@@ -14,10 +14,10 @@ use Rattle.dfu_slots.specs.Store.{IsStore}
 use Rattle.dfu_slots.specs.Changes.{CallIsBroken, ending_of, CallChanges}
 use Rattle.dfu_slots.specs.CallResults.{is_gate_ready, reached_end, CallIsRefused, StoreCallResult}
 use Rattle.dfu_slots.proofs.Series.{WritesEnded, writes_lower_no_count, broken_writes_lower_no_count, broken_writes_raise_count}
-use Rattle.dfu_slots.proofs.Seeing.{seen_image_is_active, store_has_shape, room_is_capacity, put_end_within_room, store_is_fresh, medium_makes_fresh_store}
-use Rattle.dfu_slots.proofs.Seeing.{begun_gate_is_closed, closed_gate_is_begun, open_gate_not_begun, not_begun_gate_is_open}
+use Rattle.dfu_slots.proofs.VisibleStores.{seen_image_is_active, store_has_shape, room_is_capacity, put_end_within_room, store_is_fresh, medium_makes_fresh_store}
+use Rattle.dfu_slots.proofs.VisibleStores.{begun_gate_is_closed, closed_gate_is_begun, open_gate_not_begun, not_begun_gate_is_open}
 
--- Refused calls.
+-- Lemmas about refused calls.
 
 begin_refusal_without_fault : {T : Type 0} (s : SlotsState) (result : Result T PutFault) → ¬ IsErrOf result NotBegun →
     ¬ IsErrOf result TooLarge
@@ -39,7 +39,7 @@ module _ {T : Type 0} (s : SlotsState) (result : Result T PutFault) (not_begun :
   not_begun_iff_gate_open : IsErrOf result NotBegun ↔ (is_begun s ≡ false)
   not_begun_iff_gate_open = (λ e. open_gate_not_begun s (not_begun.0 e), λ off. not_begun.1 (not_begun_gate_is_open s off))
 
-  -- A `put` is refused with NotBegun if the spare is open, and else with TooLarge if it ends past the capacity.
+  -- A `put` is refused with NotBegun if the spare's gate is open, otherwise with TooLarge if its bytes end beyond the capacity.
   pub put_is_refused_by_cause : (at : ℕ) (new : List ℕ)
       → (IsErrOf result TooLarge ↔ ((¬ HasOpenGate (spare_slot s)) × (capacity_of s.medium < at + length new)))
       → CallIsRefused s (Put at new) result
@@ -51,14 +51,15 @@ module _ {T : Type 0} (s : SlotsState) (result : Result T PutFault) (not_begun :
     );
   }
 
-  -- A `commit` is refused if the spare is open, and never for its length, because the bytes put lie within the capacity.
+  -- A `commit` is refused if the spare's gate is open, and never for its length, because the bytes put lie within the capacity.
   pub commit_is_refused_by_cause : IsStore s → (len : ℕ) → len ≤ s.put_end → ¬ IsErrOf result TooLarge → CallIsRefused s (Commit len) result
   commit_is_refused_by_cause store len le never = record {
     not_begun = not_begun_iff_gate_open;
     too_large = (λ e. absurd (never e), λ large. absurd (omega (arith, le, put_end_within_room store, large.1)));
   }
 
--- A call was not refused: the gate was ready, the store had room, and all writes of the call worked or one of them failed.
+-- A call was not refused: the gate was as the call requires, the bytes end within the capacity, and the writes all worked or one of them
+-- failed.
 pub record CallWasNotRefused (s now : SlotsState) (kind : StoreCall) : Type 0 where
   pub ready : is_gate_ready s kind ≡ true
   pub fits : reached_end kind ≤ room_of s
@@ -78,7 +79,7 @@ module _ {T : Type 0} (s now : SlotsState) (kind : StoreCall) (result : Result T
     ends = ends;
   }
 
--- A call was made, or it was refused and changed nothing.
+-- Either a call was not refused, or it changed nothing.
 pub call_made_or_refused : {T : Type 0} (s now : SlotsState) (kind : StoreCall) (result : Result T PutFault) → CallIsRefused s kind result
     → CallChanges s kind result now → CallWasNotRefused s now kind ⊎ (now ≡ s)
 call_made_or_refused {T} s now kind (Ok x) refuses worked =
@@ -89,14 +90,14 @@ call_made_or_refused {T} s now kind (Err NotVerified) refuses failed =
     inl (came {T = T} s now kind (Err NotVerified) refuses (λ e. cc) (λ e. cc) (inr (WriteNotVerified, failed.writes)))
 call_made_or_refused s now kind (Err _) refuses same = inr same
 
--- A fact holds after every call if it holds after each call that was made, and after a refusal, which changes nothing.
+-- A fact that holds after each call that was not refused, and also if nothing changed, holds after every call.
 pub holds_after_any_result : {T P : Type 0} (s now : SlotsState) (kind : StoreCall) (result : Result T PutFault) →
     CallIsRefused s kind result
     → CallChanges s kind result now → (CallWasNotRefused s now kind → P) → (now ≡ s → P) → P
 holds_after_any_result s now kind result refuses changes coming refused = ⊎_elim coming refused (call_made_or_refused s now kind result
     refuses changes)
 
--- A fact holds after Ok if it holds after each call whose writes all worked.
+-- If a fact holds after each call whose writes all worked, it holds after Ok.
 pub holds_after_ok_call : {T P : Type 0} (s now : SlotsState) (kind : StoreCall) (result : Result T PutFault) → CallIsRefused s kind result
     → CallChanges s kind result now → (CallWasNotRefused s now kind → CallWorked s kind now → P) → OnOk result P
 holds_after_ok_call {T} s now kind (Ok x) refuses worked leaves =
@@ -113,7 +114,7 @@ pub fact_holds_after_err : {T E P : Type 0} (result : Result T E) → P → OnEr
 fact_holds_after_err (Ok x) p = tt
 fact_holds_after_err (Err e) p = p
 
--- Ending of a call, by its result.
+-- Lemmas about the ending of a call, which its result determines.
 
 worked_call_has_its_ending : (s now : SlotsState) (kind : StoreCall) → CallWorked s kind now → CallEnding s kind AllWorked now
 worked_call_has_its_ending s now kind worked = record {
@@ -139,7 +140,7 @@ call_has_its_ending s now kind (Err NotVerified) begun small failed = failed_cal
 call_has_its_ending s now kind (Err TooLarge) begun small same = absurd (small refl)
 call_has_its_ending s now kind (Err NotBegun) begun small same = absurd (begun refl)
 
--- A call that was broken off made its writes up to one that had a fault.
+-- If a fault interrupted a call, one of the call's writes had that fault.
 broken_call_has_a_fault : {T : Type 0} (s now : SlotsState) (kind : StoreCall) (result : Result T PutFault) → CallChanges s kind result now
     → CallIsBroken result
     → (fault : WriteFault) × CallFailed fault s kind now
@@ -154,7 +155,7 @@ count_rose_at_broken_call s now kind result changes broken =
     let f = broken_call_has_a_fault s now kind result changes broken in
     broken_writes_raise_count f.0 (writes_of s kind) s.medium now.medium f.1.writes
 
--- After a call that a fault broke off nothing is held back, and the puts end at 0.
+-- After a fault interrupted a call, no bytes are held back, and put_end is 0.
 pub store_is_fresh_after_fault : {T : Type 0} (s now : SlotsState) (kind : StoreCall) (result : Result T PutFault) →
     CallChanges s kind result now
     → CallIsBroken result → now ≡ store_on now.medium
@@ -162,7 +163,7 @@ store_is_fresh_after_fault s now kind result changes broken =
     let f = broken_call_has_a_fault s now kind result changes broken in
     store_is_fresh now.medium now.held now.put_end f.1.held_is f.1.end_is
 
--- A call leaves a store after any result, if it does so after Ok and the medium has an image.
+-- If a call leaves a consistent store after Ok, and the medium still has an image, the call leaves a consistent store after any result.
 pub call_leaves_a_store : {T : Type 0} (s now : SlotsState) (kind : StoreCall) (result : Result T PutFault) → CallChanges s kind result now
     → IsStore s
     → HasImage now.medium → OnOk result (IsStore now) → IsStore now
@@ -173,7 +174,7 @@ call_leaves_a_store s now kind (Err NotVerified) failed store has after =
     (medium_makes_fresh_store has failed.held_is failed.end_is).store
 call_leaves_a_store s now kind (Err _) same store has after = subst IsStore (sym same) store
 
--- The part of the result that the calls have in common holds if the call leaves a store with the same room.
+-- If a call leaves a store with the same capacity, the result of the call satisfies StoreCallResult.
 pub calls_share_one_result : {T : Type 0} (s now : SlotsState) (kind : StoreCall) (result : Result T PutFault) → CallIsRefused s kind result
     → CallChanges s kind result now → IsStore now → room_of now ≡ room_of s → StoreCallResult s kind result now
 calls_share_one_result s now kind result refuses changes store room = record {

@@ -1,4 +1,4 @@
--- Store after `commit`.
+-- Facts about the store that `commit` leaves.
 use Rattle.std.proofs.Common.{◌≡◌, ◌⊎◌, inl, inr, ⊎_elim, ℕ, ◌+◌, ◌≤◌, List, length, take, Result, IsErrOf, ◌↔◌, sym, ◌∙◌, ap, subst, arith}
 use Rattle.dfu_suffix.specs.Register.{register}
 use Rattle.dfu_slots.specs.declared.fault.PutFault.{PutFault}
@@ -16,7 +16,7 @@ use Rattle.dfu_slots.proofs.Newest.{test_finds_active_image, slot_place_ends_wit
 use Rattle.dfu_slots.proofs.Multiples.{held_bytes_end_at_put_end, filled_held_fits_capacity}
 use Rattle.dfu_slots.proofs.Series.{SameSize, writes_keep_size}
 use Rattle.dfu_slots.proofs.Committed.{commit_writes_inside_spare, commit_activates_new_image, broken_commit_leaves_either}
-use Rattle.dfu_slots.proofs.Seeing.{image_is, begun_gate_is_closed, active_on_same_size, room_kept_on_same_size, spare_is_data_with_held, store_is_fresh, medium_makes_fresh_store}
+use Rattle.dfu_slots.proofs.VisibleStores.{image_is, begun_gate_is_closed, active_on_same_size, room_kept_on_same_size, spare_is_data_with_held, store_is_fresh, medium_makes_fresh_store}
 use Rattle.dfu_slots.proofs.AfterCall.{commit_is_refused_by_cause, CallWasNotRefused, holds_after_any_result, holds_after_ok_call, fact_holds_after_err, call_leaves_a_store, calls_share_one_result}
 
 module _ (s now : SlotsState) (store : IsStore s) (len : ℕ) (le : len ≤ s.put_end) (came : CallWasNotRefused s now (Commit len)) where
@@ -57,7 +57,7 @@ module _ (s now : SlotsState) (store : IsStore s) (len : ℕ) (le : len ≤ s.pu
   room_kept_after_commit : room_of now ≡ room_of s
   room_kept_after_commit = room_kept_on_same_size s now size_kept_after_commit
 
-  -- An image that is active at its place after `commit` is the active image of the medium.
+  -- An image that satisfies ActiveAt after `commit` is the active image of the medium.
   active_at_place_is_active : (at spare : ℕ) (image : List ℕ) → ActiveAt g now.medium.bytes at spare image → Active now.medium image
   active_at_place_is_active at spare image stands = active_on_same_size at spare image size_kept_after_commit has.active.sized.whole stands
 
@@ -122,7 +122,7 @@ module _ {T : Type 0} (s now : SlotsState) (store : IsStore s) (len : ℕ) (le :
         (λ came worked. store_is_fresh now.medium now.held now.put_end worked.held_is worked.end_is);
   }
 
--- The result of `steps::commit` on a store that is seen as `v` is what `commit` promises for `v`.
+-- The contract of `commit` holds for the result of `steps::commit`.
 pub commit_result_holds : {T : Type 0} {s v : SlotsState} → s ≡ v → IsStore s → (now : SlotsState) (len : ℕ) → len ≤ v.put_end
     → (result : Result T PutFault) → (IsErrOf result NotBegun ↔ HasOpenGate (spare_slot s)) → ¬ IsErrOf result TooLarge
     → CallChanges s (Commit len) result now → StoreCommitResult v len result now

@@ -1,4 +1,4 @@
--- Store after `put`.
+-- Facts about the store that `put` leaves.
 use Rattle.std.proofs.Common.{◌≡◌, ℕ, ◌+◌, ◌-◌, ◌*◌, ◌/◌, ◌%◌, ◌≤◌, ◌<◌, List, ◌++◌, length, take, Result, IsErrOf, ◌↔◌, sym, ◌∙◌, ap, subst, arith, length-append, take-append-drop}
 use Rattle.std.proofs.lemmas.List.{length-take-le, append_assoc}
 use Rattle.dfu_slots.specs.declared.fault.PutFault.{PutFault}
@@ -19,13 +19,13 @@ use Rattle.dfu_slots.proofs.Sectors.{IsSectorEdge, gate_room_at_least_16}
 use Rattle.dfu_slots.proofs.Multiples.{rest_at_most_length, rest_of_sum_by_rests, held_bytes_end_at_put_end}
 use Rattle.dfu_slots.proofs.Series.{AllWritesInside}
 use Rattle.dfu_slots.proofs.SpareData.{SpareDataResult, closed_spare_data_result, write_is_in_spare_data, write_extends_spare_front}
-use Rattle.dfu_slots.proofs.Anew.{LeavesBytesAt}
-use Rattle.dfu_slots.proofs.Within.{written_bytes_after_front}
+use Rattle.dfu_slots.proofs.WritesWithErases.{LeavesBytesAt}
+use Rattle.dfu_slots.proofs.WritesWithinRanges.{written_bytes_after_front}
 use Rattle.dfu_slots.proofs.Edges.{slot_ends_at_edge}
-use Rattle.dfu_slots.proofs.PutAhead.{erased_ahead_of_put}
-use Rattle.dfu_slots.proofs.Put.{whole_units_at_most_length, put_rest_is_all_but_units, put_writes_lie_inside, put_leaves_whole_units, put_is_one_write_in_place, put_with_rest_is_all_bytes, put_follows_held_bytes}
-use Rattle.dfu_slots.proofs.Seeing.{room_is_capacity, begun_gate_is_closed, spare_is_data_with_held, same_gate_same_begun}
-use Rattle.dfu_slots.proofs.Stays.{ActiveImageStays, places_kept_by_store, staying_image_keeps_places, staying_image_exists, active_slot_stays, staying_image_is_seen, staying_room_is_kept, spare_same_by_grain}
+use Rattle.dfu_slots.proofs.PutBytes.{erased_ahead_of_put}
+use Rattle.dfu_slots.proofs.PutWrites.{whole_units_at_most_length, put_rest_is_all_but_units, put_writes_lie_inside, put_leaves_whole_units, put_is_one_write_in_place, put_with_rest_is_all_bytes, put_follows_held_bytes}
+use Rattle.dfu_slots.proofs.VisibleStores.{room_is_capacity, begun_gate_is_closed, spare_is_data_with_held, same_gate_same_begun}
+use Rattle.dfu_slots.proofs.UnchangedSlots.{ActiveImageStays, places_kept_by_store, staying_image_keeps_places, staying_image_exists, active_slot_stays, staying_image_is_seen, staying_room_is_kept, spare_same_by_grain}
 use Rattle.dfu_slots.proofs.AfterCall.{put_is_refused_by_cause, CallWasNotRefused, holds_after_any_result, holds_after_ok_call, fact_holds_after_ok, call_leaves_a_store, calls_share_one_result}
 
 module _ (s now : SlotsState) (store : IsStore s) (at : ℕ) (new : List ℕ) (here : at ≡ s.put_end) where
@@ -60,7 +60,7 @@ module _ (s now : SlotsState) (store : IsStore s) (at : ℕ) (new : List ℕ) (h
       (data_place s (at - length s.held)) spare_end_is_sector_edge (omega (arith, place))
       (omega (arith, place, fits, here, all_length_is_sum, held_bytes_end_at_put_end s store.puts, store.has_image.active.sized.room))
 
-  -- Facts after a `put` whose writes worked, or were broken off.
+  -- Facts after a `put` that worked or that a fault interrupted.
   module _ (came : CallWasNotRefused s now (Put at new)) where
     fits : at + length new ≤ capacity_of s.medium
     fits = omega (arith, came.fits, room_is_capacity s)
@@ -96,7 +96,7 @@ module _ (s now : SlotsState) (store : IsStore s) (at : ℕ) (new : List ℕ) (h
         ∙ rest_of_sum_by_rests s.medium.grain.unit s.put_end (length new)
         ∙ ap (λ (n : ℕ). n % unit_size s.medium.grain.unit) (ap (λ (n : ℕ). n + length new) (sym here) ∙ sym worked.end_is)
 
-    -- The place of the held bytes advances by the whole units that were written.
+    -- A `put` moves the offset of the held bytes forward by the length of the whole units that it wrote.
     held_place_advances_by_units : held_data_place now ≡ held_data_place s + whole
     held_place_advances_by_units = omega (
       arith,
@@ -165,7 +165,7 @@ module _ (s now : SlotsState) (store : IsStore s) (at : ℕ) (new : List ℕ) (h
       part = held_length_is_rest_of_put_end ∙ ap (λ (w : Grain). now.put_end % unit_size w.unit) (sym grain_stays_after_put);
     }
 
-    -- The spare's data has the whole units right after the bytes written before.
+    -- After a `put` the spare's data begins with the bytes written before, directly followed by the new whole units.
     spare_data_begins_after_put : take (held_data_place s + whole) (spare_slot now).data_bytes
         ≡ take (held_data_place s) (spare_slot s).data_bytes ++ take whole all
     spare_data_begins_after_put =
@@ -285,7 +285,7 @@ module _ {T : Type 0} (s now : SlotsState) (store : IsStore s) (at : ℕ) (new :
     shut = fact_holds_after_ok result (same_gate_same_begun s now gate_stays_at_put);
   }
 
--- The result of `steps::put` on a store that is seen as `v` is what `put` promises for `v`, and the store keeps its places.
+-- The contract of `put` holds for the result of `steps::put`, and the offsets that the store caches stay valid.
 pub put_keeps_places : {T : Type 0} {s v : SlotsState} {active spare : ℕ} → s ≡ v → RemembersPlaces s active spare
     → (now : SlotsState) (at : ℕ)
     (new : List ℕ) → at ≡ v.put_end → (result : Result T PutFault) → (IsErrOf result NotBegun ↔ HasOpenGate (spare_slot s))

@@ -1,4 +1,4 @@
--- Medium that `commit` leaves.
+-- Facts about the medium that `commit` leaves.
 use Rattle.std.proofs.Common.{◌≡◌, ◌⊎◌, inl, inr, ⊎_elim, ℕ, ◌+◌, ◌-◌, ◌*◌, ◌^◌, ◌≤◌, ◌<◌, List, length, take, replicate, slice_index, slice_range, sym, ◌∙◌, ap, subst, arith, length-append}
 use Rattle.std.proofs.lemmas.List.{length-take-le}
 use Rattle.std.proofs.lemmas.Bool.{cases_eq}
@@ -11,18 +11,18 @@ use Rattle.dfu_slots.specs.Units.{Grain, gate_size, gate_room, IsWhole}
 use Rattle.dfu_slots.specs.Writes.{erasing_write, commit_writes}
 use Rattle.dfu_slots.proofs.Sectors.{IsSectorEdge, gate_unit_at_least_16, gate_room_at_least_16}
 use Rattle.dfu_slots.proofs.Edges.{header_begins_at_edge, data_begins_at_edge}
-use Rattle.dfu_slots.proofs.Anew.{IsWrittenAfterErases, write_with_erases_inside, write_goes_over_erases}
+use Rattle.dfu_slots.proofs.WritesWithErases.{IsWrittenAfterErases, write_with_erases_inside, write_goes_over_erases}
 use Rattle.dfu_slots.proofs.Stands.{ActiveAt}
 use Rattle.dfu_slots.proofs.Counting.{formed_header_has_its_length, version_two_header_is_formed}
-use Rattle.dfu_slots.proofs.Torn.{whole_write_is_torn, written_bytes_in_range, two_changes_are_one_change, wider_frame_holds}
+use Rattle.dfu_slots.proofs.BytesOutsideWrite.{whole_write_is_torn, written_bytes_in_range, two_changes_are_one_change, wider_frame_holds}
 use Rattle.dfu_slots.proofs.ReadBack.{first_part_is_stored}
 use Rattle.dfu_slots.proofs.Parts.{gate_unit_has_size, header_unit_has_size, header_kept_outside_change, data_kept_outside_change, data_length, slot_size_kept_by_change, same_length_has_two_slots}
 use Rattle.dfu_slots.proofs.Newest.{test_finds_active_image, slot_place_ends_within}
 use Rattle.dfu_slots.proofs.Kept.{active_slot_kept, closed_slot_change_keeps_image, active_image_kept}
 use Rattle.dfu_slots.proofs.Series.{AllWritesInside, writes_inside_keep_rest, broken_writes_keep_rest, list_has_two_parts, either_part_was_broken}
-use Rattle.dfu_slots.proofs.Begun.{unit_begins_with_gate}
+use Rattle.dfu_slots.proofs.BeginMedium.{unit_begins_with_gate}
 
--- A header unit that was written begins with its header.
+-- After a header unit is written, its range begins with the 16 bytes of the header.
 pub unit_begins_with_header : (g : ℕ) → 16 ≤ g → (old : List ℕ) (p gen len crc : ℕ) → p + g ≤ length old
     → slice_range (written old p (header_unit g gen len crc)) p (p + 16) ≡ header 2 gen len crc
 unit_begins_with_header g wide old p gen len crc fits =
@@ -36,7 +36,7 @@ unit_begins_with_header g wide old p gen len crc fits =
     ∙ first_part_is_stored (written old p unit) p (header 2 gen len crc) zeros
     (omega (arith, (whole_write_is_torn old p unit room).size, parts, room)) (written_bytes_in_range old p unit room)
 
--- A slot with the header and the data of a new image, whose gate is open or closed.
+-- Facts about a slot that holds the header and the data of a new image, with an open or a closed gate.
 
 module _ (g : ℕ) (wide : 16 ≤ g) (old mid left : List ℕ) (mine other : ℕ) (image : List ℕ) (a : ActiveAt g old mine other image)
     (len : ℕ) (whole : List ℕ) (fits : len ≤ length whole) (bound : len < 2 ^ 32)
@@ -75,13 +75,13 @@ module _ (g : ℕ) (wide : 16 ≤ g) (old mid left : List ℕ) (mine other : ℕ
   slot_has_new_generation : generation (slot g left other) ≡ gen
   slot_has_new_generation = ap (λ (h : List ℕ). slice_index h 0) slot_has_new_header
 
-  -- The header of the slot is well formed for the new image, with an open or a closed gate.
+  -- The slot's header is well formed for the new image, with an open or a closed gate.
   new_header_well_formed : HasHeader (slot g left other) len
   new_header_well_formed = version_two_header_is_formed (slot g left other) gen len
       (slot_has_new_header ∙ ap (λ (d : List ℕ). header 2 gen len (register (take len d))) (sym slot_has_new_data))
       (omega (arith, ap length slot_has_new_data, fits))
 
-  -- If its gate is open, the slot is the newest, and the new image is active.
+  -- If the slot's gate is open, the slot is the newest, and the new image is active.
   pub new_image_active_if_open : HasOpenGate (slot g left other) → ActiveAt g left other mine spare_front_image
   new_image_active_if_open is_open = record {
     sized = same_length_has_two_slots g old left change_within_spare.size a.sized;
@@ -100,7 +100,7 @@ module _ (g : ℕ) (wide : 16 ≤ g) (old mid left : List ℕ) (mine other : ℕ
         ∙ ap (λ (d : List ℕ). take (length spare_front_image) d) (sym slot_has_new_data);
   }
 
-  -- If its gate is closed, the slot does not count, and the old image stays active.
+  -- If the slot's gate is closed, the slot doesn't count, and the old image stays active.
   pub old_image_stays_if_closed : ¬ HasOpenGate (slot g left other) → ActiveAt g left mine other image
   old_image_stays_if_closed shut = active_image_kept g wide old left mine other image other (other + slot_size old) a change_within_spare
       (omega arith) (omega arith)
@@ -113,7 +113,7 @@ module _ (g : ℕ) (wide : 16 ≤ g) (old mid left : List ℕ) (mine other : ℕ
         ↦ inl (old_image_stays_if_closed shut)
   ]
 
--- The writes of a commit.
+-- Facts about the writes of a commit.
 
 module _ (w : Grain) (s : MediumState) (mine other : ℕ) (image : List ℕ) (a : ActiveAt (gate_room w) s.bytes mine other image)
     (whole : IsWhole w (capacity (gate_room w) s.bytes)) (shut : ¬ HasOpenGate (slot (gate_room w) s.bytes other))
@@ -121,7 +121,7 @@ module _ (w : Grain) (s : MediumState) (mine other : ℕ) (image : List ℕ) (a 
   abbrev g : ℕ
   g = gate_room w
 
-  -- Bytes of a gate unit; a header unit has as many.
+  -- Size of a gate unit or a header unit, in bytes.
   abbrev k : ℕ
   k = gate_size w.unit
 
@@ -183,7 +183,7 @@ module _ (w : Grain) (s : MediumState) (mine other : ℕ) (image : List ℕ) (a 
   bound : len < 2 ^ 32
   bound = omega (arith, fits, a.sized.bound)
 
-  -- Facts after all writes of a commit except the gate's.
+  -- Facts after all writes of a commit except the write of the gate.
   module _ (mid : MediumState) (first : AllWrites s writes_before_gate mid) where
     header_write_within_header : ChangedWithin (other + g) (other + 2 * g) was mid.bytes
     header_write_within_header = writes_inside_keep_rest (other + g) (other + 2 * g) writes_before_gate s mid (omega (
@@ -246,7 +246,7 @@ module _ (w : Grain) (s : MediumState) (mine other : ℕ) (image : List ℕ) (a 
       )) bound
       (header_write_within_slot mid first) torn (header_is_new_before_gate mid first) (data_is_kept_before_gate mid first) is_open)
 
-  -- After the writes of a commit up to one that failed, the old image or the new one is active.
+  -- If a write of a commit fails, the old image or the new one is active.
   pub broken_commit_leaves_one : (fault : WriteFault) (now : MediumState) → BrokenWrites fault s (commit_writes w was len crc) now
       → ActiveAt g now.bytes mine other image
       ⊎ ActiveAt g now.bytes other mine new_image

@@ -1,4 +1,4 @@
--- Medium after `commit`: the held bytes are written, and then the image is put in place.
+-- Facts about the medium after `commit`, which writes the held bytes and then opens the slot of the new image.
 use Rattle.std.proofs.Common.{◌≡◌, ◌⊎◌, inl, inr, ℕ, ◌+◌, ◌-◌, ◌*◌, ◌≤◌, List, ◌++◌, length, take, replicate, sym, ◌∙◌, ap, subst, arith, length-append}
 use Rattle.dfu_slots.specs.declared.layout.Unit.{Unit as WriteUnit}
 use Rattle.dfu_suffix.specs.Register.{register}
@@ -12,11 +12,11 @@ use Rattle.dfu_slots.proofs.Stands.{ActiveAt}
 use Rattle.dfu_slots.proofs.Parts.{slot_size_kept_by_change}
 use Rattle.dfu_slots.proofs.Newest.{test_finds_active_image, slot_place_ends_within, spare_data_has_capacity}
 use Rattle.dfu_slots.proofs.Series.{AllWritesInside, list_has_two_parts, either_part_was_broken, appended_writes_inside}
-use Rattle.dfu_slots.proofs.Anew.{write_some_lies_inside, write_some_leaves_bytes}
+use Rattle.dfu_slots.proofs.WritesWithErases.{write_some_lies_inside, write_some_leaves_bytes}
 use Rattle.dfu_slots.proofs.SlotOpened.{open_writes_in_gate_and_header}
 use Rattle.dfu_slots.proofs.Sectors.{IsSectorEdge, gate_room_at_least_16}
 use Rattle.dfu_slots.proofs.Edges.{slot_ends_at_edge}
-use Rattle.dfu_slots.proofs.Within.{front_shows_written_bytes}
+use Rattle.dfu_slots.proofs.WritesWithinRanges.{front_shows_written_bytes}
 use Rattle.dfu_slots.proofs.SpareData.{SpareDataResult, closed_spare_data_result, write_extends_spare_front}
 use Rattle.dfu_slots.proofs.Kept.{active_slot_kept}
 use Rattle.dfu_slots.proofs.Commit.{committed_image_is_active, broken_commit_leaves_one}
@@ -55,7 +55,7 @@ module _ (w : Grain) (s : MediumState) (mine other : ℕ) (image : List ℕ) (a 
   abbrev new_image : List ℕ
   new_image = take len (written (spare g s.bytes).data_bytes k held)
 
-  -- All writes of a `commit` lie in the spare.
+  -- All writes of a `commit` lie in the spare slot.
   pub commit_writes_inside_spare : AllWritesInside other (other + slot_size s.bytes) (part ++ commit_writes w s.bytes len crc)
   commit_writes_inside_spare =
       appended_writes_inside other (other + slot_size s.bytes) part (commit_writes w s.bytes len crc)
@@ -122,7 +122,7 @@ module _ (w : Grain) (s : MediumState) (mine other : ℕ) (image : List ℕ) (a 
         0) len
         (omega (arith, room, spare_data_has_capacity g s.bytes a.sized)) le data_begins_with_held_bytes
 
-    -- The writes that put the image in place are the same before and after the held bytes are written.
+    -- Writing the held bytes doesn't change the later writes of a `commit`.
     held_bytes_keep_commit_writes : commit_writes w s.bytes len crc
         ≡ commit_writes w mid.bytes len (register (take len (spare g mid.bytes).data_bytes))
     held_bytes_keep_commit_writes =
@@ -143,7 +143,7 @@ module _ (w : Grain) (s : MediumState) (mine other : ℕ) (image : List ℕ) (a 
       (gate_closed_after_held_bytes mid first) len (length_fits_after_held_bytes mid first) now
       second)
 
-  -- After the writes of a `commit` up to one that failed, the old image or the new one is active.
+  -- If a write of a `commit` fails, the old image or the new one is active.
   pub broken_commit_leaves_either : (fault : WriteFault) (now : MediumState) → BrokenWrites fault s (part
       ++ commit_writes w s.bytes len crc) now
       → ActiveAt g now.bytes mine other image ⊎ ActiveAt g now.bytes other mine new_image

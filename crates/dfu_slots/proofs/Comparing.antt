@@ -1,4 +1,4 @@
--- Comparison of a slot's header with the well-formed one.
+-- Lemmas about the comparison of a slot's header with a well-formed header.
 use Rattle.std.proofs.Common.{◌≡◌, ◌↔◌, Bool, true, false, ◌&&◌, nat_le, IsTrue, ℕ, ◌*◌, ◌+◌, ◌≤◌, ◌<◌, List, length, take, drop, refl, sym, ◌∙◌, ap, subst, arith}
 use Rattle.std.specs.Int.{w32, from_le_bytes}
 use Rattle.std.specs.Str.{bytes_eq}
@@ -10,7 +10,7 @@ use Rattle.dfu_slots.specs.Image.{is_intact}
 use Rattle.dfu_slots.proofs.Headers.{IsHeaderOfOwnFields}
 use Rattle.dfu_slots.proofs.Parts.{data_length}
 
--- Two tests that each decide one fact give the same answer.
+-- Two tests that decide the same fact give the same result.
 tests_of_one_fact_agree : (a b : Bool) {P : Type 0} → IsTrue a ↔ P → (b ≡ true → P) × (P → b ≡ true) → a ≡ b
 tests_of_one_fact_agree true b t d = sym (d.1 (t.0 refl))
 tests_of_one_fact_agree false true t d = t.1 (d.0 refl)
@@ -37,7 +37,8 @@ module _ (g : ℕ) (bytes : List ℕ) (at : ℕ) (end : at + slot_size bytes ≤
     slot_data_has_capacity,
   ))))
 
-  -- A header whose length fits is well formed exactly if it compares equal, with the register over the image.
+  -- If a header's length is at most the capacity, is_intact is true for its slot exactly if the header equals that of version 2 with its
+  -- own generation and length and the CRC register of the image.
   pub compared_header_is_intact : len ≤ capacity g bytes → (same : Bool) (crc : ℕ) → crc ≡ register (take len s.data_bytes)
       → IsTrue same ↔ IsHeaderOfOwnFields shown 2 crc → same ≡ is_intact s
   unfolding is_intact

@@ -1,4 +1,4 @@
--- Well-formed headers, and the test of a slot that counts.
+-- Lemmas about well-formed headers, and about the test for a slot that counts.
 use Rattle.std.proofs.Common.{◌≡◌, inl, inr, ⊎_elim, Bool, true, false, not, ◌&&◌, ◌==◌, nat_le, ℕ, ◌≤◌, ◌<◌, ◌^◌, List, length, take, drop, slice_index, sym, ◌∙◌, ap, subst, arith, eq-eqb}
 use Rattle.std.specs.Int.{w32, from_le_bytes}
 use Rattle.std.proofs.lemmas.Nat.{from_le_bytes-to_le_bytes_4}
@@ -8,14 +8,14 @@ use Rattle.dfu_suffix.specs.Register.{register}
 use Rattle.dfu_slots.specs.Layout.{Slot, OPEN, HasOpenGate, generation, header_version, header_length, header, HasHeader}
 use Rattle.dfu_slots.specs.Image.{SlotCounts, is_intact, slot_counts}
 
--- A well-formed header gives the length of its image.
+-- The length in a well-formed header is the length of the image.
 pub formed_header_has_its_length : (s : Slot) (len : ℕ) → HasHeader s len → len < 2 ^ 32 → header_length s ≡ len
 formed_header_has_its_length s len has fits = ⊎_elim
     (λ e. ap (λ (h : List ℕ). from_le_bytes w32 (take 4 (drop 4 h))) e ∙ from_le_bytes-to_le_bytes_4 len fits)
     (λ e. ap (λ (h : List ℕ). from_le_bytes w32 (take 4 (drop 4 h))) e ∙ from_le_bytes-to_le_bytes_4 len fits)
     has.well_formed
 
--- A header of version 2 with the register over the first `len` data bytes of its slot is well formed.
+-- A header of version 2 with the CRC register over the first `len` data bytes of its slot is well formed.
 pub version_two_header_is_formed : (s : Slot) (gen len : ℕ) → s.header ≡ header 2 gen len (register (take len s.data_bytes)) → len
     ≤ length s.data_bytes
     → HasHeader s len
@@ -24,7 +24,7 @@ version_two_header_is_formed s gen len is fits = record {
   fits = fits;
 }
 
--- A slot's header is well formed if that of a slot with the same header and data is.
+-- If two slots have the same header and data, and the header of one is well formed, so is the header of the other.
 pub same_bytes_same_header : (s t : Slot) (len : ℕ) → s.header ≡ t.header → s.data_bytes ≡ t.data_bytes → HasHeader s len → HasHeader t len
 same_bytes_same_header s t len head body has = record {
   well_formed = ⊎_elim
@@ -34,7 +34,7 @@ same_bytes_same_header s t len head body has = record {
   fits = omega (arith, ap length body, has.fits);
 }
 
--- An open slot counts if a slot with the same header and the same data counts.
+-- An open slot counts if another slot with the same header and data counts.
 pub equal_open_slot_counts : (s t : Slot) → s.header ≡ t.header → s.data_bytes ≡ t.data_bytes → HasOpenGate t → SlotCounts s → SlotCounts t
 equal_open_slot_counts s t head body is_open c = record {
   is_open = is_open;
@@ -43,7 +43,7 @@ equal_open_slot_counts s t head body is_open c = record {
       (same_bytes_same_header s t (header_length s) head body (c.intact (ap (λ (h : List ℕ). slice_index h 1) head ∙ two)));
 }
 
--- A well-formed header of version 2 has the register of the image.
+-- A well-formed header of version 2 holds the CRC register of the image.
 pub version_two_has_register : (s : Slot) (len : ℕ) → header_version s ≡ 2 → HasHeader s len
     → s.header ≡ header 2 (generation s) len (register (take len s.data_bytes))
 version_two_has_register s len two has = ⊎_elim
@@ -68,7 +68,7 @@ tested_header_is_formed s test =
       fits = leb-true _ _ parts.0;
     }
 
--- A slot that counts passes the test.
+-- `slot_counts` is true for a slot that counts.
 pub counting_slot_passes : (s : Slot) → SlotCounts s → slot_counts s ≡ true
 counting_slot_passes s c =
     and_from (s.gate == OPEN) _ (eq-eqb s.gate OPEN c.is_open)
@@ -77,7 +77,7 @@ counting_slot_passes s c =
     (λ other. or_left _ _ (not_from_false _ (ne_eqb (header_version s) 2 other)))
     (cases_eq (header_version s) 2))
 
--- A slot that passes the test counts.
+-- A slot counts if `slot_counts` is true for it.
 pub passing_slot_counts : (s : Slot) → slot_counts s ≡ true → SlotCounts s
 passing_slot_counts s test =
     let parts = and_parts (s.gate == OPEN) _ test in
@@ -88,22 +88,22 @@ passing_slot_counts s test =
           (or_cases (not (header_version s == 2)) _ parts.1);
     }
 
--- A slot that fails the test does not count.
+-- A slot doesn't count if `slot_counts` is false for it.
 pub failing_slot_does_not_count : (s : Slot) → slot_counts s ≡ false → ¬ SlotCounts s
 failing_slot_does_not_count s test c = both_ways (slot_counts s) test (counting_slot_passes s c)
 
--- A slot that does not count fails the test.
+-- `slot_counts` is false for a slot that doesn't count.
 pub uncounted_slot_fails : (s : Slot) → ¬ SlotCounts s → slot_counts s ≡ false
 uncounted_slot_fails s off = ⊎_elim (λ on. absurd (off (passing_slot_counts s on))) (λ same. same) (cases_Bool (slot_counts s))
 
--- If two slots fail the test, neither counts.
+-- If `slot_counts` is false for both slots, neither counts.
 pub neither_slot_counts : (x y : Slot) (p q : Bool) → p ≡ slot_counts x → q ≡ slot_counts y → (not p && not q) ≡ true → (¬ SlotCounts x)
     × (¬ SlotCounts y)
 neither_slot_counts x y p q a b e =
     let parts = and_parts (not p) (not q) e in
     (failing_slot_does_not_count x (sym a ∙ not-true p parts.0), failing_slot_does_not_count y (sym b ∙ not-true q parts.1))
 
--- If one of two slots passes the test, at least one counts.
+-- If `slot_counts` is true for one of two slots, at least one counts.
 pub one_slot_counts : (x y : Slot) (p q : Bool) → p ≡ slot_counts x → q ≡ slot_counts y → (not p && not q) ≡ false
     → ¬ ((¬ SlotCounts x) × (¬ SlotCounts y))
 one_slot_counts x y p q a b e none =

@@ -1,4 +1,4 @@
--- Places at which sectors begin on a medium of two slots.
+-- Lemmas about sector edges on a medium of two slots.
 use Rattle.std.proofs.Common.{◌≡◌, ⊎_elim, ℕ, ◌+◌, ◌*◌, List, length, sym, subst, arith}
 use Rattle.dfu_slots.specs.Units.{Grain, gate_room, IsWhole}
 use Rattle.dfu_slots.specs.Medium.{MediumState}
@@ -51,7 +51,7 @@ module _ (w : Grain) (bytes : List ℕ) (sized : HasTwoSlots (gate_room w) bytes
     pub slot_ends_at_edge : IsSectorEdge w.sector (other + slot_size bytes)
     slot_ends_at_edge = edge_sum_is_edge w.sector other (slot_size bytes) slot_begins_at_edge second_slot_begins_sector
 
--- A medium of a proper length ends at a sector edge.
+-- A medium that consists of exactly two slots ends at a sector edge.
 pub sized_medium_ends_at_edge : (m : MediumState) → IsSizedMedium m → IsSectorEdge m.grain.sector (length m.bytes)
 sized_medium_ends_at_edge m sized = medium_end_is_edge m.grain m.bytes (sized_medium_has_two_slots m sized) sized.whole
 

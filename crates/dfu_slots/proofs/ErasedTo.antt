@@ -1,4 +1,4 @@
--- Sectors that are erased one after the other.
+-- Lemmas about sectors that are erased one after the other.
 use Rattle.std.proofs.Common.{◌≡◌, ◌≢◌, inl, ⊎_elim, ◌==◌, ℕ, zero, suc, ◌+◌, ◌-◌, ◌%◌, ◌≤◌, ◌<◌, List, [], ◌∷◌, ◌++◌, length, replicate, refl, sym, ◌∙◌, ap, subst, arith}
 use Rattle.std.proofs.lemmas.List.{append_assoc, append-nil, length-replicate}
 use Rattle.std.proofs.lemmas.Bool.{cases_lt, cond-true, cond-false, ne_eqb, eq-eqb}
@@ -9,16 +9,16 @@ use Rattle.dfu_slots.specs.Units.{Grain}
 use Rattle.dfu_slots.specs.Image.{IsSizedMedium}
 use Rattle.dfu_slots.specs.Writes.{erase_write, sector_erases}
 use Rattle.dfu_slots.proofs.Edges.{sized_medium_ends_at_edge}
-use Rattle.dfu_slots.proofs.Torn.{whole_write_is_torn}
+use Rattle.dfu_slots.proofs.BytesOutsideWrite.{whole_write_is_torn}
 use Rattle.dfu_slots.proofs.Series.{two_lists_work_as_one, second_part_may_break}
 use Rattle.dfu_slots.proofs.Sectors.{remainder_of_next_byte, edge_sum_is_edge, sector_ends_before_edge}
 
--- If no sector begins at `at`, the erases from `at` on are those from `at + 1` on.
+-- If no sector begins at `at`, the erases of n + 1 bytes from `at` on equal those of n bytes from `at + 1` on.
 no_erase_within_sector : (sector at n : ℕ) → 0 < at % sector → sector_erases sector at (suc n) ≡ sector_erases sector (at + 1) n
 no_erase_within_sector sector at n inner = ap (λ (l : List Write). l ++ sector_erases sector (at + 1) n)
     (cond-false (at % sector == 0) (erase_write sector at ∷ []) [] (ne_eqb (at % sector) 0 (λ e. omega (arith, inner, e))))
 
--- If no sector begins at `at`, the erases from `at` on are those from the end of its sector on.
+-- If no sector begins at `at`, the erases from `at` on equal those from the end of the sector that contains `at`.
 pub no_erase_to_sector_end : (sector d at n : ℕ) → 0 < sector → 0 < at % sector → at % sector + d ≡ sector
     → sector_erases sector at n ≡ sector_erases sector (at + d) (n - d)
 no_erase_to_sector_end sector zero at n some inner is = absurd (omega (arith, mod-lt at some, is))
@@ -37,7 +37,7 @@ no_erase_to_sector_end sector (suc (suc d)) at (suc n) some inner is =
     ))
     ∙ (λ i. sector_erases sector (e i) (f i))
 
--- If a sector begins at a place, it is erased first.
+-- If a sector begins at `at`, the first erase is that of this sector.
 pub first_sector_is_erased_first : (sector at n : ℕ) → 1 < sector → at % sector ≡ 0 → 0 < n
     → sector_erases sector at n ≡ erase_write sector at ∷ sector_erases sector (at + sector) (n - sector)
 first_sector_is_erased_first sector at zero some begins more = absurd (omega (arith, more))
@@ -51,7 +51,7 @@ first_sector_is_erased_first sector at (suc n) some begins more =
     (no_erase_to_sector_end sector (sector - 1) (at + 1) n (omega (arith, some)) (omega (arith, next)) (omega (arith, next, some))
     ∙ (λ i. sector_erases sector (e i) (f i)))
 
--- The sectors that begin before `place` are erased, and a sector begins at `place`.
+-- The sectors of the range that begin before `place` are erased, and a sector begins at `place`.
 pub record ErasedTo (old mid : MediumState) (sector at n place : ℕ) : Type 0 where
   pub front : List Write
   pub all : AllWrites old front mid
@@ -65,7 +65,7 @@ module _ (s : MediumState) (at n : ℕ) (sized : IsSizedMedium s) (some : 0 < s.
   abbrev sector : ℕ
   sector = s.grain.sector
 
-  -- Nothing is erased yet, and the first sector begins at `at`.
+  -- If a sector begins at `at`, the first sector to erase begins at `at`.
   pub erased_to_first_edge : at % sector ≡ 0 → ErasedTo s s sector at n at
   erased_to_first_edge begins =
       let all : n ≡ at + n - at = omega arith in
@@ -79,7 +79,7 @@ module _ (s : MediumState) (at n : ℕ) (sized : IsSizedMedium s) (some : 0 < s.
         size = refl;
       }
 
-  -- Nothing is erased yet, and the first sector begins at the end of the one in which `at` lies.
+  -- If no sector begins at `at`, the first sector to erase is the one after the sector that contains `at`.
   pub erased_to_next_edge : 0 < at % sector → ErasedTo s s sector at n (at + (sector - at % sector))
   erased_to_next_edge inner =
       let d = sector - at % sector in
@@ -108,7 +108,7 @@ module _ (s : MediumState) (at n : ℕ) (sized : IsSizedMedium s) (some : 0 < s.
         size = refl;
       }
 
-  -- Nothing is erased yet, in both cases of the code: a sector begins at `at`, or none does.
+  -- The first sector to erase begins at `at`, or else directly after the sector that contains `at`.
   pub erased_up_to_first_sector : (size : ℕ) → size ≡ sector → (place : ℕ) → (at % size ≡ 0 → place ≡ at → ErasedTo s s sector at n place)
       × (at % size ≢ 0 → place ≡ at + (size - at % size) → ErasedTo s s sector at n place)
   erased_up_to_first_sector size is place = (
@@ -152,7 +152,7 @@ module _ {old mid : MediumState} {at n place : ℕ} (to : ErasedTo old mid old.g
       ≡ erase_write span place ∷ sector_erases span (place + span) (at + n - place - span)
   next_sector_erase_comes_first = first_sector_is_erased_first span place (at + n - place) sector_above_one to.edge (omega (arith, more))
 
-  -- After the erase of the next sector, the sectors up to its end are erased.
+  -- After the next sector is erased, the sectors up to its end are erased.
   pub erased_to_next_sector : (now : MediumState) → WroteBytes mid place (replicate mid.grain.sector 255) now
       → ErasedTo old now span at n (place + span)
   erased_to_next_sector now answered =
@@ -173,7 +173,7 @@ module _ {old mid : MediumState} {at n place : ℕ} (to : ErasedTo old mid old.g
         size = kept ∙ to.size;
       }
 
-  -- If the next erase fails, its fault breaks off the erases.
+  -- If the next erase fails, its fault interrupts the erases.
   pub erases_broken_at_sector : (now : MediumState) (fault : WriteFault) → FailedWrite fault mid place (replicate mid.grain.sector 255) now
       → BrokenWrites fault old (sector_erases span at n) now
   erases_broken_at_sector now fault failed =

@@ -1,4 +1,4 @@
--- Medium after a format: its image is active.
+-- After a format the image is active on the medium.
 use Rattle.std.proofs.Common.{◌≡◌, ◌≢◌, inl, inr, ⊎_elim, ℕ, zero, suc, ◌+◌, ◌-◌, ◌*◌, ◌≤◌, ◌<◌, List, [], ◌∷◌, length, take, drop, replicate, slice_index, slice_range, refl, sym, ◌∙◌, ap, subst, arith, length-drop, take-append-drop}
 use Rattle.std.proofs.lemmas.List.{length-take, take_all, take_at, drop_all, take-take}
 use Rattle.std.proofs.lemmas.Bool.{cases_lt}
@@ -9,23 +9,23 @@ use Rattle.dfu_slots.specs.Layout.{slot_size, capacity, slot, OPEN, header, HasH
 use Rattle.dfu_slots.specs.Writes.{closed_gate, erasing_write, piece_writes, image_writes, open_writes, format_writes}
 use Rattle.dfu_slots.proofs.Stands.{HasTwoSlots, ActiveAt}
 use Rattle.dfu_slots.proofs.Counting.{formed_header_has_its_length, version_two_header_is_formed}
-use Rattle.dfu_slots.proofs.Torn.{whole_write_is_torn, range_kept_outside_write, byte_kept_outside_write, no_change_keeps_all, wider_frame_holds}
+use Rattle.dfu_slots.proofs.BytesOutsideWrite.{whole_write_is_torn, range_kept_outside_write, byte_kept_outside_write, no_change_keeps_all, wider_frame_holds}
 use Rattle.dfu_slots.proofs.Parts.{gate_unit_has_size, header_unit_has_size, data_length, same_length_has_two_slots}
 use Rattle.dfu_slots.proofs.Series.{list_has_two_parts}
 use Rattle.dfu_slots.proofs.ReadBack.{HasBytesAt, empty_list_is_at_any_place, range_by_its_length}
-use Rattle.dfu_slots.proofs.Anew.{LeavesBytesAt, IsWrittenAfterErases, left_bytes_join, erasing_write_leaves_bytes, write_goes_over_erases}
+use Rattle.dfu_slots.proofs.WritesWithErases.{LeavesBytesAt, IsWrittenAfterErases, left_bytes_join, erasing_write_leaves_bytes, write_goes_over_erases}
 use Rattle.dfu_slots.proofs.Sectors.{IsSectorEdge, gate_unit_at_least_16, gate_room_at_least_16}
 use Rattle.dfu_slots.proofs.Edges.{second_slot_begins_sector, header_begins_at_edge, data_begins_at_edge}
 use Rattle.dfu_slots.proofs.Multiples.{filled_length_sums, filled_bytes_within}
 use Rattle.dfu_slots.proofs.Pieces.{no_bytes_no_pieces}
-use Rattle.dfu_slots.proofs.Begun.{closed_gate_fits_room, written_closed_gate_is_closed, unit_begins_with_gate}
+use Rattle.dfu_slots.proofs.BeginMedium.{closed_gate_fits_room, written_closed_gate_is_closed, unit_begins_with_gate}
 use Rattle.dfu_slots.proofs.Commit.{unit_begins_with_header}
 
--- The first piece of a list of bytes ends at the end of the list, or before.
+-- If a list of bytes at offset `at` ends at or before `to`, so does its first piece of 4096 bytes.
 piece_ends_within : (at to : ℕ) (bytes : List ℕ) → at + length bytes ≤ to → at + length (take 4096 bytes) ≤ to
 piece_ends_within at to bytes fits = omega (arith, fits, length-take 4096 bytes)
 
--- If less than a full piece is left, writing one piece leaves all bytes.
+-- If less than a full piece is left, writing one piece stores all bytes.
 last_piece_leaves_bytes : (sector n at to : ℕ) (bytes : List ℕ) (s mid now : MediumState) → length bytes < 4096
     → LeavesBytesAt at to (take 4096 bytes) s.bytes mid.bytes → AllWrites mid (piece_writes sector n (at + 4096) (drop 4096 bytes)) now
     → LeavesBytesAt at to bytes s.bytes now.bytes
@@ -37,7 +37,7 @@ last_piece_leaves_bytes sector n at to bytes s mid now short left more =
     subst (λ (m : MediumState). LeavesBytesAt at to bytes s.bytes m.bytes) (sym same)
     (left.0, subst (λ (l : List ℕ). HasBytesAt mid.bytes at l) equal left.1)
 
--- If a full piece or more is left, writing it and then the others leaves all bytes.
+-- If at least one full piece is left, writing it and then the remaining pieces stores all bytes.
 full_piece_leaves_bytes : (n at to : ℕ) (bytes s mid now : List ℕ) → 4096 ≤ length bytes → length bytes ≤ suc n → at + length bytes
     ≤ to → to ≤ length s
     → LeavesBytesAt at to (take 4096 bytes) s mid
@@ -52,7 +52,7 @@ full_piece_leaves_bytes n at to bytes s mid now long le fits room left others =
     (left_bytes_join at to 4096 (take 4096 bytes) (drop 4096 bytes) s mid now (omega (arith, front, long))
     (omega (arith, front, back, fits, long)) room left more)
 
--- Writing the pieces leaves all bytes at `at`, and changes no byte before `at`, nor from `to` on.
+-- Writing the pieces stores all bytes at `at`. No byte before `at` changes, nor any byte from `to` on.
 pub pieces_leave_bytes : (sector to : ℕ) → IsSectorEdge sector to → (n at : ℕ) (bytes : List ℕ) (s now : MediumState) → length bytes ≤ n
     → at + length bytes ≤ to → to ≤ length s.bytes → AllWrites s (piece_writes sector n at bytes) now
     → LeavesBytesAt at to bytes s.bytes now.bytes
@@ -72,7 +72,7 @@ pieces_leave_bytes sector to edge (suc n) at (b ∷ bs) s now le fits room all =
     (λ few lies kept. pieces_leave_bytes sector to edge n (at + 4096) (drop 4096 (b ∷ bs)) parts.0 now few lies kept parts.1.second))
     (cases_lt (length (b ∷ bs)) 4096)
 
--- If the first slot has the image and an open gate, and the second slot's gate is closed, the image is active.
+-- If the first slot holds the image and has an open gate, and the second slot's gate is closed, the image is active.
 module _ (g : ℕ) (wide : 16 ≤ g) (now image units : List ℕ) (sized : HasTwoSlots g now) (room : 2 * g + length units ≤ slot_size now)
     (front : take (length image) units ≡ image) (least : length image ≤ length units)
     (shut : slice_index now (slot_size now) ≢ OPEN) (first_gate : slice_index now 0 ≡ OPEN)
@@ -243,7 +243,7 @@ module _ (w : Grain) (s m1 m2 m3 m4 now : MediumState) (image : List ℕ) (sized
       (sym second_gate_stays_closed ∙ ap (λ (p : ℕ). slice_index now.bytes p) (sym size_is) ∙ e))
       gate header_is stands
 
--- A format whose writes all worked leaves the image active in the first slot.
+-- If all writes of a format worked, the image is active in the first slot.
 pub formatted_image_is_active : (w : Grain) (s now : MediumState) (image : List ℕ) → HasTwoSlots (gate_room w) s.bytes
     → IsWhole w (capacity (gate_room w) s.bytes) → length image ≤ capacity (gate_room w) s.bytes
     → AllWrites s (format_writes w s.bytes image) now → ActiveAt (gate_room w) now.bytes 0 (slot_size now.bytes) image

@@ -1,4 +1,4 @@
--- Steps of a `format`: they keep the length of the medium and its unit.
+-- Lemmas about the steps of a `format`, which keep the length and the grain of the medium.
 use Rattle.std.proofs.Common.{◌≡◌, inr, ℕ, ◌+◌, ◌*◌, ◌≤◌, List, [], ◌++◌, length, Result, refl, sym, ap, subst, arith}
 use Rattle.dfu_suffix.specs.Register.{register}
 use Rattle.dfu_slots.specs.declared.layout.Unit.{Unit as WriteUnit}
@@ -20,13 +20,13 @@ use Rattle.dfu_slots.proofs.ImagePieces.{same_size_can_be_formatted}
 use Rattle.dfu_slots.proofs.Sectors.{IsSectorEdge, first_byte_is_edge, gate_room_is_multiple}
 use Rattle.dfu_slots.proofs.SlotOpened.{open_writes_in_gate_and_header}
 use Rattle.dfu_slots.proofs.Multiples.{zero_is_multiple, sum_is_multiple, filled_bytes_within, same_size_is_sized}
-use Rattle.dfu_slots.proofs.Seeing.{active_on_same_size, image_is, IsFreshStore, medium_makes_fresh_store}
+use Rattle.dfu_slots.proofs.VisibleStores.{active_on_same_size, image_is, IsFreshStore, medium_makes_fresh_store}
 use Rattle.dfu_slots.proofs.Formatted.{formatted_image_is_active}
 use Rattle.dfu_slots.proofs.Edges.{sized_medium_ends_at_edge, data_begins_at_edge}
-use Rattle.dfu_slots.proofs.Ahead.{edge_is_writable_ahead}
-use Rattle.dfu_slots.proofs.Begun.{closed_gate_fits_room}
+use Rattle.dfu_slots.proofs.ErasesAhead.{edge_is_writable_ahead}
+use Rattle.dfu_slots.proofs.BeginMedium.{closed_gate_fits_room}
 
--- An image that fits in the data of a slot still fits when it is filled up with zeros.
+-- An image that fits into the data of a slot still fits when zeros fill its last unit.
 filled_image_fits_capacity : (s : MediumState) (image : List ℕ) → CanFormat s image → length (filled_units s.grain.unit image)
     ≤ capacity_of s
 filled_image_fits_capacity s image can = filled_bytes_within s.grain.unit (capacity_of s) image can.sized.whole.units can.fits
@@ -46,7 +46,7 @@ image_writes_lie_inside s image can =
     (omega arith)
     (omega (arith, filled_image_fits_capacity s image can, can.sized.room, can.sized.even))
 
--- All writes of a `format`.
+-- Lemmas about all writes of a `format`.
 
 -- The writes of a `format` make the image active.
 format_writes_activate_image : (s now : MediumState) (image : List ℕ) → CanFormat s image → AllWrites s (format_series s image) now →
@@ -63,7 +63,7 @@ format_writes_activate_image s now image can all =
     active_on_same_size 0 (slot_size now.bytes) image (all_writes_keep_size (format_series s image) s now inside all) can.sized.whole
     (formatted_image_is_active s.grain s now image (sized_medium_has_two_slots s can.sized) can.sized.whole can.fits all)
 
--- The first slot may be opened, with nothing held back.
+-- The first slot may be opened, with no bytes held back.
 pub record MayOpenFirst (m : MediumState) : Type 0 where
   pub sized : IsSizedMedium m
   pub slot : 0 + slot_size m.bytes ≤ length m.bytes
@@ -73,14 +73,14 @@ pub record MayOpenFirst (m : MediumState) : Type 0 where
   pub within : held_from m.grain 0 0 0 + length (filled_units m.grain.unit []) ≤ length m.bytes
   pub whole : IsMultiple m.grain.unit (held_from m.grain 0 0 0)
 
--- No bytes, filled up to a unit, are still no bytes.
+-- Filling the empty list up to a unit adds no zeros.
 filling_no_bytes_gives_none : (u : WriteUnit) → filled_units u [] ≡ []
 filling_no_bytes_gives_none Byte = refl
 filling_no_bytes_gives_none U16 = refl
 filling_no_bytes_gives_none U64 = refl
 filling_no_bytes_gives_none U256 = refl
 
--- Steps of the code: it closes the gates, writes the pieces, and opens the first slot.
+-- The steps of `write_image`: it closes the gates, writes the pieces, and opens the first slot.
 module _ {s : MediumState} {image : List ℕ} (can : CanFormat s image) (mid : MediumState)
     (closed : AllWrites s (close_writes s.grain s.bytes) mid) where
   size_kept_after_close : SameSize s mid
@@ -93,7 +93,7 @@ module _ {s : MediumState} {image : List ℕ} (can : CanFormat s image) (mid : M
   close_keeps_image_writes : image_writes mid.grain image ≡ image_writes s.grain image
   close_keeps_image_writes = ap (λ (w : Grain). image_writes w image) size_kept_after_close.grain
 
-  -- If the write of a piece fails, its fault breaks off the `format`.
+  -- If the write of a piece fails, its fault interrupts the `format`.
   pub format_broken_at_pieces : (fault : WriteFault) (now : MediumState) → BrokenWrites fault mid (image_writes mid.grain image) now
       → BrokenWrites fault s (format_series s image) now
   format_broken_at_pieces fault now broken =
@@ -114,7 +114,7 @@ module _ {s : MediumState} {image : List ℕ} (can : CanFormat s image) (mid : M
     size_kept_after_pieces : SameSize s filling
     size_kept_after_pieces = size_is_transitive size_kept_after_close size_kept_by_pieces
 
-    -- After all pieces the first slot may be opened.
+    -- After all pieces are written, the first slot may be opened.
     pub first_slot_may_open : MayOpenFirst filling
     first_slot_may_open =
         let sized = same_size_is_sized size_kept_after_pieces can.sized in
@@ -149,18 +149,18 @@ module _ {s : MediumState} {image : List ℕ} (can : CanFormat s image) (mid : M
         (subst (λ (ws : List Write). Series filling (ws ++ open_writes w 0 0 (length image) (register image)) r now)
         (ap (λ (l : List ℕ). write_some w.sector (held_from w 0 0 0) l) (filling_no_bytes_gives_none w.unit)) series))
 
--- A medium and an image that pass the checks of `format` can be formatted.
+-- If a medium and an image pass the checks of `format`, the medium can be formatted with the image.
 pub tested_can_be_formatted : {s : MediumState} (image : List ℕ) {a b : ℕ} → IsSizedMedium s → length image ≤ b → b ≡ a → a ≡ capacity_of s
     → CanFormat s image
 tested_can_be_formatted image sized le one two = record { sized = sized; fits = omega (arith, le, one, two) }
 
--- The store after a `format` has the image, and nothing was put on it.
+-- The store after a `format` shows the image, and no bytes were put yet.
 pub record StoreAfterFormat (x : SlotsState) (image : List ℕ) : Type 0 where
   pub active : Active x.medium image
   pub image_is : image_of x ≡ image
   pub fresh : IsFreshStore x
 
--- A store on the medium that was formatted has the image, and nothing was put on it.
+-- A store on the formatted medium, with no bytes held back and a put_end of 0, satisfies StoreAfterFormat.
 pub format_leaves_its_store : {s : MediumState} {image : List ℕ} (now : MediumState) → CanFormat s image →
     AllWrites s (format_series s image) now
     → {held : List ℕ} {put_end : ℕ} → held ≡ [] → put_end ≡ 0 → StoreAfterFormat (store_of now held put_end) image
@@ -172,7 +172,7 @@ format_leaves_its_store {s} {image} now can all {held} {put_end} none zero_is =
       fresh = medium_makes_fresh_store (record { image = image; active = active }) none zero_is;
     }
 
--- The data of the first slot can be written from its beginning, because a sector begins there.
+-- Writing may begin at the first slot's data, because a sector begins there.
 pub first_data_is_writable_ahead : (m : MediumState) → IsSizedMedium m → IsWritableAhead m (2 * gate_of m)
 first_data_is_writable_ahead m sized =
     let here : 0 + 2 * gate_of m ≡ 2 * gate_of m = omega arith in

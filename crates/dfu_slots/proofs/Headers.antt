@@ -1,21 +1,21 @@
--- Fields of a header, except its generation and its length.
+-- Lemmas about the fields of a header other than its generation and its length.
 use Rattle.std.proofs.Common.{◌≡◌, ℕ, zero, suc, ◌<◌, ◌^◌, List, [], ◌∷◌, ◌++◌, length, get_or, take, drop, refl, sym, ◌∙◌, ap, subst, arith}
 use Rattle.std.specs.Int.{w32, from_le_bytes}
 use Rattle.std.proofs.lemmas.Nat.{le_bytes_4, from_le_bytes-to_le_bytes_4}
 use Rattle.dfu_slots.specs.Layout.{header}
 
--- The first n values of a function.
+-- List of the values of f at 0, 1, ..., n - 1.
 numbers_of_function : ℕ → (ℕ → ℕ) → List ℕ
 numbers_of_function zero f = []
 numbers_of_function (suc n) f = f 0 ∷ numbers_of_function n (λ i. f (suc i))
 
--- A list is the list of its elements by index.
+-- Every list equals the list of its elements at the indices 0, 1, and so on.
 list_is_its_numbers : (l : List ℕ) → l ≡ numbers_of_function (length l) (λ i. get_or l i 0)
 unfolding numbers_of_function
 list_is_its_numbers [] = refl
 list_is_its_numbers (x ∷ xs) = ap (λ l. x ∷ l) (list_is_its_numbers xs)
 
--- Each of four bytes is below 256.
+-- If four numbers are below 256, each element of their list is below 256.
 four_bytes_below_256 : (a b c d : ℕ) → a < 256 → b < 256 → c < 256 → d < 256 → (i : ℕ) → get_or (a ∷ b ∷ c ∷ d ∷ []) i 0 < 256
 four_bytes_below_256 a b c d p q r s zero = p
 four_bytes_below_256 a b c d p q r s (suc zero) = q
@@ -23,7 +23,7 @@ four_bytes_below_256 a b c d p q r s (suc (suc zero)) = r
 four_bytes_below_256 a b c d p q r s (suc (suc (suc zero))) = s
 four_bytes_below_256 a b c d p q r s (suc (suc (suc (suc i)))) = omega arith
 
--- A header has this version and this register, and zeros in the fields for zeros; its generation and its length may be any.
+-- A header has this version and this register, and its zero fields are 0. Its generation and its length are arbitrary.
 pub record HeaderFields (h : List ℕ) (version register : ℕ) : Type 0 where
   pub version_is : get_or h 1 0 ≡ version
   pub third : get_or h 2 0 ≡ 0
@@ -31,11 +31,11 @@ pub record HeaderFields (h : List ℕ) (version register : ℕ) : Type 0 where
   pub register_is : from_le_bytes w32 (take 4 (drop 8 h)) ≡ register
   pub rest : from_le_bytes w32 (take 4 (drop 12 h)) ≡ 0
 
--- A list is a header, of the generation and the length that it contains itself.
+-- A list is the header with this version and register that is built from the list's own generation and length.
 abbrev pub IsHeaderOfOwnFields : List ℕ → ℕ → ℕ → Type 0
 IsHeaderOfOwnFields h version register = h ≡ header version (get_or h 0 0) (from_le_bytes w32 (take 4 (drop 4 h))) register
 
--- Sixteen values of a function with the right other fields are a header of the generation and length that they contain.
+-- If sixteen listed values satisfy HeaderFields, they are the header built from their own generation and length.
 listed_bytes_are_header : (f : ℕ → ℕ) → ((i : ℕ) → f i < 256) → (version register : ℕ) →
     HeaderFields (numbers_of_function 16 f) version register
     → IsHeaderOfOwnFields (numbers_of_function 16 f) version register
@@ -49,7 +49,7 @@ listed_bytes_are_header f small version register t =
     let zeros = sym (le_bytes_4 (f 12 ∷ f 13 ∷ f 14 ∷ f 15 ∷ []) 0 refl (four 12) (sym t.rest)) in
     λ i. f 0 ∷ t.version_is i ∷ t.third i ∷ t.fourth i ∷ len i ++ crc i ++ zeros i
 
--- Sixteen bytes with the right other fields are a header of the generation and length that they contain.
+-- If sixteen bytes satisfy HeaderFields, they are the header built from their own generation and length.
 pub bytes_with_fields_are_header : (h : List ℕ) → length h ≡ 16 → ((i : ℕ) → get_or h i 0 < 256) → (version register : ℕ) →
     HeaderFields h version register
     → IsHeaderOfOwnFields h version register
@@ -59,7 +59,7 @@ bytes_with_fields_are_header h long small version register told =
     subst (λ (l : List ℕ). IsHeaderOfOwnFields l version register) (sym is)
     (listed_bytes_are_header (λ i. get_or h i 0) small version register (subst (λ (l : List ℕ). HeaderFields l version register) is told))
 
--- A header has the fields that it was made with.
+-- A header contains the version and the register from which it was built.
 pub header_has_its_fields : (h : List ℕ) (version gen len register : ℕ) → register < 2 ^ 32 → h ≡ header version gen len register
     → HeaderFields h version register
 header_has_its_fields h version gen len register fits is = record {

@@ -1,4 +1,4 @@
--- Bytes that a put holds back.
+-- Lemmas about the bytes that a put holds back.
 use Rattle.std.proofs.Common.{◌≡◌, ◌≢◌, ℕ, ◌+◌, ◌-◌, ◌%◌, ◌≤◌, ◌<◌, min, List, ◌++◌, length, take, drop, ⊎_elim, sym, ◌∙◌, ap, arith, length-append}
 use Rattle.std.proofs.lemmas.Bool.{cases_lt}
 use Rattle.std.proofs.lemmas.List.{append-nil, drop_at, length-take-le, take-append-le, take-take}
@@ -6,11 +6,11 @@ use Rattle.dfu_slots.specs.declared.layout.Unit.{Unit as WriteUnit}
 use Rattle.dfu_slots.specs.Units.{unit_size, whole_part}
 use Rattle.dfu_slots.specs.Medium.{written}
 use Rattle.dfu_slots.specs.Writes.{put_rest}
-use Rattle.dfu_slots.proofs.Torn.{drop_in_two_steps}
-use Rattle.dfu_slots.proofs.Within.{take_past_first_list}
+use Rattle.dfu_slots.proofs.BytesOutsideWrite.{drop_in_two_steps}
+use Rattle.dfu_slots.proofs.WritesWithinRanges.{take_past_first_list}
 use Rattle.dfu_slots.proofs.Multiples.{rest_at_most_length, whole_part_is_multiple, multiple_has_a_unit}
 
--- If the put fills a unit, the bytes held back afterwards are the end of the block.
+-- If a put completes a unit, the bytes held back afterwards are the last bytes of the block.
 pub rest_ends_block : (u : WriteUnit) (held bytes : List ℕ) (n size : ℕ) → n ≡ length held → size ≡ unit_size u → length held < unit_size u
     → (n + length bytes) % size ≢ n + length bytes
     → drop (length bytes - (n + length bytes) % size) bytes ≡ put_rest u held bytes
@@ -27,7 +27,7 @@ rest_ends_block u held bytes n size n_is size_is part more =
     ∙ sym (drop_in_two_steps (held ++ bytes) (length held) k (omega (arith, whole, full, part))
     ∙ ap (λ (l : List ℕ). drop (k - length held) l) (drop_at held bytes (length held) (omega arith)))
 
--- A prefix of the data with the held bytes written at their place is a prefix of the data, followed by a prefix of the held bytes.
+-- After the held bytes are written at `at`, the first `len` bytes of the data are old data bytes up to `at`, followed by held bytes.
 pub front_splits_at_held_bytes : (d held : List ℕ) (at len front : ℕ) → front ≡ min at len → at ≤ length d → len ≤ at + length held
     → take front d ++ take (len - front) held ≡ take len (written d at held)
 front_splits_at_held_bytes d held at len front is fits le =

@@ -1,4 +1,4 @@
--- An image that is written piece by piece, by the operations of its sequence.
+-- Lemmas about an image that the operations of its sequence write piece by piece.
 use Rattle.std.proofs.Common.{◌≡◌, ℕ, ◌+◌, ◌*◌, ◌≤◌, ◌<◌, List, [], length, take, drop, refl, sym, ◌∙◌, ap, subst, arith, length-drop}
 use Rattle.std.proofs.lemmas.List.{length-take, drop_all, drop-drop}
 use Rattle.dfu_slots.specs.Units.{Grain, gate_room, IsMultiple, fill_size, filled_units}
@@ -12,23 +12,23 @@ use Rattle.dfu_slots.specs.Changes.{CanFormat}
 use Rattle.dfu_slots.specs.inside.Carry.{MayWritePiece}
 use Rattle.dfu_slots.proofs.Series.{SameSize, size_is_transitive}
 use Rattle.dfu_slots.proofs.SizedOn.{write_some_keeps_size}
-use Rattle.dfu_slots.proofs.Ahead.{some_bytes_leave_blank_ahead}
+use Rattle.dfu_slots.proofs.ErasesAhead.{some_bytes_leave_blank_ahead}
 use Rattle.dfu_slots.proofs.Multiples.{zero_is_multiple, sum_is_multiple, piece_size_is_multiple, filled_length_sums, filled_bytes_within, same_size_is_sized}
 use Rattle.dfu_slots.proofs.Pieces.{PiecesWrittenTo, no_piece_written, next_piece_written, pieces_broken_at_next, all_pieces_written}
 use Rattle.dfu_slots.proofs.Sequences.{nonempty_write_is_erasing, image_ops_make_writes}
 
--- A medium of the same size can be formatted if the first one can.
+-- If a medium can be formatted, so can every medium of the same size.
 pub same_size_can_be_formatted : {s mid : MediumState} {image : List ℕ} → SameSize s mid → CanFormat s image → CanFormat mid image
 same_size_can_be_formatted same can = record {
   sized = same_size_is_sized same can.sized;
   fits = omega (arith, can.fits, same.size, ap gate_room same.grain);
 }
 
--- Image as it is written to a medium: filled up to a unit.
+-- Bytes that are written for an image: the image, and zeros that fill its last unit.
 abbrev pub image_units : MediumState → List ℕ → List ℕ
 image_units m image = filled_units m.grain.unit image
 
--- The pieces of an image up to `from` are written, and the others are not.
+-- The pieces of an image before `from` are written, and the others are not.
 pub record ImageWrittenUpTo (old mid : MediumState) (image : List ℕ) (from : ℕ) : Type 0 where
   pub same : SameSize old mid
   pub whole : IsMultiple old.grain.unit from
@@ -36,7 +36,7 @@ pub record ImageWrittenUpTo (old mid : MediumState) (image : List ℕ) (from : �
   pub told : (place : ℕ) → place ≡ 2 * gate_of old + from → PiecesWrittenTo old mid old.grain.sector (length (image_units old image))
       (2 * gate_of old) (image_units old image) place (drop from (image_units old image))
 
--- Before the first piece nothing is written.
+-- Before the first write no piece of the image is written.
 pub no_image_piece_written : (s : MediumState) (image : List ℕ) → IsWritableAhead s (2 * gate_of s) → ImageWrittenUpTo s s image 0
 no_image_piece_written s image ahead =
     let units = image_units s image in
@@ -68,7 +68,6 @@ module _ {old mid : MediumState} {image : List ℕ} {from : ℕ} (can : CanForma
     some : from < length units
     some = omega (arith, more, filled_length_sums old.grain.unit image)
 
-    -- The next piece may be written.
     pub next_piece_may_be_written : MayWritePiece mid image from
     next_piece_may_be_written =
         let grain = way.same.grain in
@@ -85,7 +84,7 @@ module _ {old mid : MediumState} {image : List ℕ} {from : ℕ} (can : CanForma
     abbrev next_piece_writes : List Write
     next_piece_writes = ops_writes mid.grain.sector [] image [] (operations mid.grain (Image from (length image)))
 
-    -- The writes of the next piece are the same as on the medium before the first piece, because the grain is the same.
+    -- The next piece is written by one write_some, with the old medium's sector size and gate size, because the grain stays.
     next_writes_are_write_some : next_piece_writes ≡ write_some old.grain.sector (2 * g + from) next_bytes
     next_writes_are_write_some =
         image_ops_make_writes mid.grain image [] from
@@ -100,7 +99,7 @@ module _ {old mid : MediumState} {image : List ℕ} {from : ℕ} (can : CanForma
     bytes_left_before_last_piece : 0 < length (drop from units)
     bytes_left_before_last_piece = omega (arith, some, length-drop from units)
 
-    -- If the write of the next piece fails, its fault breaks off the writes of the image.
+    -- If the write of the next piece fails, its fault interrupts the writes of the image.
     pub broken_piece_breaks_image : (fault : WriteFault) (now : MediumState) → BrokenWrites fault mid next_piece_writes now
         → BrokenWrites fault old (image_writes old.grain image) now
     broken_piece_breaks_image fault now broken =

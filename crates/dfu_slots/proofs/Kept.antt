@@ -1,4 +1,4 @@
--- Active image, which stays active while the spare slot changes.
+-- The active image stays active while the spare slot changes.
 use Rattle.std.proofs.Common.{◌≡◌, ◌⊎◌, inl, inr, ⊎_elim, ℕ, ◌+◌, ◌≤◌, ◌<◌, List, length, take, slice_index, sym, ◌∙◌, ap, subst, arith}
 use Rattle.dfu_slots.specs.Medium.{ChangedWithin}
 use Rattle.dfu_slots.specs.Layout.{slot_size, Slot, slot, HasOpenGate, generation, next_generation, HasHeader}
@@ -7,7 +7,7 @@ use Rattle.dfu_slots.proofs.Stands.{ActiveAt}
 use Rattle.dfu_slots.proofs.Counting.{equal_open_slot_counts}
 use Rattle.dfu_slots.proofs.Parts.{gate_kept_outside_change, header_kept_outside_change, data_kept_outside_change, slot_kept_outside_change, slot_size_kept_by_change, same_length_has_two_slots}
 
--- The slot now at `other` does not count, or is one generation older than the slot at `mine`.
+-- The slot now at `other` doesn't count, or it is one generation older than the slot at `mine` was.
 abbrev pub StaysNewest : ℕ → List ℕ → List ℕ → ℕ → ℕ → Type 0
 StaysNewest g old now mine other = (¬ SlotCounts (slot g now other))
     ⊎ (generation (slot g old mine) ≡ next_generation (generation (slot g now other)))
@@ -20,7 +20,7 @@ active_slot_kept g wide old now mine other image from to a keeps above below =
     slot_kept_outside_change g from to old now mine keeps wide (omega (arith, a.sized.room))
     (⊎_elim (λ p. inl (omega (arith, p.0, p.1))) (λ p. inr (omega (arith, p.0, p.1))) a.places)
 
--- A change of the spare slot keeps the active image, if the spare then does not count or is one generation behind.
+-- A change of the spare slot keeps the active image if the spare then doesn't count or is one generation older.
 pub active_image_kept : (g : ℕ) → 16 ≤ g → (old now : List ℕ) (mine other : ℕ) (image : List ℕ) (from to : ℕ)
     → ActiveAt g old mine other image → ChangedWithin from to old now → other ≤ from → to ≤ other + slot_size old
     → StaysNewest g old now mine other
@@ -42,7 +42,7 @@ active_image_kept g wide old now mine other image from to a keeps above below ot
 
 module _ (g : ℕ) (wide : 16 ≤ g) (old now : List ℕ) (mine other : ℕ) (image : List ℕ) (from to : ℕ) (a : ActiveAt g old mine other image)
     (keeps : ChangedWithin from to old now) where
-  -- A change within an open spare gate keeps the active image, because the spare counts no more than it did.
+  -- A change within the open gate of the spare keeps the active image, because it can't make the spare newer.
   pub open_gate_change_keeps_image : HasOpenGate (slot g old other) → other ≤ from → to ≤ other + g → ActiveAt g now mine other image
   open_gate_change_keeps_image was_open above below =
       let head = header_kept_outside_change g from to old now other keeps (inr below) in
@@ -52,7 +52,8 @@ module _ (g : ℕ) (wide : 16 ≤ g) (old now : List ℕ) (mine other : ℕ) (im
       (λ other_is_older. inr (other_is_older ∙ ap (λ (h : List ℕ). next_generation (slice_index h 0)) (sym head)))
       a.newest.other_is_older)
 
-  -- A change of the spare behind its closed gate keeps the active image, because the spare does not count.
+  -- If the spare's gate is closed, a change of the spare after the gate's first byte keeps the active image, because the spare doesn't
+  -- count.
   pub closed_slot_change_keeps_image : ¬ HasOpenGate (slot g old other) → other < from → to ≤ other + slot_size old →
       ActiveAt g now mine other image
   closed_slot_change_keeps_image shut above below =

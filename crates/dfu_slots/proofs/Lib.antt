@@ -2,13 +2,13 @@ pub mod AfterBegin
 pub mod AfterCall
 pub mod AfterCommit
 pub mod AfterPut
-pub mod Begun
+pub mod BeginMedium
 pub mod Commit
 mod Committed
 mod Comparing
 pub mod Counting
 pub mod Headers
-pub mod Filled
+pub mod FilledBuffers
 pub mod Formatted
 pub mod Formatting
 pub mod Kept
@@ -17,33 +17,33 @@ mod Opening
 pub mod Parts
 pub mod Pieces
 mod ImagePieces
-pub mod Put
+pub mod PutWrites
 mod Refused
 mod Registering
-pub mod Seeing
+pub mod VisibleStores
 pub mod Series
 mod Simulated
 mod SlotOpened
 mod SpareData
 pub mod Stands
-pub mod Stays
-pub mod Torn
+pub mod UnchangedSlots
+pub mod BytesOutsideWrite
 mod Unique
 pub mod Multiples
-pub mod Within
+pub mod WritesWithinRanges
 pub mod ReadBack
 pub mod Written
 mod Blank
 pub mod Sectors
-pub mod Anew
-mod Carried
+pub mod WritesWithErases
+mod SuccessiveOperations
 pub mod Ranges
 pub mod Sequences
-mod MayCarry
+mod AllowedOperations
 mod HeldRest
-mod SpareOpened
+mod SpareOpening
 pub mod ErasedTo
 pub mod Edges
 mod SizedOn
-mod Ahead
-mod PutAhead
+mod ErasesAhead
+mod PutBytes

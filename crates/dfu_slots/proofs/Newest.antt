@@ -1,4 +1,4 @@
--- Test by which the active slot is found.
+-- Lemmas about the offsets of the active slot and of the spare slot, and about the test `is_newest`.
 use Rattle.std.proofs.Common.{◌≡◌, inl, inr, ⊎_elim, not, true, false, ℕ, ◌+◌, ◌≤◌, List, length, sym, ◌∙◌, subst, arith, eq-eqb}
 use Rattle.std.proofs.lemmas.Bool.{and_from, and_left, and_right, or_left, or_right, or_from, or_cases, and_parts, eqb-true, not-true, cases_Bool, not_from_false, not_from_true, ne_eqb, cond-true, cond-false}
 use Rattle.dfu_slots.specs.Layout.{slot_size, capacity, Slot, slot, next_generation, ArePlaces}
@@ -7,7 +7,7 @@ use Rattle.dfu_slots.proofs.Parts.{data_length}
 use Rattle.dfu_slots.proofs.Stands.{HasTwoSlots, ActiveAt}
 use Rattle.dfu_slots.proofs.Counting.{counting_slot_passes, uncounted_slot_fails, passing_slot_counts, failing_slot_does_not_count}
 
--- The newest slot passes the test.
+-- `is_newest` is true for the newest slot.
 pub newest_slot_passes_test : (mine other : Slot) → IsNewest mine other → is_newest mine other ≡ true
 newest_slot_passes_test mine other a =
     and_from (slot_counts mine) _ (counting_slot_passes mine a.counts)
@@ -16,7 +16,7 @@ newest_slot_passes_test mine other a =
     (λ other_is_older. or_right (not (slot_counts other)) _ (eq-eqb _ _ other_is_older))
     a.other_is_older)
 
--- A slot that passes the test is the newest.
+-- A slot is the newest if `is_newest` is true for it.
 pub tested_slot_is_newest : (mine other : Slot) → is_newest mine other ≡ true → IsNewest mine other
 tested_slot_is_newest mine other test =
     let parts = and_parts (slot_counts mine) _ test in
@@ -30,7 +30,7 @@ tested_slot_is_newest mine other test =
 generations_not_each_next : (g h : ℕ) → g ≡ next_generation h → h ≡ next_generation g → ⊥
 generations_not_each_next g h a b = omega arith
 
--- The slot beside the newest one fails the test.
+-- If one slot is the newest, `is_newest` is false for the other slot.
 pub other_slot_fails_test : (mine other : Slot) → IsNewest mine other → is_newest other mine ≡ false
 other_slot_fails_test mine other a =
     ⊎_elim
@@ -39,7 +39,7 @@ other_slot_fails_test mine other a =
     (ne_eqb _ _ (λ e. generations_not_each_next _ _ other_is_older e))))
     a.other_is_older
 
--- The test finds the newest slot as the active one, and the other slot as the spare.
+-- `active_at` is the offset of the newest slot, and `spare_at` that of the other slot.
 pub test_finds_newest_slot : (g : ℕ) (bytes : List ℕ) (mine other : ℕ) → ArePlaces bytes mine other
     → IsNewest (slot g bytes mine) (slot g bytes other) → (mine ≡ active_at g bytes) × (other ≡ spare_at g bytes)
 test_finds_newest_slot g bytes mine other places newest =
@@ -60,13 +60,13 @@ test_finds_newest_slot g bytes mine other places newest =
     ))
     places
 
--- The test finds the places of an active image and of its spare.
+-- `active_at` is the offset of an active image's slot, and `spare_at` that of its spare.
 pub test_finds_active_image : (g : ℕ) (bytes : List ℕ) (mine other : ℕ) (image : List ℕ) → ActiveAt g bytes mine other image → (mine
     ≡ active_at g bytes)
     × (other ≡ spare_at g bytes)
 test_finds_active_image g bytes mine other image a = test_finds_newest_slot g bytes mine other a.places a.newest
 
--- The test finds the places of the two slots, in either order.
+-- `active_at` and `spare_at` are the offsets of the two slots, in either order.
 pub tested_places_are_slots : (g : ℕ) (bytes : List ℕ) → ArePlaces bytes (active_at g bytes) (spare_at g bytes)
 tested_places_are_slots g bytes = elim (cases_Bool (first_is_active g bytes)) [
   | inl first ↦ inl (
@@ -86,17 +86,17 @@ slot_place_ends_within g bytes mine other sized places =
     ⊎_elim (λ p. (omega (arith, sized.even, p.0), omega (arith, sized.even, p.1)))
     (λ p. (omega (arith, sized.even, p.0), omega (arith, sized.even, p.1))) places
 
--- The slot that the test takes for the active one ends within the medium.
+-- The slot at `active_at` ends within the medium.
 pub active_place_ends_within : (g : ℕ) (bytes : List ℕ) → HasTwoSlots g bytes → active_at g bytes + slot_size bytes ≤ length bytes
 active_place_ends_within g bytes sized = (slot_place_ends_within g bytes (active_at g bytes) (spare_at g bytes) sized
     (tested_places_are_slots g bytes)).0
 
--- The slot that the test takes for the spare ends within the medium.
+-- The slot at `spare_at` ends within the medium.
 pub spare_place_ends_within : (g : ℕ) (bytes : List ℕ) → HasTwoSlots g bytes → spare_at g bytes + slot_size bytes ≤ length bytes
 spare_place_ends_within g bytes sized = (slot_place_ends_within g bytes (active_at g bytes) (spare_at g bytes) sized
     (tested_places_are_slots g bytes)).1
 
--- The spare's data has as many bytes as the capacity.
+-- The length of the spare's data is the capacity.
 pub spare_data_has_capacity : (g : ℕ) (bytes : List ℕ) → HasTwoSlots g bytes → length (spare g bytes).data_bytes ≡ capacity g bytes
 spare_data_has_capacity g bytes sized = data_length g bytes (spare_at g bytes) (spare_place_ends_within g bytes sized) (omega (
   arith,

@@ -1,4 +1,4 @@
--- Result of the test of a medium that is opened.
+-- Lemmas about the test that `open` makes on a medium.
 use Rattle.std.proofs.Common.{◌≡◌, inl, inr, Bool, true, false, ℕ, List, length, take, refl, sym, ◌∙◌, ap, subst}
 use Rattle.std.proofs.lemmas.Bool.{cases_Bool, both_ways, cond-true, cond-false}
 use Rattle.std.proofs.lemmas.List.{length-take-le}
@@ -43,7 +43,7 @@ module _ (m : MediumState) where
   abbrev g : ℕ
   g = gate_of m
 
-  -- True if the slot at the active place is the newest beside the one at the spare place.
+  -- True if the slot found as the active one counts, and the slot found as the spare doesn't count or is one generation older.
   abbrev is_found_slot_newest : Bool
   is_found_slot_newest = is_newest (slot_of m (active_at g m.bytes)) (slot_of m (spare_at g m.bytes))
 
@@ -61,7 +61,7 @@ module _ (m : MediumState) where
           both_ways _ test (newest_slot_passes_test _ _ (subst (λ (q : ℕ). IsNewest (slot_of m q) (slot_of m (spare_at g m.bytes))) p.0
           (subst (λ (q : ℕ). IsNewest (slot_of m one.at) (slot_of m q)) p.1 one.newest)))
 
-  -- A medium that passes the test, and whose header is well formed, has an active image.
+  -- If the slot at `active_at` is the newest and its header is well formed, the medium has an active image.
   tested_medium_has_image : (len : ℕ) → IsSizedMedium m → is_found_slot_newest ≡ true → HasHeader (slot_of m (active_at g m.bytes)) len →
       HasImage m
   tested_medium_has_image len sized test head =
@@ -81,12 +81,13 @@ module _ (m : MediumState) where
         };
       }
 
-  -- Results of the test at the places that were found.
+  -- Facts about the slots at the two offsets that `open` found.
   module _ {p q : ℕ} (at_active : p ≡ active_at g m.bytes) (at_spare : q ≡ spare_at g m.bytes) where
     found_places_decide_test : (b : Bool) → is_newest (slot_of m p) (slot_of m q) ≡ b → is_found_slot_newest ≡ b
     found_places_decide_test b test = sym (λ i. is_newest (slot_of m (at_active i)) (slot_of m (at_spare i))) ∙ test
 
-    -- If neither slot is the newest, and one counts, both count, and neither is one generation newer.
+    -- If the slot that was found is not the newest, but at least one slot counts, then both count and neither is one generation newer than
+    -- the other.
     pub found_places_have_two_counting : is_newest (slot_of m p) (slot_of m q) ≡ false → ¬ ((¬ FirstSlotCounts m) × (¬ SecondSlotCounts m))
         → FirstSlotCounts m
         × SecondSlotCounts m × (¬ HasNewest m)

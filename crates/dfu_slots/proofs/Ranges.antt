@@ -1,11 +1,11 @@
--- Ranges of bytes that have zeros after them.
+-- Lemmas about ranges of a list that is followed by zeros.
 use Rattle.std.proofs.Common.{◌≡◌, ℕ, ◌+◌, ◌-◌, ◌≤◌, ◌<◌, List, [], ◌++◌, length, take, drop, replicate, get_or, slice_range, sym, ◌∙◌, ap, arith, length-append, length-drop}
 use Rattle.std.proofs.lemmas.Grind.{same_number_lists}
 use Rattle.std.proofs.lemmas.List.{take_all, take-append-le, drop-append-le, take-replicate, drop_at, length-take-le, length-replicate}
 use Rattle.std.proofs.lemmas.List.{get_or-take, get_or-drop}
 use Rattle.std.proofs.lemmas.Slice.{between_is, between_from_start}
-use Rattle.dfu_slots.proofs.Torn.{drop_in_two_steps}
-use Rattle.dfu_slots.proofs.Within.{take_past_first_list}
+use Rattle.dfu_slots.proofs.BytesOutsideWrite.{drop_in_two_steps}
+use Rattle.dfu_slots.proofs.WritesWithinRanges.{take_past_first_list}
 
 -- A buffer that was filled byte by byte from a list begins with a range of the list.
 pub gathered_is_a_range : (all : List ℕ) (skip n : ℕ) (out : List ℕ) → length out ≡ 256 → n ≤ 256 → skip ≤ length all
@@ -22,7 +22,7 @@ gathered_is_a_range all skip n out size few front each =
     get_or-take n out k 0 low ∙ each k low ∙ sym (get_or-drop skip l k 0) ∙ sym (get_or-take n (drop skip l) k 0 low))
     ∙ ap (λ (j : ℕ). take j (drop skip l)) e
 
--- The first n bytes of a list with zeros after it, with n past its end, are the list and then zeros.
+-- If n is at least the length of a list, the first n bytes of the list followed by 256 zeros are the whole list and then zeros.
 pub range_front_with_zeros : (l : List ℕ) (n : ℕ) → length l ≤ n → n ≤ 256
     → slice_range (l ++ replicate 256 0) 0 (0 + n) ≡ l ++ replicate (n - length l) 0
 range_front_with_zeros l n low high =
@@ -37,7 +37,7 @@ pub range_before_appended_bytes : (l more : List ℕ) (i j : ℕ) → j ≤ leng
 range_before_appended_bytes l more i j le =
     between_is (l ++ more) i j ∙ ap (λ (x : List ℕ). drop i x) (take-append-le j l more le) ∙ sym (between_is l i j)
 
--- A range of the held bytes and the block that begins after the held bytes is a range of the block.
+-- In the held bytes followed by the block, a range that begins after the held bytes is a range of the block.
 pub range_within_block : (held block : List ℕ) (skip n : ℕ) → length held ≤ skip → skip + n ≤ length held + length block
     → slice_range ((held ++ block) ++ replicate 256 0) skip (skip + n)
     ≡ slice_range block (skip - length held) (skip - length held + n)
@@ -49,7 +49,7 @@ range_within_block held block skip n low high =
     ∙ ap (λ (l : List ℕ). drop (skip - length held) l) (drop_at held block (length held) (omega arith)))
     ∙ ap (λ (j : ℕ). take j (drop (skip - length held) block)) e
 
--- A range that begins in an image is the rest of the image, and then zeros.
+-- A range that begins in an image holds the rest of the image and then zeros.
 pub image_range_into_zeros : (image : List ℕ) (skip n : ℕ) → skip ≤ length image
     → slice_range (([] ++ image) ++ replicate 256 0) skip (skip + n) ≡ take n (slice_range image skip (length image) ++ replicate 256 0)
 image_range_into_zeros image skip n high =
@@ -60,7 +60,7 @@ image_range_into_zeros image skip n high =
     ∙ ap (λ (l : List ℕ). l ++ replicate 256 0)
     (sym (take_all (length image - skip) (drop skip image) (omega (arith, length-drop skip image)))))
 
--- A range within a list has the length asked for.
+-- If a range of n bytes lies within a list, its slice has n bytes.
 pub range_within_has_its_length : (all : List ℕ) (skip n : ℕ) → skip + n ≤ length all → length (slice_range all skip (skip + n)) ≡ n
 range_within_has_its_length all skip n within =
     let k : skip + n - skip ≡ n = omega arith in

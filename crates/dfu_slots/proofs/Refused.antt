@@ -1,4 +1,4 @@
--- Faults of `open`, none of which a medium with an active image has.
+-- No medium with an active image has a fault of `open`.
 use Rattle.std.proofs.Common.{⊎_elim, ℕ, length, sym, ◌∙◌, subst}
 use Rattle.dfu_slots.specs.Medium.{MediumState}
 use Rattle.dfu_slots.specs.Layout.{HasHeader}

@@ -1,4 +1,4 @@
--- Edges: places at which sectors begin.
+-- Edges: offsets at which sectors begin.
 use Rattle.std.proofs.Common.{◌≡◌, ◌≢◌, ◌⊎◌, inl, inr, ℕ, ◌+◌, ◌-◌, ◌%◌, ◌≤◌, ◌<◌, sym, ◌∙◌, ap, subst, arith}
 use Rattle.std.proofs.Math.Nat.{mod-add-mod, mod-eq_of_lt, mod_self, dvd-sub_iff_left, dvd-add}
 use Rattle.std.proofs.lemmas.Nat.Gcd.{dvd_of_mod-eq-zero, mod-eq-zero_of_dvd, le_of_dvd}
@@ -7,11 +7,11 @@ use Rattle.dfu_slots.specs.declared.layout.Unit.{Unit as WriteUnit}
 use Rattle.dfu_slots.specs.declared.layout.Unit.TheVariants.{Byte}
 use Rattle.dfu_slots.specs.Units.{Grain, gate_size, gate_room, IsMultiple, IsWhole}
 
--- A place is an edge if a sector begins there; without sectors each place is one.
+-- An offset is an edge if a sector begins there. Without sectors every offset is an edge.
 abbrev pub IsSectorEdge : ℕ → ℕ → Type 0
 IsSectorEdge sector at = 0 < sector → at % sector ≡ 0
 
--- Place 0 is an edge.
+-- Offset 0 is a sector edge.
 pub first_byte_is_edge : (sector : ℕ) → IsSectorEdge sector 0
 first_byte_is_edge sector some = mod-eq_of_lt some
 
@@ -27,7 +27,7 @@ sector_ends_before_edge sector at to x y lt =
     let least : sector ≤ to - at = le_of_dvd (omega (arith, lt)) divides in
     omega (arith, least, lt)
 
--- The offset of a byte in its sector grows by 1 at the next byte.
+-- If two adjacent bytes lie in one sector, their offsets in it differ by 1.
 pub remainder_of_next_byte : (sector at : ℕ) → at % sector + 1 < sector → (at + 1) % sector ≡ at % sector + 1
 remainder_of_next_byte sector at lt = sym (mod-add-mod at sector 1) ∙ mod-eq_of_lt lt
 
@@ -35,7 +35,7 @@ remainder_of_next_byte sector at lt = sym (mod-add-mod at sector 1) ∙ mod-eq_o
 pub gate_unit_at_least_16 : (u : WriteUnit) → 16 ≤ gate_size u
 gate_unit_at_least_16 u = omega arith
 
--- The room of a gate has at least 16 bytes.
+-- A gate occupies at least 16 bytes.
 pub gate_room_at_least_16 : (w : Grain) → 16 ≤ gate_room w
 gate_room_at_least_16 w = omega arith
 
@@ -55,15 +55,15 @@ page_multiple_is_unit_multiple Byte n e = omega (arith, e)
 page_multiple_is_unit_multiple _ n e = omega (arith, e)
 
 module _ (w : Grain) (n : ℕ) (whole : IsWhole w n) where
-  -- With sectors the room of a gate is one sector.
+  -- On a medium with sectors a gate occupies exactly one sector.
   pub gate_room_is_a_sector : 0 < w.sector → gate_room w ≡ w.sector
   gate_room_is_a_sector some = omega (arith, gate_unit_at_most_256 w.unit, whole.pages, some)
 
-  -- The room of a gate ends at a sector edge.
+  -- The space that a gate occupies is a whole number of sectors.
   pub gate_room_ends_at_edge : IsSectorEdge w.sector (gate_room w)
   gate_room_ends_at_edge some = ap (λ (k : ℕ). k % w.sector) (gate_room_is_a_sector some) ∙ mod_self w.sector
 
-  -- The room of a gate is a multiple of the unit.
+  -- The space that a gate occupies is a multiple of the unit.
   pub gate_room_is_multiple : IsMultiple w.unit (gate_room w)
   gate_room_is_multiple = with_or_without_sectors (cases_eq w.sector 0)
     where

@@ -1,4 +1,4 @@
--- Operations of each sequence, and the writes that they make.
+-- Lemmas about the operations of each sequence, and the writes that they make.
 use Rattle.std.proofs.Common.{◌≡◌, ◌≢◌, ◌⊎◌, inl, inr, ◌==◌, true, false, if◌then◌else◌, ℕ, suc, ◌+◌, ◌-◌, ◌*◌, ◌≤◌, ◌<◌, min, List, [], ◌∷◌, ◌++◌, length, take, drop, replicate, slice_range, sym, ◌∙◌, ap, arith, length-append}
 use Rattle.std.proofs.lemmas.Bool.{cases_eq, cond-true, cond-false, ne_eqb, eq-eqb}
 use Rattle.std.proofs.lemmas.List.{append-nil, append_assoc, drop_min, take_min, length-drop, replicate-append-replicate}
@@ -17,33 +17,33 @@ use Rattle.dfu_slots.specs.Operations.{range_of, ops_writes, held_from, operatio
 use Rattle.dfu_slots.proofs.Sectors.{gate_unit_at_least_16, gate_unit_at_most_256}
 use Rattle.dfu_slots.proofs.Multiples.{largest_unit_is_multiple, filled_length_sums, filled_bytes_within}
 use Rattle.dfu_slots.proofs.Parts.{gate_unit_has_size, header_unit_has_size}
-use Rattle.dfu_slots.proofs.Put.{head_at_most_whole_units, whole_units_at_most_length}
+use Rattle.dfu_slots.proofs.PutWrites.{head_at_most_whole_units, whole_units_at_most_length}
 use Rattle.dfu_slots.proofs.Ranges.{range_front_with_zeros, range_before_appended_bytes}
 
--- A write of one byte or more has the erases before it.
+-- A write of at least one byte is preceded by its erases.
 pub nonempty_write_is_erasing : (sector at : ℕ) (bytes : List ℕ) → 0 < length bytes
     → write_some sector at bytes ≡ erasing_write sector at bytes
 nonempty_write_is_erasing sector at bytes some =
     cond-false (length bytes == 0) [] (erasing_write sector at bytes) (ne_eqb (length bytes) 0 (λ e. omega (arith, some, e)))
 
--- A range of one byte and zeros is a gate unit.
+-- A gate's first byte, filled up with zeros to g bytes, is a gate unit.
 pub range_is_gate_unit : (g first : ℕ) → 16 ≤ g → g ≤ 256 → slice_range ((first ∷ []) ++ replicate 256 0) 0 (0 + g) ≡ gate_unit g first
 range_is_gate_unit g first least most = range_front_with_zeros (first ∷ []) g (omega (arith, least)) most
 
--- A range of zeros is a closed gate unit.
+-- A gate unit of g zeros is the unit of a closed gate.
 pub range_is_closed_gate_unit : (g : ℕ) → 16 ≤ g → g ≤ 256 → slice_range ([] ++ replicate 256 0) 0 (0 + g) ≡ gate_unit g 0
 range_is_closed_gate_unit g least most =
     range_front_with_zeros [] g (omega arith) most
     ∙ (let e : g - 0 ≡ suc (g - 1) = omega (arith, least) in ap (λ (k : ℕ). replicate {A = ℕ} k 0) e)
 
--- A range of a header and zeros is a header unit.
+-- A header, filled up with zeros to g bytes, is a header unit.
 pub range_is_header_unit : (g gen len crc : ℕ) (front : List ℕ) → 16 ≤ g → g ≤ 256 → front ≡ header 2 gen len crc
     → slice_range (front ++ replicate 256 0) 0 (0 + g) ≡ header_unit g gen len crc
 range_is_header_unit g gen len crc front least most is =
     ap (λ (l : List ℕ). slice_range (l ++ replicate 256 0) 0 (0 + g)) is
     ∙ range_front_with_zeros (header 2 gen len crc) g (omega (arith, least)) most
 
--- A range of the held bytes and zeros is the held bytes, filled up to a unit.
+-- The held bytes followed by fill_size zeros are filled up to a unit.
 pub range_is_filled_held_bytes : (u : WriteUnit) (held : List ℕ) → length held ≤ 256
     → slice_range (held ++ replicate 256 0) 0 (0 + (length held + fill_size u (length held))) ≡ filled_units u held
 range_is_filled_held_bytes u held few =
@@ -52,7 +52,7 @@ range_is_filled_held_bytes u held few =
     range_front_with_zeros held n (omega arith) most
     ∙ (let e : n - length held ≡ fill_size u (length held) = omega arith in ap (λ (k : ℕ). held ++ replicate k 0) e)
 
--- Bytes of the first write of a `put`, and of the write after it.
+-- Bytes of the first and of the second write of a `put`.
 module _ (w : Grain) (held block : List ℕ) where
   abbrev all : List ℕ
   all = held ++ block
@@ -84,7 +84,7 @@ module _ (w : Grain) (held block : List ℕ) where
       ∙ (λ i. drop (is i) (take (end i) all))
 
 module _ (w : Grain) (held block head : List ℕ) where
-  -- The operations that close a gate make the write of a closed gate.
+  -- The operation of a Close sequence makes the write that closes a gate.
   pub close_ops_make_writes : (slot : ℕ) → ops_writes w.sector held block head (operations w (Close slot))
       ≡ record { at = slot; bytes = closed_gate w } ∷ []
   close_ops_make_writes slot = with_or_without_sectors (cases_eq w.sector 0)
@@ -115,7 +115,7 @@ module _ (w : Grain) (held block head : List ℕ) where
           ∙ ap (λ (l : List ℕ). record { at = slot; bytes = l } ∷ [])
           (sym (cond-false (w.sector == 0) (gate_unit g 0) (replicate w.sector 255) e))
 
-  -- The operations of a put make the writes of a `put`.
+  -- The operations of a Put sequence make the writes of a `put`.
   pub put_ops_make_writes : (slot end : ℕ) → ops_writes w.sector held block head (operations w (Put slot end (length held) (length block)))
       ≡ put_writes w (held_from w slot end (length held)) held block
   put_ops_make_writes slot end =
@@ -134,7 +134,7 @@ module _ (w : Grain) (held block head : List ℕ) where
       ++ (write_some w.sector (at + first i) (range_is_further_units w held block mine left first back i) ++ []))
       ∙ ap (λ (ws : List Write). write_some w.sector at (take (head_write_size w.unit held block) (held ++ block)) ++ ws) (append-nil _)
 
-  -- The operations of a commit write the held bytes, and open the slot.
+  -- The operations of a Commit sequence write the held bytes and open the slot.
   pub commit_ops_make_writes : (slot end gen len crc : ℕ) → length held ≤ 256 → head ≡ header 2 gen len crc
       → ops_writes w.sector held block head (operations w (Commit slot end (length held)))
       ≡ held_writes w (held_from w slot end (length held)) held ++ open_writes w slot gen len crc
@@ -159,7 +159,7 @@ module _ (w : Grain) (held block head : List ℕ) where
       (λ i. write_some w.sector at (range_is_filled_held_bytes w.unit held few i)
       ++ (header_writes i ++ append-nil (gate_writes i) i))
 
--- A range of an image and zeros is the next piece of the image, filled up to a unit.
+-- The range of an image that an Image operation writes is the piece of the image that begins at `from`, filled up to a unit.
 pub range_is_image_piece : (u : WriteUnit) (image : List ℕ) (from skip n : ℕ) → skip ≡ min from (length (filled_units u image))
     → n ≡ min (length (filled_units u image) - skip) 4096
     → slice_range (([] ++ image) ++ replicate 256 0) skip (skip + n) ≡ take 4096 (drop from (filled_units u image))

@@ -1,10 +1,10 @@
--- Places of the writes that open a slot.
+-- A lemma about the range of the writes that open a slot.
 use Rattle.std.proofs.Common.{ℕ, ◌+◌, ◌*◌, ◌≤◌, arith}
 use Rattle.dfu_slots.specs.Units.{Grain, gate_size, gate_room}
 use Rattle.dfu_slots.specs.Layout.{OPEN, gate_unit, header_unit}
 use Rattle.dfu_slots.specs.Writes.{erasing_write, open_writes}
 use Rattle.dfu_slots.proofs.Series.{AllWritesInside, appended_writes_inside}
-use Rattle.dfu_slots.proofs.Anew.{write_with_erases_inside}
+use Rattle.dfu_slots.proofs.WritesWithErases.{write_with_erases_inside}
 use Rattle.dfu_slots.proofs.Parts.{gate_unit_has_size, header_unit_has_size}
 use Rattle.dfu_slots.proofs.Sectors.{IsSectorEdge, gate_unit_at_least_16}
 

@@ -1,4 +1,4 @@
--- Writes in the spare's data: they keep the active image and the spare's gate.
+-- Writes in the spare's data keep the active image and the spare's gate.
 use Rattle.std.proofs.Common.{◌≡◌, inl, ℕ, ◌+◌, ◌-◌, ◌*◌, ◌/◌, ◌≤◌, List, ◌++◌, length, take, drop, slice_index, slice_range, sym, ◌∙◌, ap, arith}
 use Rattle.dfu_slots.specs.Medium.{MediumState, Write, ChangedWithin, written}
 use Rattle.dfu_slots.specs.Layout.{slot_size, capacity, slot, HasOpenGate}
@@ -7,17 +7,16 @@ use Rattle.dfu_slots.proofs.Stands.{HasTwoSlots, ActiveAt}
 use Rattle.std.proofs.lemmas.List.{take-take, drop-drop}
 use Rattle.std.proofs.Math.Seq.{take-add}
 use Rattle.dfu_slots.proofs.ReadBack.{range_by_its_length}
-use Rattle.dfu_slots.proofs.Torn.{whole_write_is_torn, range_kept_outside_write}
+use Rattle.dfu_slots.proofs.BytesOutsideWrite.{whole_write_is_torn, range_kept_outside_write}
 use Rattle.dfu_slots.proofs.Parts.{gate_kept_outside_change}
 use Rattle.dfu_slots.proofs.Newest.{test_finds_active_image, slot_place_ends_within, spare_place_ends_within}
 use Rattle.dfu_slots.proofs.Kept.{closed_slot_change_keeps_image}
 use Rattle.dfu_slots.proofs.Series.{AllWritesInside, WritesEnded, SameSize, ended_writes_keep_rest, writes_keep_size}
-use Rattle.dfu_slots.proofs.Anew.{LeavesBytesAt}
-use Rattle.dfu_slots.proofs.Within.{range_written_within}
-use Rattle.dfu_slots.proofs.Begun.{spare_stays_at_its_place}
+use Rattle.dfu_slots.proofs.WritesWithErases.{LeavesBytesAt}
+use Rattle.dfu_slots.proofs.WritesWithinRanges.{range_written_within}
+use Rattle.dfu_slots.proofs.BeginMedium.{spare_stays_at_its_place}
 
--- Writes in the spare's data change nothing elsewhere: the active image and the spare stay at their places, and the spare's gate is as it
--- was.
+-- Writes in the spare's data change nothing else: the active image and the spare stay in their slots, and the spare's gate stays.
 pub record SpareDataResult (g : ℕ) (s now : MediumState) (mine other : ℕ) (image : List ℕ) : Type 0 where
   pub kept : ChangedWithin (other + 2 * g) (other + slot_size s.bytes) s.bytes now.bytes
   pub same : SameSize s now
@@ -26,7 +25,7 @@ pub record SpareDataResult (g : ℕ) (s now : MediumState) (mine other : ℕ) (i
   pub gate_at_spare_place : (slot g now.bytes other).gate ≡ (slot g s.bytes other).gate
   pub gate : (spare g now.bytes).gate ≡ (spare g s.bytes).gate
 
--- Writes in the data of a closed spare leave this state, also if one of them fails.
+-- Writes in the data of a closed spare change nothing else, even if one of them fails.
 pub closed_spare_data_result : (g : ℕ) → 16 ≤ g → (s now : MediumState) (mine other : ℕ) (image : List ℕ) →
     ActiveAt g s.bytes mine other image
     → ¬ HasOpenGate (slot g s.bytes other) → (ws : List Write) → AllWritesInside (other + 2 * g) (other + slot_size s.bytes) ws →
@@ -53,7 +52,7 @@ closed_spare_data_result g wide s now mine other image a shut ws inside ends =
           ∙ ap (λ (q : ℕ). slice_index s.bytes q) place;
     }
 
--- A write at a place in a slot's data leaves its bytes at that place of the data.
+-- A write in a slot's data stores its bytes at the same offset of the data.
 pub write_is_in_slot_data : (g : ℕ) (old now : List ℕ) (p k : ℕ) (new : List ℕ) → p + slot_size old ≤ length old
     → 2 * g + k + length new ≤ slot_size old → now ≡ written old (p + 2 * g + k) new
     → (slot g now p).data_bytes ≡ written (slot g old p).data_bytes k new
@@ -63,7 +62,7 @@ write_is_in_slot_data g old now p k new end fits is =
     (λ i. slice_range (is i) (p + 2 * g) (p + size i))
     ∙ range_written_within old (p + 2 * g) (p + slot_size old) k new (omega (arith, fits)) end
 
--- A write at a place in the spare's data leaves its bytes at that place of the data.
+-- A write in the spare's data stores its bytes at the same offset of the data.
 pub write_is_in_spare_data : (g : ℕ) (old now : List ℕ) → HasTwoSlots g old → spare_at g now ≡ spare_at g old
     → (k : ℕ) (new : List ℕ) → k + length new ≤ capacity g old → now ≡ written old (spare_at g old + 2 * g + k) new
     → (spare g now).data_bytes ≡ written (spare g old).data_bytes k new
@@ -71,7 +70,8 @@ write_is_in_spare_data g old now sized same k new fits is =
     ap (λ (q : ℕ). (slot g now q).data_bytes) same
     ∙ write_is_in_slot_data g old now (spare_at g old) k new (spare_place_ends_within g old sized) (omega (arith, fits, sized.room)) is
 
--- If a write left bytes at a place in a slot's data, and nothing before it changed, they follow the old bytes before that place.
+-- If a write stored bytes at offset k of a slot's data, and no byte before them changed, the data begins with the old k bytes and then
+-- holds the new ones.
 pub write_extends_slot_front : (g : ℕ) (old now : List ℕ) (p k : ℕ) (new : List ℕ) (to : ℕ) → 2 * g + k + length new ≤ slot_size old
     → LeavesBytesAt (p + 2 * g + k) to new old now
     → take (k + length new) (slot g now p).data_bytes ≡ take k (slot g old p).data_bytes ++ new
@@ -88,7 +88,8 @@ write_extends_slot_front g old now p k new to fits (keeps, stands) =
     take-take (k + n) (p + slot_size now - q) (drop q now) (omega (arith, size, fits))
     ∙ take-add k n (drop q now) ∙ (λ i. first i ++ second i)
 
--- If a write left bytes at a place in the spare's data, and nothing before it changed, they follow the old bytes before that place.
+-- If a write stored bytes at offset k of the spare's data, and no byte before them changed, the data begins with the old k bytes and then
+-- holds the new ones.
 pub write_extends_spare_front : (g : ℕ) (old now : List ℕ) → HasTwoSlots g old → spare_at g now ≡ spare_at g old
     → (k : ℕ) (new : List ℕ) (to : ℕ) → k + length new ≤ capacity g old
     → LeavesBytesAt (spare_at g old + 2 * g + k) to new old now

@@ -1,4 +1,4 @@
--- Active image of a medium, the only one, which is read at the place that the test finds.
+-- A medium has only one active image, and `image_of` reads it from the slot at `active_at`.
 use Rattle.std.proofs.Common.{◌≡◌, ℕ, ◌+◌, ◌-◌, ◌*◌, ◌≤◌, List, length, take, drop, slice_range, refl, sym, ◌∙◌, ap, subst, arith}
 use Rattle.std.proofs.lemmas.List.{take-take}
 use Rattle.std.proofs.lemmas.Slice.{between_is}
@@ -21,18 +21,18 @@ module _ {m : MediumState} {p : ℕ} {image : List ℕ} (here : p ≡ active_at 
   place : a.at ≡ p
   place = (test_finds_active_image g m.bytes a.at a.spare image (active_image_at_its_place a)).0 ∙ sym here
 
-  -- The slot that the test finds counts.
+  -- The slot at `active_at` counts.
   pub active_slot_counts : SlotCounts (slot_of m p)
   active_slot_counts = subst (λ (q : ℕ). SlotCounts (slot_of m q)) place a.newest.counts
 
-  -- The slot that the test finds has the header of the active image.
+  -- The slot at `active_at` has the header of the active image.
   pub active_slot_has_its_header : HasHeader (slot_of m p) (length image)
   active_slot_has_its_header = subst (λ (q : ℕ). HasHeader (slot_of m q) (length image)) place a.header_is
 
   room_is : length (slot_of m p).data_bytes ≡ capacity_of m
   room_is = data_length g m.bytes p (omega (arith, here, active_place_ends_within g m.bytes sized)) (omega (arith, sized.room))
 
-  -- The active image fits in the data of a slot.
+  -- The active image fits into the data of a slot.
   pub active_image_fits : length image ≤ capacity_of m
   active_image_fits = omega (arith, active_slot_has_its_header.fits, room_is)
 
@@ -46,14 +46,14 @@ module _ {m : MediumState} {p : ℕ} {image : List ℕ} (here : p ≡ active_at 
   pub image_is_data_front : image ≡ take (length image) (slot_of m p).data_bytes
   image_is_data_front = a.image_is ∙ ap (λ (q : ℕ). take (length image) (slot_of m q).data_bytes) place
 
-  -- A range of the active slot's data within the image is the same range of the image.
+  -- A range of the active slot's data that lies within the image is the same range of the image.
   pub active_data_range_is_of_image : (i j : ℕ) → j ≤ length image → slice_range (slot_of m p).data_bytes i j ≡ slice_range image i j
   active_data_range_is_of_image i j le =
       let whole = (slot_of m p).data_bytes in
       between_is whole i j ∙ ap (λ (l : List ℕ). drop i l)
       (sym (take-take j (length image) whole le) ∙ ap (λ (l : List ℕ). take j l) (sym image_is_data_front)) ∙ sym (between_is image i j)
 
-  -- The active image is on the medium after the gate and the header of the active slot.
+  -- The active image is on the medium directly after the gate and the header of the active slot.
   pub image_at_its_place_on_medium : slice_range m.bytes (p + 2 * g) (p + 2 * g + length image) ≡ image
   image_at_its_place_on_medium =
       let from = p + 2 * g in

@@ -1,13 +1,13 @@
--- Effect of a write that returned Ok, by the bytes that were read back.
+-- Lemmas about the effect of a write that returned Ok, which the bytes read back determine.
 use Rattle.std.proofs.Common.{◌≡◌, inl, inr, ℕ, ◌+◌, ◌-◌, ◌≤◌, List, ◌++◌, length, take, drop, slice_range, sym, ◌∙◌, ap, arith}
 use Rattle.std.proofs.lemmas.List.{take-append-drop, drop-drop, append_assoc}
 use Rattle.dfu_slots.specs.declared.fault.WriteFault.TheVariants.{NotVerified}
 use Rattle.dfu_slots.specs.Medium.{MediumState, Fuse, Torn, WriteMayWork, WriteMayFail, WroteBytes, FailedWrite, WroteOrLied, written}
 use Rattle.dfu_slots.specs.Medium.Fuse.{Unknown, Whole, Armed, Lying, Stopped}
-use Rattle.dfu_slots.proofs.Torn.{written_bytes_in_range}
+use Rattle.dfu_slots.proofs.BytesOutsideWrite.{written_bytes_in_range}
 use Rattle.dfu_slots.proofs.ReadBack.{HasBytesAt}
 
--- A torn write whose range has all its bytes worked.
+-- A torn write whose range holds all its bytes worked.
 torn_write_with_bytes_worked : (old : List ℕ) (at : ℕ) (new left : List ℕ) → at + length new ≤ length old → Torn old at new left →
     HasBytesAt left at new
     → left ≡ written old at new
@@ -21,7 +21,7 @@ torn_write_with_bytes_worked old at new left fits torn stands =
     range : take (length new) (drop at left) ≡ new
     range = let e : length new ≡ at + length new - at = omega arith in ap (λ (k : ℕ). take k (drop at left)) e ∙ stands
 
--- A fuse that lets a write lie lets it work, if the write left its bytes.
+-- If a lying write stored exactly its bytes, the same fuse also allows a write that works and leaves the same next fuse.
 true_lie_may_work : (f : Fuse) (old : List ℕ) (at : ℕ) (new left : List ℕ) (next : Fuse) → WriteMayFail f NotVerified old at new left next
     → left ≡ written old at new → WriteMayWork f old at new next
 true_lie_may_work Unknown old at new left next lied right = lied

@@ -1,4 +1,4 @@
--- Effects of a store's calls, and the causes for which `format` and `open` fail.
+-- Effects of a store's calls, and the reasons for which `format` and `open` fail.
 use Rattle.std.specs.Prelude.{◌≡◌, ◌≤◌, ◌<◌, ℕ, List, length, Result, Ok, Err}
 use Rattle.dfu_slots.specs.Medium.{MediumState}
 use Rattle.dfu_slots.specs.Layout.{slot_size, ArePlaces, HasHeader}
@@ -13,7 +13,7 @@ use Rattle.dfu_slots.specs.declared.fault.PutFault.TheVariants.{TooLarge, Failed
 use Rattle.dfu_slots.specs.declared.fault.WriteFault.{WriteFault}
 use Rattle.dfu_slots.specs.declared.fault.WriteFault.TheVariants.{Failed as WriteFailed, NotVerified as WriteNotVerified}
 
--- A call is broken off if one of its writes failed, or if other bytes than those of a write were read back.
+-- A fault interrupted a call: one of its writes failed, or other bytes were read back than were written.
 abbrev pub CallIsBroken : {T : Type 0} → Result T PutFault → Type 0
 CallIsBroken (Ok _) = ⊥
 CallIsBroken (Err Failed) = Unit {0}
@@ -21,18 +21,18 @@ CallIsBroken (Err NotVerified) = Unit {0}
 CallIsBroken (Err TooLarge) = ⊥
 CallIsBroken (Err NotBegun) = ⊥
 
--- Fault of the write that broke a call off: NotVerified if the call returned NotVerified, else Failed.
+-- Fault of the write that interrupted a call: WriteNotVerified if the call returned NotVerified, otherwise WriteFailed.
 abbrev pub fault_of : PutFault → WriteFault
 fault_of NotVerified = WriteNotVerified
 fault_of fault = WriteFailed
 
--- Ending of the writes of a call that was not refused: all were made, or one of them had a fault.
+-- Ending of the writes of a call that was not refused: all of them worked, or one of them had a fault.
 abbrev pub ending_of : {T : Type 0} → Result T PutFault → Ending
 ending_of (Ok _) = AllWorked
 ending_of (Err fault) = BrokenBy (fault_of fault)
 
--- Writes made by a call, by its result. Ok: all of them. Failed or NotVerified: those up to one with this fault. Any other fault: none, and
--- the store is as it was.
+-- Effect of a call, by its result. After Ok all its writes worked. After Failed or NotVerified a write had this fault, and no later write
+-- was made. After any other fault the store is unchanged.
 abbrev pub CallChanges : {T : Type 0} → SlotsState → StoreCall → Result T PutFault → SlotsState → Type 0
 CallChanges old call (Ok _) now = CallEnds old call AllWorked now
 CallChanges old call (Err Failed) now = CallEnds old call (BrokenBy WriteFailed) now
@@ -40,18 +40,18 @@ CallChanges old call (Err NotVerified) now = CallEnds old call (BrokenBy WriteNo
 CallChanges old call (Err TooLarge) now = now ≡ old
 CallChanges old call (Err NotBegun) now = now ≡ old
 
--- A medium can be formatted if it has a length that two slots can have, and each slot has room for the image.
+-- A medium can be formatted with an image if its length allows two slots, and the image fits into the data of a slot.
 pub record CanFormat (m : MediumState) (image : List ℕ) : Type 0 where
   pub sized : IsSizedMedium m
   pub fits : length image ≤ capacity_of m
 
--- First cause for which a `format` fails. If that is a failed write, the medium can be formatted with the image.
+-- Condition for each fault of `format`, in the order of the checks. Failed is returned only if the medium can be formatted with the image.
 abbrev pub IsFormatFault : FormatFault → MediumState → List ℕ → Type 0
 IsFormatFault NotSized m image = ¬ IsSizedMedium m
 IsFormatFault ImageTooLarge m image = IsSizedMedium m × (capacity_of m < length image)
 IsFormatFault FormatFailed m image = CanFormat m image
 
--- One of the two slots counts, and the other one does not count or is one generation older.
+-- One of the two slots counts, and the other one doesn't count or is one generation older.
 pub record HasNewest (m : MediumState) : Type 0 where
   pub at : ℕ
   pub other : ℕ
@@ -63,15 +63,13 @@ pub record HasBadHeader (m : MediumState) : Type 0 where
   pub newest : HasNewest m
   pub none : (len : ℕ) → ¬ HasHeader (slot_of m newest.at) len
 
--- The first slot of the medium counts.
 abbrev pub FirstSlotCounts : MediumState → Type 0
 FirstSlotCounts m = SlotCounts (slot_of m 0)
 
--- The second slot of the medium counts.
 abbrev pub SecondSlotCounts : MediumState → Type 0
 SecondSlotCounts m = SlotCounts (slot_of m (slot_size m.bytes))
 
--- First cause for which `open` refuses a medium.
+-- The fault is the first one for which `open` refuses the medium.
 abbrev pub FirstOpenFault : OpenFault → MediumState → Type 0
 FirstOpenFault WrongSize m = ¬ IsSizedMedium m
 FirstOpenFault NoImage m = IsSizedMedium m × (¬ FirstSlotCounts m) × (¬ SecondSlotCounts m)

@@ -10,7 +10,7 @@ use Rattle.dfu_slots.specs.Image.{spare_at, spare}
 use Rattle.dfu_slots.specs.Writes.{begin_writes, put_writes, put_rest, held_writes, commit_writes}
 use Rattle.dfu_slots.specs.StoreView.{SlotsState, spare_of, StoreCall, Begin, Put, Commit, writes_of, held_after_call, CallWorked, CallFailed, Ending, AllWorked, BrokenBy, CallsEnd}
 
--- Lists of writes.
+-- Lemmas about lists of writes on two equal media.
 
 -- If all writes of a list work, a known fuse stays known.
 pub fuse_known_after_writes : (ws : List Write) (s x : MediumState) → IsKnownFuse s.fuse → AllWrites s ws x → IsKnownFuse x.fuse
@@ -27,7 +27,7 @@ same_writes_same_end [] s t x y same a b = record {
 same_writes_same_end (w ∷ ws) s t x y same (p, a, more) (q, b, rest) = same_writes_same_end ws p q x y (worked_writes_same_medium w s t p q
     same a b) more rest
 
--- If the fuse is known, the same writes on equal media do not all work on one and break off on the other.
+-- If the fuse is known, the same writes can't all work on one of two equal media and fail on the other.
 pub writes_work_or_break : (f : WriteFault) (ws : List Write) (s t x y : MediumState) → SameMedium s t → IsKnownFuse s.fuse →
     AllWrites s ws x
     → BrokenWrites f t ws y → ⊥
@@ -37,7 +37,7 @@ writes_work_or_break f (w ∷ ws) s t x y same k (p, a, more) (inr (q, b, rest))
     (worked_writes_same_medium w s t p q same a b)
     (fuse_known_after_write w s p k a) more rest
 
--- If the fuse is known, and the same writes break off on two equal media, they break off by the same fault.
+-- If the fuse is known, and the same writes fail on two equal media, they fail with the same fault.
 pub broken_writes_same_fault : (f g : WriteFault) (ws : List Write) (s t x y : MediumState) → SameMedium s t → IsKnownFuse s.fuse →
     BrokenWrites f s ws x
     → BrokenWrites g t ws y → f ≡ g
@@ -50,7 +50,7 @@ broken_writes_same_fault f g (w ∷ ws) s t x y same k (inr (p, a, more)) (inr (
     (worked_writes_same_medium w s t p q same a b)
     (fuse_known_after_write w s p k a) more rest
 
--- Writes that the same fault breaks off on two equal media leave equal media.
+-- If the fuse is known, and the same writes fail on two equal media with the same fault, they leave equal media.
 pub broken_writes_same_end : (f : WriteFault) (ws : List Write) (s t x y : MediumState) → SameMedium s t → IsKnownFuse s.fuse
     → BrokenWrites f s ws x
     → BrokenWrites f t ws y → SameMedium x y
@@ -62,15 +62,14 @@ broken_writes_same_end f (w ∷ ws) s t x y same k (inr (p, a, more)) (inl b) = 
 broken_writes_same_end f (w ∷ ws) s t x y same k (inr (p, a, more)) (inr (q, b, rest)) =
     broken_writes_same_end f ws p q x y (worked_writes_same_medium w s t p q same a b) (fuse_known_after_write w s p k a) more rest
 
--- One call on two equal stores.
+-- Lemmas about one call on two equal stores.
 
--- Two stores are equal if their media are equal, they hold back the same bytes, and their puts end at the same place.
+-- Two stores are equal if their media are equal, they hold back the same bytes, and their put_end is the same.
 pub record SameStore (a b : SlotsState) : Type 0 where
   pub medium : SameMedium a.medium b.medium
   pub held : a.held ≡ b.held
   pub put_end : a.put_end ≡ b.put_end
 
--- SameStore is symmetric.
 same_store_symmetric : (s t : SlotsState) → SameStore s t → SameStore t s
 same_store_symmetric s t same = record {
   medium = same_medium_symmetric s.medium t.medium same.medium;
@@ -79,7 +78,7 @@ same_store_symmetric s t same = record {
       same.put_end;
 }
 
--- Equal stores show the same bytes of the spare's data.
+-- Equal stores show the same spare data.
 same_stores_same_spare : (s t : SlotsState) → SameStore s t → spare_of s ≡ spare_of t
 unfolding spare_of
 same_stores_same_spare s t same =
@@ -103,24 +102,24 @@ same_stores_same_writes s t (Commit len) same =
     (same.held i)
     ++ commit_writes (same.medium.grain i) (same.medium.bytes i) len (register (take len (same_stores_same_spare s t same i)))
 
--- A call leaves the same bytes held back on equal stores.
+-- After a call that works, equal stores hold back the same bytes.
 same_stores_hold_back_same : (s t : SlotsState) (call : StoreCall) → SameStore s t → held_after_call s call ≡ held_after_call t call
 same_stores_hold_back_same s t Begin same = refl
 same_stores_hold_back_same s t (Put at bytes) same = λ i. put_rest (same.medium.grain i).unit (same.held i) bytes
 same_stores_hold_back_same s t (Commit len) same = refl
 
 module _ (s t x y : SlotsState) (call : StoreCall) (same : SameStore s t) where
-  -- If a call on the store t made all its writes, they are the writes of the call on s.
+  -- If a call worked on the store t, its writes on t are those of the same call on the equal store s.
   call_writes_on_other_store : CallWorked t call y → AllWrites t.medium (writes_of s call) y.medium
   call_writes_on_other_store b = subst (λ (ws : List Write). AllWrites t.medium ws y.medium) (sym (same_stores_same_writes s t call same))
       b.writes
 
-  -- If a fault broke off a call on the store t, the writes up to it are those of the call on s.
+  -- If a fault interrupted a call on the store t, its writes up to the fault are those of the same call on the equal store s.
   broken_call_on_other_store : (f : WriteFault) → CallFailed f t call y → BrokenWrites f t.medium (writes_of s call) y.medium
   broken_call_on_other_store f b = subst (λ (ws : List Write). BrokenWrites f t.medium ws y.medium) (sym (same_stores_same_writes s t call
       same)) b.writes
 
-  -- If all writes of a call work on both stores, it leaves equal stores.
+  -- If a call works on both stores, it leaves equal stores.
   worked_calls_same_store : CallWorked s call x → CallWorked t call y → SameStore x y
   worked_calls_same_store a b = record {
     medium = same_writes_same_end (writes_of s call) s.medium t.medium x.medium y.medium same.medium a.writes (call_writes_on_other_store
@@ -129,12 +128,12 @@ module _ (s t x y : SlotsState) (call : StoreCall) (same : SameStore s t) where
     put_end = a.end_is ∙ sym b.end_is;
   }
 
-  -- If a call is broken off on both stores, the same fault breaks it off.
+  -- If the fuse is known, a call that fails on both stores fails with the same fault.
   broken_calls_same_fault : (f g : WriteFault) → IsKnownFuse s.medium.fuse → CallFailed f s call x → CallFailed g t call y → f ≡ g
   broken_calls_same_fault f g k a b = broken_writes_same_fault f g (writes_of s call) s.medium t.medium x.medium y.medium same.medium k
       a.writes (broken_call_on_other_store g b)
 
-  -- A call that the same fault breaks off on both stores leaves equal stores.
+  -- If the fuse is known, a call that fails with the same fault on both stores leaves equal stores.
   broken_calls_same_store : (f : WriteFault) → IsKnownFuse s.medium.fuse → CallFailed f s call x → CallFailed f t call y → SameStore x y
   broken_calls_same_store f k a b = record {
     medium = broken_writes_same_end f (writes_of s call) s.medium t.medium x.medium y.medium same.medium k a.writes
@@ -143,18 +142,18 @@ module _ (s t x y : SlotsState) (call : StoreCall) (same : SameStore s t) where
     put_end = a.end_is ∙ sym b.end_is;
   }
 
-  -- A call does not make all its writes on one store and break off on the other.
+  -- If the fuse is known, a call can't work on one store and fail on the other.
   call_works_or_breaks : (f : WriteFault) → IsKnownFuse s.medium.fuse → CallWorked s call x → CallFailed f t call y → ⊥
   call_works_or_breaks f k a b = writes_work_or_break f (writes_of s call) s.medium t.medium x.medium y.medium same.medium k a.writes
       (broken_call_on_other_store f b)
 
--- If the fuse is known before a call whose writes all work, it is known after the call.
+-- If the fuse is known before a call that works, it is known after the call.
 fuse_known_after_call : (s x : SlotsState) (call : StoreCall) → IsKnownFuse s.medium.fuse → CallWorked s call x → IsKnownFuse x.medium.fuse
 fuse_known_after_call s x call k a = fuse_known_after_writes (writes_of s call) s.medium x.medium k a.writes
 
--- Lists of calls.
+-- Lemmas about lists of calls on two equal stores.
 
--- If the fuse is known, a list of calls does not make all its writes on one store and break off on an equal one.
+-- If the fuse is known, the same calls can't all work on one of two equal stores and fail on the other.
 calls_work_or_break : (f : WriteFault) (calls : List StoreCall) (s t x y : SlotsState) → SameStore s t → IsKnownFuse s.medium.fuse
     → CallsEnd s calls AllWorked x
     → CallsEnd t calls (BrokenBy f) y → ⊥
@@ -163,7 +162,7 @@ calls_work_or_break f (call ∷ calls) s t x y same k (p, a, more) (inl b) = cal
 calls_work_or_break f (call ∷ calls) s t x y same k (p, a, more) (inr (q, b, rest)) =
     calls_work_or_break f calls p q x y (worked_calls_same_store s t p q call same a b) (fuse_known_after_call s p call k a) more rest
 
--- If a list of calls is broken off on two equal stores, the same fault breaks it off.
+-- If the fuse is known, and the same calls fail on two equal stores, they fail with the same fault.
 broken_call_lists_same_fault : (f g : WriteFault) (calls : List StoreCall) (s t x y : SlotsState) → SameStore s t →
     IsKnownFuse s.medium.fuse
     → CallsEnd s calls (BrokenBy f) x → CallsEnd t calls (BrokenBy g) y → f ≡ g
@@ -177,7 +176,7 @@ broken_call_lists_same_fault f g (call ∷ calls) s t x y same k (inr (p, a, mor
     broken_call_lists_same_fault f g calls p q x y (worked_calls_same_store s t p q call same a b) (fuse_known_after_call s p call k a)
     more rest
 
--- If the fuse is known, a list of calls ends in the same way on equal stores.
+-- If the fuse is known, the same calls have the same ending on equal stores.
 pub same_calls_same_ending : (calls : List StoreCall) (e d : Ending) (s t x y : SlotsState) → SameStore s t → IsKnownFuse s.medium.fuse
     → CallsEnd s calls e x
     → CallsEnd t calls d y → e ≡ d
@@ -188,7 +187,7 @@ same_calls_same_ending calls (BrokenBy f) AllWorked s t x y same k a b =
 same_calls_same_ending calls (BrokenBy f) (BrokenBy g) s t x y same k a b = ap BrokenBy (broken_call_lists_same_fault f g calls s t x y
     same k a b)
 
--- A list of calls that ends in the same way on two equal stores leaves equal stores.
+-- If the fuse is known, and the same calls have the same ending on two equal stores, they leave equal stores.
 pub same_calls_same_store : (calls : List StoreCall) (e : Ending) (s t x y : SlotsState) → SameStore s t → IsKnownFuse s.medium.fuse
     → CallsEnd s calls e x
     → CallsEnd t calls e y → SameStore x y

@@ -6,18 +6,18 @@ use Rattle.dfu_slots.specs.declared.fault.WriteFault.TheVariants.{Failed, NotVer
 use Rattle.dfu_slots.specs.Medium.{MediumState, Fuse, WriteMayWork, WriteMayFail, written, Write, WroteBytes, FailedWrite}
 use Rattle.dfu_slots.specs.Medium.Fuse.{Unknown, Whole, Armed, Lying, Stopped}
 
--- A fuse is known if it says what the next writes will do.
+-- A fuse is known if it determines what the next writes do.
 abbrev pub IsKnownFuse : Fuse → Type 0
 IsKnownFuse Unknown = ⊥
 IsKnownFuse fuse = Unit {0}
 
--- Two equal media: they have the same bytes, fuse and grain, but maybe other counts of failures.
+-- Two media are equal: they have the same bytes, fuse and grain. Their counts of failures may differ.
 pub record SameMedium (a b : MediumState) : Type 0 where
   pub bytes : a.bytes ≡ b.bytes
   pub fuse : a.fuse ≡ b.fuse
   pub grain : a.grain ≡ b.grain
 
--- Fuses with equal counts of writes are equal.
+-- Two fuses of one kind are equal if their remaining counts of writes are equal.
 equal_counts_equal_fuses : {more less : ℕ} (fuse : ℕ → Fuse) → more + 1 ≡ less + 1 → fuse more ≡ fuse less
 equal_counts_equal_fuses fuse e = ap fuse (omega (arith, e))
 
@@ -35,7 +35,7 @@ module _ (old : List ℕ) (at : ℕ) (new : List ℕ) where
   worked_write_fixes_fuse (Lying n tear) g h (inr (e, same, a)) (inr (f, too, b)) = a ∙ sym b
   worked_write_fixes_fuse Stopped g h a b = absurd a
 
-  -- A write that works leaves a known fuse if the fuse before was known.
+  -- If the fuse is known before a write that works, it is known after the write.
   worked_write_keeps_known : (f g : Fuse) → IsKnownFuse f → WriteMayWork f old at new g → IsKnownFuse g
   worked_write_keeps_known Unknown g k a = absurd k
   worked_write_keeps_known Whole g k a = subst IsKnownFuse (sym a) tt
@@ -44,7 +44,7 @@ module _ (old : List ℕ) (at : ℕ) (new : List ℕ) where
   worked_write_keeps_known (Lying n tear) g k (inr (e, same, a)) = subst IsKnownFuse (sym a) tt
   worked_write_keeps_known Stopped g k a = absurd a
 
-  -- A known fuse determines the bytes and the next fuse that a write with a given fault leaves.
+  -- A known fuse determines which bytes and which fuse a write with a given fault leaves.
   fault_fixes_bytes_and_fuse : (f : Fuse) (w : WriteFault) (l r : List ℕ) (g h : Fuse) → IsKnownFuse f → WriteMayFail f w old at new l g
       → WriteMayFail f w old at new r h → (l ≡ r) × (g ≡ h)
   fault_fixes_bytes_and_fuse Unknown w l r g h k a b = absurd k
@@ -71,7 +71,7 @@ module _ (old : List ℕ) (at : ℕ) (new : List ℕ) where
   fuse_fixes_fault Stopped Failed NotVerified l r g h k a b = absurd b
   fuse_fixes_fault Stopped NotVerified Failed l r g h k a b = absurd a
 
-  -- With a known fuse no write may both work and fail.
+  -- With a known fuse a write can't both work and fail.
   write_works_or_fails_only : (f g h : Fuse) (w : WriteFault) (l : List ℕ) → IsKnownFuse f → WriteMayWork f old at new g →
       WriteMayFail f w old at new l h → ⊥
   write_works_or_fails_only Unknown g h w l k a b = k
@@ -89,12 +89,12 @@ module _ (w : Write) (s t x y : MediumState) (same : SameMedium s t) where
   fuse_known_on_same_medium : IsKnownFuse s.fuse → IsKnownFuse t.fuse
   fuse_known_on_same_medium k = subst IsKnownFuse same.fuse k
 
-  -- A write that may work on a medium may work on an equal one.
+  -- A write that may work on a medium may work on an equal medium.
   may_work_on_same_medium : (next : Fuse) → WriteMayWork s.fuse s.bytes w.at w.bytes next → WriteMayWork t.fuse t.bytes w.at w.bytes next
   may_work_on_same_medium next a = subst (λ (f : Fuse). WriteMayWork f t.bytes w.at w.bytes next) same.fuse
       (subst (λ (l : List ℕ). WriteMayWork s.fuse l w.at w.bytes next) same.bytes a)
 
-  -- A write that may have a fault on a medium may have that fault on an equal one.
+  -- A write that may fail on a medium may fail with the same fault on an equal medium.
   may_fail_on_same_medium : (fault : WriteFault) (left : List ℕ) (next : Fuse) → WriteMayFail s.fuse fault s.bytes w.at w.bytes left next
       → WriteMayFail t.fuse fault t.bytes w.at w.bytes left next
   may_fail_on_same_medium fault left next a = subst (λ (f : Fuse). WriteMayFail f fault t.bytes w.at w.bytes left next) same.fuse
@@ -115,7 +115,7 @@ module _ (w : Write) (s t x y : MediumState) (same : SameMedium s t) where
       (fuse_known_on_same_medium k)
       (may_fail_on_same_medium f x.bytes x.fuse a.fuse) b.fuse
 
-  -- A write with the same fault on two equal media leaves equal media.
+  -- If the fuse is known, a write that fails with the same fault on two equal media leaves equal media.
   pub failed_writes_same_medium : (f : WriteFault) → IsKnownFuse s.fuse → FailedWrite f s w.at w.bytes x →
       FailedWrite f t w.at w.bytes y → SameMedium x y
   failed_writes_same_medium f k a b =
@@ -124,7 +124,7 @@ module _ (w : Write) (s t x y : MediumState) (same : SameMedium s t) where
       b.fuse in
       record { bytes = both.0; fuse = both.1; grain = a.grain ∙ same.grain ∙ sym b.grain }
 
-  -- A write does not work on one of two equal media and fail on the other.
+  -- If the fuse is known, a write can't work on one of two equal media and fail on the other.
   pub write_works_or_fails : (f : WriteFault) → IsKnownFuse s.fuse → WroteBytes s w.at w.bytes x → FailedWrite f t w.at w.bytes y → ⊥
   write_works_or_fails f k a b = write_works_or_fails_only t.bytes w.at w.bytes t.fuse x.fuse y.fuse f y.bytes (fuse_known_on_same_medium k)
       (may_work_on_same_medium x.fuse a.fuse) b.fuse
@@ -133,6 +133,5 @@ module _ (w : Write) (s t x y : MediumState) (same : SameMedium s t) where
 pub fuse_known_after_write : (w : Write) (s x : MediumState) → IsKnownFuse s.fuse → WroteBytes s w.at w.bytes x → IsKnownFuse x.fuse
 fuse_known_after_write w s x k a = worked_write_keeps_known s.bytes w.at w.bytes s.fuse x.fuse k a.fuse
 
--- SameMedium is symmetric.
 pub same_medium_symmetric : (s t : MediumState) → SameMedium s t → SameMedium t s
 same_medium_symmetric s t same = record { bytes = sym same.bytes; fuse = sym same.fuse; grain = sym same.grain }

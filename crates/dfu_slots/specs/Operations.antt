@@ -20,11 +20,11 @@ source_content Header held block header = header
 source_content Opened held block header = OPEN ∷ []
 source_content Closed held block header = []
 
--- Bytes that an operation writes: n bytes of a source after the first `skip`, with zeros past its end, 256 at most.
+-- Bytes of an operation: n bytes of a source after its first `skip` bytes. Beyond the end of the source they are zeros, at most 256.
 abbrev pub range_of : Source → List ℕ → List ℕ → List ℕ → ℕ → ℕ → List ℕ
 range_of source held block header skip n = slice_range (source_content source held block header ++ replicate 256 0) skip (skip + n)
 
--- Writes of an operation.
+-- Writes of an operation: the write of an erase, or the erases and the write of a program.
 abbrev pub op_writes : ℕ → List ℕ → List ℕ → List ℕ → Op → List Write
 op_writes sector held block header (Erase at) = erase_write sector at ∷ []
 op_writes sector held block header (Program at source skip len) = write_some sector at (range_of source held block header skip len)
@@ -34,26 +34,26 @@ abbrev pub ops_writes : ℕ → List ℕ → List ℕ → List ℕ → List Op �
 ops_writes sector held block header [] = []
 ops_writes sector held block header (o ∷ os) = op_writes sector held block header o ++ ops_writes sector held block header os
 
--- Operation number n of a list, from 0 on; None if the list is shorter.
+-- Operation number n of a list, counted from 0; None if the list is shorter.
 abbrev pub op_at : List Op → ℕ → Option Op
 op_at [] n = None
 op_at (o ∷ os) zero = Some o
 op_at (o ∷ os) (suc n) = op_at os n
 
--- Place at which an operation begins.
+-- Offset on the medium at which an operation begins.
 abbrev pub op_place : Op → ℕ
 op_place (Erase at) = at
 op_place (Program at source skip len) = at
 
--- Operation that closes a gate: a gate unit of zeros is written; with sectors, instead, the gate's sector is erased.
+-- Operation that closes a gate: without sectors it writes a gate unit of zeros, with sectors it erases the gate's sector.
 abbrev pub close_ops : Grain → ℕ → List Op
 close_ops grain slot = (if grain.sector == 0 then Program slot Closed 0 (gate_size grain.unit) else Erase slot) ∷ []
 
--- Place of the held bytes on the medium, in the slot that begins at `slot`.
+-- Offset on the medium of the first byte held back, in the slot that begins at `slot`.
 abbrev pub held_from : Grain → ℕ → ℕ → ℕ → ℕ
 held_from grain slot end held = slot + 2 * gate_room grain + (end - held)
 
--- Operations of a `put`: they write the unit that the held bytes begin, if the block makes it full, and then all further whole units.
+-- Operations of a `put`: they write the unit that the held bytes begin, if the block completes it, and then all other whole units.
 abbrev pub put_ops : WriteUnit → ℕ → ℕ → ℕ → List Op
 put_ops unit at held block =
     let whole = whole_part unit (held + block) in
@@ -68,13 +68,14 @@ commit_ops grain slot at held =
     ∷ Program slot Opened 0 (gate_size grain.unit)
     ∷ []
 
--- Operation that writes the next piece of an image, at most 4096 bytes and filled up to a unit, into the data of the first slot.
+-- Operation that writes the piece of an image that begins at byte `from`, at most 4096 bytes and filled up to a unit, into the data of the
+-- first slot.
 abbrev pub image_ops : Grain → ℕ → ℕ → List Op
 image_ops grain from image =
     let size = image + fill_size grain.unit image in
     Program (2 * gate_room grain + from) Joined (min from size) (min (size - min from size) 4096) ∷ []
 
--- Operations of each sequence.
+-- Operations of a sequence, in their order.
 abbrev pub operations : Grain → Sequence → List Op
 operations grain (Close slot) = close_ops grain slot
 operations grain (Put slot end held block) = put_ops grain.unit (held_from grain slot end held) held block

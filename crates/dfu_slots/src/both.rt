@@ -1,4 +1,4 @@
-//! Check of a medium that also looks at the image in the spare slot.
+//! Checks a medium, and also finds the image in the spare slot.
 ghost use Rattle.std.specs.Prelude.{◌≡◌, ℕ, OnOk, IfOk, IfErr, IfSome, IfNone};
 ghost use Rattle.dfu_slots.specs.Layout.{slot_size, HasHeader};
 ghost use Rattle.dfu_slots.specs.Image.{gate_of, IsSizedMedium, slot_of, SlotCounts, slot_counts, active_at, spare_at, HasImage};
@@ -9,16 +9,16 @@ use crate::places::{Counted, count_slots, find_places, has_newest, is_none};
 use crate::read::header_len;
 use crate::{Medium, OpenFault, Places};
 
-/// Places of the slots of a medium with an active image, and the length of the spare slot's image, if it has one.
+/// Offsets of the two slots of a medium with an active image, and the length of the image in the spare slot, if that slot holds one.
 #[derive(Clone, Copy, Drop)]
 pub struct Both {
-    /// Places at which the active slot and the spare one begin.
+    /// Offsets of the active slot and of the spare slot.
     pub places: Places,
-    /// Length of the image in the spare slot; None if the slot does not count or its header is not well formed.
+    /// Length in bytes of the image in the spare slot; None if the slot doesn't count or its header is not well formed.
     pub spare_len: Option<u32>,
 }
 
-// Returns the length of the image in the spare slot; None if the slot does not count or its header is not well formed.
+// Returns the length of the image in the spare slot; None if the slot doesn't count or its header is not well formed.
 fn spare_len<M: Medium>(medium: &M, spare: u32, counted: Counted) -> Option<u32>
     requires sized { IsSizedMedium (M.state medium.now) }
     requires spare { spare ≡ spare_at (gate_of (M.state medium.now)) (M.state medium.now).bytes }
@@ -40,12 +40,12 @@ fn spare_len<M: Medium>(medium: &M, spare: u32, counted: Counted) -> Option<u32>
     header_len(medium, spare)
 }
 
-/// Returns the places of the slots of a medium with an active image, and the length of the spare slot's image, if it has one. Reads the
-/// same bytes as `check`.
+/// Returns the offsets of the two slots of a medium with an active image, and the length of the image in the spare slot, if that slot holds
+/// one. Reads only bytes that `check` reads too.
 ///
 /// # Errors
 ///
-/// The first fault of `check`: the medium has no active image.
+/// The first fault of the medium, in the order of `OpenFault`.
 pub fn check_both<M: Medium>(medium: &M) -> Result<Both, OpenFault>
     ensures ok { OnOk result (HasImage (M.state medium.now)) }
     ensures active { IfOk result (λ b. b.places.active ≡ active_at (gate_of (M.state medium.now)) (M.state medium.now).bytes) }

@@ -1,4 +1,4 @@
-//! Operations of a change, which are performed on a medium.
+//! Performs the operations of a change on a medium.
 ghost use Rattle.std.specs.Prelude.{◌≡◌, ◌+◌, ◌^◌, ◌≤◌, ◌<◌, ◌++◌, length, take, replicate, slice_index, slice_range};
 ghost use Rattle.dfu_slots.specs.inside.Series.{Series};
 ghost use Rattle.dfu_slots.specs.inside.Carry.{MayWriteRange, IsSourceAtHand, MayCarryOp, MayCarryAll};
@@ -12,18 +12,18 @@ use crate::sequence::{MAX_OPERATIONS, Sequence};
 use crate::writes::write_some;
 use crate::{Medium, WriteFault};
 
-/// Bytes that the operations of a change write: the held bytes, the block and the header.
+/// Sources of the bytes that the operations of a change write: the held bytes, the block and the header.
 #[derive(Clone, Copy)]
 pub(crate) struct Sources<'b> {
     /// Bytes held back by earlier puts.
     pub held: &'b [u8],
-    /// Block of a `put`.
+    /// Block that a `put` writes after the held bytes.
     pub block: &'b [u8],
     /// Header that a `commit` or a `format` writes.
     pub header: &'b [u8; 16],
 }
 
-// Returns byte `at` of `front`, `back` and zeros, one after the other.
+// Returns byte `at` of the concatenation of `front`, `back` and zeros.
 fn byte_in(front: &[u8], back: &[u8], at: usize) -> u8
     requires { at < length front.now + length back.now + 256 }
     ensures { result ≡ slice_index ((front.now ++ back.now) ++ replicate 256 0) at }
@@ -35,7 +35,7 @@ fn byte_in(front: &[u8], back: &[u8], at: usize) -> u8
     if behind < back.len() { back[behind] } else { 0 }
 }
 
-// Returns byte `at` of a source, given the bytes held back, the block and the header.
+// Returns byte `at` of a source, or 0 beyond its end.
 fn byte_of(source: Source, held: &[u8], block: &[u8], header: &[u8; 16], at: usize) -> u8
     requires { at < length (source_content source held.now block.now header.now) + 256 }
     ensures { result ≡ slice_index (source_content source held.now block.now header.now ++ replicate 256 0) at }
@@ -50,7 +50,7 @@ fn byte_of(source: Source, held: &[u8], block: &[u8], header: &[u8; 16], at: usi
 }
 
 impl Sources<'_> {
-    // Copies `len` bytes of a source, from byte `skip` on, to the front of a buffer.
+    // Copies `len` bytes of a source to the front of `out`, beginning with byte `skip` of the source.
     fn gather(self, source: Source, skip: usize, len: usize, out: &mut [u8; MAX_UNIT])
         requires few { len ≤ 256 }
         requires front { skip ≤ length (source_content source self.held.now self.block.now self.header.now) }
@@ -62,7 +62,8 @@ impl Sources<'_> {
         }
     }
 
-    // Writes `len` bytes of a source, at most 256, from byte `skip` on, after the erases that they need. No bytes mean no write.
+    // Writes `len` bytes of a source, at most 256, beginning with its byte `skip`. First erases the sectors that begin in the range. Writes
+    // nothing if `len` is 0.
     fn write_gathered<M: Medium>(
         self,
         medium: &mut M,
@@ -84,8 +85,8 @@ impl Sources<'_> {
         write_some(medium, at, &unit[..len])
     }
 
-    // Writes `len` bytes of the held bytes and the block, from byte `skip` on, after the erases that they need: straight from the block if
-    // all lie there.
+    // Writes `len` bytes of the held bytes and the block, beginning with byte `skip` of both together. First erases the sectors that begin
+    // in the range. If all these bytes lie in the block, they are written without a copy.
     fn write_joined<M: Medium>(
         self,
         medium: &mut M,
@@ -108,7 +109,6 @@ impl Sources<'_> {
         write_some(medium, at, &self.block[begin..begin + len])
     }
 
-    // Performs one operation.
     fn carry_op<M: Medium>(self, medium: &mut M, op: Op) -> Result<(), WriteFault>
         requires { MayCarryOp (M.state medium.old) self.held.now self.block.now op }
         ensures { let was = M.state medium.old in

@@ -1,4 +1,4 @@
-//! Erases of sectors, which are read back.
+//! Erases sectors, and reads each erased sector back.
 ghost use Rattle.std.specs.Prelude.{◌≡◌, ◌+◌, ◌%◌, ◌≤◌, ◌<◌, ◌↔◌, IsTrue, length, replicate, OnOk, IfErr};
 ghost use Rattle.dfu_slots.specs.Medium.{WroteBytes, FailedWrite, IsBlank};
 ghost use Rattle.dfu_slots.specs.inside.Series.{Series};
@@ -9,7 +9,7 @@ use crate::layout::MAX_UNIT;
 use crate::read::stands_at;
 use crate::{Medium, WriteFault};
 
-/// Returns whether the `len` bytes from `at` on are all FFh.
+/// Returns true if the `len` bytes that begin at `at` are all FFh.
 pub(crate) fn is_blank<M: Medium>(medium: &M, at: u32, len: u32) -> bool
     requires { at + len ≤ length (M.state medium.now).bytes }
     ensures { IsTrue result ↔ IsBlank (M.state medium.now).bytes at len }
@@ -28,7 +28,7 @@ pub(crate) fn is_blank<M: Medium>(medium: &M, at: u32, len: u32) -> bool
     true
 }
 
-/// Erases the sector that begins at `at`, and reads it back. All erases of the store go through this call.
+/// Erases the sector that begins at `at`, and reads it back. Every erase of the store goes through this function.
 pub(crate) fn erase<M: Medium>(medium: &mut M, at: u32) -> Result<(), WriteFault>
     requires within { at + (M.state medium.old).grain.sector ≤ length (M.state medium.old).bytes }
     requires place { at % (M.state medium.old).grain.sector ≡ 0 }
@@ -49,7 +49,7 @@ pub(crate) fn erase<M: Medium>(medium: &mut M, at: u32) -> Result<(), WriteFault
     }
 }
 
-/// Erases the sectors that begin in the `len` bytes from `at` on, one after the other.
+/// Erases, in order, the sectors that begin in the range of `len` bytes from offset `at`.
 pub(crate) fn erase_within<M: Medium>(medium: &mut M, at: u32, len: u32) -> Result<(), WriteFault>
     requires sized { IsSizedMedium (M.state medium.old) }
     requires within { at + len ≤ length (M.state medium.old).bytes }

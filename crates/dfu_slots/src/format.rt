@@ -1,4 +1,4 @@
-//! Format of a medium: an image is written into the first slot, whatever the medium held before.
+//! Formats a medium: writes an image into the first slot, and ignores what the medium held before.
 ghost use Rattle.std.specs.Prelude.{◌≤◌, ◌+◌, ◌++◌, [], length, take, replicate};
 ghost use Rattle.dfu_slots.specs.inside.Carry.{MayWriteRange, MayWritePiece};
 ghost use Rattle.dfu_slots.specs.inside.Series.{Series};
@@ -18,7 +18,7 @@ use crate::sequence::{MAX_WRITE, Sequence};
 use crate::writes::write_some;
 use crate::{Medium, WriteFault};
 
-// Writes `bytes` and zeros after them, `len` bytes together: at most 4,096, at most 256 of them zeros.
+// Writes `bytes` followed by zeros: `len` bytes in all, at most 4,096, with at most 256 zeros.
 #[inline(never)]
 fn write_padded<M: Medium>(
     medium: &mut M,
@@ -38,7 +38,7 @@ fn write_padded<M: Medium>(
     write_some(medium, at, &padded[..len])
 }
 
-// Writes `len` bytes of an image from byte `skip` on, with zeros past its end.
+// Writes `len` bytes of an image, the first one at index `skip`. Bytes beyond the end of the image are zeros.
 fn write_part<M: Medium>(
     medium: &mut M,
     at: u32,
@@ -59,7 +59,8 @@ fn write_part<M: Medium>(
     write_some(medium, at, &image[skip..skip + len])
 }
 
-// Writes the piece of an image that begins at byte `from`: up to 4,096 bytes, filled up to a unit, into the data of the first slot.
+// Writes one piece of an image into the data of the first slot: up to 4,096 bytes, beginning with the image's byte `from`. The last piece
+// ends with zeros that fill its unit.
 fn write_piece<M: Medium>(medium: &mut M, image: &[u8], from: u32) -> Result<(), WriteFault>
     requires { MayWritePiece (M.state medium.old) image.now from }
     ensures { let was = M.state medium.old in
@@ -100,7 +101,7 @@ fn write_pieces<M: Medium>(medium: &mut M, image: &[u8]) -> Result<(), WriteFaul
     Ok(())
 }
 
-// Closes both gates, the second slot's first.
+// Closes both gates, first the gate of the second slot.
 fn close_gates<M: Medium>(medium: &mut M) -> Result<(), WriteFault>
     requires { IsSizedMedium (M.state medium.old) }
     ensures { let was = M.state medium.old in

@@ -1,4 +1,4 @@
-//! Gates of slots: one is closed, or is opened after a new header.
+//! Closes a slot's gate, and opens it after a new header is written.
 ghost use Rattle.std.specs.Prelude.{◌≡◌, ℕ, [], ◌∷◌, ◌++◌, ◌+◌, ◌%◌, ◌≤◌, ◌<◌, length};
 ghost use Rattle.dfu_slots.specs.Units.{IsMultiple, filled_units};
 ghost use Rattle.dfu_slots.specs.Medium.{IsWritableAhead};
@@ -12,7 +12,8 @@ use crate::carry::Sources;
 use crate::sequence::Sequence;
 use crate::{Medium, WriteFault};
 
-/// Closes the gate of the slot that begins at `slot`: writes a gate unit of zeros over it; with sectors, instead, erases its sector.
+/// Closes the gate of the slot that begins at `slot`. Without sectors it writes a gate unit of zeros; with sectors it erases the gate's
+/// sector.
 pub(crate) fn close_gate<M: Medium>(medium: &mut M, slot: u32) -> Result<(), WriteFault>
     requires sized { IsSizedMedium (M.state medium.old) }
     requires within { slot + gate_of (M.state medium.old) ≤ length (M.state medium.old).bytes }
@@ -29,8 +30,8 @@ pub(crate) fn close_gate<M: Medium>(medium: &mut M, slot: u32) -> Result<(), Wri
     none.carry_out(medium, Sequence::Close { slot })
 }
 
-/// Writes `held`, at most 256 bytes of puts that end at `end`, into the data of the slot that begins at `slot`, then the header `head`,
-/// and then, in a write of its own, opens the gate.
+/// Writes `held`, at most 256 bytes that end at offset `end` of the slot's data, then the header `head`, and then, in a separate write, the
+/// open gate. The slot begins at `slot`.
 pub(crate) fn open_slot<M: Medium>(
     medium: &mut M,
     slot: u32,

@@ -1,5 +1,5 @@
-//! Laws of the slot store. Each is the contract of a function with an empty body, which is proved and has no effect. A crate above calls
-//! one only to cite its law, as dfu_link does.
+//! Laws of the slot store. Each law is the contract of a function with an empty body; the contract is proved, and a call has no effect.
+//! Other crates, such as dfu_link, call such a function only to cite its law.
 
 ghost use Rattle.std.specs.Prelude.{◌≡◌, ◌≤◌, ◌+◌, ◌*◌, ℕ, List, [], ◌∷◌, ◌++◌, length, take, drop};
 ghost use Rattle.dfu_slots.specs.declared.layout.Unit.{Unit as WriteUnit};
@@ -18,8 +18,8 @@ ghost use Rattle.dfu_slots.specs.Determined.{SameStore};
 ghost use Rattle.dfu_slots.specs.declared.fault.OpenFault.{OpenFault};
 ghost use Rattle.dfu_slots.specs.declared.fault.WriteFault.{WriteFault};
 
-/// A medium has at most one active image. The image that a store shows is the active image of its medium, and no other image is. A medium
-/// that `open` refuses has none.
+/// A medium has at most one active image. If the medium of a store has an active image, `image_of` the store is exactly this image. A
+/// medium that `open` refuses has no active image.
 pub fn active_image_is_one()
     ensures one { (m : MediumState) (a b : List ℕ) → Active m a → Active m b → a ≡ b }
     ensures shown { (s : SlotsState) → HasImage s.medium → Active s.medium (image_of s) }
@@ -27,15 +27,15 @@ pub fn active_image_is_one()
     ensures refused { (fault : OpenFault) (m : MediumState) → FirstOpenFault fault m → ¬ HasImage m }
 {}
 
-/// On a medium without sectors nothing is erased: bytes are written over in place in one write, a closed gate is a gate unit
-/// of zeros, and gate and header have a unit each.
+/// On a medium without sectors nothing is erased. One write replaces bytes in place, a closed gate is a gate unit of zeros, and the gate
+/// and the header occupy 16 bytes each, or one unit each if the unit is larger.
 pub fn without_sectors_nothing_is_erased()
     ensures writes { (at : ℕ) (bytes : List ℕ) → erasing_write 0 at bytes ≡ record { at = at; bytes = bytes } ∷ [] }
     ensures gate { (unit : WriteUnit) → closed_gate (in_place_grain unit) ≡ gate_unit (gate_size unit) 0 }
     ensures room { (unit : WriteUnit) → gate_room (in_place_grain unit) ≡ gate_size unit }
 {}
 
-/// The operations of a sequence, in their order, make exactly the writes of its change: closing a gate, a `put`, a `commit`, or the next
+/// The operations of a sequence make exactly the writes of its change, in their order: closing a gate, a `put`, a `commit`, or the next
 /// 4,096 bytes of an image.
 pub fn operations_are_the_writes()
     ensures close { (w : Grain) (held block head : List ℕ) (slot : ℕ) →
@@ -51,8 +51,8 @@ pub fn operations_are_the_writes()
         ≡ write_some w.sector (2 * gate_room w + from) (take 4096 (drop from (filled_units w.unit image))) }
 {}
 
-/// On a medium with a whole fuse (as `SimMedium::new` and `disarm` leave it) no write and no call fails or lies, and the fuse stays whole.
-/// The law says nothing about a medium whose fuse is unknown.
+/// On a medium whose fuse is `Whole` (as `SimMedium::new` and `disarm` leave it) no write and no call fails or lies, and the fuse stays
+/// `Whole`. The law says nothing about a medium whose fuse is `Unknown`.
 pub fn unarmed_never_fails()
     ensures writes { (writes : List Write) (old now : MediumState) →
         old.fuse ≡ Whole → (fault : WriteFault) → ¬ BrokenWrites fault old writes now }
@@ -64,8 +64,8 @@ pub fn unarmed_never_fails()
         old.medium.fuse ≡ Whole → CallsEnd old calls AllWorked now → now.medium.fuse ≡ Whole }
 {}
 
-/// Calls end alike on two equal stores if the fuse is known: all their writes work on both, or the same fault breaks them off. They leave
-/// equal stores: equal bytes, fuse and grain, equal bytes held back, and the same end of the puts.
+/// If two stores are equal and their fuse is known, equal calls have the same ending on both: all their writes work, or the same fault
+/// interrupts them. They leave equal stores: equal bytes, fuse and grain, equal bytes held back, and the same `put_end`.
 pub fn same_bytes_same_end()
     ensures outcome { (calls : List StoreCall) (e d : Ending) (a b x y : SlotsState) →
         SameStore a b → IsKnownFuse a.medium.fuse → CallsEnd a calls e x → CallsEnd b calls d y → e ≡ d }

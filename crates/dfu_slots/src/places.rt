@@ -1,4 +1,4 @@
-//! Places of the active slot and the spare one.
+//! Offsets of the active slot and of the spare slot on a medium.
 ghost use Rattle.std.specs.Prelude.{◌≡◌, ◌+◌, ◌≤◌, ◌&&◌, not, length, OnOk, IfOk, IfErr};
 ghost use Rattle.dfu_slots.specs.Layout.{slot_size, slot_place};
 ghost use Rattle.dfu_slots.specs.Image.{gate_of, IsSizedMedium, slot_of, slot_counts, is_newest, active_at, spare_at, HasImage};
@@ -8,23 +8,23 @@ use crate::layout::is_sized;
 use crate::read::{counts, generation, header_len};
 use crate::{Medium, OpenFault};
 
-/// Places at which the active slot and the spare one begin.
+/// Offsets of the active slot and of the spare slot, in bytes from the beginning of the medium.
 #[derive(Clone, Copy, Drop)]
 pub struct Places {
-    /// Place at which the active slot begins.
+    /// Offset of the active slot's first byte.
     pub active: u32,
-    /// Place at which the spare slot begins.
+    /// Offset of the spare slot's first byte.
     pub spare: u32,
 }
 
-/// For each of the two slots, true if it counts.
+/// For each of the two slots, true if it counts in the sense of `OpenFault`.
 #[derive(Clone, Copy, Drop)]
 pub struct Counted {
     pub first: bool,
     pub second: bool,
 }
 
-/// Finds the slots that count. The whole image of an open slot of version 2 is read once, for its register.
+/// Finds the slots that count. For an open slot of version 2 this reads the whole image once, to compute its CRC register.
 pub(crate) fn count_slots<M: Medium>(medium: &M) -> Counted
     requires { IsSizedMedium (M.state medium.now) }
     ensures first { result.first ≡ slot_counts (slot_of (M.state medium.now) 0) }
@@ -36,14 +36,14 @@ pub(crate) fn count_slots<M: Medium>(medium: &M) -> Counted
     }
 }
 
-/// Returns whether neither slot counts.
+/// Returns true if neither slot counts.
 pub(crate) fn is_none(counted: Counted) -> bool
     ensures { result ≡ (not counted.first && not counted.second) }
 {
     !counted.first && !counted.second
 }
 
-// Returns whether the slot `mine` counts, and the slot `other` does not or is one generation older.
+// Returns true if the slot at `mine` counts, and the slot at `other` doesn't count or is one generation older.
 fn is_newest<M: Medium>(
     medium: &M,
     mine: u32,
@@ -62,7 +62,7 @@ fn is_newest<M: Medium>(
         && (!other_counts || generation(medium, mine) == generation(medium, other).wrapping_add(1))
 }
 
-/// Returns the places of the slots: the first slot is the active one if `first` is true, else the second.
+/// Returns the offsets of the slots. If `first` is true, the first slot is the active one, otherwise the second.
 pub(crate) fn places_of<M: Medium>(medium: &M, first: bool) -> Places
     ensures active { result.active ≡ slot_place first (M.state medium.now).bytes }
     ensures spare { result.spare ≡ slot_place (not first) (M.state medium.now).bytes }
@@ -81,7 +81,7 @@ pub(crate) fn places_of<M: Medium>(medium: &M, first: bool) -> Places
     }
 }
 
-/// Returns the places of the active slot and the spare one; if neither is the newest, the second is taken as active.
+/// Returns the offsets of the active slot and of the spare slot. If neither slot is the newest, it returns the second slot as active.
 pub(crate) fn find_places<M: Medium>(medium: &M, counted: Counted) -> Places
     requires sized { IsSizedMedium (M.state medium.now) }
     requires first { counted.first ≡ slot_counts (slot_of (M.state medium.now) 0) }
@@ -94,7 +94,7 @@ pub(crate) fn find_places<M: Medium>(medium: &M, counted: Counted) -> Places
     places_of(medium, first)
 }
 
-/// Returns whether the slot at `places.active`, one of the two, is the newest.
+/// Returns true if the slot at `places.active` is the newest one.
 pub(crate) fn has_newest<M: Medium>(medium: &M, places: Places, counted: Counted) -> bool
     requires sized { IsSizedMedium (M.state medium.now) }
     requires active { places.active ≡ active_at (gate_of (M.state medium.now)) (M.state medium.now).bytes }
@@ -111,7 +111,7 @@ pub(crate) fn has_newest<M: Medium>(medium: &M, places: Places, counted: Counted
     }
 }
 
-/// Finds the active slot and the spare one.
+/// Returns the offsets of the active slot and of the spare slot.
 pub(crate) fn look<M: Medium>(medium: &M) -> Places
     requires { IsSizedMedium (M.state medium.now) }
     ensures active { result.active ≡ active_at (gate_of (M.state medium.now)) (M.state medium.now).bytes }
@@ -120,7 +120,11 @@ pub(crate) fn look<M: Medium>(medium: &M) -> Places
     find_places(medium, count_slots(medium))
 }
 
-/// Returns the places of the slots of a medium with an active image, or else its first fault.
+/// Returns the offsets of the two slots of a medium that has an active image.
+///
+/// # Errors
+///
+/// The first fault of the medium, in the order of `OpenFault`.
 pub fn check<M: Medium>(medium: &M) -> Result<Places, OpenFault>
     ensures ok { OnOk result (HasImage (M.state medium.now)) }
     ensures active { IfOk result (λ p. p.active ≡ active_at (gate_of (M.state medium.now)) (M.state medium.now).bytes) }

@@ -1,4 +1,4 @@
-//! Bytes put since `begin`: whole units are written at once, and the rest is held back.
+//! Bytes put since `begin`: each put writes the whole units, and holds the rest back.
 ghost use Rattle.std.specs.Prelude.{◌≡◌, ◌+◌, ◌≤◌, ◌<◌, ◌++◌, [], length, OnOk};
 ghost use Rattle.dfu_slots.specs.Units.{IsMultiple, unit_size};
 ghost use Rattle.dfu_slots.specs.Medium.{IsWritableAhead};
@@ -13,12 +13,12 @@ use crate::sequence::Sequence;
 use crate::{Medium, Unit, WriteFault};
 use arrayvec::ArrayVec;
 
-/// The puts since `begin`. Their whole units are written, and the rest is held back.
+/// State of the bytes put since `begin`. Their whole units are written, and the rest is held back.
 #[derive(Drop)]
 pub struct Puts {
-    /// The bytes held back, fewer than a unit has.
+    /// Bytes held back. Their number is less than a unit.
     pub held: ArrayVec<u8, MAX_UNIT>,
-    /// Place at which the puts end in the spare's data.
+    /// Offset in the spare's data at which the bytes put so far end.
     pub end: u32,
 }
 
@@ -34,7 +34,7 @@ impl Puts {
         }
     }
 
-    /// Discards all puts: no bytes are held back, and the end is 0.
+    /// Discards all bytes put: none is held back, and the end is 0.
     pub(crate) fn clear(&mut self)
         ensures held { self.new.held.items ≡ [] }
         ensures end { self.new.end ≡ 0 }
@@ -52,7 +52,7 @@ fn hold(held: &mut ArrayVec<u8, MAX_UNIT>, bytes: &[u8])
     let _ = held.try_extend_from_slice(bytes);
 }
 
-/// Keeps in `held` only the last bytes of `held` and `bytes` together, those that fill no whole unit.
+/// Appends `bytes` to `held`, and then removes all whole units from its front.
 pub(crate) fn hold_rest(held: &mut ArrayVec<u8, MAX_UNIT>, unit: Unit, bytes: &[u8])
     requires part { length held.old.items < unit_size unit }
     requires short { length bytes.now ≤ 4096 }
@@ -68,8 +68,8 @@ pub(crate) fn hold_rest(held: &mut ArrayVec<u8, MAX_UNIT>, unit: Unit, bytes: &[
     hold(held, &bytes[bytes.len() - rest..]);
 }
 
-/// Puts `bytes` after `held` into the data of the slot that begins at `slot`, where the puts end at `end`. Writes the unit that the held
-/// bytes begin, if it is full now, then all further whole units in one write, and holds the rest back.
+/// Puts `bytes` after `held` into the data of the slot that begins at `slot`. `end` is the offset in the data at which the held bytes end.
+/// Writes the unit that the held bytes begin, if `bytes` fill it, then all other whole units in one write, and holds the rest back.
 pub(crate) fn put_units<M: Medium>(
     medium: &mut M,
     held: &mut ArrayVec<u8, MAX_UNIT>,

@@ -1,4 +1,4 @@
-//! Reads of flash, and of the slots of a medium.
+//! Functions that read flash, and the slots of a medium.
 ghost use Rattle.std.specs.Prelude.{◌≡◌, ℕ, ◌+◌, ◌*◌, ◌≤◌, ◌<◌, length, take, slice_index, slice_range, ◌==◌, ◌↔◌, IfSome, IfNone, IsTrue};
 ghost use Rattle.std.specs.Int.{w32, from_le_bytes};
 ghost use Rattle.dfu_suffix.specs.Register.{register};
@@ -20,18 +20,19 @@ use crate::layout::{
 use crate::register::register_of;
 use dfu_suffix::Crc;
 
-// Bytes that are copied at a time out of flash that is not mapped.
+// Number of bytes that are copied at a time out of flash that is not mapped.
 const PIECE_BYTES: usize = 64;
 
-// Bytes that are read back at a time.
+// Number of bytes that are read back at a time.
 const READ_BACK_BYTES: usize = 256;
 
-// Returns whether flash is mapped, to be read in place. Its contract leaves the answer open, so its callers are proved for both answers.
+// Returns true if flash is mapped and can be read in place. The contract leaves the result open, so that callers are proved for both
+// results.
 fn is_mapped() -> bool {
     true
 }
 
-/// Copies `flash` to `out`, which has as many bytes. Flash that is not mapped is read through this call alone.
+/// Copies `flash` to `out`, which has the same length. Flash that is not mapped is read only through this function.
 pub fn read_flash(flash: &[u8], out: &mut [u8])
     requires { length flash.now ≡ length out.old }
     ensures { out.new ≡ flash.now }
@@ -39,7 +40,7 @@ pub fn read_flash(flash: &[u8], out: &mut [u8])
     out.copy_from_slice(flash);
 }
 
-/// Returns byte `at` of flash.
+/// Returns byte `at` of flash, even if the flash is not mapped.
 pub fn flash_byte_at(flash: &[u8], at: usize) -> u8
     requires { at < length flash.now }
     ensures { result ≡ slice_index flash.now at }
@@ -49,7 +50,7 @@ pub fn flash_byte_at(flash: &[u8], at: usize) -> u8
     byte[0]
 }
 
-/// Returns whether the bytes of flash from `from` to before `to` are all FFh.
+/// Returns true if every byte of flash from offset `from` up to, not including, `to` is FFh.
 pub fn is_flash_erased(flash: &[u8], from: usize, to: usize) -> bool
     requires { to ≤ length flash.now }
     ensures { IsTrue result ↔ ((p : ℕ) → from ≤ p → p < to → slice_index flash.now p ≡ 255) }
@@ -62,7 +63,7 @@ pub fn is_flash_erased(flash: &[u8], from: usize, to: usize) -> bool
     true
 }
 
-// Returns the register over all bytes of `flash`, which are copied piece by piece.
+// Returns the CRC register over all bytes of `flash`, copying them piece by piece.
 fn crc_by_pieces(flash: &[u8]) -> Crc
     ensures { result ≡ register flash.now }
 {
@@ -79,7 +80,7 @@ fn crc_by_pieces(flash: &[u8]) -> Crc
     crc
 }
 
-/// Returns the register over all bytes of `flash`, to which more bytes can be added.
+/// Returns the CRC register over all bytes of `flash`. The caller can add more bytes to it.
 pub fn crc_of_flash(flash: &[u8]) -> Crc
     ensures { result ≡ register flash.now }
 {
@@ -91,7 +92,6 @@ pub fn crc_of_flash(flash: &[u8]) -> Crc
     crc
 }
 
-/// Returns the medium's byte at `at`.
 pub(crate) fn byte_at<M: Medium>(medium: &M, at: u32) -> u8
     requires { at < length (M.state medium.now).bytes }
     ensures { result ≡ slice_index (M.state medium.now).bytes at }
@@ -101,7 +101,7 @@ pub(crate) fn byte_at<M: Medium>(medium: &M, at: u32) -> u8
     byte[0]
 }
 
-// Returns whether two slices of equal length have equal bytes, in much less code than `==`.
+// Returns true if two slices of equal length hold equal bytes. This compiles to much less code than `==`.
 fn are_same(read: &[u8], piece: &[u8]) -> bool
     requires { length read.now ≡ length piece.now }
     ensures { IsTrue result ↔ (read.now ≡ piece.now) }
@@ -116,7 +116,7 @@ fn are_same(read: &[u8], piece: &[u8]) -> bool
     true
 }
 
-/// Returns whether the medium has `bytes` at `at`. Reads them in pieces.
+/// Returns true if the medium holds `bytes` at offset `at`. Reads them in pieces of up to 256 bytes.
 pub(crate) fn stands_at<M: Medium>(medium: &M, at: u32, bytes: &[u8]) -> bool
     requires within { at + length bytes.now ≤ length (M.state medium.now).bytes }
     ensures { IsTrue result ↔ (slice_range (M.state medium.now).bytes at (at + length bytes.now) ≡ bytes.now) }
@@ -138,7 +138,7 @@ pub(crate) fn stands_at<M: Medium>(medium: &M, at: u32, bytes: &[u8]) -> bool
     true
 }
 
-/// Returns whether the gate of the slot that begins at `at` is open.
+/// Returns true if the gate of the slot that begins at `at` is open.
 pub fn is_open<M: Medium>(medium: &M, at: u32) -> bool
     requires { at < length (M.state medium.now).bytes }
     ensures { result ≡ ((slot_of (M.state medium.now) at).gate == OPEN) }
@@ -157,7 +157,7 @@ pub fn header_of<M: Medium>(medium: &M, at: u32) -> [u8; 16]
     header
 }
 
-// Returns whether the slot that begins at `at` has a well-formed header of version 2, with the register over its image.
+// Returns true if the slot that begins at `at` has a well-formed header of version 2 with the CRC register of its image.
 fn is_intact<M: Medium>(medium: &M, at: u32) -> bool
     requires sized { IsSizedMedium (M.state medium.now) }
     requires within { at + slot_size (M.state medium.now).bytes ≤ length (M.state medium.now).bytes }
@@ -171,7 +171,7 @@ fn is_intact<M: Medium>(medium: &M, at: u32) -> bool
     is_header(&header, VERSION, register_of(medium, at, len))
 }
 
-/// Returns whether the slot that begins at `at` counts.
+/// Returns true if the slot that begins at `at` counts in the sense of `OpenFault`.
 pub(crate) fn counts<M: Medium>(medium: &M, at: u32) -> bool
     requires sized { IsSizedMedium (M.state medium.now) }
     requires within { at + slot_size (M.state medium.now).bytes ≤ length (M.state medium.now).bytes }
@@ -189,8 +189,8 @@ pub fn generation<M: Medium>(medium: &M, at: u32) -> u8
     byte_at(medium, at + gate_of(medium))
 }
 
-/// Returns the length in the header of a slot that counts; None if the header is not well formed or the image does not fit. A header of
-/// version 2 is well formed, because the slot counts.
+/// Returns the image's length from the header of a slot that counts. A header of version 2 is well formed, because the slot counts. For any
+/// other header the function returns None, unless it is a well-formed header of version 1 with a length of at most the capacity.
 pub(crate) fn header_len<M: Medium>(medium: &M, at: u32) -> Option<u32>
     requires sized { IsSizedMedium (M.state medium.now) }
     requires within { at + slot_size (M.state medium.now).bytes ≤ length (M.state medium.now).bytes }
@@ -210,7 +210,7 @@ pub(crate) fn header_len<M: Medium>(medium: &M, at: u32) -> Option<u32>
     }
 }
 
-/// Returns the place at which the data of the slot that begins at `slot_at` begins.
+/// Returns the offset of the first data byte of the slot that begins at `slot_at`.
 pub fn data_at<M: Medium>(medium: &M, slot_at: u32) -> u32
     requires sized { IsSizedMedium (M.state medium.now) }
     requires slot { slot_at + slot_size (M.state medium.now).bytes ≤ length (M.state medium.now).bytes }
@@ -219,7 +219,7 @@ pub fn data_at<M: Medium>(medium: &M, slot_at: u32) -> u32
     slot_at + 2 * gate_of(medium)
 }
 
-/// Reads data bytes of the slot that begins at `slot_at`, from byte `at` of the data on.
+/// Reads data bytes of the slot that begins at `slot_at`, the first one at offset `at` of the data.
 pub fn read_data<M: Medium>(medium: &M, slot_at: u32, at: u32, out: &mut [u8])
     requires sized { IsSizedMedium (M.state medium.now) }
     requires slot { slot_at + slot_size (M.state medium.now).bytes ≤ length (M.state medium.now).bytes }

@@ -1,4 +1,4 @@
-//! The slot store.
+//! The slot store: two image slots on a medium, of which one holds the active image.
 ghost use Rattle.std.specs.Prelude.{◌≡◌, ◌≢◌, [], ◌+◌, ◌*◌, ◌≤◌, ◌↔◌, length, take, slice_range, OnOk, OnErr, IfErr, IfOk, IsOk, true};
 ghost use Rattle.dfu_slots.specs.Medium.{CountRose, AllWrites, BrokenWrites};
 ghost use Rattle.dfu_slots.specs.Medium.Fuse.{Whole, Armed, Lying};
@@ -15,15 +15,15 @@ use crate::read::{data_at, header_len, is_open, read_data};
 use crate::{Faulty, FormatFault, Medium, OpenFault, WriteFault, format};
 use std::marker::Model;
 
-/// Two image slots on a medium. One of them is active and holds the image; the other one is the spare, which takes the next image piece by
-/// piece. The active slot is found when the store is made, and again after each `commit`.
+/// Two image slots on a medium. The active slot holds the current image; the other one is the spare, which receives the next image piece by
+/// piece. The store finds the active slot when it formats, opens or reopens the medium, and again after each `commit`.
 ///
-/// The medium is written in whole units; bytes put that do not fill a unit yet are held back.
+/// The medium is written in whole units; bytes put that don't fill a unit yet are held back.
 #[derive(Drop)]
 pub struct Slots<M: Medium> {
     pub(crate) medium: M,
     pub(crate) puts: Puts,
-    // Found when the store is made, and again after each `commit`, because a search computes a register over each open slot.
+    // Cached until the next `commit`, because a search computes a CRC register over each open slot.
     pub(crate) places: Places,
 }
 
@@ -39,14 +39,14 @@ impl<M: Medium> Model for Slots<M> {
 }
 
 impl<M: Medium> Slots<M> {
-    /// Writes an image into the first slot, and makes it the active one, whatever the medium held before.
+    /// Writes an image into the first slot and makes it the active one, regardless of what the medium held before.
     ///
     /// # Errors
     ///
     /// `WrongSize` if the medium's length is not 2 * (2 * G + C), with C from 1 to 16,777,216 and a multiple of the unit and of the sector,
     /// and G the largest of 16, the unit's size and the sector's, or if the sector is neither 0 nor a multiple of 256 up to 262,144;
-    /// `TooLarge` if the image has more than C bytes; `Failed` if a write failed, or other bytes were read back. They are checked in this
-    /// order. The first two hand the medium back unchanged.
+    /// `TooLarge` if the image has more than C bytes; `Failed` if a write failed, or other bytes were read back. The errors are checked in
+    /// this order. The first two return the medium unchanged.
     pub fn format(medium: M, image: &[u8]) -> Result<Slots<M>, (FormatFault, M)>
         ensures writes { IfOk result (λ slots.
             AllWrites (M.state medium) (format_series (M.state medium) image.now) slots.medium) }
@@ -112,7 +112,7 @@ impl<M: Medium> Slots<M> {
         }
     }
 
-    /// Returns the largest number of bytes of an image: C, from 1 to 16,777,216.
+    /// Returns the largest length of an image in bytes: C, from 1 to 16,777,216.
     pub fn capacity(&self) -> u32
         ensures value { result ≡ capacity_of self.now.medium }
         ensures room { result ≡ room_of self.now }
@@ -122,7 +122,7 @@ impl<M: Medium> Slots<M> {
         capacity_of(&self.medium)
     }
 
-    /// Returns the place at which the puts since `begin` end: 0 if there are none, at most the capacity. Nothing is held back at 0.
+    /// Returns the number of bytes that were put and not discarded since, from 0 to the capacity. If it is 0, no bytes are held back.
     pub fn put_end(&self) -> u32
         ensures value { result ≡ self.now.put_end }
         ensures room { result ≤ room_of self.now }
@@ -131,7 +131,7 @@ impl<M: Medium> Slots<M> {
         self.puts.end
     }
 
-    /// Returns the bytes held back: the last bytes put, which do not fill a unit of the medium yet.
+    /// Returns the bytes held back: the last bytes put, which don't fill a unit of the medium yet.
     pub fn held(&self) -> &[u8]
         ensures held { result.now ≡ self.now.held }
         ensures store { IsStore self.now }
@@ -139,7 +139,7 @@ impl<M: Medium> Slots<M> {
         self.puts.held.as_slice()
     }
 
-    /// Returns whether the gate of the spare slot is closed, so that `put` and `commit` are not refused with `NotBegun`.
+    /// Returns true if the gate of the spare slot is closed, so that `put` and `commit` don't return `NotBegun`.
     #[tactic(auto, unfolding(crate::specs::StoreView::is_begun))]
     pub fn is_begun(&self) -> bool
         ensures { result ≡ is_begun self.now }
@@ -147,7 +147,7 @@ impl<M: Medium> Slots<M> {
         !is_open(&self.medium, self.places.spare)
     }
 
-    /// Returns the length of the active image, from 0 to the capacity.
+    /// Returns the length of the active image in bytes, from 0 to the capacity.
     pub fn active_len(&self) -> u32
         ensures image { result ≡ length (image_of self.now) }
         ensures active { Active self.now.medium (image_of self.now) }
@@ -159,8 +159,8 @@ impl<M: Medium> Slots<M> {
         }
     }
 
-    /// Returns the place of the first byte of the active image on the medium: a program may run it there. The place is valid until the next
-    /// `commit`.
+    /// Returns the offset on the medium of the active image's first byte, from which a program may run the image. The offset is valid until
+    /// the next `commit`.
     pub fn image_at(&self) -> u32
         ensures value { let m = self.now.medium in result ≡ active_at (gate_of m) m.bytes + 2 * gate_of m }
         ensures within { result + length (image_of self.now) ≤ length self.now.medium.bytes }
@@ -170,7 +170,7 @@ impl<M: Medium> Slots<M> {
         data_at(&self.medium, self.places.active)
     }
 
-    /// Reads bytes of the active image, from `at` on. The range must lie within the image.
+    /// Reads `out.len()` bytes of the active image, the first one at offset `at`. The range must lie within the image.
     pub fn read_active(&self, at: u32, out: &mut [u8])
         requires { at + length out.old ≤ length (image_of self.now) }
         ensures bytes { out.new ≡ slice_range (image_of self.now) at (at + length out.old) }
@@ -179,8 +179,8 @@ impl<M: Medium> Slots<M> {
         read_data(&self.medium, self.places.active, at, out);
     }
 
-    /// Opens the store's own medium again, as after a loss of power: the bytes put are discarded. Never fails, because `open` would not
-    /// refuse the medium. Writes nothing.
+    /// Opens the store's own medium again, as after a power loss: the bytes put are discarded. The call never fails, because the medium has
+    /// an active image. Writes nothing.
     pub fn reopen(&mut self)
         ensures store { self.new ≡ store_on self.old.medium }
         ensures image { image_of self.new ≡ image_of self.old }
@@ -193,7 +193,7 @@ impl<M: Medium> Slots<M> {
         }
     }
 
-    /// Returns the medium, to be read. Bytes that are held back are not on it.
+    /// Returns the medium for reading. Bytes that are held back are not on it.
     pub fn medium(&self) -> &M
         ensures medium { M.state result.now ≡ self.now.medium }
         ensures active { Active self.now.medium (image_of self.now) }
@@ -201,7 +201,7 @@ impl<M: Medium> Slots<M> {
         &self.medium
     }
 
-    /// Hands the medium back. Bytes that are held back are not written to it.
+    /// Returns the medium. Bytes that are held back are not written to it.
     pub fn into_medium(self) -> M
         ensures medium { M.state result ≡ self.medium }
         ensures has_image { HasImage (M.state result) }
@@ -216,21 +216,21 @@ impl<M: Medium> Slots<M> {
 }
 
 impl<M: Faulty> Slots<M> {
-    /// Arms the medium, as `Faulty::arm`. Changes no byte.
+    /// Arms the medium, as `Faulty::arm` does. Changes no byte.
     pub fn arm(&mut self, writes: u32, tear: &[u8], stop: bool)
         ensures { FuseResult self.old (Armed writes (take 4096 tear.now) stop) self.new }
     {
         self.medium.arm(writes, tear, stop);
     }
 
-    /// Arms the medium for a lie, as `Faulty::arm_lie`. Changes no byte.
+    /// Arms the medium to lie, as `Faulty::arm_lie` does. Changes no byte.
     pub fn arm_lie(&mut self, writes: u32, tear: &[u8])
         ensures { FuseResult self.old (Lying writes (take 4096 tear.now)) self.new }
     {
         self.medium.arm_lie(writes, tear);
     }
 
-    /// Clears the fuse of the medium, as `Faulty::disarm`. Changes no byte.
+    /// Clears the fuse of the medium, as `Faulty::disarm` does. Changes no byte.
     pub fn disarm(&mut self)
         ensures { FuseResult self.old (Whole) self.new }
     {

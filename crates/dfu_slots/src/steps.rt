@@ -1,4 +1,4 @@
-//! The steps of `begin`, `put` and `commit`, each on a medium and its puts.
+//! Performs `begin`, `put` and `commit` on a medium and the state of its puts.
 ghost use Rattle.std.specs.Prelude.{◌≡◌, ◌+◌, ◌≤◌, ◌<◌, ◌↔◌, length, IsErrOf, OnErr};
 ghost use Rattle.dfu_slots.specs.inside.Series.{Series};
 ghost use Rattle.dfu_slots.specs.Layout.{HasOpenGate};
@@ -16,7 +16,7 @@ use crate::read::{generation, is_open};
 use crate::register::register_of_put;
 use crate::{Medium, PutFault, WriteFault};
 
-// Closes the spare's gate, if it reads open.
+// Closes the spare's gate if it is open.
 fn close_spare<M: Medium>(medium: &mut M, places: Places) -> Result<(), WriteFault>
     requires sized { IsSizedMedium (M.state medium.old) }
     requires spare { places.spare ≡ spare_at (gate_of (M.state medium.old)) (M.state medium.old).bytes }
@@ -29,7 +29,7 @@ fn close_spare<M: Medium>(medium: &mut M, places: Places) -> Result<(), WriteFau
     Ok(())
 }
 
-/// Closes the spare's gate, if it reads open, and discards the bytes put.
+/// Closes the spare's gate if it is open, and discards the bytes put.
 pub(crate) fn begin<M: Medium>(
     medium: &mut M,
     puts: &mut Puts,
@@ -49,7 +49,7 @@ pub(crate) fn begin<M: Medium>(
     }
 }
 
-/// Puts `bytes` at `at`, the end of the puts before: writes their whole units, and holds the rest back.
+/// Puts `bytes` at offset `at` of the spare's data, the end of the bytes put before: writes their whole units, and holds the rest back.
 pub(crate) fn put<M: Medium>(
     medium: &mut M,
     puts: &mut Puts,
@@ -91,7 +91,7 @@ pub(crate) fn put<M: Medium>(
     }
 }
 
-// Writes the bytes held back, then the spare's header, and then, in a write of its own, opens its gate.
+// Writes the bytes held back, then the spare's header, and then, in a separate write, its open gate.
 fn open_spare<M: Medium>(
     medium: &mut M,
     places: Places,
@@ -114,7 +114,8 @@ fn open_spare<M: Medium>(
     open_slot(medium, places.spare, puts.end, held, &head)
 }
 
-/// Makes the first `len` bytes put the image of the spare, opens its gate, and discards the bytes put.
+/// Writes the bytes held back and the spare's header for an image of the first `len` bytes put, opens the spare's gate, and discards the
+/// bytes put.
 pub(crate) fn commit<M: Medium>(
     medium: &mut M,
     puts: &mut Puts,
@@ -129,7 +130,7 @@ pub(crate) fn commit<M: Medium>(
     ensures changes { CallChanges (store_of (M.state medium.old) puts.old.held.items puts.old.end) (Commit len) result
         (store_of (M.state medium.new) puts.new.held.items puts.new.end) }
     ensures not_begun { IsErrOf result PutFault.NotBegun ↔ HasOpenGate (spare_slot (store_on (M.state medium.old))) }
-    ensures fits { ¬ IsErrOf result PutFault.TooLarge }
+    ensures not_too_large { ¬ IsErrOf result PutFault.TooLarge }
 {
     if is_open(medium, places.spare) {
         return Err(PutFault::NotBegun);

@@ -1,4 +1,4 @@
-//! Writes of the store, which are read back, and the erases before them.
+//! Writes bytes to a medium, after the erases that they need, and reads them back.
 ghost use Rattle.std.specs.Prelude.{◌+◌, ◌≤◌, length, OnOk, IfErr};
 ghost use Rattle.dfu_slots.specs.Units.{IsMultiple};
 ghost use Rattle.dfu_slots.specs.Medium.{WroteBytes, FailedWrite, IsWritableAhead, IsWritable};
@@ -10,7 +10,7 @@ use crate::erasing::erase_within;
 use crate::read::stands_at;
 use crate::{Medium, WriteFault};
 
-/// Writes `bytes` to `medium` at `at`, and reads them back. All writes of the store go through this call.
+/// Writes `bytes` at offset `at` of `medium`, and reads them back. Every write of the store goes through this function.
 pub(crate) fn write<M: Medium>(medium: &mut M, at: u32, bytes: &[u8]) -> Result<(), WriteFault>
     requires within { at + length bytes.now ≤ length (M.state medium.old).bytes }
     requires place { IsMultiple (M.state medium.old).grain.unit at }
@@ -30,8 +30,8 @@ pub(crate) fn write<M: Medium>(medium: &mut M, at: u32, bytes: &[u8]) -> Result<
     }
 }
 
-/// Writes `bytes` to `medium` at `at`, and nothing for no bytes. On a medium with sectors the sectors that begin in their range are erased
-/// before.
+/// Writes `bytes` at offset `at` of `medium`, or nothing if there are no bytes. On a medium with sectors it first erases the sectors that
+/// begin in the range.
 pub(crate) fn write_some<M: Medium>(medium: &mut M, at: u32, bytes: &[u8]) -> Result<(), WriteFault>
     requires sized { IsSizedMedium (M.state medium.old) }
     requires ahead { IsWritableAhead (M.state medium.old) at }

@@ -1,4 +1,4 @@
--- Results of checking bytes, by the grammar.
+-- The result of a check is the one that the grammar requires.
 use Rattle.std.proofs.Common.{◌≡◌, ℕ, ◌+◌, ◌-◌, ◌<◌, ◌≤◌, Bool, true, cond, ltb, List, [], ◌∷◌, length, drop, Some, Result, Ok, Err, refl, sym, ap, ◌∙◌, subst, arith}
 use Rattle.std.specs.Prelude.{find}
 use Rattle.std.proofs.lemmas.Bool.Decides.{nat_tests}
@@ -18,7 +18,7 @@ use Rattle.dfu_suffix.proofs.FileLaws.{file_ends_in_its_crc, read_content_is_of_
 use Rattle.dfu_suffix.proofs.JudgeLaws.{parts_determine_summaries, summary_of_content, summary_result_of_reading, window_check_is_reading}
 use Rattle.dfu_suffix.proofs.Windows.{window_of}
 
--- A file of the grammar is accepted, with its summary.
+-- For a file of the grammar, the required result is its summary.
 file_is_accepted : (p : List ℕ) (i : Ids) (d : ℕ) (x b : List ℕ) → IsFile p i d x b → CheckResult b (Ok (summary_of p i d x))
 file_is_accepted p i d x b h = record {
   found = (p, x, h, refl);
@@ -26,7 +26,7 @@ file_is_accepted p i d x b h = record {
   fault = λ f. (λ e. cc, λ first. absurd (file_bytes_have_no_fault b f (p, i, d, x, h) first));
 }
 
--- Checking a file of the grammar returns the summary of its content.
+-- For a file of the grammar, the required result is the summary of its content.
 content_summary_is_check_result : (b : List ℕ) (c : Content) (extra : List ℕ) → IsFile c.payload c.ids c.dfu extra b →
     c.suffix ≡ 16 + length extra → CheckResult b (Ok (summary_of_content b c))
 content_summary_is_check_result b c extra h long =
@@ -35,7 +35,7 @@ content_summary_is_check_result b c extra h long =
     (little_number 4 (drop (length b - 4) b)) (register (before_crc c.payload c.ids c.dfu extra)) c.ids refl long
     (file_ends_in_its_crc c.payload c.ids c.dfu extra b h))) (file_is_accepted c.payload c.ids c.dfu extra b h)
 
--- Checking bytes that have a first fault returns that fault.
+-- For bytes with a first fault, the required result is this fault.
 first_fault_is_check_result : (b : List ℕ) (f : SuffixFault) → First f b → CheckResult b (Err f)
 first_fault_is_check_result b f first = record {
   found = tt;
@@ -47,14 +47,14 @@ first_fault_is_check_result b f first = record {
   );
 }
 
--- Checking bytes over the limit returns TooLarge.
+-- For bytes over the limit, the required result is TooLarge.
 pub large_file_is_too_large : (b : List ℕ) → 16777216 < length b → CheckResult b (Err TooLarge)
 large_file_is_too_large b h =
     let yes : ltb 16777216 (length b) ≡ true = grind (arith, nat_tests) in
     first_fault_is_check_result b TooLarge (ap (λ (t : Bool).
     cond t (Some TooLarge) (find (has_fault b) (TooShort ∷ NoSignature ∷ BadLength ∷ DfuSe ∷ BadCrc ∷ []))) yes)
 
--- The result of reading bytes, with their content summed up, is the result of checking them.
+-- The required result of a check is the summary of the content that reading returns, or the fault of reading.
 reading_summary_is_check_result : (b : List ℕ) (r : Result Content SuffixFault) → AreBytes b → read_content b ≡ r →
     CheckResult b (summary_result_of_reading b r)
 reading_summary_is_check_result b (Ok c) f e = let (extra, is_file, long) =
@@ -62,14 +62,14 @@ reading_summary_is_check_result b (Ok c) f e = let (extra, is_file, long) =
     extra is_file long
 reading_summary_is_check_result b (Err x) f e = first_fault_is_check_result b x ((fault_of_reading_is_first b x).0 e)
 
--- For bytes within the limit, the result by their window, their count and their register is the result of checking them.
+-- For bytes within the limit, the result from their window, count and register is the required result of a check.
 pub window_check_is_check_result : (s : List ℕ) → AreBytes s → length s ≤ 16777216 →
     CheckResult s (checked_by_register (window_of s) (length s) (register s))
 window_check_is_check_result s f small = subst (λ (r : Result Summary SuffixFault). CheckResult s r) (sym (window_check_is_reading s f
     small))
     (reading_summary_is_check_result s (read_content s) f refl)
 
--- A fact gives `UnlessReadFault` of it and of any result.
+-- If `P` holds, `UnlessReadFault r P` holds for any result `r`.
 pub fact_holds_unless_read : (r : Result Summary SuffixFault) (P : Type 0) → P → UnlessReadFault r P
 fact_holds_unless_read (Ok s) P p = p
 fact_holds_unless_read (Err TooShort) P p = p

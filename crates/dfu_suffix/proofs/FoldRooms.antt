@@ -1,4 +1,4 @@
--- A residue in a room, and a turn of folding.
+-- The residue at an offset of the room, and one step of the loop that folds.
 use Rattle.std.proofs.Common.{◌≡◌, ℕ, ◌+◌, ◌-◌, ◌^◌, ◌<◌, ◌≤◌, List, [], ◌∷◌, ◌++◌, length, take, drop, set, get_or, bit_xor, sym, ap, subst, ◌∙◌, arith}
 use Rattle.std.proofs.lemmas.List.{drop-drop, drop-set-add, drop-take, get_or-drop, get_or-take, length-drop, length-set, length-take-le, take_all, take_at, take_more_set}
 use Rattle.std.proofs.lemmas.Nat.{xor_lt}
@@ -10,11 +10,11 @@ use Rattle.dfu_suffix.specs.Register.{after_bits, bits_of, low_bits}
 use Rattle.dfu_suffix.specs.inside.Folding.{combined_numbers, register_of_residue}
 use Rattle.dfu_suffix.proofs.FoldSteps.{folding_takes_byte, folded_byte}
 
--- Byte `k` of the residue at place `i` is byte `i + k` of the room.
+-- Byte `k` of the residue at offset `i` is byte `i + k` of the room.
 residue_byte_is_room_byte : (room : List ℕ) (i k : ℕ) → k < 1968 → get_or (take 1968 (drop i room)) k 0 ≡ get_or room (i + k) 0
 residue_byte_is_room_byte room i k h = get_or-take 1968 (drop i room) k 0 h ∙ get_or-drop i room k 0
 
--- After a byte is set right after the residue, the residue from the next place on ends in that byte.
+-- If the byte after the residue is set, the residue at the next offset ends in this byte.
 residue_slides_by_byte : (room : List ℕ) (i c : ℕ) → i + 1968 < length room →
     take 1968 (drop (i + 1) (set room (i + 1968) c)) ≡ drop 1 (take 1968 (drop i room)) ++ c ∷ []
 residue_slides_by_byte room i c h =
@@ -25,13 +25,13 @@ residue_slides_by_byte room i c h =
     ∙ (take_more_set (drop (i + 1) room) 1967 c fits
     ∙ ap (λ (ys : List ℕ). ys ++ c ∷ []) (ap (take 1967) (sym (drop-drop 1 i room)) ∙ sym (drop-take 1 1967 (drop i room)))))
 
--- The folded byte to set after the residue at place `i` of the room, for byte `m` of the input.
+-- The folded byte for byte `m` of the input. It is stored after the residue at offset `i` of the room.
 abbrev pub folded_byte_at : ℕ → List ℕ → ℕ → ℕ
 folded_byte_at m room i =
     bit_xor (bit_xor (bit_xor (bit_xor (bit_xor (bit_xor m (get_or room i 0)) (get_or room (i + 720) 0)) (get_or room (i + 848) 0))
     (get_or room (i + 1184) 0)) (get_or room (i + 1280) 0)) (get_or room (i + 1920) 0)
 
--- The folded byte of bytes is below 256.
+-- The folded byte is below 256.
 folded_byte_is_byte : (m : ℕ) (room : List ℕ) (i : ℕ) → m < 256 → AreBytes room → folded_byte_at m room i < 256
 folded_byte_is_byte m room i h f =
     let b = λ (k : ℕ). get_or room k 0 in
@@ -47,7 +47,7 @@ folded_byte_is_byte m room i h f =
     let h4 : n4 < 2 ^ 8 = xor_lt 8 n3 (b (i + 1280)) h3 (f (i + 1280)) in
     xor_lt 8 n4 (b (i + 1920)) h4 (f (i + 1920))
 
--- The folded byte by places of the room is the folded byte of the residue at place `i`.
+-- The folded byte from the room's bytes is the folded byte of the residue at offset `i`.
 folded_byte_at_is_of_residue : (m : ℕ) (room : List ℕ) (i : ℕ) → folded_byte_at m room i ≡ folded_byte m (take 1968 (drop i room))
 unfolding combined_numbers
 folded_byte_at_is_of_residue m room i =
@@ -60,13 +60,13 @@ folded_byte_at_is_of_residue m room i =
     let e5 = residue_byte_is_room_byte room i 1920 (omega arith) in
     cc
 
--- Invariant of folding: the room has 6,064 bytes, and the residue at place `i` represents the register `start` after the first `i` bytes.
+-- Invariant of folding: the room has 6,064 bytes, and the residue at offset `i` represents the register `start` after the first `i` bytes.
 pub record FoldedSoFar (start : ℕ) (bytes room : List ℕ) (i : ℕ) : Type 0 where
   pub long : length room ≡ 6064
   pub each : AreBytes room
   pub so_far : register_of_residue (take 1968 (drop i room)) ≡ after_bits start (bits_of (take i bytes))
 
--- If byte `i` of at most 4,096 is folded onto the end of the residue, the invariant holds at place `i + 1`.
+-- After byte `i` of at most 4,096 is folded, FoldedSoFar holds for offset `i + 1`.
 pub fold_turn_takes_byte : (start : ℕ) (bytes room : List ℕ) (i : ℕ) → FoldedSoFar start bytes room i → AreBytes bytes → i < length bytes →
     length bytes ≤ 4096 → FoldedSoFar start bytes (set room (i + 1968) (folded_byte_at (get_or bytes i 0) room i)) (i + 1)
 fold_turn_takes_byte start bytes room i p f h short =
@@ -86,7 +86,7 @@ fold_turn_takes_byte start bytes room i p f h short =
           ∙ (ap (λ (r : ℕ). after_bits r (low_bits 8 m)) p.so_far ∙ sym (register_after_one_more_byte start bytes i h)));
     }
 
--- Once all bytes, at most 4,096, are folded, the residue that is copied to the front represents the register after them.
+-- After all bytes are folded, the residue is copied to the front of the room, and represents the register after them.
 pub folded_residue_moves_to_front : (start i : ℕ) (bytes room : List ℕ) → FoldedSoFar start bytes room i → i ≡ length bytes
     → length bytes ≤ 4096 →
     register_of_residue (take 1968 (copy_within room (length bytes) (length bytes + 1968) 0)) ≡ after_bits start (bits_of bytes)

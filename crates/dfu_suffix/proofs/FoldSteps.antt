@@ -1,27 +1,28 @@
--- Folding a byte into a residue: its first byte is dropped, and the folded byte appended.
+-- A byte is folded into a residue: the first byte is dropped, and the folded byte is appended.
 use Rattle.std.proofs.Common.{◌≡◌, ℕ, suc, ◌+◌, ◌<◌, ◌≤◌, List, [], ◌∷◌, ◌++◌, length, take, drop, get_or, bit_xor, refl, sym, ap, ◌∙◌, arith}
 use Rattle.std.specs.Int.Bits.{xor_assoc, xor_self, xor_zero_l, xor_zero_r}
 use Rattle.std.proofs.lemmas.List.{length-take-le, take-append-le}
 use Rattle.dfu_suffix.proofs.Bytes.{AreBytes-take}
 use Rattle.dfu_suffix.proofs.Shifts.{low_bits_shift_register, bit_count_of_bytes, shifts_in_two_parts, shifts_of_xor, xor_last_two_swap}
-use Rattle.dfu_suffix.proofs.Combined.{combined_numbers_of_shifts, combined_twice_cancels, combined_numbers_of_xor, xor_twice_cancels}
-use Rattle.dfu_suffix.proofs.Spread.{number_spreads_to_itself}
+use Rattle.dfu_suffix.proofs.CombinedNumbers.{combined_numbers_of_shifts, combined_twice_cancels, combined_numbers_of_xor, xor_twice_cancels}
+use Rattle.dfu_suffix.proofs.LongShifts.{number_spreads_to_itself}
 use Rattle.dfu_suffix.proofs.Tables.{after-append, register_after_one_more_byte, register_after_one_byte}
 use Rattle.dfu_suffix.specs.Laws.{AreBytes}
 use Rattle.dfu_suffix.specs.Register.{after_bits, bits_of, low_bits, shifts}
 use Rattle.dfu_suffix.specs.inside.Folding.{combined_numbers, register_of_residue, tap_places}
 
--- The register over bytes, if it begins as 0.
+-- The register over bytes if its start value is 0.
 abbrev pub register_from_zero : List ℕ → ℕ
 register_from_zero xs = after_bits 0 (bits_of xs)
 
--- A first byte `b` makes of `r` the xor of both, shifted by eight bits; from there the other bytes go on.
+-- A first byte `b` changes `r` to the CRC shift of `r` xor `b` by eight bits, and the other bytes continue from there.
 pub register_takes_first_byte : (r b : ℕ) (xs : List ℕ) → b < 256 → after_bits r (bits_of (b ∷ xs))
     ≡ after_bits (shifts 8 (bit_xor r b)) (bits_of xs)
 register_takes_first_byte r b xs h = after-append r (b ∷ []) xs ∙ ap (λ (z : ℕ). after_bits z (bits_of xs)) (register_after_one_byte r b
     ∙ low_bits_shift_register 8 r b h)
 
--- Bytes make of `r` xor `s` the register that they make of `r`, xor `s` shifted by as many bits as the bytes have.
+-- The register over bytes from the start value `r` xor `s` is the register from the start value `r`, xor the CRC shift of `s` by eight bits
+-- for each byte.
 pub register_difference_is_shifted : (xs : List ℕ) (r s : ℕ) → AreBytes xs →
     after_bits (bit_xor r s) (bits_of xs) ≡ bit_xor (after_bits r (bits_of xs)) (shifts (bit_count_of_bytes (length xs)) s)
 unfolding after_bits bits_of shifts
@@ -35,7 +36,7 @@ register_difference_is_shifted (b ∷ xs) r s f =
     ∙ (ap (λ (z : ℕ). bit_xor z (shifts n (shifts 8 s))) (sym (register_takes_first_byte r b xs (f 0)))
     ∙ ap (bit_xor (after_bits r (bits_of (b ∷ xs)))) (sym (shifts_in_two_parts 8 n s))))))
 
--- The register from 0 without the first byte is the register with it, xor that byte shifted by the bits of all bytes.
+-- Removing the first of `n` bytes combines their register, from start value 0, by xor with the CRC shift of this byte by 8n bits.
 first_byte_adds_its_shift : (b : ℕ) (xs : List ℕ) → AreBytes (b ∷ xs) →
     register_from_zero xs ≡ bit_xor (register_from_zero (b ∷ xs)) (shifts (bit_count_of_bytes (suc (length xs))) b)
 first_byte_adds_its_shift b xs f =
@@ -50,7 +51,8 @@ first_byte_adds_its_shift b xs f =
     sym (ap (λ (y : ℕ). bit_xor y z) first
     ∙ (xor_assoc (register_from_zero xs) z z ∙ (ap (bit_xor (register_from_zero xs)) (xor_self z) ∙ xor_zero_r (register_from_zero xs))))
 
--- If the first byte is dropped and another appended, the register over the first `n` bytes takes the byte after them, and loses the first.
+-- If the first byte `b` is dropped, the register over the first `n` bytes changes to the CRC shift by eight bits of the xor of this
+-- register, byte `n`, and the CRC shift of `b` by 8n bits.
 front_register_slides : (n b c : ℕ) (xs : List ℕ) → n ≤ length xs → AreBytes (b ∷ xs) →
     register_from_zero (take n (xs ++ c ∷ []))
     ≡ shifts 8 (bit_xor (bit_xor (register_from_zero (take n (b ∷ xs))) (get_or (b ∷ xs) n 0)) (shifts (bit_count_of_bytes n) b))
@@ -73,7 +75,8 @@ front_register_slides n b c xs h f =
     ∙ (ap (λ (y : ℕ). bit_xor y (shifts (bit_count_of_bytes (suc (length ys))) b)) grown
     ∙ (ap (bit_xor (shifts 8 (bit_xor a x))) gone ∙ sym (shifts_of_xor 8 (bit_xor a x) z))))
 
--- If the first byte is dropped and another appended, the register over all bytes takes the appended byte, and loses the first.
+-- If the first of `n` bytes, `b`, is dropped and `c` is appended, the register over all bytes changes to the CRC shift by eight bits of the
+-- xor of this register, `c`, and the CRC shift of `b` by 8n bits.
 whole_register_slides : (b c : ℕ) (xs : List ℕ) → c < 256 → AreBytes (b ∷ xs) →
     register_from_zero (xs ++ c ∷ [])
     ≡ shifts 8 (bit_xor (bit_xor (register_from_zero (b ∷ xs)) (shifts (bit_count_of_bytes (suc (length xs))) b)) c)
@@ -82,11 +85,11 @@ whole_register_slides b c xs h f =
     ∙ (register_after_one_byte (register_from_zero xs) c
     ∙ (low_bits_shift_register 8 (register_from_zero xs) c h ∙ ap (λ (z : ℕ). shifts 8 (bit_xor z c)) (first_byte_adds_its_shift b xs f)))
 
--- The folded byte to append to a residue, for byte `m` of the input.
+-- The folded byte for byte `m` of the input, which is appended to the residue.
 abbrev pub folded_byte : ℕ → List ℕ → ℕ
 folded_byte m residue = combined_numbers (λ n. get_or residue n 0) (bit_xor m (get_or residue 0 0)) tap_places
 
--- `folding_takes_byte` for a residue that is split into its first byte `b` and the others.
+-- The law `folding_takes_byte`, for a residue that consists of byte `b` and then the bytes `xs`.
 cut_residue_takes_byte : (m b c : ℕ) (xs : List ℕ) → length xs ≡ 1967 → AreBytes (b ∷ xs) → m < 256 → c < 256 → c ≡ folded_byte m (b ∷ xs) →
     register_of_residue (xs ++ c ∷ []) ≡ after_bits (register_of_residue (b ∷ xs)) (low_bits 8 m)
 unfolding register_of_residue combined_numbers
@@ -126,7 +129,7 @@ cut_residue_takes_byte m b c xs long f small fits is =
     stepped ∙ (combined_numbers_of_shifts 8 each start tap_places ∙ (ap (shifts 8) all
     ∙ sym (low_bits_shift_register 8 (register_of_residue t) m small)))
 
--- If the first byte of a residue is dropped and the folded byte appended, the residue represents the register after byte `m`.
+-- If the first byte of a residue is dropped and the folded byte is appended, the residue represents the register after byte `m`.
 pub folding_takes_byte : (m c : ℕ) (t : List ℕ) → length t ≡ 1968 → AreBytes t → m < 256 → c < 256 → c ≡ folded_byte m t →
     register_of_residue (drop 1 t ++ c ∷ []) ≡ after_bits (register_of_residue t) (low_bits 8 m)
 folding_takes_byte m c [] long f small fits is = absurd (omega arith)

@@ -1,11 +1,11 @@
--- Laws for the proofs of other crates, which cite no other file of this folder.
+-- Laws of the file format, for the proofs of other crates.
 use Rattle.dfu_suffix.specs.Laws.{FilesHaveNoFault, OneReading}
 use Rattle.dfu_suffix.proofs.OneReading as reading
 
--- Bytes that are a file of the grammar have no fault.
+-- A file of the grammar has no fault.
 pub grammar_file_is_faultless : FilesHaveNoFault
 grammar_file_is_faultless = reading.file_bytes_have_no_fault
 
--- Two readings of the same bytes are the same.
+-- Bytes can be read as a file of the grammar in at most one way.
 pub one_reading : OneReading
 one_reading = reading.one_reading

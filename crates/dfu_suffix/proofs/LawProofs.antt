@@ -1,4 +1,4 @@
--- The laws of the file format.
+-- Laws of the file format.
 use Rattle.std.proofs.Common.{◌≡◌, ◌⊎◌, ℕ, ◌-◌, ◌^◌, ◌<◌, ◌≤◌, List, length, take, drop, bit_xor, Result, Ok, Err, inl, inr, refl, sym, ap, ◌∙◌, arith, length-drop}
 use Rattle.std.proofs.lemmas.List.{take-append-drop, take_all}
 use Rattle.std.proofs.lemmas.Nat.{xor_lt}
@@ -11,11 +11,11 @@ use Rattle.dfu_suffix.proofs.OneReading.{register-fits, fault_of_reading_is_firs
 use Rattle.dfu_suffix.specs.declared.fault.SuffixFault.{SuffixFault}
 use Rattle.dfu_suffix.proofs.Bytes.{AreBytes-drop}
 use Rattle.dfu_suffix.proofs.Shifts.{bits_of_little_number, low_bits_shift_register, register_zero_after_itself, equal_shifts_mean_equal}
-use Rattle.dfu_suffix.proofs.Combined.{xor_twice_cancels}
+use Rattle.dfu_suffix.proofs.CombinedNumbers.{xor_twice_cancels}
 use Rattle.dfu_suffix.proofs.Tables.{register-append}
 use Rattle.dfu_suffix.proofs.FileLaws.{read_content_is_of_file}
 
--- Bytes are a file of the grammar if a content is read from them, and have a first fault if a fault is.
+-- If reading returns content, the bytes are a file of the grammar. If it returns a fault, this is their first fault.
 bytes_are_file_or_have_fault : (b : List ℕ) (r : Result Content SuffixFault) → AreBytes b → read_content b ≡ r → HasReading b
     ⊎ ((fault : SuffixFault) × First fault b)
 bytes_are_file_or_have_fault b (Ok c) f h =
@@ -23,12 +23,12 @@ bytes_are_file_or_have_fault b (Ok c) f h =
     inl (c.payload, c.ids, c.dfu, found.0, found.1)
 bytes_are_file_or_have_fault b (Err x) f h = inr (x, (fault_of_reading_is_first b x).0 h)
 
--- Bytes have a reading or a first fault, and never both.
+-- Bytes are either a file of the grammar or have a first fault, and never both.
 pub either_file_or_fault : EitherFileOrFault
 either_file_or_fault b f = (bytes_are_file_or_have_fault b (read_content b) f refl, file_bytes_have_no_fault b)
 
--- The register over four bytes or more is the register over the bytes before the last four, after the bits of the number in those four,
--- which is below 2^32.
+-- The number in the last four bytes is below 2^32, and its bits change the register over the bytes before them to the register over all
+-- bytes.
 register_by_last_four : (s : List ℕ) → AreBytes s → 4 ≤ length s → (little_number 4 (drop (length s - 4) s) < 2 ^ 32) × (register s
     ≡ after_bits (register (take (length s - 4) s)) (low_bits 32 (little_number 4 (drop (length s - 4) s))))
 register_by_last_four s f h =
@@ -52,7 +52,7 @@ last_four s f h =
     let law = register_zero_after_itself (register front) x (register-fits front) whole.0 in
     (λ e. law.0 (sym whole.1 ∙ e), λ e. whole.1 ∙ law.1 e)
 
--- Only the register over the bytes before the last four makes, with those four, the register over all bytes.
+-- If `r` and the last four bytes give the register over all bytes, `r` is the register over the bytes before the last four.
 pub register_before_four_is_unique : (s : List ℕ) (r x : ℕ) → AreBytes s → 4 ≤ length s → r < 2 ^ 32 → x
     ≡ little_number 4 (drop (length s - 4) s) →
     shifts 32 (bit_xor r x) ≡ register s → r ≡ register (take (length s - 4) s)

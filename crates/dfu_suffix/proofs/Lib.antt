@@ -3,12 +3,12 @@ pub mod OneReading
 pub mod Progress
 pub mod Bytes
 pub mod Shifts
-pub mod Fours
+pub mod FourBytes
 pub mod Tables
 pub mod SmallTable
-pub mod Combined
+pub mod CombinedNumbers
 pub mod UndoLaws
-pub mod Spread
+pub mod LongShifts
 pub mod FoldSteps
 pub mod FoldRooms
 pub mod Residues

@@ -1,4 +1,4 @@
--- Bytes that have no fault are a file of the grammar.
+-- Bytes without a fault are a file of the grammar.
 use Rattle.std.proofs.Common.{◌≡◌, ◌≢◌, ℕ, zero, suc, ◌+◌, ◌-◌, ◌*◌, ◌/◌, ◌%◌, ◌^◌, ◌<◌, ◌≤◌, ◌&&◌, ◌||◌, Bool, true, false, cond, eqb, ltb, List, [], ◌∷◌, ◌++◌, length, take, drop, get_or, Option, Some, None, refl, sym, ap, ◌∙◌, arith, length-append, length-take, length-drop}
 use Rattle.std.proofs.lemmas.Bool.{ltb-false}
 use Rattle.std.specs.Prelude.{find}
@@ -60,7 +60,7 @@ drop_is_numbers_of_list (suc n) i xs h = drop-cons xs i 0 (omega arith)
 
 -- ---- no fault
 
--- If a condition for a fault, and those after it, find no fault, the condition is false, and those after it find none.
+-- If a list of conditions finds no fault, the first condition is false, and the others find none.
 no_fault_passes_condition : {X : Type 0} (t : Bool) (x : X) (o : Option X) → cond t (Some x) o ≡ None → (t ≡ false) × (o ≡ None)
 no_fault_passes_condition true x o h = (cc, cc)
 no_fault_passes_condition false x o h = (refl, h)
@@ -73,7 +73,7 @@ true_and_has_both_true : (a b : Bool) → (a && b) ≡ true → (a ≡ true) × 
 true_and_has_both_true true b h = (refl, h)
 true_and_has_both_true false b h = (h, cc)
 
--- There are 16 to 16,777,216 bytes, and their last 16 have the letters UFD and a bLength from 16 up to the number of bytes.
+-- There are 16 to 16,777,216 bytes. The last 16 contain the letters UFD, and a bLength from 16 up to the number of bytes.
 pub record HasSuffixForm (b : List ℕ) : Type 0 where
   pub small : length b ≤ 16777216
   pub long : 16 ≤ length b
@@ -83,7 +83,7 @@ pub record HasSuffixForm (b : List ℕ) : Type 0 where
   pub whole : 16 ≤ get_or (tail_of b) 11 0
   pub within : get_or (tail_of b) 11 0 ≤ length b
 
--- Bytes without the first four faults have the form of a suffix.
+-- If bytes have none of the first four faults, they have the form of a file with a suffix.
 pub formed : (b : List ℕ) → has_fault b TooLarge ≡ false → has_fault b TooShort ≡ false → has_fault b NoSignature ≡ false →
     has_fault b BadLength ≡ false → HasSuffixForm b
 formed b large short unsigned bad =
@@ -102,23 +102,23 @@ formed b large short unsigned bad =
       within = ltb-false (length b) (get_or t 11 0) l.1;
     }
 
--- Bytes are intact if their dwCRC is the register over all bytes before it.
+-- The dwCRC of the bytes is the register over all bytes before it.
 abbrev pub IsIntact : List ℕ → Type 0
 IsIntact b = little_number 4 (drop 12 (tail_of b)) ≡ register (take (length b - 4) b)
 
--- Bytes without the fault BadCrc are intact.
+-- Without the fault BadCrc, the dwCRC of bytes is right.
 pub no_crc_fault_means_intact : (b : List ℕ) → has_fault b BadCrc ≡ false → IsIntact b
 no_crc_fault_means_intact b h =
     let crc = little_number 4 (drop 12 (tail_of b)) in
     eqb-true crc (register (take (length b - 4) b)) (not-false (eqb crc (register (take (length b - 4) b))) h)
 
--- The bytes have the form of a suffix, aren't a DfuSe file, and are intact.
+-- The bytes have the form of a file with a suffix, bcdDFU isn't 011Ah, and dwCRC is right.
 pub record HasNoFaults (b : List ℕ) : Type 0 where
   pub formed : HasSuffixForm b
   pub not_dfuse : little_number 2 (drop 6 (tail_of b)) ≢ 0x011A
   pub crc : IsIntact b
 
--- Bytes of which no condition of a fault is true satisfy `HasNoFaults`.
+-- If the search finds no fault in bytes, they satisfy `HasNoFaults`.
 pub faultless_bytes_are_sound : (b : List ℕ) → find (has_fault b) fault_order ≡ None → HasNoFaults b
 faultless_bytes_are_sound b h =
     let p0 = no_fault_passes_condition (has_fault b TooLarge) TooLarge (find (has_fault b) (TooShort ∷ NoSignature ∷ BadLength ∷ DfuSe ∷
@@ -135,14 +135,14 @@ faultless_bytes_are_sound b h =
       crc = no_crc_fault_means_intact b p5.0;
     }
 
--- Extra bytes: those of the suffix before its last 16.
+-- Extra bytes of a suffix, which are before its last 16 bytes.
 abbrev pub extra_bytes_of : List ℕ → List ℕ
 extra_bytes_of b = take (get_or (tail_of b) 11 0 - 16) (drop (length b - get_or (tail_of b) 11 0) b)
 
 tail_has_16_bytes : (b : List ℕ) → 16 ≤ length b → length (tail_of b) ≡ 16
 tail_has_16_bytes b h = length-drop (length b - 16) b ∙ omega arith
 
--- The 16 bytes of a suffix and its extra bytes are bLength bytes.
+-- A suffix has bLength bytes: its last 16, and the extra bytes.
 pub suffix_length_counts_extra : (b : List ℕ) → HasSuffixForm b → 16 + length (extra_bytes_of b) ≡ get_or (tail_of b) 11 0
 suffix_length_counts_extra b s =
     let l = get_or (tail_of b) 11 0 in
@@ -152,7 +152,7 @@ suffix_length_counts_extra b s =
     let d = length-drop (length b - l) b in
     omega arith
 
--- The payload, the extra bytes and the last 16 bytes together are all bytes of the file.
+-- The payload, the extra bytes and the last 16 bytes are all bytes of the file.
 payload_extra_and_tail_make_file : (b : List ℕ) → HasSuffixForm b → take (length b - get_or (tail_of b) 11 0) b ++ (extra_bytes_of b
     ++ tail_of b) ≡ b
 payload_extra_and_tail_make_file b s =
@@ -165,19 +165,19 @@ payload_extra_and_tail_make_file b s =
     ∙ (ap (λ (xs : List ℕ). take (length b - l) b ++ xs) (take-append-drop (l - 16) (drop (length b - l) b))
     ∙ take-append-drop (length b - l) b)
 
--- The first twelve of the last 16 bytes: the fields before dwCRC.
+-- The first twelve of the last 16 bytes, which are the fields before dwCRC.
 abbrev fields_of_tail : List ℕ → List ℕ
 fields_of_tail t = get_or t 0 0 ∷ get_or t 1 0 ∷ get_or t 2 0 ∷ get_or t 3 0 ∷ get_or t 4 0 ∷ get_or t 5 0 ∷ get_or t 6 0 ∷ get_or t 7
     0 ∷ get_or t 8 0 ∷ get_or t 9 0 ∷ get_or t 10 0 ∷ get_or t 11 0 ∷ []
 
--- The last four of the last 16 bytes: dwCRC.
+-- The last four bytes, which are dwCRC.
 abbrev crc_bytes_of_tail : List ℕ → List ℕ
 crc_bytes_of_tail t = get_or t 12 0 ∷ get_or t 13 0 ∷ get_or t 14 0 ∷ get_or t 15 0 ∷ []
 
 tail_is_fields_and_crc : (t : List ℕ) → length t ≡ 16 → t ≡ fields_of_tail t ++ crc_bytes_of_tail t
 tail_is_fields_and_crc t h = drop_is_numbers_of_list 16 0 t (sym h)
 
--- The fields that are read from the last 16 bytes spell them again.
+-- The fields that are read from the last 16 bytes are encoded as the first twelve of these bytes.
 read_fields_spell_fields : (b : List ℕ) → HasSuffixForm b → AreBytes b →
     fields_before_crc (content_of b).ids (content_of b).dfu (extra_bytes_of b)
     ≡ fields_of_tail (tail_of b)
@@ -213,7 +213,7 @@ tail_field_fits_two_bytes b i f = two_bytes_fit_16_bits (drop i (tail_of b)) (Ar
 pub extra_fits : (b : List ℕ) → HasSuffixForm b → AreBytes b → length (extra_bytes_of b) ≤ 239
 extra_fits b s f = omega (arith, suffix_length_counts_extra b s, AreBytes-drop b (length b - 16) f 11)
 
--- Bytes that have the form of a suffix, and are intact, are spelled by the content that is read from their end.
+-- The bytes of a file with a right dwCRC are the encoding of the content that is read from their end.
 pub spelled : (b : List ℕ) → HasSuffixForm b → IsIntact b → AreBytes b →
     IsSpelledFile (content_of b).payload (content_of b).ids (content_of b).dfu (extra_bytes_of b) b
 spelled b s right f =

@@ -16,34 +16,34 @@ use Rattle.dfu_wire.specs.declared.ids.Ids.{Ids}
 use Rattle.dfu_suffix.specs.declared.fault.SuffixFault.{SuffixFault}
 use Rattle.dfu_suffix.specs.declared.fault.SuffixFault.TheVariants.{TooShort, NoSignature, BadLength, DfuSe, BadCrc, TooLarge}
 
--- A further bit leaves a register of 32 bits within 32 bits.
+-- After one more bit, a 32-bit register still fits in 32 bits.
 after_bit-fits : (r bit : ℕ) → r < 2 ^ 32 → after_bit r bit < 2 ^ 32
 after_bit-fits r bit h =
     let half : r / 2 < 2 ^ 32 = omega arith in
     let mixed : bit_xor (r / 2) 0xEDB8_8320 < 2 ^ 32 = xor_lt 32 (r / 2) 0xEDB8_8320 half (omega arith) in
     elim (eqb (r % 2) bit) as (λ t. cond t (r / 2) (bit_xor (r / 2) 0xEDB8_8320) < 2 ^ 32) [ true ↦ half | false ↦ mixed ]
 
--- Any bits leave a register of 32 bits within 32 bits.
+-- After any number of bits, a 32-bit register still fits in 32 bits.
 after_bits-fits : (bits : List ℕ) (r : ℕ) → r < 2 ^ 32 → after_bits r bits < 2 ^ 32
 unfolding after_bits
 after_bits-fits [] r h = h
 after_bits-fits (bit ∷ bits) r h = after_bits-fits bits (after_bit r bit) (after_bit-fits r bit h)
 
--- The register over bytes fits 32 bits.
+-- The register over bytes fits in 32 bits.
 pub register-fits : (bytes : List ℕ) → register bytes < 2 ^ 32
 unfolding register after_bits bits_of
 register-fits bytes = after_bits-fits (bits_of bytes) 0xFFFF_FFFF (omega arith)
 
--- A number below 2^16 is read back from its two bytes.
+-- A number below 2^16 is restored from its two bytes.
 two_bytes_give_number_back : (n : ℕ) → n < 2 ^ 16 → n % 256 + 256 * (n / 256 % 256 + 256 * 0) ≡ n
 two_bytes_give_number_back n h = omega arith
 
--- A number below 2^32 is read back from its four bytes.
+-- A number below 2^32 is restored from its four bytes.
 pub four_bytes_give_number_back : (n : ℕ) → n < 2 ^ 32 → n % 256 + 256 * (n / 256 % 256 + 256 * (n / 65536 % 256 + 256 * (n / 16777216 %
     256 + 256 * 0))) ≡ n
 four_bytes_give_number_back n h = omega arith
 
--- A result is a certain fault exactly if that fault was found.
+-- A result is a fault exactly if the search found this fault.
 fault_answer_was_found : (o : Option SuffixFault) (c : Content) (f : SuffixFault) → (content_unless_fault o c ≡ Err f) ↔ (o ≡ Some f)
 fault_answer_was_found None c f = (λ h. cc, λ h. cc)
 fault_answer_was_found (Some x) c f = (λ h. cc, λ h. cc)
@@ -53,25 +53,25 @@ pub fault_of_reading_is_first : (b : List ℕ) (f : SuffixFault) → (read_conte
 unfolding read_content
 fault_of_reading_is_first b f = fault_answer_was_found (find (has_fault b) fault_order) (content_of b) f
 
--- If a condition for a fault is false, and the conditions after it find no fault, there is no fault.
+-- If a condition for a fault is false, and the others find no fault, the list of conditions finds none.
 false_fault_is_skipped : {X : Type 0} (t : Bool) (x : X) (o : Option X) → t ≡ false → o ≡ None → cond t (Some x) o ≡ None
 false_fault_is_skipped true x o h e = cc
 false_fault_is_skipped false x o h e = e
 
--- If `b` is at most `a`, the test `a` less than `b` is false.
+-- If `b` is at most `a`, the test `a < b` is false.
 pub number_is_not_less : (a b : ℕ) → b ≤ a → ltb a b ≡ false
 number_is_not_less a b h = grind (arith, nat_tests)
 
--- The test for equality of two different numbers is false.
+-- The equality test of two different numbers is false.
 different_numbers_test_false : (a b : ℕ) → a ≢ b → eqb a b ≡ false
 different_numbers_test_false a b h = elim (eqb_tells a b) [ inl p ↦ absurd (h p.1) | inr p ↦ p.0 ]
 
--- If two tests are false, the test for either is false.
+-- If a and b are false, a || b is false.
 or_of_false_tests_is_false : (a b : Bool) → a ≡ false → b ≡ false → (a || b) ≡ false
 or_of_false_tests_is_false true b h e = h
 or_of_false_tests_is_false false b h e = e
 
--- The bytes spell a file of these parts, whose bcdDFU may be that of a DfuSe file.
+-- The bytes are the encoding of these parts. bcdDFU may be that of DfuSe.
 abbrev pub IsSpelledFile : List ℕ → Ids → ℕ → List ℕ → List ℕ → Type 0
 IsSpelledFile payload ids dfu extra b = b ≡ before_crc payload ids dfu extra
     ++ to_le_bytes w32 (register (before_crc payload ids dfu extra))
@@ -80,14 +80,14 @@ IsSpelledFile payload ids dfu extra b = b ≡ before_crc payload ids dfu extra
 abbrev pub content_of_parts : List ℕ → Ids → ℕ → ℕ → Content
 content_of_parts payload ids dfu suffix = record { payload = payload; ids = ids; dfu = dfu; suffix = suffix }
 
--- Contents of equal parts are equal.
+-- Contents with equal parts are equal.
 parts_determine_contents : (p p' : List ℕ) (d d' e e' v v' u u' s s' : ℕ) → p ≡ p' → d ≡ d' → e ≡ e' → v ≡ v' → u ≡ u' → s ≡ s' →
     content_of_parts p (record { device = d; product = e; vendor = v }) u s
     ≡ content_of_parts p' (record { device = d'; product = e'; vendor = v' }) u'
     s'
 parts_determine_contents p p' d d' e e' v v' u u' s s' h0 h1 h2 h3 h4 h5 = cc
 
--- A spelled file has the length of its payload, of its extra bytes and of 16 bytes more, and ends in the fields and dwCRC.
+-- The length of an encoded file is that of its payload, its extra bytes and 16 more, and it ends in its fields and dwCRC.
 spelled_file_ends_in_its_suffix : (payload extra b : List ℕ) (ids : Ids) (dfu : ℕ) → IsSpelledFile payload ids dfu extra b →
     (length b ≡ length payload + length extra + 16)
     × (tail_of b ≡ fields_before_crc ids dfu extra ++ to_le_bytes w32 (register (before_crc payload ids dfu extra)))
@@ -98,7 +98,7 @@ spelled_file_ends_in_its_suffix payload extra b ids dfu h =
     ap length whole ∙ (length-append (payload ++ extra) end ∙ ap (λ (k : ℕ). k + 16) (length-append payload extra)) in
     (len, ap (drop (length b - 16)) whole ∙ drop_at (payload ++ extra) end (length b - 16) (omega (arith, len, length-append payload extra)))
 
--- The payload of a spelled file is all its bytes but the last bLength.
+-- The payload of an encoded file is all but the last bLength bytes.
 pub spelled_payload_is_read_back : (payload extra b : List ℕ) (ids : Ids) (dfu : ℕ) → IsSpelledFile payload ids dfu extra b →
     take (length b - get_or (tail_of b) 11 0) b ≡ payload
 spelled_payload_is_read_back payload extra b ids dfu h =
@@ -109,7 +109,7 @@ spelled_payload_is_read_back payload extra b ids dfu h =
     let whole : b ≡ payload ++ (extra ++ end) = h ∙ simp append_assoc in
     ap (take (length b - l)) whole ∙ take_at payload (extra ++ end) (length b - l) (omega (arith, length_is, tail.0))
 
--- The bytes have no fault but perhaps DfuSe, and the parts are read from their end.
+-- The bytes have no fault, except perhaps DfuSe, and their last 16 bytes contain these parts.
 pub record PartsAreRead (payload : List ℕ) (ids : Ids) (dfu : ℕ) (extra b : List ℕ) : Type 0 where
   pub small : has_fault b TooLarge ≡ false
   pub long : has_fault b TooShort ≡ false
@@ -119,7 +119,7 @@ pub record PartsAreRead (payload : List ℕ) (ids : Ids) (dfu : ℕ) (extra b : 
   pub version : little_number 2 (drop 6 (tail_of b)) ≡ dfu
   pub content : content_of b ≡ content_of_parts payload ids dfu (16 + length extra)
 
--- Bytes that spell parts are read as those parts, if the numbers fit and the bytes are within the limit.
+-- From the encoding of a file, reading finds the parts that were encoded, if the numbers fit and the bytes are within the limit.
 pub parts_are_read : (payload : List ℕ) (ids : Ids) (dfu : ℕ) (extra b : List ℕ) → IsSpelledFile payload ids dfu extra b →
     ids.device < 2 ^ 16 →
     ids.product < 2 ^ 16 → ids.vendor < 2 ^ 16 → dfu < 2 ^ 16 → length b ≤ 16777216 → PartsAreRead payload ids dfu extra b
@@ -171,7 +171,7 @@ grammar_file_is_read payload ids dfu extra b h =
     (false_fault_is_skipped (has_fault b DfuSe) DfuSe _ other (false_fault_is_skipped (has_fault b BadCrc) BadCrc _ r.intact refl))))) in
     ap (λ (o : Option SuffixFault). content_unless_fault o (content_of b)) none ∙ ap Ok r.content
 
--- The extra bytes of a file follow its payload, and 16 bytes follow them.
+-- In a file of the grammar, the extra bytes follow the payload, and 16 bytes follow the extra bytes.
 pub extra_bytes_follow_payload : (payload : List ℕ) (ids : Ids) (dfu : ℕ) (extra b : List ℕ) → IsFile payload ids dfu extra b →
     (length b ≡ length payload + length extra + 16) × (extra ≡ take (length extra) (drop (length payload) b))
 extra_bytes_follow_payload payload ids dfu extra b h =
@@ -193,7 +193,7 @@ file_bytes_have_no_fault b fault (payload, ids, dfu, extra, h) first =
     let wrong = (fault_of_reading_is_first b fault).1 first in
     cc
 
--- Equal contents have equal parts.
+-- Contents that are equal have equal parts.
 equal_contents_have_equal_parts : (p q : List ℕ) (i j : Ids) (d e n m : ℕ) →
     ◌≡◌ {A = Result Content SuffixFault} (Ok (record { payload = p; ids = i; dfu = d; suffix = n }))
     (Ok (record { payload = q; ids = j; dfu = e; suffix = m })) → (p ≡ q) × (i ≡ j) × (d ≡ e) × (n ≡ m)
@@ -206,7 +206,7 @@ equal_contents_have_equal_parts p q i j d e n m h =
       ap (λ (c : Content). c.suffix) same,
     )
 
--- Two readings of the same bytes are equal.
+-- Bytes can be read as a file of the grammar in at most one way.
 pub one_reading : OneReading
 one_reading b p q i j d e x y h k =
     let same = equal_contents_have_equal_parts p q i j d e (16 + length x) (16 + length y) (sym (grammar_file_is_read p i d x b h)

@@ -1,17 +1,17 @@
--- Register of a residue, and residue of a register.
+-- The register that a residue represents, and a residue for a register.
 use Rattle.std.proofs.Common.{◌≡◌, ℕ, zero, suc, ◌+◌, ◌^◌, ◌<◌, ◌≤◌, List, [], ◌∷◌, ◌++◌, take, drop, replicate, bit_xor, refl, sym, ap, subst, ◌∙◌, arith}
 use Rattle.std.specs.Int.Bits.{xor_zero_l, xor_zero_r}
 use Rattle.std.proofs.lemmas.List.{drop-take, drop_at, take-append-drop, take-replicate, take-take, take_at}
 use Rattle.std.specs.Int.{w32, to_le_bytes}
 use Rattle.dfu_suffix.proofs.Shifts.{bit_count_of_bytes, shifts_in_two_parts}
-use Rattle.dfu_suffix.proofs.Spread.{spread_over_taps, number_spreads_to_itself}
+use Rattle.dfu_suffix.proofs.LongShifts.{spread_over_taps, number_spreads_to_itself}
 use Rattle.dfu_suffix.proofs.Tables.{IsFourByteNumber, after-append, four_bytes_shift_register}
 use Rattle.dfu_suffix.specs.Laws.{AreBytes}
 use Rattle.dfu_suffix.specs.Register.{after_bits, bits_of, shifts}
 use Rattle.dfu_suffix.specs.inside.Folding.{combined_numbers, register_of_residue}
 use Rattle.dfu_suffix.proofs.FoldSteps.{register_takes_first_byte, register_from_zero}
 
--- The first n + k items are the first n, and then the k after them.
+-- The first n + k items are the first n followed by the k items after them.
 take_in_two_parts : (n k : ℕ) (xs : List ℕ) → take (n + k) xs ≡ take n xs ++ take k (drop n xs)
 take_in_two_parts n k xs =
     let front : take n (take (n + k) xs) ≡ take n xs = take-take n (n + k) xs (omega arith) in
@@ -26,7 +26,7 @@ register_from_zero_goes_on n k r s xs first second =
     ∙ (ap (λ (z : ℕ). after_bits z (bits_of (take k (drop n xs)))) first
     ∙ (sym (after-append 0 (take n xs) (take k (drop n xs))) ∙ ap register_from_zero (sym (take_in_two_parts n k xs))))
 
--- The xor of the registers up to each tap and over the whole residue is the register that it represents.
+-- The xor of the registers over the bytes before each tap and over the whole residue is the register that the residue represents.
 pub tap_registers_make_residue : (r1 r2 r3 r4 r5 r6 : ℕ) (room : List ℕ) → r1 ≡ after_bits 0 (bits_of (take 720 room)) →
     r2 ≡ after_bits r1 (bits_of (take 128 (drop 720 room))) → r3 ≡ after_bits r2 (bits_of (take 336 (drop 848 room))) →
     r4 ≡ after_bits r3 (bits_of (take 96 (drop 1184 room))) → r5 ≡ after_bits r4 (bits_of (take 640 (drop 1280 room))) →
@@ -46,7 +46,7 @@ tap_registers_make_residue r1 r2 r3 r4 r5 r6 room h1 h2 h3 h4 h5 h6 =
     let w5 = f5 ∙ ap register_from_zero (sym (take-take 1920 1968 room (omega arith))) in
     λ i. bit_xor (bit_xor (bit_xor (bit_xor (bit_xor (f6 i) (w1 i)) (w2 i)) (w3 i)) (w4 i)) (w5 i)
 
--- Zero bytes shift the register by their bits.
+-- `n` zero bytes change the register to its CRC shift by 8n bits.
 zero_bytes_shift_register : (n r : ℕ) → after_bits r (bits_of (replicate n 0)) ≡ shifts (bit_count_of_bytes n) r
 unfolding after_bits bits_of shifts
 zero_bytes_shift_register zero r = refl
@@ -55,7 +55,7 @@ zero_bytes_shift_register (suc n) r =
     ∙ (ap (λ (z : ℕ). after_bits (shifts 8 z) (bits_of (replicate n 0))) (xor_zero_r r)
     ∙ (zero_bytes_shift_register n (shifts 8 r) ∙ sym (shifts_in_two_parts 8 (bit_count_of_bytes n) r)))
 
--- The register over the four bytes of a number and `n` zero bytes is the number, shifted by the bits of all.
+-- The register over a number's four bytes and `n` zero bytes, from start value 0, is the CRC shift of the number by 32 + 8n bits.
 four_bytes_and_zeros_shift : (n m r : ℕ) (xs : List ℕ) → IsFourByteNumber r xs → n ≤ m →
     register_from_zero (take (4 + n) (xs ++ replicate m 0)) ≡ shifts (32 + bit_count_of_bytes n) r
 four_bytes_and_zeros_shift n m r xs q h =
@@ -76,7 +76,7 @@ four_bytes_are_bytes a b c d h i j k (suc (suc zero)) = j
 four_bytes_are_bytes a b c d h i j k (suc (suc (suc zero))) = k
 four_bytes_are_bytes a b c d h i j k (suc (suc (suc (suc n)))) = omega arith
 
--- A register of 32 bits is the number of its four bytes, the low one first.
+-- A 32-bit register is the number in its four bytes, the low byte first.
 pub register_is_four_byte_number : (r : ℕ) (xs : List ℕ) → r < 2 ^ 32 → xs ≡ to_le_bytes w32 r → IsFourByteNumber r xs
 register_is_four_byte_number r xs h e =
     subst (IsFourByteNumber r) (sym e) (record {
@@ -86,7 +86,7 @@ register_is_four_byte_number r xs h e =
       small = h;
     })
 
--- The four bytes of a register, followed by at least 1,964 zero bytes, have at their front a residue that represents the register.
+-- If a room contains the four bytes of a register, followed by at least 1,964 zero bytes, the residue at its front represents the register.
 pub register_bytes_are_residue : (m r : ℕ) (xs room : List ℕ) → IsFourByteNumber r xs → 1964 ≤ m → room ≡ xs ++ replicate m 0 →
     register_of_residue (take 1968 room) ≡ r
 unfolding register_of_residue combined_numbers

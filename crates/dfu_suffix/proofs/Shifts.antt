@@ -1,4 +1,4 @@
--- Shifts by which several bits change the register at once.
+-- CRC shifts, by which several bits change the register at once.
 use Rattle.std.proofs.Common.{◌↔◌, Bool, true, false, inl, inr}
 use Rattle.std.proofs.lemmas.Nat.{xor_lt}
 use Rattle.std.proofs.lemmas.Bool.Decides.{eqb_tells}
@@ -16,7 +16,8 @@ use Rattle.dfu_suffix.specs.Register.{after_bit, after_bits, low_bits, bits_of, 
 pub xor_last_two_swap : (a b c : ℕ) → bit_xor (bit_xor a b) c ≡ bit_xor (bit_xor a c) b
 xor_last_two_swap a b c = xor_assoc a b c ∙ (ap (bit_xor a) (xor_comm b c) ∙ sym (xor_assoc a c b))
 
--- The step of the register by the xor of two bits is the step by one bit against the other, xor `k`.
+-- A register step combines the half `h` with EDB88320h if the low bit `r` differs from the new bit `x`. A step for low bit `r` xor `x` and
+-- new bit 0 makes the same choice. A number `k` may be combined with the half before the step or with the result after it.
 low_bit_decides_xor : (r x h k : ℕ) → r < 2 → x < 2 → cond (eqb (bit_xor r x) 0) (bit_xor h k) (bit_xor (bit_xor h k) 0xEDB8_8320)
     ≡ bit_xor (cond (eqb r x) h (bit_xor h 0xEDB8_8320)) k
 low_bit_decides_xor zero zero h k p q = refl
@@ -26,14 +27,14 @@ low_bit_decides_xor (suc zero) (suc zero) h k p q = refl
 low_bit_decides_xor (suc (suc r)) x h k p q = absurd (omega arith)
 low_bit_decides_xor r (suc (suc x)) h k p q = absurd (omega arith)
 
--- One shift of `r` xor `x` takes the lowest bit of `x` into the register, and leaves the other bits.
+-- The CRC shift by one bit of `r` xor `x` is register `r` after the lowest bit of `x`, xor the other bits of `x`.
 pub shift_takes_low_bit : (r x : ℕ) → shift (bit_xor r x) ≡ bit_xor (after_bit r (x % 2)) (x / 2)
 shift_takes_low_bit r x =
     ap (λ (low : ℕ). cond (eqb low 0) (bit_xor r x / 2) (bit_xor (bit_xor r x / 2) 0xEDB8_8320)) (xor_mod r x 1)
     ∙ (ap (λ (half : ℕ). cond (eqb (bit_xor (r % 2) (x % 2)) 0) half (bit_xor half 0xEDB8_8320)) (xor_shr r x 1)
     ∙ low_bit_decides_xor (r % 2) (x % 2) (r / 2) (x / 2) (omega arith) (omega arith))
 
--- `n` shifts of `r` xor `x` take the `n` low bits of `x` into the register, and leave the other bits.
+-- The CRC shift by `n` bits of `r` xor `x` is register `r` after the `n` low bits of `x`, xor the other bits of `x`.
 pub shifts_take_low_bits : (n r x : ℕ) → shifts n (bit_xor r x) ≡ bit_xor (after_bits r (low_bits n x)) (x / 2 ^ n)
 unfolding shifts low_bits after_bits
 shifts_take_low_bits zero r x = ap (bit_xor r) (omega arith)
@@ -42,7 +43,8 @@ shifts_take_low_bits (suc n) r x =
     ∙ (shifts_take_low_bits n (after_bit r (x % 2)) (x / 2)
     ∙ ap (bit_xor (after_bits (after_bit r (x % 2)) (low_bits n (x / 2)))) (shr-shr x 1 n ∙ ap (λ (k : ℕ). x / 2 ^ k) (omega arith)))
 
--- The step of the register by the xor of two bits is the xor of the steps by each bit.
+-- If the low bit is `a` xor `b`, and the half is `h` xor `k`, a register step gives the xor of two steps: one for `a` and `h`, and one for
+-- `b` and `k`.
 low_bits_decide_xor : (a b h k : ℕ) → a < 2 → b < 2 → cond (eqb (bit_xor a b) 0) (bit_xor h k) (bit_xor (bit_xor h k) 0xEDB8_8320)
     ≡ bit_xor (cond (eqb a 0) h (bit_xor h 0xEDB8_8320)) (cond (eqb b 0) k (bit_xor k 0xEDB8_8320))
 low_bits_decide_xor zero zero h k p q = refl
@@ -55,27 +57,27 @@ low_bits_decide_xor (suc zero) (suc zero) h k p q =
 low_bits_decide_xor (suc (suc a)) b h k p q = absurd (omega arith)
 low_bits_decide_xor a (suc (suc b)) h k p q = absurd (omega arith)
 
--- The shift of an xor is the xor of the shifts.
+-- The CRC shift by one bit of the xor of two numbers is the xor of their CRC shifts.
 shift_is_linear : (a b : ℕ) → shift (bit_xor a b) ≡ bit_xor (shift a) (shift b)
 shift_is_linear a b =
     ap (λ (low : ℕ). cond (eqb low 0) (bit_xor a b / 2) (bit_xor (bit_xor a b / 2) 0xEDB8_8320)) (xor_mod a b 1)
     ∙ (ap (λ (half : ℕ). cond (eqb (bit_xor (a % 2) (b % 2)) 0) half (bit_xor half 0xEDB8_8320)) (xor_shr a b 1)
     ∙ low_bits_decide_xor (a % 2) (b % 2) (a / 2) (b / 2) (omega arith) (omega arith))
 
--- Shifts of an xor are the xor of the shifts.
+-- The CRC shift by `n` bits of the xor of two numbers is the xor of their CRC shifts.
 pub shifts_of_xor : (n a b : ℕ) → shifts n (bit_xor a b) ≡ bit_xor (shifts n a) (shifts n b)
 unfolding shifts
 shifts_of_xor zero a b = refl
 shifts_of_xor (suc n) a b = ap (shifts n) (shift_is_linear a b) ∙ shifts_of_xor n (shift a) (shift b)
 
--- A shift halves an even number.
+-- The CRC shift of an even number by one bit is its half.
 shift_halves_even_number : (t : ℕ) → shift (t * 2) ≡ t
 shift_halves_even_number t =
     let low : t * 2 % 2 ≡ 0 = omega arith in
     let half : t * 2 / 2 ≡ t = omega arith in
     ap (λ (z : ℕ). cond (eqb z 0) (t * 2 / 2) (bit_xor (t * 2 / 2) 0xEDB8_8320)) low ∙ half
 
--- `n` shifts divide a multiple of 2^n by 2^n, because all bits that are shifted out are 0.
+-- The CRC shift of a multiple of 2^n by `n` bits is its quotient by 2^n, because all bits shifted out are 0.
 pub shifts_of_power_multiple : (n h : ℕ) → shifts n (h * 2 ^ n) ≡ h
 unfolding shifts
 shifts_of_power_multiple zero h = omega arith
@@ -83,7 +85,7 @@ shifts_of_power_multiple (suc n) h =
     let turned : h * 2 ^ suc n ≡ h * 2 ^ n * 2 = ap (λ (z : ℕ). h * z) (pow-suc 2 n) ∙ sym (mul_assoc h (2 ^ n) 2) in
     ap (λ (z : ℕ). shifts n (shift z)) turned ∙ (ap (shifts n) (shift_halves_even_number (h * 2 ^ n)) ∙ shifts_of_power_multiple n h)
 
--- A number is the xor of its `n` low bits and its other bits.
+-- A number is the xor of its `n` low bits and of its other bits.
 pub number_is_low_xor_high : (n s : ℕ) → s ≡ bit_xor (s % 2 ^ n) (s / 2 ^ n * 2 ^ n)
 number_is_low_xor_high n s =
     let low : s % 2 ^ n < 2 ^ n = mod_below s (2 ^ n) (pow_pos n) in
@@ -95,20 +97,21 @@ number_is_low_xor_high n s =
     ∙ (ap (λ (z : ℕ). z * 2 ^ n + bit_xor (s % 2 ^ n) 0) (xor_zero_l (s / 2 ^ n))
     ∙ (ap (λ (z : ℕ). s / 2 ^ n * 2 ^ n + z) (xor_zero_r (s % 2 ^ n)) ∙ shr_split s n)))))
 
--- The `n` low bits of a number below 2^n change the register as xor with the number and then `n` shifts do.
+-- After the `n` bits of a number `x` below 2^n, register `r` becomes the CRC shift by `n` bits of `r` xor `x`.
 pub low_bits_shift_register : (n r x : ℕ) → x < 2 ^ n → after_bits r (low_bits n x) ≡ shifts n (bit_xor r x)
 low_bits_shift_register n r x h =
     let none : x / 2 ^ n ≡ 0 = div-eq_of_lt h in
     sym (shifts_take_low_bits n r x ∙ (ap (bit_xor (after_bits r (low_bits n x))) none ∙ xor_zero_r (after_bits r (low_bits n x))))
 
--- Shifts of a number by `n` bits are the shifts of its `n` lowest bits, xor the other bits.
+-- The CRC shift of a number by `n` bits is the CRC shift of its `n` low bits, xor the other bits.
 pub shifts_by_low_bits : (n s : ℕ) → shifts n s ≡ bit_xor (s / 2 ^ n) (shifts n (s % 2 ^ n))
 shifts_by_low_bits n s =
     ap (shifts n) (number_is_low_xor_high n s)
     ∙ (shifts_of_xor n (s % 2 ^ n) (s / 2 ^ n * 2 ^ n)
     ∙ (ap (bit_xor (shifts n (s % 2 ^ n))) (shifts_of_power_multiple n (s / 2 ^ n)) ∙ xor_comm (shifts n (s % 2 ^ n)) (s / 2 ^ n)))
 
--- A byte shifts the register: its low eight bits, xor the byte, are shifted by eight bits, and its other bits move down.
+-- After byte `b`, register `r` becomes the xor of two numbers: `r` / 256, and the CRC shift by eight bits of the low eight bits of `r` xor
+-- `b`.
 pub byte_shifts_register : (r b : ℕ) → b < 256 → after_bits r (low_bits 8 b) ≡ bit_xor (r / 256) (shifts 8 (bit_xor r b % 256))
 byte_shifts_register r b h =
     let none : b / 256 ≡ 0 = omega arith in
@@ -117,7 +120,7 @@ byte_shifts_register r b h =
 
 -- ---- many bits at once
 
--- Shifts by m + n bits are shifts by m bits, and then by n.
+-- A CRC shift by m + n bits is a CRC shift by m bits and then by n.
 pub shifts_in_two_parts : (m n s : ℕ) → shifts (m + n) s ≡ shifts n (shifts m s)
 unfolding shifts
 shifts_in_two_parts zero n s = ap (λ (k : ℕ). shifts k s) (zero-add n)
@@ -125,7 +128,7 @@ shifts_in_two_parts (suc m) n s =
     let more : suc m + n ≡ suc (m + n) = omega arith in
     ap (λ (k : ℕ). shifts k s) more ∙ shifts_in_two_parts m n (shift s)
 
--- A number shifted by 8 + n bits is the xor of its lowest byte shifted by 8 + n bits and its other bits shifted by `n`.
+-- The CRC shift of a number by 8 + n bits is the xor of its lowest byte shifted by 8 + n bits and of the rest shifted by `n`.
 pub shifts_by_low_byte : (n s : ℕ) → shifts (8 + n) s ≡ bit_xor (shifts (8 + n) (s % 256)) (shifts n (s / 256))
 shifts_by_low_byte n s =
     ap (shifts (8 + n)) (number_is_low_xor_high 8 s)
@@ -138,7 +141,7 @@ unfolding shifts
 zero-shifts zero = refl
 zero-shifts (suc n) = zero-shifts n
 
--- The m + n low bits of a number are its m low bits, and then the n bits above them.
+-- The m + n low bits of a number are its m low bits followed by the n bits above them.
 pub low_bits-add : (m n x : ℕ) → low_bits (m + n) x ≡ low_bits m x ++ low_bits n (x / 2 ^ m)
 unfolding low_bits
 low_bits-add zero n x =
@@ -151,7 +154,7 @@ low_bits-add (suc m) n x =
     ∙ ap (λ (bs : List ℕ). x % 2 ∷ bs) (low_bits-add m n (x / 2)
     ∙ ap (λ (z : ℕ). low_bits m (x / 2) ++ low_bits n z) (shr-shr x 1 m ∙ ap (λ (k : ℕ). x / 2 ^ k) place))
 
--- The `n` low bits of a number don't depend on the bits above them.
+-- The `n` low bits of a number don't depend on the higher bits.
 pub low_bits_ignore_higher : (n b y : ℕ) → low_bits n (b + 2 ^ n * y) ≡ low_bits n b
 unfolding low_bits
 low_bits_ignore_higher zero b y = refl
@@ -162,12 +165,12 @@ low_bits_ignore_higher (suc n) b y =
     ap (λ (z : ℕ). z ∷ low_bits n ((b + 2 ^ suc n * y) / 2)) low ∙ ap (λ (bs : List ℕ). b % 2 ∷ bs) (ap (low_bits n) high
     ∙ low_bits_ignore_higher n (b / 2) y)
 
--- Number of bits of `n` bytes.
+-- Number of bits in `n` bytes.
 abbrev pub bit_count_of_bytes : ℕ → ℕ
 bit_count_of_bytes zero = 0
 bit_count_of_bytes (suc n) = 8 + bit_count_of_bytes n
 
--- The bits of `n` bytes from index `i` on are the bits of the number that they make, the low byte first.
+-- The bits of `n` bytes from index `i` on are the bits of the number in these bytes, the low byte first.
 pub bits_of_little_number : (n i : ℕ) (xs : List ℕ) → i + n ≤ length xs → ((k : ℕ) → get_or xs k 0 < 256) →
     low_bits (bit_count_of_bytes n) (little_from i n xs) ≡ bits_of (take n (drop i xs))
 unfolding low_bits bits_of
@@ -192,12 +195,12 @@ shift-fits s h =
     let mixed : bit_xor (s / 2) 0xEDB8_8320 < 2 ^ 32 = xor_lt 32 (s / 2) 0xEDB8_8320 half (omega arith) in
     elim (eqb (s % 2) 0) as (λ t. cond t (s / 2) (bit_xor (s / 2) 0xEDB8_8320) < 2 ^ 32) [ true ↦ half | false ↦ mixed ]
 
--- Two numbers whose xor is 0 are equal.
+-- Two numbers are equal if their xor is 0.
 pub zero_xor_means_equal : (a b : ℕ) → bit_xor a b ≡ 0 → a ≡ b
 zero_xor_means_equal a b h = sym (xor_zero_r a) ∙ (ap (bit_xor a) (sym (xor_self b))
     ∙ (sym (xor_assoc a b b) ∙ (ap (λ (z : ℕ). bit_xor z b) h ∙ xor_zero_l b)))
 
--- A number below 2^32 that one shift makes 0 is 0.
+-- If the CRC shift of a number below 2^32 by one bit is 0, the number is 0.
 shift-zero : (s : ℕ) → s < 2 ^ 32 → shift s ≡ 0 → s ≡ 0
 shift-zero s h e =
     elim (eqb_tells (s % 2) 0) [
@@ -207,13 +210,13 @@ shift-zero s h e =
           let same = zero_xor_means_equal (s / 2) 0xEDB8_8320 half in absurd (omega arith)
     ]
 
--- A number below 2^32 that any number of shifts makes 0 is 0.
+-- If the CRC shift of a number below 2^32 by `n` bits is 0, the number is 0.
 shifts-zero : (n s : ℕ) → s < 2 ^ 32 → shifts n s ≡ 0 → s ≡ 0
 unfolding shifts
 shifts-zero zero s h e = e
 shifts-zero (suc n) s h e = shift-zero s h (shifts-zero n (shift s) (shift-fits s h) e)
 
--- The 32 bits of a number make the register 0 exactly if the number is the register.
+-- The 32 bits of a number change the register to 0 exactly if the number equals the register.
 pub register_zero_after_itself : (r x : ℕ) → r < 2 ^ 32 → x < 2 ^ 32 → (after_bits r (low_bits 32 x) ≡ 0) ↔ (x ≡ r)
 register_zero_after_itself r x p q =
     let step : shifts 32 (bit_xor r x) ≡ after_bits r (low_bits 32 x) = sym (low_bits_shift_register 32 r x q) in (
@@ -221,7 +224,7 @@ register_zero_after_itself r x p q =
       λ e. sym step ∙ (ap (λ (z : ℕ). shifts 32 (bit_xor r z)) e ∙ (ap (shifts 32) (xor_self r) ∙ zero-shifts 32)),
     )
 
--- Two numbers below 2^32 that `n` shifts take to the same number are equal.
+-- Two numbers below 2^32 with the same CRC shift by `n` bits are equal.
 pub equal_shifts_mean_equal : (n a b : ℕ) → a < 2 ^ 32 → b < 2 ^ 32 → shifts n a ≡ shifts n b → a ≡ b
 equal_shifts_mean_equal n a b p q e =
     let none : shifts n (bit_xor a b) ≡ 0 =

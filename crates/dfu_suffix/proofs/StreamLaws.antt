@@ -1,4 +1,4 @@
--- Invariant of the loop over `read`: facts of the bytes that a reader gave.
+-- Invariant of the loop over `read`, which checks the bytes of a reader.
 use Rattle.std.proofs.Common.{◌≡◌, ℕ, ◌+◌, ◌^◌, ◌<◌, ◌≤◌, List, ◌++◌, length, drop, get_or, bit_xor, Option, Some, IfSome, Result, Err, sym, ap, ◌∙◌, subst, arith, length-append}
 use Rattle.std.proofs.KnownBytes.{Consumes-trans}
 use Rattle.std.specs.Io.KnownBytes.{Consumes, IsAtEnd}
@@ -17,8 +17,8 @@ use Rattle.dfu_suffix.proofs.ReadLaws.{each_value_gives_if_some, consumed_at_end
 use Rattle.dfu_suffix.proofs.Windows.{window_of, window_slides_over_piece, long_window_is_tail, tail_ends_in_last_four}
 use Rattle.dfu_suffix.proofs.LawProofs.{register_before_four_is_unique}
 
--- The reader gave the bytes `seen`, at least one at each of `turn` turns, within the limit of a file; the register, the count and the
--- window are those of `seen`.
+-- The reader returned the bytes `seen`, at least one in each of `turn` reads, and they are within the limit of a file. The register, the
+-- count and the window are those of `seen`.
 pub record IsCheckStateOf (old new : Option (List ℕ)) (turn crc count : ℕ) (window seen : List ℕ) : Type 0 where
   pub given : Consumes old new seen
   pub bytes : AreBytes seen
@@ -28,11 +28,12 @@ pub record IsCheckStateOf (old new : Option (List ℕ)) (turn crc count : ℕ) (
   pub small : length seen ≤ 16777216
   pub turns : turn ≤ length seen
 
--- The register, the count and the window are those of some bytes, and the reader gave these.
+-- The register, the count and the window are those of the bytes that the reader returned so far.
 abbrev pub IsCheckState : Option (List ℕ) → Option (List ℕ) → ℕ → ℕ → ℕ → List ℕ → Type 0
 IsCheckState old new turn crc count window = (seen : List ℕ) × IsCheckStateOf old new turn crc count window seen
 
--- After a further piece that isn't empty, and is within the limit, the register, the count and the window are those of the bytes with it.
+-- After another piece that isn't empty and stays within the limit, the register, the count and the window are those of the bytes so far and
+-- this piece.
 pub further_piece_keeps_check_state : (old mid new : Option (List ℕ)) (turn crc count crc' count' : ℕ) (window window' more : List ℕ) →
     IsCheckState old mid turn crc count window → Consumes mid new more → AreBytes more → 0 < length more →
     ((before : List ℕ) → crc ≡ register before → crc' ≡ register (before ++ more)) →
@@ -54,7 +55,8 @@ further_piece_keeps_check_state old mid new turn crc count crc' count' window wi
       },
     )
 
--- At the end of the reader, the result by the register, the count and the window is the result of checking all bytes, unless it is `Read`.
+-- At the end of the reader, the result from the register, the count and the window is the result of checking all bytes, unless it is
+-- `Read`.
 pub end_check_is_check_of_all : (old new : Option (List ℕ)) (turn crc count value : ℕ) (window : List ℕ) (r : Result Summary SuffixFault) →
     IsCheckState old new turn crc count window → IsAtEnd new → r ≡ checked_by_register window count value → value ≡ crc →
     IfSome old (λ all. UnlessReadFault r (CheckResult all r))
@@ -68,7 +70,7 @@ end_check_is_check_of_all old new turn crc count value window r (seen, k) e j v 
     each_value_gives_if_some old (λ all. UnlessReadFault r (CheckResult all r)) (λ all o. fact_holds_unless_read r (CheckResult all r)
     (subst (λ (xs : List ℕ). CheckResult xs r) (consumed_at_end_is_all old new seen all k.given e o) checks))
 
--- At the end of the reader, the findings by the window, the count and the register are those of all bytes, if there are 16 or more.
+-- At the end of the reader, the findings from the window, the count and the register are those of all bytes, if there are 16 or more.
 pub end_findings_are_of_all : (old new : Option (List ℕ)) (turn crc count value : ℕ) (window : List ℕ) (r : Result Summary SuffixFault)
     (f : Findings) → IsCheckState old new turn crc count window → IsAtEnd new → f.count ≡ count → f.suffix ≡ get_or window 11 0 →
     f.crc ≡ little_number 4 (drop 12 window) → f.register < 2 ^ 32 → shifts 32 (bit_xor f.register f.crc) ≡ value → value ≡ crc →
@@ -85,7 +87,7 @@ end_findings_are_of_all old new turn crc count value window r f (seen, k) e many
       register = register_before_four_is_unique seen f.register f.crc k.bytes (omega arith) fits number (before ∙ (v ∙ k.crc_is));
     })))
 
--- If the bytes so far and a further piece exceed the limit, all bytes of the reader do.
+-- If the bytes so far and another piece exceed the limit, all bytes of the reader exceed it.
 all_exceed_limit_by_piece : (old mid new : Option (List ℕ)) (turn crc count : ℕ) (window more all : List ℕ) →
     IsCheckState old mid turn crc count window → Consumes mid new more → 16777216 < count + length more → old ≡ Some all →
     16777216 < length all
@@ -97,7 +99,7 @@ all_exceed_limit_by_piece old mid new turn crc count window more all (seen, k) g
       consumed_at_most_all old new (seen ++ more) all (Consumes-trans old mid new seen more k.given given) o,
     )
 
--- If a further piece exceeds the limit, `TooLarge` is the result of checking all bytes.
+-- If another piece exceeds the limit, the result of checking all bytes is `TooLarge`.
 pub piece_over_limit_is_too_large : (old mid new : Option (List ℕ)) (turn crc count : ℕ) (window more : List ℕ) →
     IsCheckState old mid turn crc count window → Consumes mid new more → 16777216 < count + length more →
     IfSome old (λ all. UnlessReadFault {T = Summary} (Err TooLarge) (CheckResult all (Err TooLarge)))
@@ -105,7 +107,7 @@ piece_over_limit_is_too_large old mid new turn crc count window more s given ove
     each_value_gives_if_some old (λ all. UnlessReadFault {T = Summary} (Err TooLarge) (CheckResult all (Err TooLarge))) (λ all o.
     large_file_is_too_large all (all_exceed_limit_by_piece old mid new turn crc count window more all s given over o))
 
--- If a further piece exceeds the limit, nothing is claimed of the findings.
+-- If another piece exceeds the limit, the contract doesn't restrict the findings.
 pub no_findings_over_limit : (old mid new : Option (List ℕ)) (turn crc count : ℕ) (window more : List ℕ) (f : Findings) →
     IsCheckState old mid turn crc count window → Consumes mid new more → 16777216 < count + length more →
     IfSome old (λ all. UnlessReadFault {T = Summary} (Err TooLarge) (FindingsOfFile all f))

@@ -3,7 +3,7 @@ use Rattle.std.specs.Prelude.{ℕ, List, codes}
 use Rattle.dfu_suffix.specs.declared.fault.SuffixFault.{SuffixFault}
 use Rattle.dfu_suffix.specs.declared.fault.SuffixFault.TheVariants as fault
 
--- The name of a fault is the name of its variant.
+-- Name of a fault, which is the name of its variant.
 abbrev pub suffix_fault_name : SuffixFault → List ℕ
 suffix_fault_name fault.TooShort = codes "TooShort"
 suffix_fault_name fault.NoSignature = codes "NoSignature"

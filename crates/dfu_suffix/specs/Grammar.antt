@@ -1,4 +1,4 @@
--- The grammar of a DFU file (USB DFU 1.1, appendix B), built from the front.
+-- The grammar of a DFU file (USB DFU 1.1, appendix B): the encoding of its parts.
 use Rattle.std.specs.Prelude.{◌≡◌, ◌≢◌, ℕ, ◌+◌, ◌-◌, ◌<◌, ◌≤◌, ◌^◌, ◌==◌, ◌&&◌, ◌||◌, Bool, false, not, nat_lt, List, [], ◌∷◌, ◌++◌, length, take, drop, slice_index, find}
 use Rattle.std.specs.Prelude.{Some}
 use Rattle.std.specs.Int.{w16, w32, to_le_bytes}
@@ -15,19 +15,18 @@ pub record Content : Type 0 where
   pub dfu : ℕ
   pub suffix : ℕ
 
--- The fields before dwCRC are bcdDevice, idProduct, idVendor, bcdDFU, the letters UFD, and bLength, which counts the
--- extra bytes too.
+-- The fields before dwCRC: bcdDevice, idProduct, idVendor, bcdDFU, the letters UFD, and bLength, which counts the extra bytes too.
 abbrev pub fields_before_crc : Ids → ℕ → List ℕ → List ℕ
 fields_before_crc ids dfu extra =
     to_le_bytes w16 ids.device ++ (to_le_bytes w16 ids.product ++ (to_le_bytes w16 ids.vendor
     ++ (to_le_bytes w16 dfu ++ (0x55 ∷ 0x46 ∷ 0x44 ∷ (16 + length extra) ∷ []))))
 
--- Bytes of a file before dwCRC: the payload, the extra bytes, and the fields.
+-- All bytes of a file before dwCRC: the payload, the extra bytes and the fields.
 abbrev pub before_crc : List ℕ → Ids → ℕ → List ℕ → List ℕ
 before_crc payload ids dfu extra = payload ++ (extra ++ fields_before_crc ids dfu extra)
 
--- The bytes are the payload, at most 239 extra bytes, the fields of a suffix, and dwCRC, the register over all bytes before it. Each field
--- fits its bytes, bcdDFU isn't 011Ah, and there are at most 16,777,216 bytes.
+-- The bytes are the payload, at most 239 extra bytes, the fields of a suffix, and dwCRC, which is the register over all bytes before it.
+-- Each field fits in its bytes, bcdDFU isn't 011Ah, and there are at most 16,777,216 bytes.
 pub record IsFile (payload : List ℕ) (ids : Ids) (dfu : ℕ) (extra : List ℕ) (bytes : List ℕ) : Type 0 where
   pub spelled : bytes ≡ before_crc payload ids dfu extra ++ to_le_bytes w32 (register (before_crc payload ids dfu extra))
   pub extra_fits : length extra ≤ 239
@@ -38,15 +37,15 @@ pub record IsFile (payload : List ℕ) (ids : Ids) (dfu : ℕ) (extra : List ℕ
   pub not_dfuse : dfu ≢ 0x011A
   pub small : length bytes ≤ 16777216
 
--- Tail of bytes: the last 16, or all if there are fewer.
+-- The last 16 bytes, or all bytes if there are fewer.
 abbrev pub tail_of : List ℕ → List ℕ
 tail_of bytes = drop (length bytes - 16) bytes
 
--- A tail is signed if its bytes 8 to 10 are the letters UFD.
+-- Bytes 8 to 10 of the tail are the letters UFD.
 abbrev pub is_signed : List ℕ → Bool
 is_signed tail = (slice_index tail 8 == 0x55) && ((slice_index tail 9 == 0x46) && (slice_index tail 10 == 0x44))
 
--- The bytes meet the condition of a fault, which is never met for AlreadySuffixed, NoMemory, Read and Write.
+-- The condition of a fault is true for the bytes. For AlreadySuffixed, NoMemory, Read and Write the condition is always false.
 abbrev pub has_fault : List ℕ → SuffixFault → Bool
 has_fault bytes TooLarge = nat_lt 16777216 (length bytes)
 has_fault bytes TooShort = nat_lt (length bytes) 16
@@ -59,7 +58,7 @@ has_fault bytes NoMemory = false
 has_fault bytes Read = false
 has_fault bytes Write = false
 
--- Order in which the faults of a file are checked.
+-- Order in which the conditions of the faults are tested.
 abbrev pub fault_order : List SuffixFault
 fault_order = TooLarge ∷ TooShort ∷ NoSignature ∷ BadLength ∷ DfuSe ∷ BadCrc ∷ []
 

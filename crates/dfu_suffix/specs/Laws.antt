@@ -1,4 +1,4 @@
--- Facts that follow from the definitions of the file format.
+-- Laws of the file format, which follow from its definitions.
 use Rattle.std.specs.Prelude.{◌≡◌, ◌↔◌, ◌⊎◌, ℕ, ◌-◌, ◌<◌, ◌≤◌, List, length, take, drop, slice_index}
 use Rattle.byteorder.specs.Endian.{little_number}
 use Rattle.dfu_suffix.specs.Register.{register}
@@ -6,15 +6,15 @@ use Rattle.dfu_suffix.specs.Grammar.{IsFile, First}
 use Rattle.dfu_wire.specs.declared.ids.Ids.{Ids}
 use Rattle.dfu_suffix.specs.declared.fault.SuffixFault.{SuffixFault}
 
--- Each number of the list is a byte.
+-- Each number in the list is a byte.
 abbrev pub AreBytes : List ℕ → Type 0
 AreBytes bytes = (k : ℕ) → slice_index bytes k < 256
 
--- The bytes are a file of the grammar.
+-- The bytes are a file of the grammar, with some payload and fields.
 abbrev pub HasReading : List ℕ → Type 0
 HasReading bytes = (payload : List ℕ) × (ids : Ids) × (dfu : ℕ) × (extra : List ℕ) × IsFile payload ids dfu extra bytes
 
--- Bytes have a reading or a first fault, and never both.
+-- Bytes are either a file of the grammar or have a first fault, and never both.
 abbrev pub EitherFileOrFault : Type 0
 EitherFileOrFault = (bytes : List ℕ) → AreBytes bytes → (HasReading bytes ⊎ ((fault : SuffixFault) × First fault bytes))
     × ((fault : SuffixFault) → HasReading bytes → First fault bytes → ⊥)
@@ -24,11 +24,11 @@ abbrev pub ZeroRegisterByLastFour : Type 0
 ZeroRegisterByLastFour = (bytes : List ℕ) → AreBytes bytes → 4 ≤ length bytes → (register bytes ≡ 0)
     ↔ (little_number 4 (drop (length bytes - 4) bytes) ≡ register (take (length bytes - 4) bytes))
 
--- Bytes that are a file of the grammar have no fault.
+-- A file of the grammar has no fault.
 abbrev pub FilesHaveNoFault : Type 0
 FilesHaveNoFault = (bytes : List ℕ) (fault : SuffixFault) → HasReading bytes → First fault bytes → ⊥
 
--- Two readings of the same bytes are equal.
+-- Bytes can be read as a file of the grammar in at most one way.
 abbrev pub OneReading : Type 0
 OneReading =
     (bytes p q : List ℕ) (i j : Ids) (d e : ℕ) (x y : List ℕ) → IsFile p i d x bytes → IsFile q j e y bytes → (p ≡ q) × (i ≡ j)

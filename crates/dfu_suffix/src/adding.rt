@@ -1,4 +1,4 @@
-//! Adding a suffix to all bytes of a reader.
+//! Adds a suffix to the bytes of a reader.
 
 ghost use Rattle.std.specs.Prelude.{◌≡◌, ◌≤◌, length, IfOk, IfSome};
 ghost use Rattle.dfu_suffix.specs.Adding.{AddResult, UnchangedAtFault};
@@ -13,7 +13,7 @@ use dfu_wire::Ids;
 use std::alloc::Global;
 use std::io::{Read, Write};
 
-/// Returns the fault of `add` for a fault of gathering.
+/// Returns the fault of `add` for a fault of `gather`.
 fn fault_of(fault: GatherFault) -> SuffixFault
     ensures { result ≡ gathering_fault fault }
 {
@@ -24,7 +24,7 @@ fn fault_of(fault: GatherFault) -> SuffixFault
     }
 }
 
-/// Returns the file of `payload` and its suffix with `ids`, in memory; or AlreadySuffixed, or NoMemory.
+/// Appends the suffix with `ids` to `payload`, and returns the file. The fault is AlreadySuffixed or NoMemory.
 fn with_suffix(mut payload: Vec<u8>, ids: Ids) -> Result<Vec<u8>, SuffixFault>
     requires { length payload.items ≤ 16777200 }
     ensures all { MakeResult payload.items ids result }
@@ -39,7 +39,7 @@ fn with_suffix(mut payload: Vec<u8>, ids: Ids) -> Result<Vec<u8>, SuffixFault>
     }
 }
 
-/// Returns the file of all bytes that `reader` gives and their suffix with `ids`, in memory; or a fault of `add` other than Write.
+/// Returns the reader's bytes, followed by a suffix with `ids`. The faults are those of `add`, except Write.
 fn file_of<R: Read + Drop>(alloc: Global, reader: R, ids: Ids) -> Result<Vec<u8>, SuffixFault>
     ensures all { IfSome (R.remaining reader) (λ all. MakeResult all ids result) }
     ensures len { IfOk result (λ v. length v.items ≤ 16777216) }
@@ -50,26 +50,26 @@ fn file_of<R: Read + Drop>(alloc: Global, reader: R, ids: Ids) -> Result<Vec<u8>
     }
 }
 
-/// Writes all bytes that a reader gives and then a suffix of 16 bytes, with these identifiers and bcdDFU 0100h (USB DFU 1.1, appendix B).
-/// Returns the number of bytes written, at most 16,777,216. The whole file is gathered in memory before its first byte is written, and the
-/// writer is not flushed, because it remains the caller's.
+/// Writes all bytes of a reader, followed by a suffix of 16 bytes with these identifiers and bcdDFU 0100h (USB DFU 1.1, appendix B).
+/// Returns the number of bytes written, at most 16,777,216. The whole file is gathered in memory before its first byte is written. The
+/// writer is not flushed, because the caller keeps it.
 ///
 /// # Errors
 ///
-/// TooLarge once byte 16,777,201 was read, and no read is made after that; Read at the first error of the reader, with no second try;
-/// AlreadySuffixed exactly if `read` would return Ok or DfuSe for the bytes; NoMemory if an allocation was refused, while the bytes are
-/// gathered or, after the check for AlreadySuffixed, for the suffix. After these nothing is written. After Write only the start of the file
-/// is written; Write is returned at the first error of the writer, with no second try, and if the writer takes none of the remaining bytes.
+/// TooLarge after byte 16,777,201 was read, without another read; Read at the first error of the reader, without a retry; AlreadySuffixed
+/// exactly if `read` would return Ok or DfuSe for the bytes; NoMemory if an allocation was refused while the bytes are gathered or, after
+/// the test for AlreadySuffixed, for the suffix. After these faults, nothing is written. Write at the first error of the writer, without a
+/// retry, and if the writer accepts none of the remaining bytes. After Write, only a prefix of the file is written.
 pub fn add<R: Read + Drop, W: Write>(
     alloc: Global,
     reader: R,
     ids: Ids,
     writer: &mut W,
 ) -> Result<u32, SuffixFault>
-    // The result is that of all bytes of the reader, in whatever pieces they come: at Ok a file of the grammar with that payload and these
-    // identifiers is written, and at Write a part from its start.
+    // For any division of the reader's bytes into reads, the result is the one for all its bytes. At Ok, the file with this payload and
+    // these identifiers is written. At Write, only a prefix of it is written.
     ensures answer { IfSome (R.remaining reader) (λ all. AddResult all ids (W.contents writer.old) (W.contents writer.new) result) }
-    // After a fault other than Write nothing is written.
+    // After a fault other than Write, nothing is written.
     ensures kept { UnchangedAtFault (W.contents writer.old) (W.contents writer.new) result }
 {
     match file_of(alloc, reader, ids) {

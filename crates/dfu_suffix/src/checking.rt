@@ -1,4 +1,4 @@
-//! Checks of a file whose bytes a reader gives.
+//! Checks the file that a reader returns.
 
 ghost use Rattle.std.specs.Prelude.{◌≡◌, ◌≢◌, ◌<◌, ◌++◌, ℕ, length, drop, slice_index, Err, IfSome};
 ghost use Rattle.dfu_suffix.specs.Checking.{CheckResult, FindingsOfFile, UnlessReadFault};
@@ -11,16 +11,15 @@ use crate::findings::{Findings, findings_of};
 use crate::summary::{Summary, check_register};
 use std::io::Read;
 
-/// Checks all bytes that a reader gives, as `read` checks a slice. Only the register over them, their count and the last 16 are kept, and
-/// no memory is allocated, for any number of bytes. Up to 16,384 bytes are read at a time, into a buffer on the stack.
+/// Checks all bytes of a reader, as `read` checks a slice. Only the register over the bytes, their count and the last 16 are kept, and no
+/// memory is allocated. Each read fetches at most 16,384 bytes, into a buffer on the stack.
 ///
 /// # Errors
 ///
-/// TooLarge once byte 16,777,217 was read, and no read is made after that; Read at the first error of the reader, with no second try; else
-/// the fault that `read` returns for the bytes.
+/// TooLarge after byte 16,777,217 was read, without another read; Read at the first error of the reader, without a retry; otherwise the
+/// fault that `read` returns for the bytes.
 pub fn check<R: Read + Drop>(reader: R) -> Result<Summary, SuffixFault>
-    // A result other than Read is Ok exactly for a file of the grammar, with its summary, and otherwise the first fault of the bytes, in
-    // whatever pieces they come.
+    // For any division of the bytes into reads, a result other than Read is the summary of a file of the grammar, or else the first fault.
     ensures answer { IfSome (R.remaining reader) (λ all. UnlessReadFault result (CheckResult all result)) }
     // The fault is never NoMemory, for any reader.
     ensures memory { result ≢ Err NoMemory }
@@ -29,8 +28,8 @@ pub fn check<R: Read + Drop>(reader: R) -> Result<Summary, SuffixFault>
     check_with(reader, &mut findings)
 }
 
-/// Checks as `check` does, and writes to `findings` the numbers that explain BadLength or BadCrc. After TooShort, TooLarge and Read they
-/// say nothing about the file.
+/// Checks like `check`, and writes the numbers that explain BadLength or BadCrc to `findings`. After TooShort, TooLarge and Read, these
+/// numbers have no meaning.
 ///
 /// # Errors
 ///
@@ -39,9 +38,9 @@ pub fn check_with<R: Read + Drop>(
     mut reader: R,
     findings: &mut Findings,
 ) -> Result<Summary, SuffixFault>
-    // The result is that of `check`.
+    // The result is the one of `check`.
     ensures answer { IfSome (R.remaining reader) (λ all. UnlessReadFault result (CheckResult all result)) }
-    // Unless the result is Read, the findings are those of all bytes, if there are 16 to 16,777,216 of them.
+    // If there are 16 to 16,777,216 bytes, and the result isn't Read, the findings are those of all bytes.
     ensures findings { IfSome (R.remaining reader) (λ all. UnlessReadFault result (FindingsOfFile all findings.new)) }
     // The fault is never NoMemory, for any reader.
     ensures memory { result ≢ Err NoMemory }
@@ -72,7 +71,7 @@ pub fn check_with<R: Read + Drop>(
     unreachable!()
 }
 
-// Slides a window of 16 bytes over `more`: the window becomes the last 16 bytes of itself and `more`.
+// Appends `more` to a window of 16 bytes, and removes as many bytes from its front.
 fn slide(window: &mut [u8; 16], more: &[u8])
     ensures last { window.new ≡ drop (length more.now) (window.old ++ more.now) }
     ensures bytes { (k : ℕ) → slice_index more.now k < 256 }

@@ -1,8 +1,8 @@
-//! The register of many bytes, which are folded onto their last 1,968, so that only these go through the tables.
+//! The CRC register over many bytes. All bytes are folded onto the last 1,968 bytes, so only these need the tables.
 //!
-//! Seven shifts of a number below 2^32, by 0, 720, 848, 1184, 1280, 1920 and 1968 bytes, combine to 0 (proofs/Spread.antt). Therefore a
-//! byte may be taken away if the bytes that come 48, 688, 784, 1120, 1248 and 1968 places later are each combined with it, because the
-//! register stays the same. These places are multiples of sixteen, so that sixteen bytes go at once.
+//! The CRC shifts of a number below 2^32 by 0, 720, 848, 1184, 1280, 1920 and 1968 bytes combine to 0 (proofs/LongShifts.antt). A byte can
+//! therefore be removed if each of the bytes 48, 688, 784, 1120, 1248 and 1968 after it is combined with it by xor, because this doesn't
+//! change the register. All of these distances are multiples of sixteen, so sixteen bytes can be folded at once.
 
 ghost use Rattle.std.specs.Prelude.{◌≡◌, ◌≤◌, length, take};
 ghost use Rattle.dfu_suffix.specs.Register.{after_bits, bits_of};
@@ -10,13 +10,13 @@ ghost use Rattle.dfu_suffix.specs.inside.Folding.{register_of_residue};
 
 use crate::crc;
 
-/// Smallest number of bytes that are worth folding, and the largest that are folded at a time.
+/// Smallest number of bytes for which folding is used, and largest number of bytes that is folded at a time.
 const FOLDED_BYTES: usize = 4096;
 
-/// Size of the room: a residue of 1,968 bytes, and a piece after it.
+/// Number of bytes in the room: a residue of 1,968 bytes, and a piece after it.
 const ROOM: usize = 6064;
 
-// Returns a room with a residue at its front that represents `register`.
+// Returns a room whose first 1,968 bytes are a residue that represents `register`.
 fn residue_for(register: u32) -> [u8; ROOM]
     ensures { register_of_residue (take 1968 result) ≡ register }
 {
@@ -25,7 +25,7 @@ fn residue_for(register: u32) -> [u8; ROOM]
     room
 }
 
-// Folds at most 4,096 further bytes into the residue, which then represents the register after them.
+// Folds at most 4,096 bytes into the residue, which then represents the register after them.
 fn fold(room: &mut [u8; ROOM], bytes: &[u8])
     requires { length bytes.now ≤ 4096 }
     ensures { register_of_residue (take 1968 room.new) ≡ after_bits (register_of_residue (take 1968 room.old)) (bits_of bytes.now) }
@@ -55,7 +55,7 @@ fn register_of(room: &[u8; ROOM]) -> u32
     whole ^ first ^ second ^ third ^ fourth ^ fifth
 }
 
-// Returns the register `start` after many bytes, by folding them.
+// Returns the register `start` after many bytes, which are folded.
 fn after_many(start: u32, bytes: &[u8]) -> u32
     ensures { result ≡ after_bits start (bits_of bytes.now) }
 {

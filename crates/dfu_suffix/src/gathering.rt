@@ -1,4 +1,4 @@
-//! Gathering of all bytes that a reader gives, up to a limit.
+//! Gathers all bytes of a reader, up to a limit.
 
 ghost use Rattle.std.specs.Prelude.{◌≤◌, length, IfOk, IfSome};
 ghost use Rattle.dfu_suffix.specs.Gathering.{GatherResult};
@@ -7,10 +7,10 @@ use crate::file::{MAX_READS, READ_BYTES};
 use std::alloc::Global;
 use std::io::Read;
 
-/// A fault for which the bytes of a reader were not all gathered.
+/// Fault of `gather`.
 #[derive(Clone, Copy)]
 pub enum GatherFault {
-    /// The reader gives more bytes than the limit.
+    /// The reader has more bytes than the limit.
     TooLarge,
     /// An allocation was refused.
     NoMemory,
@@ -18,21 +18,21 @@ pub enum GatherFault {
     Read,
 }
 
-/// Gathers all bytes that the reader gives, at most `limit`. Up to 16,384 bytes are read at a time.
+/// Gathers all bytes of the reader, at most `limit`. Each read fetches at most 16,384 bytes.
 ///
 /// # Errors
 ///
-/// TooLarge once the byte past the limit was read, and no read is made after that; Read at the
-/// first error of the reader, with no second try; NoMemory if an allocation was refused.
+/// TooLarge after the first byte beyond the limit was read, without another read; Read at the first error of the reader, without a retry;
+/// NoMemory if an allocation was refused.
 pub fn gather<R: Read + Drop>(
     alloc: Global,
     mut reader: R,
     limit: usize,
 ) -> Result<Vec<u8>, GatherFault>
     requires { limit ≤ 16777216 }
-    // At Ok the result is all bytes that the reader gives, and at TooLarge they are over the limit.
+    // At Ok, the result is all bytes of the reader. At TooLarge, they exceed the limit.
     ensures all { IfSome (R.remaining reader) (λ all. GatherResult limit all result) }
-    // The bytes are within the limit, for any reader.
+    // The result is within the limit, for any reader.
     ensures len { IfOk result (λ v. length v.items ≤ limit) }
 {
     let mut bytes = Vec::new(alloc);

@@ -1,9 +1,8 @@
-//! Laws of the file format. Each is the contract of a function with an empty body, which is proved
-//! and not to be called.
+//! Laws of the file format, stated as proved contracts of empty functions.
 
 ghost use Rattle.dfu_suffix.specs.Laws.{EitherFileOrFault, ZeroRegisterByLastFour, OneReading};
 
-/// Bytes have a reading or a first fault, never both, and never two readings.
+/// Bytes either are a file of the grammar, which can be read in only one way, or have a first fault.
 pub fn one_reading()
     ensures either { EitherFileOrFault }
     ensures one { OneReading }

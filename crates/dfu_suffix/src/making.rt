@@ -1,4 +1,4 @@
-//! The suffix of a payload (USB DFU 1.1, appendix B), and a test whether bytes have one.
+//! The suffix of a payload (USB DFU 1.1, appendix B), and a test for bytes that already have one.
 
 ghost use Rattle.std.specs.Prelude.{◌≡◌, ◌↔◌, ◌++◌, ℕ, true, OnOk};
 ghost use Rattle.dfu_suffix.specs.Adding.{HasSuffix};
@@ -13,7 +13,7 @@ use crate::parse::read;
 use dfu_wire::Ids;
 use std::alloc::AllocError;
 
-/// Returns the fields up to dwCRC of a suffix with `ids`: bcdDFU is 0100h and bLength 16.
+/// Returns the fields before dwCRC in a suffix with `ids`. bcdDFU is 0100h, and bLength is 16.
 #[tactic(auto, unfolding(crate::specs::inside::Making::added_fields))]
 fn fields_of(ids: Ids) -> [u8; 12]
     ensures { result ≡ added_fields ids }
@@ -37,7 +37,7 @@ fn fields_of(ids: Ids) -> [u8; 12]
     ]
 }
 
-/// Returns dwCRC: the register over `payload` and the `fields` after it.
+/// Returns dwCRC, the register over `payload` and the `fields` after it.
 fn crc_over(payload: &[u8], fields: &[u8]) -> u32
     ensures { result ≡ register (payload.now ++ fields.now) }
 {
@@ -47,7 +47,7 @@ fn crc_over(payload: &[u8], fields: &[u8]) -> u32
     crc.value()
 }
 
-/// Appends the suffix to the payload `text`. If an allocation is refused, `text` must not be used.
+/// Appends the suffix to the payload `text`. If an allocation is refused, `text` may contain a part of the suffix.
 pub(crate) fn append_suffix(text: &mut Vec<u8>, ids: Ids) -> Result<(), AllocError>
     ensures { OnOk result (text.new.items ≡ text.old.items ++ added_suffix text.old.items ids) }
 {
@@ -69,7 +69,7 @@ fn is_dfuse(fault: SuffixFault) -> bool
     }
 }
 
-/// Returns true if `bytes` have a suffix, which may be that of a DfuSe file.
+/// Returns true if `bytes` already have a suffix, even that of a DfuSe file.
 pub(crate) fn has_suffix(bytes: &[u8]) -> bool
     ensures { (result ≡ true) ↔ HasSuffix bytes.now }
 {

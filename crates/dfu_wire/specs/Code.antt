@@ -1,4 +1,4 @@
--- The status codes of a device: their numbers and their names (USB DFU 1.1, section 6.1.2).
+-- Numbers and names of a device's status codes (USB DFU 1.1, section 6.1.2).
 use Rattle.std.specs.Prelude.{ℕ, List, codes}
 use Rattle.dfu_wire.specs.declared.codes.Code.{Code}
 use Rattle.dfu_wire.specs.declared.codes.Code.TheVariants as code

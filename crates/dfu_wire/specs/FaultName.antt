@@ -1,9 +1,9 @@
--- Names of the wire faults.
+-- Names of the faults of the wire formats.
 use Rattle.std.specs.Prelude.{ℕ, List, codes}
 use Rattle.dfu_wire.specs.declared.fault.WireFault.{WireFault}
 use Rattle.dfu_wire.specs.declared.fault.WireFault.TheVariants as fault
 
--- Name of a wire fault: the name of its variant.
+-- Name of a fault, which is the name of its variant.
 abbrev pub wire_fault_name : WireFault → List ℕ
 wire_fault_name fault.Short = codes "Short"
 wire_fault_name fault.Long = codes "Long"

@@ -4,16 +4,16 @@ use Rattle.dfu_wire.specs.declared.functionals.Functional.{Functional}
 use Rattle.dfu_wire.specs.declared.fault.WireFault.{WireFault}
 use Rattle.dfu_wire.specs.declared.fault.WireFault.TheVariants as fault
 
--- The number is the length of a functional descriptor: 7 bytes in DFU 1.0, or 9 in DFU 1.1.
+-- `n` is a valid bLength of a functional descriptor: 7 in DFU 1.0, or 9 in DFU 1.1.
 abbrev pub IsFunctionalLength : ℕ → Type 0
 IsFunctionalLength n = (n ≡ 7) ⊎ (n ≡ 9)
 
--- The bytes `b` encode the functional descriptor `f`: the first byte is the number of bytes, 7 or 9; the second is 21h; two-byte numbers
--- have their low byte first; bits 4 to 7 of the attributes are ignored; 7 bytes have no version field, and mean version 0100h.
+-- The bytes `b` encode the functional descriptor `f`. The first byte is the number of bytes, 7 or 9, and the second byte is 21h. Two-byte
+-- numbers have their low byte first. Bits 4 to 7 of the attributes are ignored. Seven bytes have no version field and mean version 0100h.
 pub record IsFunctional (f : Functional) (b : List ℕ) : Type 0 where
   -- bLength, the first byte, is 7 or 9.
   pub has_functional_length : IsFunctionalLength (slice_index b 0)
-  -- There are as many bytes as bLength says.
+  -- The number of bytes is bLength.
   pub length : length b ≡ slice_index b 0
   -- bDescriptorType, the second byte, is 21h.
   pub has_type_byte : slice_index b 1 ≡ 0x21
@@ -29,16 +29,16 @@ pub record IsFunctional (f : Functional) (b : List ℕ) : Type 0 where
   pub detach : f.detach_ms ≡ slice_index b 3 + 256 * slice_index b 4
   -- wTransferSize is in bytes 5 and 6.
   pub transfer : f.transfer ≡ slice_index b 5 + 256 * slice_index b 6
-  -- Of nine bytes, bytes 7 and 8 are bcdDFUVersion.
+  -- If there are nine bytes, bytes 7 and 8 are bcdDFUVersion.
   pub version : slice_index b 0 ≡ 9 → f.version ≡ slice_index b 7 + 256 * slice_index b 8
-  -- Seven bytes mean version 0100h.
+  -- If there are seven bytes, the version is 0100h.
   pub short_has_version_1_0 : slice_index b 0 ≡ 7 → f.version ≡ 0x0100
 
--- The number has a 1 in this bit, bit 0 being the lowest.
+-- True if this bit of the number is 1, where bit 0 is the lowest.
 abbrev pub has_bit : (number bit : ℕ) → Bool
 has_bit number bit = not (bit_and number (2 ^ bit) == 0)
 
--- Functional descriptor with this bmAttributes, whose bits 0 to 3 are its flags, and with this detach time, transfer size and version.
+-- Functional descriptor with this bmAttributes, whose bits 0 to 3 are the flags, and with this detach timeout, transfer size and version.
 abbrev pub functional_of : (attributes detach transfer version : ℕ) → Functional
 functional_of attributes detach transfer version = record {
   can_download = has_bit attributes 0;
@@ -50,8 +50,8 @@ functional_of attributes detach transfer version = record {
   version = version;
 }
 
--- First fault of bytes that are no functional descriptor, in this order: no bytes; a first byte other than 7 and 9; fewer bytes than the
--- first byte says; more bytes than it says; a second byte other than 21h.
+-- First fault of bytes that aren't a functional descriptor, in this order: there are no bytes; the first byte is neither 7 nor 9; there are
+-- fewer bytes than the first byte specifies; there are more; the second byte isn't 21h.
 abbrev pub FirstFunctionalFault : WireFault → List ℕ → Type 0
 FirstFunctionalFault fault.Short b =
     (length b ≡ 0) ⊎ (IsFunctionalLength (slice_index b 0) × (length b < slice_index b 0))

@@ -1,4 +1,4 @@
--- A setup asks for at most one request.
+-- A setup encodes at most one request.
 use Rattle.std.specs.Prelude.{◌≡◌, refl}
 use Rattle.std.proofs.Common.{arith, inl, inr}
 use Rattle.dfu_wire.specs.declared.setups.Setup.{Setup}
@@ -33,11 +33,11 @@ named_setup_is_class_request s request.Abort a = (inl a.0.kind, a.0.index)
 named_setup_is_class_request s request.OtherClass a = absurd a
 named_setup_is_class_request s request.NotDfu a = absurd a
 
--- Each setup asks for at most one request: any two for which it asks are equal.
+-- Each setup encodes at most one request.
 abbrev pub OneRequest : Type 0
 OneRequest = (s : Setup) (q r : Request) → SetupAsksFor s q → SetupAsksFor s r → q ≡ r
 
--- No setup asks for two different requests, `OtherClass` and `NotDfu` included.
+-- No setup encodes two different requests, including `OtherClass` and `NotDfu`.
 pub setup_asks_for_one_request : OneRequest
 setup_asks_for_one_request s request.OtherClass request.OtherClass a b = refl
 setup_asks_for_one_request s request.NotDfu request.NotDfu a b = refl

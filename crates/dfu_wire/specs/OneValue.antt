@@ -1,4 +1,4 @@
--- Bytes encode at most one value of a format.
+-- Bytes encode at most one value of each format.
 use Rattle.std.proofs.Common.{◌≡◌, ℕ, List, [], ◌∷◌, slice_index_or, refl, sym, ap, ◌∙◌, arith}
 use Rattle.dfu_wire.specs.declared.fault.WireFault.{WireFault}
 use Rattle.dfu_wire.specs.declared.setups.Setup.{Setup}
@@ -8,11 +8,11 @@ use Rattle.dfu_wire.specs.Setup.{IsSetup}
 use Rattle.dfu_wire.specs.State.{state_byte}
 use Rattle.dfu_wire.specs.Status.{StatusFields, IsStatus}
 
--- Bytes encode at most one value of the format: any two that they encode are equal.
+-- Bytes encode at most one value of the format.
 abbrev pub OneValue : (A : Type 0) → (A → List ℕ → Type 0) → Type 0
 OneValue A Is = (x y : A) (b : List ℕ) → Is x b → Is y b → x ≡ y
 
--- Bytes that encode a value of the format have no fault.
+-- Bytes that encode a value of the format have none of the faults.
 abbrev pub NoFault : (A : Type 0) → (A → List ℕ → Type 0) → (WireFault → List ℕ → Type 0) → Type 0
 NoFault A Is Fails = (x : A) (e : WireFault) (b : List ℕ) → Is x b → Fails e b → ⊥
 
@@ -30,7 +30,7 @@ bytes_encode_one_setup s t b x y = λ k. record {
 pub bytes_encode_one_status : OneValue StatusFields IsStatus
 bytes_encode_one_status s t b x y = grind arith
 
--- The states in the order of their numbers.
+-- All states, in the order of their numbers.
 abbrev states : List State
 states =
     state.AppIdle ∷ state.AppDetach ∷ state.DfuIdle ∷ state.DownloadSync ∷ state.DownloadBusy ∷ state.DownloadIdle
@@ -40,7 +40,7 @@ states =
 abbrev state_of_number : ℕ → State
 state_of_number n = slice_index_or states n state.Error
 
--- The state with the number of a state is that state.
+-- A state's number determines the state.
 state_has_its_number : (s : State) → state_of_number (state_byte s) ≡ s
 state_has_its_number state.AppIdle = refl
 state_has_its_number state.AppDetach = refl

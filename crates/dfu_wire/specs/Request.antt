@@ -1,20 +1,20 @@
--- Requests that a setup asks for: their table (USB DFU 1.1, section 3).
+-- Requests and their setups (USB DFU 1.1, section 3).
 use Rattle.std.specs.Prelude.{◌≡◌, ℕ, ◌⊎◌, List, codes}
 use Rattle.dfu_wire.specs.declared.setups.Setup.{Setup}
 use Rattle.dfu_wire.specs.declared.requests.Request.{Request}
 use Rattle.dfu_wire.specs.declared.requests.Request.TheVariants as request
 
--- The setup has this bmRequestType and this bRequest, and is for interface 0.
+-- The setup has this bmRequestType and this bRequest, and addresses interface 0.
 pub record IsClassRequestSetup (s : Setup) (kind_byte number : ℕ) : Type 0 where
-  -- bmRequestType is this byte.
+  -- bmRequestType is `kind_byte`.
   pub kind : s.kind ≡ kind_byte
-  -- bRequest is this number.
+  -- bRequest is `number`.
   pub request : s.request ≡ number
-  -- wIndex is 0, the interface.
+  -- wIndex, the interface, is 0.
   pub index : s.index ≡ 0
 
--- The setup encodes the request, one of the seven: it is for interface 0, its kind is 21h for a request that sends to the device and A1h
--- for one that reads from it, and its length is 0 for DETACH, CLRSTATUS and ABORT.
+-- The setup encodes the request, which is one of the seven. It addresses interface 0. Its bmRequestType is 21h for a request that sends
+-- data to the device or has none, and A1h for a request that reads data. wLength is 0 for DETACH, CLRSTATUS and ABORT.
 abbrev pub EncodesNamedRequest : Setup → Request → Type 0
 EncodesNamedRequest s (request.Detach timeout) = IsClassRequestSetup s 0x21 0 × (s.length ≡ 0) × (timeout ≡ s.value)
 EncodesNamedRequest s (request.Dnload block len) = IsClassRequestSetup s 0x21 1 × (block ≡ s.value) × (len ≡ s.length)
@@ -26,21 +26,21 @@ EncodesNamedRequest s request.Abort = IsClassRequestSetup s 0x21 6 × (s.length 
 EncodesNamedRequest s request.OtherClass = ⊥
 EncodesNamedRequest s request.NotDfu = ⊥
 
--- The setup is a class request to interface 0: its kind is 21h or A1h, and its index is 0.
+-- The setup is a class request to interface 0: bmRequestType is 21h or A1h, and wIndex is 0.
 abbrev pub IsInterface0ClassRequest : Setup → Type 0
 IsInterface0ClassRequest s = ((s.kind ≡ 0x21) ⊎ (s.kind ≡ 0xa1)) × (s.index ≡ 0)
 
--- The setup asks for the request: one of the seven, another class request to interface 0 (`OtherClass`), or any other request (`NotDfu`).
+-- The setup encodes the request: one of the seven, another class request to interface 0 (`OtherClass`), or any other request (`NotDfu`).
 abbrev pub SetupAsksFor : Setup → Request → Type 0
 SetupAsksFor s request.OtherClass = IsInterface0ClassRequest s × ((r : Request) → EncodesNamedRequest s r → ⊥)
 SetupAsksFor s request.NotDfu = IsInterface0ClassRequest s → ⊥
 SetupAsksFor s r = EncodesNamedRequest s r
 
--- The request is none of the seven: it is `OtherClass` or `NotDfu`.
+-- The request isn't one of the seven; it is `OtherClass` or `NotDfu`.
 abbrev pub IsUnnamedRequest : Request → Type 0
 IsUnnamedRequest r = (r ≡ request.OtherClass) ⊎ (r ≡ request.NotDfu)
 
--- Name of a request in the standard, or the word for a request that the standard doesn't name.
+-- Name of a request in the standard; `other-class` or `not-dfu` for a request that the standard doesn't name.
 abbrev pub request_name : Request → List ℕ
 request_name (request.Detach timeout) = codes "DETACH"
 request_name (request.Dnload block len) = codes "DNLOAD"
@@ -52,7 +52,7 @@ request_name request.Abort = codes "ABORT"
 request_name request.OtherClass = codes "other-class"
 request_name request.NotDfu = codes "not-dfu"
 
--- If the request is GETSTATUS, CLRSTATUS, GETSTATE or ABORT, which use no wValue, the wValue of the setup is 0.
+-- If the request is GETSTATUS, CLRSTATUS, GETSTATE or ABORT, none of which uses wValue, the setup's wValue is 0.
 abbrev pub UnusedValueIsZero : Setup → Request → Type 0
 UnusedValueIsZero s (request.GetStatus len) = s.value ≡ 0
 UnusedValueIsZero s request.ClrStatus = s.value ≡ 0

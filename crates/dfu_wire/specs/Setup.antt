@@ -2,7 +2,7 @@
 use Rattle.std.specs.Prelude.{◌≡◌, ℕ, ◌+◌, ◌*◌, List, length, slice_index}
 use Rattle.dfu_wire.specs.declared.setups.Setup.{Setup}
 
--- The eight bytes `b` encode the setup `s`: two-byte numbers have their low byte first.
+-- The eight bytes `b` encode the setup `s`. Two-byte numbers have their low byte first.
 pub record IsSetup (s : Setup) (b : List ℕ) : Type 0 where
   -- There are eight bytes.
   pub length : length b ≡ 8

@@ -1,4 +1,4 @@
--- The states of a device: their numbers and their names (USB DFU 1.1, section 6.1.2).
+-- Numbers and names of a device's states (USB DFU 1.1, section 6.1.2).
 use Rattle.std.specs.Prelude.{ℕ, List, codes}
 use Rattle.dfu_wire.specs.declared.states.State.{State}
 use Rattle.dfu_wire.specs.declared.states.State.TheVariants as state

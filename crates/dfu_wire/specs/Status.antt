@@ -7,16 +7,16 @@ use Rattle.dfu_wire.specs.declared.fault.WireFault.TheVariants as fault
 use Rattle.dfu_wire.specs.State.{state_byte}
 use Rattle.dfu_wire.specs.Code.{code_byte}
 
--- Fields of a status: a code, a poll time in milliseconds, and the state that the device enters after this answer.
+-- Fields of a status: a code, a poll timeout in milliseconds, and the state that the device enters after this answer.
 pub record StatusFields : Type 0 where
   -- Status code, bStatus.
   pub code : Code
-  -- Poll time in milliseconds, bwPollTimeout.
+  -- Poll timeout in milliseconds, bwPollTimeout.
   pub poll_ms : ℕ
   -- State that the device enters after the answer, bState.
   pub state : State
 
--- The six bytes `b` encode the status `s`: the poll time has its low byte first, and the sixth byte, the index of a string, is ignored.
+-- The six bytes `b` encode the status `s`. The poll timeout has its low byte first. The sixth byte, the index of a string, is ignored.
 pub record IsStatus (s : StatusFields) (b : List ℕ) : Type 0 where
   -- There are six bytes.
   pub length : length b ≡ 6
@@ -27,7 +27,8 @@ pub record IsStatus (s : StatusFields) (b : List ℕ) : Type 0 where
   -- bState, byte 4, is the number of the state.
   pub state : slice_index b 4 ≡ state_byte s.state
 
--- First fault of bytes that are no status, in this order: fewer than six bytes; more than six; a code over 15; a state over 10.
+-- First fault of bytes that aren't a status, in this order: there are fewer than six bytes; there are more; the code is over 15; the state
+-- is over 10.
 abbrev pub FirstStatusFault : WireFault → List ℕ → Type 0
 FirstStatusFault fault.Short b = length b < 6
 FirstStatusFault fault.Long b = 6 < length b

@@ -5,7 +5,7 @@ ghost use Rattle.dfu_wire.specs.Functional.{has_bit};
 
 use byteorder::{ByteOrder, LittleEndian};
 
-/// Returns the two bytes of `number`, the low byte first.
+/// Returns the two bytes of `number`, low byte first.
 pub(crate) fn two_bytes(number: u16) -> [u8; 2]
     ensures length { length result ≡ 2 }
     ensures value { number ≡ slice_index result 0 + 256 * slice_index result 1 }
@@ -15,7 +15,7 @@ pub(crate) fn two_bytes(number: u16) -> [u8; 2]
     bytes
 }
 
-/// Returns the two-byte number at index `at` of `bytes`, the low byte first.
+/// Returns the two-byte number at index `at` of `bytes`, low byte first.
 pub(crate) fn number_at(bytes: &[u8], at: usize) -> u16
     requires { at + 2 ≤ length bytes.now }
     ensures { result ≡ slice_index bytes.now at + 256 * slice_index bytes.now (at + 1) }
@@ -23,7 +23,7 @@ pub(crate) fn number_at(bytes: &[u8], at: usize) -> u16
     LittleEndian::read_u16(&bytes[at..])
 }
 
-/// Returns true if bit `bit` of `byte` is 1, bit 0 being the lowest.
+/// Returns true if bit `bit` of `byte` is 1, where bit 0 is the lowest.
 pub(crate) fn is_set(byte: u8, bit: u8) -> bool
     requires { bit < 8 }
     ensures { result ≡ has_bit byte bit }

@@ -5,14 +5,14 @@ ghost use Rattle.dfu_wire.specs.Code.{code_byte, code_name};
 
 use crate::WireFault;
 
-/// A status code, the value of bStatus.
+/// Status code, the value of bStatus.
 #[derive(Clone, Copy)]
 pub enum Code {
-    /// 00h: all is well.
+    /// 00h: no error.
     Ok,
     /// 01h: the file is not for this device.
     Target,
-    /// 02h: the file fails a verification test of the vendor.
+    /// 02h: the file fails a vendor-specific verification test.
     File,
     /// 03h: a block could not be written.
     Write,
@@ -26,7 +26,7 @@ pub enum Code {
     Verify,
     /// 08h: the address of a block is out of range.
     Address,
-    /// 09h: the image ended before the device had all of it.
+    /// 09h: the host ended the download, but the device expects more data.
     NotDone,
     /// 0Ah: the application is corrupt, so the device stays in upgrade mode.
     Firmware,
@@ -38,7 +38,7 @@ pub enum Code {
     Por,
     /// 0Eh: an error of unknown cause.
     Unknown,
-    /// 0Fh: the device stalled a request that its state does not allow.
+    /// 0Fh: the device stalled a request that its state doesn't allow.
     StalledPkt,
 }
 
@@ -50,7 +50,7 @@ static NAMES: [&str; 16] = [
 ];
 
 impl Code {
-    /// Returns the code with number `byte`; `UnknownCode` if `byte` is over 15.
+    /// Returns the code with number `byte`, or the error `UnknownCode` if `byte` is over 15.
     pub fn from_byte(byte: u8) -> Result<Code, WireFault>
         ensures ok { IfOk result (λ c. code_byte c ≡ byte) }
         ensures only { (c : Code) → code_byte c ≡ byte → result ≡ Ok c }

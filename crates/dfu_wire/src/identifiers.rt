@@ -3,8 +3,8 @@
 ghost use Rattle.std.specs.Prelude.{◌≡◌};
 ghost use Rattle.dfu_wire.specs.Identifier.{identifier_in};
 
-/// Returns the number written in `digits`, four hexadecimal digits of either case, the highest first; None for any other text. Scripts and
-/// options write idVendor, idProduct and bcdDevice in this form.
+/// Returns the number in `digits`, four hexadecimal digits of either case with the highest first, or None for any other text. Scripts and
+/// options contain idVendor, idProduct and bcdDevice in this form.
 pub fn identifier(digits: &[u8]) -> Option<u16>
     ensures { result ≡ identifier_in digits.now }
 {

@@ -1,4 +1,4 @@
-//! Laws of the wire formats. Each law is the contract of a function with an empty body, which is proved and is not meant to be called.
+//! Laws of the wire formats. Each law is the proved contract of a function with an empty body, which isn't meant to be called.
 
 ghost use Rattle.dfu_wire.specs.Functional.{IsFunctional, FirstFunctionalFault};
 ghost use Rattle.dfu_wire.specs.OneRequest.{OneRequest};
@@ -16,7 +16,7 @@ pub fn one_functional()
     ensures one_fault { OneValue WireFault FirstFunctionalFault }
 {}
 
-/// Bytes encode at most one setup, and a setup asks for at most one request.
+/// Bytes encode at most one setup, and a setup encodes at most one request.
 pub fn one_setup()
     ensures one { OneValue Setup IsSetup }
     ensures request { OneRequest }

@@ -7,30 +7,30 @@ use crate::{Code, State, WireFault};
 use byteorder::{ByteOrder, LittleEndian};
 use std::marker::Model;
 
-/// Largest number of milliseconds that the three bytes of bwPollTimeout hold: 16,777,215.
+/// Largest number of milliseconds that fits in the three bytes of bwPollTimeout: 16,777,215.
 const LONGEST_POLL: u32 = 0xff_ffff;
 
-/// The answer to GETSTATUS: 6 bytes on the wire.
+/// The answer to GETSTATUS, which has 6 bytes.
 ///
 /// | Bytes | Field of the standard | Call |
 /// |---|---|---|
 /// | 0 | bStatus | `code` |
 /// | 1 to 3, low byte first | bwPollTimeout, milliseconds | `poll_ms` |
 /// | 4 | bState: the state that the device enters right after this answer | `state` |
-/// | 5 | iString: ignored on reading, and written as 0 | |
+/// | 5 | iString: ignored by the decoder, and written as 0 | |
 ///
-/// The poll time of a status is always at most 16,777,215.
+/// The poll timeout of a status is always at most 16,777,215.
 #[derive(Clone, Copy)]
 pub struct Status {
     // Status code.
     code: Code,
-    // Poll time in milliseconds.
+    // Poll timeout in milliseconds.
     poll: u32,
     // State that the device enters after the answer.
     state: State,
 }
 
-// Contracts see a status as its three fields, `StatusFields`.
+// In contracts a status is its three fields, `StatusFields`.
 impl Model for Status {
     ghost use Rattle.std.specs.Prelude.{◌<◌, ◌^◌};
     ghost use Rattle.dfu_wire.specs.Status.{StatusFields};
@@ -45,11 +45,11 @@ impl Model for Status {
 }
 
 impl Status {
-    /// Returns a status of `code`, `poll_ms` and `state`; `PollTooLong` if `poll_ms` is over 16,777,215.
+    /// Returns the status with `code`, `poll_ms` and `state`, or the error `PollTooLong` if `poll_ms` is over 16,777,215.
     pub fn new(code: Code, poll_ms: u32, state: State) -> Result<Status, WireFault>
         ensures ok { IfOk result (λ s.
             s ≡ record { code = code; poll_ms = poll_ms; state = state }) }
-        ensures fits { OnOk result (poll_ms < 2 ^ 24) }
+        ensures in_24_bits { OnOk result (poll_ms < 2 ^ 24) }
         ensures err { IfErr result (λ e. (e ≡ WireFault.PollTooLong) × (2 ^ 24 ≤ poll_ms)) }
     {
         if poll_ms > LONGEST_POLL {
@@ -72,19 +72,19 @@ impl Status {
     /// Returns the time that the host must wait before it sends GETSTATUS again: 0 to 16,777,215 milliseconds.
     pub fn poll_ms(&self) -> u32
         ensures value { result ≡ self.now.poll_ms }
-        ensures fits { result < 2 ^ 24 }
+        ensures in_24_bits { result < 2 ^ 24 }
     {
         self.poll
     }
 
-    /// Returns the state that the device enters right after it sent the status.
+    /// Returns the state that the device enters right after it has sent the status.
     pub fn state(&self) -> State
         ensures { result ≡ self.now.state }
     {
         self.state
     }
 
-    /// Reads `bytes` as a status. The faults, in the order of the checks:
+    /// Decodes `bytes` as a status. The faults, in the order of the checks:
     ///
     /// 1. `Short`: there are fewer than 6 bytes.
     /// 2. `Long`: there are more than 6 bytes.
@@ -113,7 +113,7 @@ impl Status {
         Ok(Status { code, poll, state })
     }
 
-    /// Writes the status, with 0 for iString. `decode` of the result returns an equal status.
+    /// Encodes the status, with 0 for iString. `decode` of the result returns an equal status.
     pub fn encode(&self) -> [u8; 6]
         ensures fields { IsStatus self.now result }
         ensures string { slice_index result 5 ≡ 0 }

@@ -1,4 +1,4 @@
--- A device is asked to leave only after the whole image was compared.
+-- A session sends the leave request (a DNLOAD without bytes) only after it has compared the whole image.
 use Rattle.std.proofs.Common.{◌≡◌, ℕ, pred, true, false, cond, eqb, Option, Some, None, refl, sym, subst}
 use Rattle.dfuse_host.specs.declared.plan.Plan.{Plan}
 use Rattle.dfuse_host.specs.declared.phase.Phase.{Phase}
@@ -25,8 +25,6 @@ use Rattle.dfuse_host.proofs.Restarts.{budget_keeps_fact, restart_keeps_fact}
 use Rattle.dfuse_host.specs.ReadBack.{ClosesAfterCompare, PhaseClosesAfterCompare, AlwaysClosesAfterCompare}
 
 module _ (plan : Plan) where
-  -- ---- order of works
-
   sending_step_closes_late : (w : Work) (p : Place) → ClosesAfterCompare w (sending_step p)
   sending_step_closes_late w place.Lost = tt
   sending_step_closes_late w (place.At p) = tt
@@ -110,8 +108,6 @@ module _ (plan : Plan) where
   settled_phase_closes_late (work.CompareFront at) p = to_compare_front_closes_late p at
   settled_phase_closes_late work.Leave p = to_leave_closes_late p
 
-  -- ---- phases after commands
-
   unsure_phase_closes_late : (w : Work) (c : Command) → PhaseClosesAfterCompare (phase_if_unsure plan w c)
   unsure_phase_closes_late w (command.SetAddress at) = tt
   unsure_phase_closes_late w (command.ErasePage at) = tt
@@ -130,8 +126,6 @@ module _ (plan : Plan) where
   after_command_closes_late w (command.ErasePage at) = after_erase_closes_late w at
   after_command_closes_late w (command.Write at) = after_write_closes_late w at
 
-  -- ---- rows of the table
-
   row_form_closes_late : (w : Work) (p : Place) (s : Step) (x : Heard) (next : Phase) → RowForm plan w p s x next →
       PhaseClosesAfterCompare next
   row_form_closes_late w p s x next (stays p' s' c) = c
@@ -149,8 +143,6 @@ module _ (plan : Plan) where
   resumed_phase_closes_late w p (step.Poll last) = unsure_phase_closes_late w (command_of plan w p)
   resumed_phase_closes_late w p (step.PollWait ms) = unsure_phase_closes_late w (command_of plan w p)
   resumed_phase_closes_late w p s = tt
-
--- ---- phases of a session
 
 heard_step_closes_late : (s : Session) (w : Work) (p : Place) (at : Step) (x : Heard) → ClosesAfterCompare w at
     → PhaseClosesAfterCompare (session_after_step_heard s w p at x).phase

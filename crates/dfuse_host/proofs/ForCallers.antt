@@ -1,4 +1,4 @@
--- Cases of commands and of results, for proofs of other crates, which cannot name these cases.
+-- Names and case analyses for the commands and results of a session. Proofs of other crates need them because these types are private.
 use Rattle.std.proofs.Common.{ℕ, Bool}
 use Rattle.dfu_wire.specs.declared.statuses.Status.{Status}
 use Rattle.dfu_wire.specs.declared.states.State.{State}
@@ -7,35 +7,35 @@ use Rattle.dfuse_host.specs.declared.command.Command.TheVariants as command
 use Rattle.dfuse_host.specs.declared.heard.Heard.{Heard}
 use Rattle.dfuse_host.specs.declared.heard.Heard.TheVariants as heard
 
--- Type of commands, under a name that other crates may use.
+-- Type of commands, exported for the proofs of other crates.
 abbrev pub AnyCommand : Type 0
 AnyCommand = Command
 
--- Type of the meanings of results, under a name that other crates may use.
+-- Type of the meanings of results, exported for the proofs of other crates.
 abbrev pub AnyHeard : Type 0
 AnyHeard = Heard
 
--- Command that sets the pointer, under a name that other crates may use.
+-- Command that sets the pointer, exported for the proofs of other crates.
 abbrev pub set_address : (at : ℕ) → Command
 set_address at = command.SetAddress at
 
--- Command that erases a page, under a name that other crates may use.
+-- Command that erases a page, exported for the proofs of other crates.
 abbrev pub erase_page : (at : ℕ) → Command
 erase_page at = command.ErasePage at
 
--- Command that writes bytes, under a name that other crates may use.
+-- Command that writes bytes, exported for the proofs of other crates.
 abbrev pub write_bytes_at : (at : ℕ) → Command
 write_bytes_at at = command.Write at
 
--- Result of a comparison of bytes, under a name that other crates may use.
+-- Result of a comparison of bytes, exported for the proofs of other crates.
 abbrev pub heard_comparison : Bool → Heard
 heard_comparison same = heard.Compared same
 
--- Result without a meaning, under a name that other crates may use.
+-- Result without a meaning, exported for the proofs of other crates.
 abbrev pub heard_nothing : Heard
 heard_nothing = heard.Nothing
 
--- A fact that holds for each kind of command holds for every command.
+-- A fact holds for every command if it holds for each kind of command.
 abbrev pub commands_have_fact {ℓ} : (P : Command → Type ℓ) → ((at : ℕ) → P (command.SetAddress at)) → ((at : ℕ) →
     P (command.ErasePage at)) →
     ((at : ℕ) → P (command.Write at)) → (c : Command) → P c
@@ -43,7 +43,7 @@ commands_have_fact P set erase write (command.SetAddress at) = set at
 commands_have_fact P set erase write (command.ErasePage at) = erase at
 commands_have_fact P set erase write (command.Write at) = write at
 
--- A fact that holds for each kind of result holds for every result.
+-- A fact holds for every result if it holds for each kind of result.
 abbrev pub heards_have_fact {ℓ} : (P : Heard → Type ℓ) → P heard.Acked → ((s : Status) → P (heard.Told s)) → ((s : State) →
     P (heard.StateIs s)) →
     ((same : Bool) → P (heard.Compared same)) → P heard.Stalled → P heard.Nothing → P heard.Waited → P heard.Restarted → (h : Heard) → P h

@@ -1,4 +1,4 @@
--- Next bytes of an image whose elements don't overlap.
+-- Facts about the next byte of an image whose elements don't overlap.
 use Rattle.std.proofs.Common.{◌≡◌, ℕ, ◌<◌, ◌≤◌, ◌&&◌, inl, inr, max, Bool, true, false, cond, ltb, leb, List, [], ◌∷◌, Option, Some, None, refl, sym, ap, ◌∙◌, arith}
 use Rattle.std.proofs.lemmas.Bool.{ltb-false, leb-true}
 use Rattle.dfu_formats.specs.declared.dfuse.element.Element.{Element}
@@ -12,7 +12,7 @@ both_true_of_and : (a b : Bool) → (a && b) ≡ true → (a ≡ true) × (b ≡
 both_true_of_and true b h = (refl, h)
 both_true_of_and false b h = (h, cc)
 
--- No byte of the image lies before `from`, where its elements may begin.
+-- No byte of the image has an address below `from` if all elements begin at `from` or later.
 image_byte_not_before_from : (from a : ℕ) (es : List Element) → apart_from from es ≡ true → HasByte a es → from ≤ a
 image_byte_not_before_from from a [] h b = absurd b
 image_byte_not_before_from from a (e ∷ es) h b =
@@ -20,13 +20,10 @@ image_byte_not_before_from from a (e ∷ es) h b =
     let first = leb-true from e.address both.0 in
     elim b [ inl w ↦ omega (arith, first, w.0) | inr w ↦ omega (arith, first, image_byte_not_before_from (end_of e) a es both.1 w) ]
 
--- The next byte of the image from `at` on exists, and is at `a` or before it.
+-- `o` holds the address of a byte, and this address is not above `a`.
 record HasNextByteUpTo (at a : ℕ) (o : Option ℕ) : Type 0 where
-  -- Next byte.
   byte : ℕ
-  -- The byte is found.
   is : o ≡ Some byte
-  -- The byte is at `a` or before it.
   early : byte ≤ a
 
 next_byte_up_to_by_test : (at a : ℕ) (e : Element) (es : List Element) (t : Bool) → ltb at (end_of e) ≡ t → at ≤ a → e.address ≤ a →
@@ -49,7 +46,7 @@ next_byte_up_to_byte from at a (e ∷ es) h b l =
       )) (λ k. next_byte_up_to_byte (end_of e) at a es both.1 w l)
     ]
 
--- Every byte of an image whose elements ascend and don't overlap lies at the address of its first byte or after it.
+-- No byte of an image has a lower address than the first byte, if the elements ascend and don't overlap.
 pub image_byte_after_image_start : (a : ℕ) (es : List Element) → apart_from 0 es ≡ true → HasByte a es → image_start es ≤ a
 unfolding image_start
 image_byte_after_image_start a [] h b = absurd b
@@ -57,7 +54,7 @@ image_byte_after_image_start a (e ∷ es) h b =
     let both = both_true_of_and (leb 0 e.address) (apart_from (end_of e) es) h in
     elim b [ inl w ↦ w.0 | inr w ↦ omega (arith, image_byte_not_before_from (end_of e) a es both.1 w) ]
 
--- Each byte of the image lies before its end.
+-- Each byte of the image lies before the end of the image.
 pub image_byte_before_image_end : (a : ℕ) (es : List Element) → HasByte a es → a < image_end es
 unfolding image_end
 image_byte_before_image_end a [] b = absurd b
@@ -71,7 +68,7 @@ kept_address_is_same : (b c : ℕ) (t : Bool) → cond t (Some b) None ≡ Some 
 kept_address_is_same b c true h = cc
 kept_address_is_same b c false h = cc
 
--- If a range has no first byte of the image, whose elements ascend and don't overlap, the image has no byte in that range.
+-- If `byte_in` finds no byte from `at` up to `end`, the image has no byte there. The image's elements must ascend and not overlap.
 pub no_image_byte_in_range : (plan : Plan) (at end a : ℕ) → apart_from 0 plan.image.now ≡ true → HasByte a plan.image.now
     → byte_in plan at end ≡ None → at ≤ a → end ≤ a
 unfolding byte_in
@@ -80,7 +77,7 @@ no_image_byte_in_range plan at end a apart b h l =
     let gone : address_if_before end (Some n.byte) ≡ None = ap (address_if_before end) (sym n.is) ∙ h in
     omega (arith, n.early, address_before_end_by_test end n.byte (ltb n.byte end) refl gone)
 
--- The first byte of a range is at or before every byte of the image from the start of the range on.
+-- The byte that `byte_in` finds from `at` on has the lowest address of all bytes of the image from `at` on.
 pub first_image_byte_of_range : (plan : Plan) (at end c a : ℕ) → apart_from 0 plan.image.now ≡ true → HasByte a plan.image.now
     → byte_in plan at end ≡ Some c → at ≤ a → c ≤ a
 unfolding byte_in

@@ -8,7 +8,7 @@ pub mod RowForms
 pub mod RowLaws
 pub mod RunLaws
 pub mod SettlingLaws
-pub mod Takes
+pub mod SpentActions
 pub mod TouchLaws
 pub mod TouchedBytes
 pub mod TouchedSessions

@@ -1,4 +1,4 @@
--- Bytes that count as read back after any result of a session.
+-- After any result, a byte counts as read back only if it did before or if the session read it back with this result.
 use Rattle.std.proofs.Common.{◌≡◌, ℕ, zero, suc, pred, ◌⊎◌, inl, true, refl, subst}
 use Rattle.dfuse_host.specs.declared.phase.Phase.{Phase}
 use Rattle.dfuse_host.specs.declared.phase.Phase.TheVariants.{On, Over}
@@ -46,6 +46,5 @@ module _ (s : Session) (a : ℕ) (apart : apart_from 0 s.plan.image.now ≡ true
   phase_adds_only_read_byte (Over r) x e c h = inl (subst (λ (q : Phase). WasReadInPhase s.plan q a) e h)
   phase_adds_only_read_byte (On at) x e c h = step_adds_only_read_byte at.work at.place at.step x c h
 
--- A byte counts as read back only if it did before, or if this result read it back.
 pub only_read_back : OnlyReadBack
 only_read_back s x a apart b c h = phase_adds_only_read_byte s a apart b s.phase x refl c h

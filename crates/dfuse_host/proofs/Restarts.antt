@@ -1,4 +1,5 @@
--- A fact of all sessions that are over, and of all that resume after a restart, holds after the budget check and after a restart.
+-- A fact holds after a restart and after the check for remaining actions, if it holds for every session that is over and for every phase in
+-- which a session resumes.
 use Rattle.std.proofs.Common.{ℕ, zero, suc, pred}
 use Rattle.dfuse_host.specs.declared.plan.Plan.{Plan}
 use Rattle.dfuse_host.specs.declared.phase.Phase.{Phase}
@@ -19,7 +20,7 @@ module _ (P : Phase → Type 0) (over : (r : Report) → P (Over r)) where
   spent_phase_has_fact work.Leave s = over _
   spent_phase_has_fact w s = over _
 
-  -- A fact of a phase, which also holds in every end, holds after the budget check.
+  -- A fact about a phase stays true after the check for remaining actions, if it holds for every session that is over.
   pub budget_keeps_fact : (n : ℕ) (p : Phase) → P p → P (phase_within_budget n p)
   budget_keeps_fact n (Over r) h = over r
   budget_keeps_fact zero (On s) h = spent_phase_has_fact s.work s.step
@@ -39,7 +40,7 @@ module _ (P : Phase → Type 0) (over : (r : Report) → P (Over r)) where
     leaving_restart_keeps_fact s p at = restarted_phase_keeps_fact s (phase_resumed s.plan work.Leave p at) s.restarts (at_resumed s.plan
         work.Leave p at)
 
-    -- A fact of every phase in which a session resumes, which also holds in every end, holds after a restart.
+    -- A fact holds after a restart if it holds for every session that is over and for every phase in which a session resumes.
     pub restart_keeps_fact : (s : Session) (w : Work) (p : Place) (at : Step) → P (session_after_restart s w p at).phase
     restart_keeps_fact s work.Leave p at = leaving_restart_keeps_fact s p at
     restart_keeps_fact s w p at = restarted_phase_keeps_fact s (phase_resumed s.plan w p at) s.restarts (at_resumed s.plan w p at)

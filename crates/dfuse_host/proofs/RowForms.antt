@@ -23,18 +23,18 @@ use Rattle.dfuse_host.specs.Commands.{command_of, phase_after_command, phase_if_
 use Rattle.dfuse_host.specs.Table.{state_found, phase_after_comparing_fault, phase_after_fault, status_found, on_abort, on_ask_state, on_ask_status, on_clear_wait, on_send, probed, on_probe, phase_if_refused, phase_after_poll, stalled_ms, on_poll, on_poll_wait, place_with_reading_begun, place_with_reading_ended, on_begin_reading, on_end_reading, read_on, on_read, on_close, close_probed, on_close_probe, close_polled, on_close_poll, row}
 use Rattle.dfuse_host.specs.ReadBack.{IsReadBackReport, ClosesAfterCompare}
 
--- Forms of a row: it stays in its work, settles for the next work, reads on, ends a command as done or as unsure, fails, or leaves. It
--- reads on only if the bytes read back were the image's.
+-- Forms of a row. The work stays the same, goes on because the device is ready, or goes on after bytes that were read back and equal those
+-- of the image. Or the command of the work is done or has an unknown outcome. Or the session is over.
 pub data RowForm (plan : Plan) (w : Work) (p : Place) : Step → Heard → Phase → Type 0 where
-  -- The work stays, at another place and step.
+  -- The work stays the same, and its place and step may change.
   stays : {s : Step} {h : Heard} (p' : Place) (s' : Step) → ClosesAfterCompare w s' → RowForm plan w p s h (phase_with_step w p' s')
-  -- The work settles at another place.
+  -- The device is ready for a command, so the work goes on with its next phase.
   settles : {s : Step} {h : Heard} (p' : Place) → RowForm plan w p s h (settled_phase plan w p')
-  -- The bytes read back were the image's, and the work goes on behind them.
+  -- The bytes that the device returned equal those of the image, and the work goes on after them.
   reads : RowForm plan w p step.Read (heard.Compared true) (settled_phase plan (read_on plan w) p)
   -- The command of the work is done.
   does : {s : Step} {h : Heard} → RowForm plan w p s h (phase_after_command plan w (command_of plan w p))
-  -- The end of the work's command isn't known.
+  -- The command of the work has an unknown outcome.
   doubts : {s : Step} {h : Heard} → RowForm plan w p s h (phase_if_unsure plan w (command_of plan w p))
   -- The session is over, with a report other than Verified.
   fails : {s : Step} {h : Heard} (r : Report) → (IsReadBackReport r → ⊥) → RowForm plan w p s h (Over r)
@@ -42,8 +42,6 @@ pub data RowForm (plan : Plan) (w : Work) (p : Place) : Step → Heard → Phase
   leaves : {s : Step} {h : Heard} → w ≡ work.Leave → RowForm plan w p s h (Over (report.Verified leaving.Left))
 
 module _ (plan : Plan) (w : Work) (p : Place) (s : Step) (h : Heard) where
-  -- ---- rows that clear the device
-
   compare_fault_has_row_form : (v : Work) (c : Code) → v ≡ w → RowForm plan w p s h (phase_after_comparing_fault v c)
   compare_fault_has_row_form v code.StalledPkt e =
       subst (λ (u : Work). RowForm plan w p s h (phase_with_step u place.Lost step.ClearStatus)) (sym e)
@@ -80,8 +78,6 @@ module _ (plan : Plan) (w : Work) (p : Place) (s : Step) (h : Heard) where
   found_state_has_row_form state.Error = stays place.Lost step.AskStatus tt
   found_state_has_row_form t = stays place.Lost step.Abort tt
 
-  -- ---- rows that send a command
-
   probed_state_has_row_form : (t : State) → RowForm plan w p s h (probed plan w p t)
   probed_state_has_row_form state.DownloadSync = stays p (step.Poll 0) tt
   probed_state_has_row_form state.DfuIdle = stays p step.Send tt
@@ -101,8 +97,6 @@ module _ (plan : Plan) (w : Work) (p : Place) (s : Step) (h : Heard) where
   polled_status_has_row_form c poll state.Error = refusal_has_row_form c
   polled_status_has_row_form c poll t = doubts
 
-  -- ---- rows that ask the device to leave
-
   probed_close_has_row_form : (t : State) → w ≡ work.Leave → RowForm plan w p s h (close_probed w p t)
   probed_close_has_row_form state.DfuIdle e = stays p step.Close e
   probed_close_has_row_form state.DownloadIdle e = stays p step.Close e
@@ -116,8 +110,6 @@ module _ (plan : Plan) (w : Work) (p : Place) (s : Step) (h : Heard) where
   polled_close_has_row_form code.Ok state.Manifest e = leaves e
   polled_close_has_row_form code.Ok state.ManifestWaitReset e = leaves e
   polled_close_has_row_form c t e = stays p step.ClosePoll e
-
--- ---- rows of each step
 
 module _ (plan : Plan) (w : Work) (p : Place) where
   abort_has_row_form : (h : Heard) → RowForm plan w p step.Abort h (on_abort w h)

@@ -1,4 +1,4 @@
--- Bytes that count as read back after each row of the table.
+-- After each row of the table, a byte counts as read back only if it did before or if the session read it back with the row's result.
 use Rattle.std.proofs.Common.{◌≡◌, ℕ, zero, suc, ◌≤◌, ◌⊎◌, inl, inr, true, sym, subst}
 use Rattle.std.proofs.lemmas.Bool.{cases_lt}
 use Rattle.dfuse_host.specs.declared.plan.Plan.{Plan}
@@ -25,8 +25,6 @@ use Rattle.dfuse_host.proofs.RowForms.{RowForm, stays, settles, reads, does, dou
 use Rattle.dfuse_host.proofs.SettlingLaws.{settling_reads_no_byte, no_read_byte_at_erase, no_read_byte_at_write, read_byte_at_write_front}
 
 module _ (plan : Plan) (a : ℕ) (apart : apart_from 0 plan.image.now ≡ true) (b : HasByte a plan.image.now) where
-  -- ---- phases after commands
-
   unsure_phase_reads_no_byte : (w : Work) (c : Command) → WasReadInPhase plan (phase_if_unsure plan w c) a → WasReadInWork plan w a
   unsure_phase_reads_no_byte w (command.SetAddress at) h = h
   unsure_phase_reads_no_byte w (command.ErasePage at) h = h
@@ -64,8 +62,6 @@ module _ (plan : Plan) (a : ℕ) (apart : apart_from 0 plan.image.now ≡ true) 
   command_reads_no_byte (work.CompareFront at) p h = settled_phase_reads_no_byte (work.CompareFront at) (place.At at) h
   command_reads_no_byte work.Leave p h = tt
 
-  -- ---- rows of the table
-
   read_adds_only_read_byte : (w : Work) → WasReadInWork plan (read_on plan w) a →
       WasReadInWork plan w a ⊎ ReadsBack plan w step.Read (heard.Compared true) a
   read_adds_only_read_byte (work.Erase at) h = inl h
@@ -94,8 +90,6 @@ module _ (plan : Plan) (a : ℕ) (apart : apart_from 0 plan.image.now ≡ true) 
       WasReadInPhase plan (row plan w p s x) a
       → WasReadInWork plan w a ⊎ ReadsBack plan w s x a
   row_adds_only_read_byte w p s x c h = form_adds_only_read_byte w p s x (row plan w p s x) (each_row_has_form plan w p s x c) h
-
-  -- ---- restarts and the budget
 
   spent_phase_reads_no_byte : (w : Work) (s : Step) → WasReadInPhase plan (phase_without_actions w s) a → WasReadInWork plan w a
   spent_phase_reads_no_byte work.Leave s h = tt

@@ -19,8 +19,6 @@ use Rattle.dfuse_host.specs.ReadInRun.{IsReadInRun, VerifiedReadEachByte}
 use Rattle.dfuse_host.proofs.CloseLaws.{session_closes_after_compare}
 use Rattle.dfuse_host.proofs.ReadBackLaws.{only_read_back}
 
--- ---- a session keeps its plan
-
 restarted_session_keeps_plan : (s : Session) (p : Phase) (n : ℕ) → (session_with_restart_taken s p n).plan ≡ s.plan
 restarted_session_keeps_plan s p zero = refl
 restarted_session_keeps_plan s p (suc n) = refl
@@ -46,15 +44,10 @@ pub heard_phase_keeps_plan : (s : Session) (p : Phase) (h : Heard) → (session_
 heard_phase_keeps_plan s (Over r) h = refl
 heard_phase_keeps_plan s (On at) h = heard_step_keeps_plan s at.work at.place at.step h
 
--- ---- a run of several results
-
--- The byte at `a` is in the image, whose elements ascend and don't overlap, and the device is asked to leave only after the comparison.
+-- The image has a byte at `a`, its elements ascend and don't overlap, and the session reaches the leave request only after the comparison.
 record ReadByteFacts (s : Session) (a : ℕ) : Type 0 where
-  -- The elements ascend and don't overlap.
   apart : apart_from 0 s.plan.image.now ≡ true
-  -- The byte is in the image.
   has : HasByte a s.plan.image.now
-  -- The device is asked to leave only after the comparison.
   closes : PhaseClosesAfterCompare s.phase
 
 read_facts_after_row : (s mid : Session) (seen : Seen) (a : ℕ) → SessionRow s seen mid → ReadByteFacts s a → ReadByteFacts mid a
@@ -66,7 +59,7 @@ read_facts_after_row s mid seen a step c =
           (session_closes_after_compare s step.heard c.closes);
     }
 
--- After a result a byte counts as read back only if it did before, or if this result read it back.
+-- After a result, a byte counts as read back only if it did before or if the session read it back with this result.
 result_adds_only_read_byte : (s mid : Session) (seen : Seen) (a : ℕ) (step : SessionRow s seen mid) → ReadByteFacts s a →
     WasReadInPhase mid.plan mid.phase a →
     WasReadInPhase s.plan s.phase a ⊎ PhaseReadsBack s.plan s.phase step.heard a
@@ -115,7 +108,7 @@ counted_byte_is_read_in_run s s' (seen ∷ more) a (sees {mid = mid} step rows) 
       | inr w ↦ inr (longer_run_reads_byte_too s mid s' seen more a step w)
     ]
 
--- A session that ends as Verified has read back every byte of its image, whose elements ascend and don't overlap.
+-- A session that ends as Verified has read back every byte of its image, if the elements ascend and don't overlap.
 pub verified_session_read_each_byte : VerifiedReadEachByte
 verified_session_read_each_byte plan limits seens s' leaving a apart rows over b =
     let counts : ReadByteFacts (initial_dfuse_session plan limits) a = record { apart = apart; has = b; closes = tt } in

@@ -1,4 +1,4 @@
--- Bytes that count as read back when the device is ready for a command.
+-- Bytes that count as read back in the next phase of a work, when the device is ready for a command.
 use Rattle.std.proofs.Common.{◌≡◌, ℕ, ◌<◌, ◌≤◌, ◌⊎◌, inl, inr, true, Option, Some, None, refl, arith}
 use Rattle.std.proofs.lemmas.Bool.{cases_lt}
 use Rattle.dfuse_host.specs.declared.plan.Plan.{Plan}
@@ -13,7 +13,7 @@ use Rattle.dfuse_host.specs.Settling.{byte_in, compare_front_phase_for, write_fr
 use Rattle.dfuse_host.proofs.ImageLaws.{image_byte_after_image_start, image_byte_before_image_end, no_image_byte_in_range, first_image_byte_of_range}
 
 module _ (plan : Plan) (a : ℕ) (apart : apart_from 0 plan.image.now ≡ true) (b : HasByte a plan.image.now) where
-  -- A byte that counts as read back in the comparison of the front lies after the front, or before the address to compare next.
+  -- While the front is compared, only bytes after the front and bytes before the next address to compare count as read back.
   read_byte_by_compare_front : (p : Place) (at : ℕ) (o : Option ℕ) → byte_in plan at (front_end plan) ≡ o →
       WasReadInPhase plan (compare_front_phase_for plan p o) a →
       (front_end plan ≤ a) ⊎ (a < at)
@@ -28,7 +28,7 @@ module _ (plan : Plan) (a : ℕ) (apart : apart_from 0 plan.image.now ≡ true) 
     ]
   ]
 
-  -- A byte that counts as read back when the front is compared from `at` on lies after the front, or before `at`.
+  -- When the comparison of the front continues at `at`, only bytes after the front and bytes before `at` count as read back.
   pub read_byte_at_compare_front : (p : Place) (at : ℕ) → WasReadInPhase plan (to_compare_front plan p at) a → (front_end plan
       ≤ a) ⊎ (a < at)
   unfolding to_compare_front
@@ -41,7 +41,7 @@ module _ (plan : Plan) (a : ℕ) (apart : apart_from 0 plan.image.now ≡ true) 
   ]
   read_byte_by_write_front p (Some c) h = h
 
-  -- A byte that counts as read back when the front is written lies after the front.
+  -- While the front is written, only bytes after the front count as read back.
   pub read_byte_at_write_front : (p : Place) (at : ℕ) → WasReadInPhase plan (to_write_front plan p at) a → front_end plan ≤ a
   unfolding to_write_front
   read_byte_at_write_front p at h = read_byte_by_write_front p (byte_in plan at (front_end plan)) h
@@ -69,7 +69,7 @@ module _ (plan : Plan) (a : ℕ) (apart : apart_from 0 plan.image.now ≡ true) 
     ],
   )
 
-  -- A byte that counts as read back when the image after the front is compared from `at` on lies after the front, and before `at`.
+  -- When the comparison of the image after the front continues at `at`, only bytes after the front and before `at` count as read back.
   pub read_byte_at_compare : (p : Place) (at : ℕ) → WasReadInPhase plan (to_compare plan p at) a → (front_end plan ≤ a) × (a < at)
   unfolding to_compare
   read_byte_at_compare p at h = read_byte_by_compare p at (byte_in plan at (image_end plan.image.now)) refl h
@@ -78,7 +78,7 @@ module _ (plan : Plan) (a : ℕ) (apart : apart_from 0 plan.image.now ≡ true) 
   no_read_byte_by_write p end None h = let w = read_byte_at_compare p (front_end plan) h in omega (arith, w.0, w.1)
   no_read_byte_by_write p end (Some c) h = h
 
-  -- No byte counts as read back when the image is written.
+  -- While the image is written, no byte counts as read back.
   pub no_read_byte_at_write : (p : Place) (at end : ℕ) → WasReadInPhase plan (to_write plan p at end) a → ⊥
   unfolding to_write
   no_read_byte_at_write p at end h = no_read_byte_by_write p end (byte_in plan at end) h
@@ -87,12 +87,12 @@ module _ (plan : Plan) (a : ℕ) (apart : apart_from 0 plan.image.now ≡ true) 
   no_read_byte_by_erase p None h = no_read_byte_at_write p (front_end plan) (image_end plan.image.now) h
   no_read_byte_by_erase p (Some c) h = h
 
-  -- No byte counts as read back when pages are erased.
+  -- While pages are erased, no byte counts as read back.
   pub no_read_byte_at_erase : (p : Place) (at : ℕ) → WasReadInPhase plan (to_erase plan p at) a → ⊥
   unfolding to_erase
   no_read_byte_at_erase p at h = no_read_byte_by_erase p (byte_in plan at (image_end plan.image.now)) h
 
-  -- A byte that counts as read back in the settled phase of a work counts as read back in that work.
+  -- When the device is ready for a command, a byte counts as read back in the next phase of a work only if it counted in that work.
   pub settling_reads_no_byte : (w : Work) (p : Place) → WasReadInPhase plan (settled_phase plan w p) a → WasReadInWork plan w a
   unfolding settled_phase
   settling_reads_no_byte (work.Erase at) p h = no_read_byte_at_erase p at h

@@ -1,4 +1,4 @@
--- After each row the work of the phase is at bytes of the image.
+-- After each row of the table, the work of the phase touches the image.
 use Rattle.std.proofs.Common.{◌≡◌, ℕ, ◌≤◌, max, true, false, cond, eqb, Option, Some, None, refl, arith}
 use Rattle.dfuse_host.specs.declared.plan.Plan.{Plan}
 use Rattle.dfuse_host.specs.declared.phase.Phase.{Phase}
@@ -108,8 +108,6 @@ module _ (plan : Plan) (some : is_empty plan.image.now ≡ false) where
   settled_phase_touches_image (work.CompareFront at) p h = to_compare_front_touches_image p at
   settled_phase_touches_image work.Leave p h = to_leave_touches_image p
 
-  -- ---- phases after commands
-
   repeated_work_touches_image : (w : Work) → WorkTouchesImage plan w → WorkTouchesImage plan (work_after_unsure_write plan w)
   repeated_work_touches_image (work.Erase at) h = h
   repeated_work_touches_image (work.EraseAgain page end) h = h
@@ -146,8 +144,6 @@ module _ (plan : Plan) (some : is_empty plan.image.now ≡ false) where
   work_after_read_touches_image (work.WriteFront at) h = h
   work_after_read_touches_image (work.CompareFront at) h = tt
   work_after_read_touches_image work.Leave h = tt
-
-  -- ---- rows of the table
 
   pub row_form_touches_image : (w : Work) (p : Place) (s : Step) (x : Heard) (next : Phase) → RowForm plan w p s x next →
       WorkTouchesImage plan w

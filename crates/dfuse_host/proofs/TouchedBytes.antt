@@ -1,4 +1,4 @@
--- A session changes only bytes of the image.
+-- A session writes only bytes of the image.
 use Rattle.std.proofs.Common.{◌≡◌, ℕ, ◌<◌, ◌≤◌, ◌||◌, inl, inr, max, Bool, true, false, cond, eqb, ltb, List, [], ◌∷◌, length, Option, Some, None, refl, ap, ◌∙◌, arith}
 use Rattle.std.proofs.lemmas.Bool.{ltb-true}
 use Rattle.std.proofs.lemmas.Bool.Decides.{nat_tests}
@@ -45,15 +45,11 @@ image_start_is_image_byte (e ∷ es) h =
     let both = both_false_of_or (eqb (length e.bytes.now) 0) (has_empty es) all.1 in
     inl (omega arith, nonempty_element_ends_later e both.0)
 
--- An element of the image has the byte at `at`, and each of its bytes is a byte of the image.
+-- An element of the image contains the address `at`, and each byte of the element is a byte of the image.
 record ElementHoldingByte (at : ℕ) (es : List Element) : Type 0 where
-  -- Element that has the byte.
   element : Element
-  -- The element is found at the address.
   is : element_at at es ≡ Some element
-  -- The element begins at the address or before it.
   low : element.address ≤ at
-  -- Each byte of the element is a byte of the image.
   bytes : (a : ℕ) → element.address ≤ a → a < end_of element → HasByte a es
 
 holding_element_by_test : (at : ℕ) (e : Element) (es : List Element) (t : Bool) → element_holds at e ≡ t
@@ -82,7 +78,7 @@ byte_has_holding_element at [] b = absurd b
 byte_has_holding_element at (e ∷ es) b = holding_element_by_test at e es (element_holds at e) refl (element_at_of_first at e es)
     (λ none. elim b [ inl w ↦ absurd (address_in_element_is_held at e none w.0 w.1) | inr w ↦ byte_has_holding_element at es w ])
 
--- One write that begins at a byte of the image covers only bytes of the image, on one page.
+-- A write that begins at a byte of the image covers only bytes of the image on one page.
 pub write_changes_only_one_page : (plan : Plan) (at end : ℕ) → HasByte at plan.image.now → ChangesOnlyImagePages plan end (command.Write at)
 unfolding write_end
 write_changes_only_one_page plan at end b = λ a low high.

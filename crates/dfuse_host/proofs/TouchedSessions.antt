@@ -1,4 +1,4 @@
--- The work of a session is always at bytes of the image.
+-- The work of a session always touches the image.
 use Rattle.std.proofs.Common.{◌≡◌, ℕ, zero, suc, pred, Bool, true, false, cond, eqb, refl, sym, subst, arith}
 use Rattle.dfuse_host.specs.declared.plan.Plan.{Plan}
 use Rattle.dfuse_host.specs.declared.phase.Phase.{Phase}
@@ -76,8 +76,8 @@ module _ (s : Session) (some : is_empty s.plan.image.now ≡ false) where
   next_phase_touches_image (Over r) x e c h = subst (PhaseTouchesImage s.plan) (sym e) tt
   next_phase_touches_image (On at) x e c h = heard_step_touches_image at.work at.place at.step x c h
 
--- If the image is not empty, the work of a session touches it at first and, as long as the device is asked to leave only after the
--- comparison, after any result.
+-- If the image isn't empty, the work of a session touches it at first and after any result, as long as the session reaches the leave
+-- request only after the comparison.
 pub session_touches_image_always : WorkAlwaysTouchesImage
 session_touches_image_always = (
   λ plan limits some. image_start_is_image_byte plan.image.now some,
@@ -96,8 +96,8 @@ write_command_changes_one_page plan at end (place.At p) h =
     ]
 write_command_changes_one_page plan at end (place.Reading p) h = tt
 
--- The command of a work that touches the image erases only a page that has a byte of the image, writes only bytes of the image, or sets the
--- pointer.
+-- The command of a work that touches the image sets the pointer, erases a page that contains a byte of the image, or writes only bytes of
+-- the image.
 pub only_touched : OnlyTouchedPagesChange
 only_touched plan (work.Erase at) p h = record { byte = at; has = h; is = refl }
 only_touched plan (work.EraseAgain page end) p h = h
@@ -116,7 +116,7 @@ written_address_is_of_command place.Lost from at e = cc
 written_address_is_of_command (place.At p) from at e = tested_write_has_address from at (eqb p from) e
 written_address_is_of_command (place.Reading p) from at e = cc
 
--- When a work that touches the image writes a byte of the front, every byte after the front was read back.
+-- When a work that touches the image writes a byte of the front, the session has read back every byte after the front.
 pub front_written_after_rest_read : FrontIsWrittenLast
 front_written_after_rest_read plan (work.Erase from) p at a b h e low front behind = cc
 front_written_after_rest_read plan (work.EraseAgain page end) p at a b h e low front behind = cc

@@ -1,4 +1,4 @@
--- Loss of the address pointer by a restart.
+-- A session's knowledge of the address pointer after the device restarted.
 use Rattle.std.specs.Prelude.{◌≡◌}
 use Rattle.dfuse_host.specs.declared.phase.Phase.{Phase}
 use Rattle.dfuse_host.specs.declared.phase.Phase.TheVariants.{On, Over}
@@ -7,11 +7,11 @@ use Rattle.dfuse_host.specs.declared.heard.Heard.TheVariants as heard
 use Rattle.dfuse_host.specs.declared.session.Session.{Session}
 use Rattle.dfuse_host.specs.Sessions.{session_after_heard}
 
--- The session goes on without knowledge of the address pointer, or is over.
+-- The session knows nothing about the address pointer, or is over.
 abbrev pub IsPointerLost : Phase → Type 0
 IsPointerLost (On s) = s.place ≡ place.Lost
 IsPointerLost (Over r) = Unit {0}
 
--- After a restart a session knows nothing about the address pointer, or is over.
+-- After a restart, a session knows nothing about the address pointer or is over.
 abbrev pub RestartForgetsPointer : Type 0
 RestartForgetsPointer = (s : Session) → IsPointerLost (session_after_heard s heard.Restarted).phase

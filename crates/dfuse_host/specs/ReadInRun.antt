@@ -1,4 +1,4 @@
--- Reading a byte back in the course of a session.
+-- Reading a byte back during a session.
 use Rattle.std.specs.Prelude.{◌≡◌, ℕ, List, ◌∷◌, ◌++◌, true}
 use Rattle.dfuse_host.specs.declared.plan.Plan.{Plan}
 use Rattle.dfuse_host.specs.declared.phase.Phase.TheVariants.{Over}
@@ -11,30 +11,30 @@ use Rattle.dfuse_host.specs.Refusing.{apart_from}
 use Rattle.dfuse_host.specs.ReadBack.{HasByte, PhaseReadsBack}
 use Rattle.dfuse_host.specs.Sessions.{SessionRow, SessionRows, initial_dfuse_session}
 
--- One of the results is an answer that reads the byte back, equal to the image's byte.
+-- One of the results is an answer with which the session read the byte back and found it equal to the byte of the image.
 pub record IsReadInRun (s : Session) (seens : List Seen) (s' : Session) (a : ℕ) : Type 0 where
   -- Results before the answer.
   pub before : List Seen
-  -- Answer that reads the byte back.
+  -- Answer that contains the byte.
   pub answer : Seen
-  -- Results behind the answer.
+  -- Results after the answer.
   pub behind : List Seen
-  -- Session to which the answer comes.
+  -- Session that receives the answer.
   pub at : Session
   -- Session after the answer.
   pub next : Session
-  -- The results are these three parts.
+  -- The list of results consists of these three parts.
   pub cut : seens ≡ before ++ answer ∷ behind
-  -- The results before the answer lead to the session to which it comes.
+  -- The results before the answer lead to the session that receives it.
   pub reached : SessionRows s before at
-  -- The session takes the answer.
+  -- The answer changes the session by a row of the table.
   pub row : SessionRow at answer next
-  -- The answer reads the byte back.
+  -- The session found the byte in the answer equal to the byte of the image.
   pub reads : PhaseReadsBack at.plan at.phase row.heard a
-  -- The results behind the answer lead to the last session.
+  -- The results after the answer lead to the last session.
   pub rest : SessionRows next behind s'
 
--- A session that ends as Verified has read back every byte of its image, whose elements ascend and don't overlap.
+-- A session that ends as Verified has read back every byte of its image, if the elements ascend and don't overlap.
 abbrev pub VerifiedReadEachByte : Type 0
 VerifiedReadEachByte =
     (plan : Plan) (limits : Limits) (seens : List Seen) (s' : Session) (leaving : Leaving) (a : ℕ) → apart_from 0 plan.image.now ≡ true →

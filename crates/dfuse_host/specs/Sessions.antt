@@ -23,7 +23,7 @@ use Rattle.dfuse_host.specs.Deeds.{dfuse_deed}
 use Rattle.dfuse_host.specs.Table.{row}
 use Rattle.dfuse_host.specs.Wire.{DfuseSeenMeaning, DfuseSpells}
 
--- A new session: it clears the device first, and then erases all pages of the image.
+-- A new session. It clears the device first and then erases all pages of the image.
 abbrev pub initial_dfuse_session : Plan → Limits → Session
 initial_dfuse_session plan limits = record {
   plan = plan;
@@ -32,25 +32,26 @@ initial_dfuse_session plan limits = record {
   restarts = limits.restarts;
 }
 
--- Leaving of a session that ends at a step: Unknown once the device was asked to leave, else Stayed.
+-- Leaving in the report of a session that ends at this step: Unknown if it has reached the leave request (a DNLOAD without bytes), and
+-- Stayed otherwise.
 abbrev pub left_at : Step → Leaving
 left_at step.Close = leaving.Unknown
 left_at step.CloseProbe = leaving.Unknown
 left_at step.ClosePoll = leaving.Unknown
 left_at s = leaving.Stayed
 
--- Phase once no action is left: the end as Verified if the whole image was compared, else as GaveUp.
+-- Phase when no action is left: over as Verified if the whole image was compared, and as GaveUp otherwise.
 abbrev pub phase_without_actions : Work → Step → Phase
 phase_without_actions work.Leave s = Over (report.Verified (left_at s))
 phase_without_actions w s = Over report.GaveUp
 
--- The phase after the budget check: a session without actions left is over.
+-- The phase itself if actions are left or the session is over, and the end of the session otherwise.
 abbrev pub phase_within_budget : (left : ℕ) → Phase → Phase
 phase_within_budget left (Over r) = Over r
 phase_within_budget zero (On s) = phase_without_actions s.work s.step
 phase_within_budget (suc left) (On s) = On s
 
--- The session after one action that leads to this phase, with this number of restarts left.
+-- Session after an action that leads to this phase, with this number of restarts left.
 abbrev pub session_after_action : Session → Phase → (restarts : ℕ) → Session
 session_after_action s phase restarts = record {
   plan = s.plan;
@@ -59,66 +60,66 @@ session_after_action s phase restarts = record {
   restarts = restarts;
 }
 
--- The phase after a restart: a command that was started may have stopped halfway, and the pointer isn't known.
+-- Phase after a restart. A command that was started may have stopped halfway, and the pointer is no longer known.
 abbrev pub phase_resumed : Plan → Work → Place → Step → Phase
 phase_resumed plan w p (step.Poll last) = phase_if_unsure plan w (command_of plan w p)
 phase_resumed plan w p (step.PollWait ms) = phase_if_unsure plan w (command_of plan w p)
 phase_resumed plan w p s = phase_to_clear w
 
--- The session that goes on with this phase after a restart; over as RestartsSpent if no restarts are left.
+-- Session that goes on in this phase after a restart. It is over as RestartsSpent if no restart is left.
 abbrev pub session_with_restart_taken : Session → Phase → (restarts : ℕ) → Session
 session_with_restart_taken s phase zero = session_after_action s (Over report.RestartsSpent) zero
 session_with_restart_taken s phase (suc restarts) = session_after_action s phase restarts
 
--- The session after a restart, once the whole image was compared: over as Verified if the device was asked to leave.
+-- Session after a restart of the device during the work Leave. It is over as Verified if it has reached the leave request.
 abbrev pub restarted_leaving : Session → Place → Step → Session
 restarted_leaving s p step.Close = session_after_action s (Over (report.Verified leaving.Unknown)) s.restarts
 restarted_leaving s p step.CloseProbe = session_after_action s (Over (report.Verified leaving.Unknown)) s.restarts
 restarted_leaving s p step.ClosePoll = session_after_action s (Over (report.Verified leaving.Unknown)) s.restarts
 restarted_leaving s p at = session_with_restart_taken s (phase_resumed s.plan work.Leave p at) s.restarts
 
--- The session after a restart of the device in a work.
+-- Session after the device restarted during a work.
 abbrev pub session_after_restart : Session → Work → Place → Step → Session
 session_after_restart s work.Leave p at = restarted_leaving s p at
 session_after_restart s w p at = session_with_restart_taken s (phase_resumed s.plan w p at) s.restarts
 
--- The session after a result at a step: a restart, or a result for the table's row.
+-- Session after a result at a step. The table handles every result except a restart.
 abbrev pub session_after_step_heard : Session → Work → Place → Step → Heard → Session
 session_after_step_heard s w p at heard.Restarted = session_after_restart s w p at
 session_after_step_heard s w p at h = session_after_action s (row s.plan w p at h) s.restarts
 
--- The session after a result in a phase; a session that is over doesn't change.
+-- Session after a result in a phase. A session that is over doesn't change.
 abbrev pub session_after_phase_heard : Session → Phase → Heard → Session
 session_after_phase_heard s (Over r) h = s
 session_after_phase_heard s (On at) h = session_after_step_heard s at.work at.place at.step h
 
--- The session after a result.
+-- Session after a result. A session that is over doesn't change.
 abbrev pub session_after_heard : Session → Heard → Session
 session_after_heard s h = session_after_phase_heard s s.phase h
 
--- The action of a session spells the deed of its phase, as setup and body.
+-- The action encodes the deed of the session's phase as a setup and a body.
 abbrev pub DfuseAct : Session → Action → Type 0
 DfuseAct s action = DfuseSpells (dfuse_deed s.plan s.phase) action
 
--- Meaning of a result in a phase; any, if the session is over.
+-- Meaning of a result in a phase. If the session is over, a result may mean anything.
 abbrev pub DfuseSeenMeaningIn : Plan → Phase → Seen → Heard → Type 0
 DfuseSeenMeaningIn plan (On s) seen h = DfuseSeenMeaning plan s.work s.step seen h
 DfuseSeenMeaningIn plan (Over r) seen h = Unit {0}
 
--- A session takes a result by its row: the step says what the bytes mean, and the table gives the next phase.
+-- A result leads from the session `s` to `s'`. The meaning of bytes depends on the step, and the table contains the next phase.
 pub record SessionRow (s : Session) (seen : Seen) (s' : Session) : Type 0 where
   -- Meaning of the result.
   pub heard : Heard
-  -- The result has this meaning in the phase.
+  -- In this phase the result has this meaning.
   pub hears : DfuseSeenMeaningIn s.plan s.phase seen heard
-  -- The new session is the one after the meaning.
+  -- The new session is the one after a result with this meaning.
   pub same : s' ≡ session_after_heard s heard
 
--- A session takes the results of a list in their order.
+-- A session takes the results of a list in order.
 pub data SessionRows : Session → List Seen → Session → Type 0 where
-  -- Without results a session stays.
+  -- Without results the session stays unchanged.
   seen_all : {s : Session} → SessionRows s [] s
-  -- The first result is taken, and then the others.
+  -- The session takes the first result, and then the others.
   sees : {s mid s' : Session} {seen : Seen} {more : List Seen}
       → SessionRow s seen mid → SessionRows mid more s' → SessionRows s (seen ∷ more) s'
 
@@ -127,11 +128,12 @@ abbrev pub DfuseIsOver : Phase → Type 0
 DfuseIsOver (Over r) = Unit {0}
 DfuseIsOver (On s) = ⊥
 
--- Largest number of inputs that a session in this phase takes before it is over: its actions, but at least one.
+-- Largest number of results that a session in this phase takes before it is over: its actions, but at least one. It is 0 if the session is
+-- already over.
 abbrev pub most_dfuse_inputs_in : Phase → (actions : ℕ) → ℕ
 most_dfuse_inputs_in (Over r) actions = 0
 most_dfuse_inputs_in (On s) actions = max 1 actions
 
--- Number of inputs that a session may still take before it is over.
+-- Number of results that a session may still take before it is over.
 abbrev pub remaining_dfuse_inputs : Session → ℕ
 remaining_dfuse_inputs s = most_dfuse_inputs_in s.phase s.actions

@@ -1,4 +1,4 @@
--- The table over the wire: setups of the actions, and meanings of the results.
+-- The table on the wire: setups of the actions and meanings of the results.
 use Rattle.std.specs.Prelude.{◌≡◌, ◌≢◌, ℕ, ◌==◌, List, [], ◌∷◌, length, if◌then◌else◌}
 use Rattle.std.specs.Str.{bytes_eq}
 use Rattle.dfu_wire.specs.declared.setups.Setup.{Setup}
@@ -20,18 +20,18 @@ use Rattle.dfuse_host.specs.declared.step.Step.{Step}
 use Rattle.dfuse_host.specs.declared.step.Step.TheVariants as step
 use Rattle.dfuse_host.specs.Deeds.{DfuseDeed, Send, Wait, Done, read_bytes}
 
--- The eight bytes are the setup of this request. Fields without a meaning are 0.
+-- The eight bytes are the setup of this request. Fields that the request doesn't use are 0.
 pub record IsDfuseSetupOf (q : Request) (bytes : List ℕ) : Type 0 where
-  -- Setup that the bytes spell.
+  -- Setup that the bytes encode.
   pub setup : Setup
-  -- The bytes spell the fields of the setup.
+  -- The bytes encode the fields of the setup.
   pub fields : IsSetup setup bytes
-  -- The setup asks for the request.
+  -- The setup belongs to the request.
   pub asks : SetupAsksFor setup q
-  -- The value is 0 if the request has no use for it.
+  -- The value field is 0 if the request doesn't use it.
   pub plain : UnusedValueIsZero setup q
 
--- The action spells the deed: a request is sent as the bytes of its setup, with its body.
+-- The action has the form of the deed. For a request it contains the bytes of the setup, and the body.
 abbrev pub DfuseSpells : DfuseDeed → Action → Type 0
 DfuseSpells (Send q body) (action.Send setup given) = IsDfuseSetupOf q setup × (given.now ≡ body)
 DfuseSpells (Send q body) (action.Command setup given) = IsDfuseSetupOf q setup × (given ≡ body)
@@ -39,23 +39,23 @@ DfuseSpells (Wait ms) (action.Wait given) = given ≡ ms
 DfuseSpells (Done report) (action.Done given) = given ≡ report
 DfuseSpells deed given = ⊥
 
--- Bytes that answer GETSTATUS mean the status that they spell, or Nothing if they spell none.
+-- Meaning of an answer to GETSTATUS: the status that the bytes encode, or Nothing if they encode none.
 abbrev pub DfuseReadsStatus : List ℕ → Heard → Type 0
 DfuseReadsStatus bytes (heard.Told status) = IsStatus status bytes
 DfuseReadsStatus bytes heard.Nothing = (s : StatusFields) → IsStatus s bytes → ⊥
 DfuseReadsStatus bytes h = ⊥
 
--- Bytes that answer GETSTATE mean the state whose number is their one byte, or Nothing if they are no such byte.
+-- Meaning of an answer to GETSTATE: the state that its single byte encodes, or Nothing if it isn't the single byte of a state.
 abbrev pub DfuseReadsState : List ℕ → Heard → Type 0
 DfuseReadsState bytes (heard.StateIs state) = bytes ≡ state_byte state ∷ []
 DfuseReadsState bytes heard.Nothing = (state : State) → bytes ≢ state_byte state ∷ []
 DfuseReadsState bytes h = ⊥
 
--- Bytes that answer UPLOAD are compared with the wanted bytes if they have the same length, else they mean Nothing.
+-- Meaning of an answer to UPLOAD: the comparison with the wanted bytes, or Nothing if the lengths differ.
 abbrev pub heard_of_compare : (wanted bytes : List ℕ) → Heard
 heard_of_compare wanted bytes = if length bytes == length wanted then heard.Compared (bytes_eq bytes wanted) else heard.Nothing
 
--- Meaning of bytes at a step: Nothing, if the step asks for no bytes.
+-- Meaning of an answer with bytes at a step: Nothing if the step's request has no answer.
 abbrev pub DfuseBytesMeaning : Plan → Work → Step → List ℕ → Heard → Type 0
 DfuseBytesMeaning plan w step.AskState bytes h = DfuseReadsState bytes h
 DfuseBytesMeaning plan w step.Probe bytes h = DfuseReadsState bytes h
@@ -73,7 +73,7 @@ DfuseBytesMeaning plan w step.BeginReading bytes h = h ≡ heard.Nothing
 DfuseBytesMeaning plan w step.EndReading bytes h = h ≡ heard.Nothing
 DfuseBytesMeaning plan w step.Close bytes h = h ≡ heard.Nothing
 
--- Meaning of a result at a step. The table decides if it fits the step.
+-- Meaning of a result at a step. A result that doesn't fit the step also has a meaning, and the table has a row for it.
 abbrev pub DfuseSeenMeaning : Plan → Work → Step → Seen → Heard → Type 0
 DfuseSeenMeaning plan w s (seen.Bytes bytes) h = DfuseBytesMeaning plan w s bytes.now h
 DfuseSeenMeaning plan w s seen.Ack h = h ≡ heard.Acked

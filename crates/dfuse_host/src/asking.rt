@@ -1,4 +1,4 @@
-//! The action of each step, in the form that the caller gets.
+//! Actions of a session: the setup and body of each request, and the length of each wait.
 
 ghost use Rattle.std.specs.Prelude.{◌≡◌, ◌≤◌, ◌<◌, ◌-◌, ◌^◌, [], ◌∷◌, length};
 ghost use Rattle.dfu_wire.specs.Request.{IsUnnamedRequest};
@@ -27,7 +27,7 @@ fn setup_of(request: Request) -> [u8; 8]
     }
 }
 
-/// Returns the action that sends `request`, which must be one of the seven requests of DFU, without a body.
+/// Returns the action that sends `request`, one of the seven requests of DFU, without a body.
 fn ask<'f>(request: Request) -> Action<'f>
     requires { IsUnnamedRequest request → ⊥ }
     ensures { DfuseSpells (deeds.Send request []) result }
@@ -38,7 +38,7 @@ fn ask<'f>(request: Request) -> Action<'f>
     }
 }
 
-/// Returns the action that sends command `number` with address `at`.
+/// Returns the action that sends the command with this number for address `at`.
 fn address_command<'f>(number: u8, at: u64) -> Action<'f>
     ensures { DfuseSpells (deeds.address_command number at) result }
 {
@@ -52,7 +52,7 @@ fn address_command<'f>(number: u8, at: u64) -> Action<'f>
     }
 }
 
-/// Returns the action that sends `body` by a DNLOAD, for the address to which the pointer was set.
+/// Returns the action that sends `body` with a DNLOAD of block 2, which writes it at the address in the pointer.
 fn download(body: &[u8]) -> Action<'_>
     requires { length body.now < 2 ^ 16 }
     ensures { DfuseSpells (deeds.dfuse_download body.now) result }
@@ -64,7 +64,7 @@ fn download(body: &[u8]) -> Action<'_>
     }
 }
 
-/// Returns the address that `work` has reached; 0 for Leave.
+/// Returns the address that `work` has reached. It is the page's address for `EraseAgain`, and 0 for `Leave`.
 pub(crate) fn stands_at(work: Work) -> u64
     ensures { result ≡ deeds.stands_at work }
 {
@@ -79,7 +79,7 @@ pub(crate) fn stands_at(work: Work) -> u64
     }
 }
 
-/// Returns the address to which the pointer was set for reading at `place`; `at` if `place` isn't reading.
+/// Returns the address to which the pointer was set for reading, or `at` if the session isn't reading.
 fn reading_base_of(place: Place, at: u64) -> u64
     ensures { result ≡ deeds.reading_base_of place at }
 {
@@ -92,11 +92,11 @@ fn reading_base_of(place: Place, at: u64) -> u64
 impl<'f> Plan<'f> {
     ghost use Rattle.dfuse_host.specs.declared.work.Work.{Work};
 
-    /// Returns the bytes of the image from address `at` to before `end`, up to the end of the element that has `at`; none if no element has
-    /// it.
+    /// Returns the bytes of the image from `at` up to `end`, but not beyond the end of the element that contains `at`. The slice is empty
+    /// if no element contains `at`.
     fn bytes_in(&self, at: u64, end: u64) -> &'f [u8]
         ensures value { result.now ≡ bytes_in self.now at end }
-        ensures fits { length result.now ≤ end - at }
+        ensures inside_range { length result.now ≤ end - at }
     {
         let Some(element) = element_at(at, self.image) else {
             return &[];
@@ -108,17 +108,18 @@ impl<'f> Plan<'f> {
         bytes
     }
 
-    /// Returns the bytes of the image that one UPLOAD for `work` reads, from the address that the work has reached.
+    /// Returns the bytes of the image that one UPLOAD of `work` reads, beginning at the address that the work has reached.
     #[tactic(auto, unfolding(crate::specs::Deeds::read_bytes))]
     pub(crate) fn read_bytes(&self, work: Work) -> &'f [u8]
         ensures value { result.now ≡ deeds.read_bytes self.now work }
-        ensures fits { length result.now < 2 ^ 16 }
+        ensures in_16_bits { length result.now < 2 ^ 16 }
     {
         let at = stands_at(work);
         self.bytes_in(at, self.read_end(at, self.end_of_work(work)))
     }
 
-    /// Returns the number of the UPLOAD block that has address `at`, if the device reads at `place`.
+    /// Returns the number of the UPLOAD block that begins at address `at`. Block 2 begins at the address in the pointer, which `place`
+    /// contains while the session is reading.
     #[tactic(auto, unfolding(crate::specs::Deeds::upload_block))]
     fn upload_block(&self, place: Place, at: u64) -> u16
         ensures { result ≡ deeds.upload_block self.now place at }
@@ -140,7 +141,7 @@ impl<'f> Plan<'f> {
         }
     }
 
-    /// Returns the UPLOAD at `place` of the bytes that `work` reads back next.
+    /// Returns the UPLOAD that requests the bytes that `work` reads back next.
     fn upload(&self, work: Work, place: Place) -> Action<'f>
         ensures { DfuseSpells (deeds.upload_deed self.now work place) result }
     {
@@ -149,7 +150,7 @@ impl<'f> Plan<'f> {
         ask(Request::Upload { block, length })
     }
 
-    /// Returns the action of `step`, in `work` at `place`.
+    /// Returns the action of `step` in `work`, where `place` is the session's knowledge of the address pointer.
     fn action_of(&self, work: Work, place: Place, step: Step) -> Action<'f>
         ensures { DfuseSpells (deeds.deed_of_step self.now work place step) result }
     {

@@ -1,4 +1,4 @@
-//! Clearing: commands of an earlier session are dropped, or waited for, but never started.
+//! Clearing: the session drops or waits for a command of an earlier session, but never starts it.
 
 ghost use Rattle.std.specs.Prelude.{◌≡◌};
 ghost use Rattle.dfuse_host.specs.Table.{state_found, phase_after_comparing_fault, phase_after_fault, status_found, on_abort, on_ask_state, on_ask_status, on_clear_wait};
@@ -14,10 +14,11 @@ use crate::step::Step;
 use crate::work::Work;
 use dfu_wire::{Code, State, Status};
 
-/// Milliseconds to wait for a status that was asked for too early.
+/// Milliseconds to wait if the session requested the status too early.
 pub(crate) const TOO_EARLY_MS: u32 = 100;
 
-/// Returns the phase after dfuERROR with `code` while `work` reads bytes back.
+/// Returns the phase after dfuERROR with `code` while `work` reads bytes back. `errSTALLEDPKT` reports an unexpected request, not a fault
+/// of the memory.
 fn phase_after_comparing_fault(work: Work, code: Code) -> Phase
     ensures { result ≡ phase_after_comparing_fault work code }
 {
@@ -27,7 +28,7 @@ fn phase_after_comparing_fault(work: Work, code: Code) -> Phase
     }
 }
 
-/// Returns the phase after dfuERROR with `code` while the device is cleared.
+/// Returns the phase after dfuERROR with `code` while the session clears the device.
 fn phase_after_fault(work: Work, code: Code) -> Phase
     ensures { result ≡ phase_after_fault work code }
 {
@@ -41,7 +42,7 @@ fn phase_after_fault(work: Work, code: Code) -> Phase
     }
 }
 
-/// Returns the phase after `status` while the device is cleared.
+/// Returns the phase after `status` while the session clears the device.
 fn status_found(work: Work, status: &Status) -> Phase
     ensures { result ≡ status_found work status.now.code status.now.poll_ms status.now.state }
 {
@@ -54,7 +55,7 @@ fn status_found(work: Work, status: &Status) -> Phase
     }
 }
 
-/// Returns the phase after ABORT with the result `heard`, while the device is cleared.
+/// Returns the phase after ABORT with the result `heard`, while the session clears the device.
 pub(crate) fn on_abort(work: Work, heard: &Heard) -> Phase
     ensures { result ≡ on_abort work heard.now }
 {
@@ -64,7 +65,7 @@ pub(crate) fn on_abort(work: Work, heard: &Heard) -> Phase
     }
 }
 
-/// Returns the phase after GETSTATUS with the result `heard`, while the device is cleared.
+/// Returns the phase after GETSTATUS with the result `heard`, while the session clears the device.
 pub(crate) fn on_ask_status(work: Work, heard: &Heard) -> Phase
     ensures { result ≡ on_ask_status work heard.now }
 {
@@ -75,7 +76,7 @@ pub(crate) fn on_ask_status(work: Work, heard: &Heard) -> Phase
     }
 }
 
-/// Returns the phase after a wait of `ms` milliseconds with the result `heard`, while the device is cleared.
+/// Returns the phase after a wait of `ms` milliseconds with the result `heard`, while the session clears the device.
 pub(crate) fn on_clear_wait(work: Work, ms: u32, heard: &Heard) -> Phase
     ensures { result ≡ on_clear_wait work ms heard.now }
 {
@@ -101,7 +102,7 @@ impl Plan<'_> {
         }
     }
 
-    /// Returns the phase after GETSTATE with the result `heard`, while the device is cleared.
+    /// Returns the phase after GETSTATE with the result `heard`, while the session clears the device.
     pub(crate) fn on_ask_state(&self, work: Work, heard: &Heard) -> Phase
         ensures { result ≡ on_ask_state self.now work heard.now }
     {

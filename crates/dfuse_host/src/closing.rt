@@ -1,4 +1,4 @@
-//! Leaving: the device is asked to start its application.
+//! Leaving: the leave request, a DNLOAD without bytes, makes the device start its application.
 
 ghost use Rattle.std.specs.Prelude.{◌≡◌};
 ghost use Rattle.dfuse_host.specs.Table.{on_close, close_probed, on_close_probe, close_polled, on_close_poll};
@@ -13,7 +13,7 @@ use crate::step::Step;
 use crate::work::Work;
 use dfu_wire::{Code, State};
 
-/// Returns the phase after the DNLOAD of no bytes, which asks the device to leave.
+/// Returns the phase after the leave request, with the result `heard`.
 pub(crate) fn on_close(work: Work, place: Place, heard: &Heard) -> Phase
     ensures { result ≡ on_close work place heard.now }
 {
@@ -23,7 +23,7 @@ pub(crate) fn on_close(work: Work, place: Place, heard: &Heard) -> Phase
     }
 }
 
-/// Returns the phase after `state` of a device that didn't acknowledge the DNLOAD of no bytes.
+/// Returns the phase after an unacknowledged leave request, if GETSTATE then returned `state`.
 fn close_probed(work: Work, place: Place, state: State) -> Phase
     ensures { result ≡ close_probed work place state }
 {
@@ -34,7 +34,7 @@ fn close_probed(work: Work, place: Place, state: State) -> Phase
     }
 }
 
-/// Returns the phase after GETSTATE, which asks if the DNLOAD of no bytes arrived.
+/// Returns the phase after GETSTATE, with which the session finds out if the leave request arrived.
 pub(crate) fn on_close_probe(work: Work, place: Place, heard: &Heard) -> Phase
     ensures { result ≡ on_close_probe work place heard.now }
 {
@@ -45,7 +45,7 @@ pub(crate) fn on_close_probe(work: Work, place: Place, heard: &Heard) -> Phase
     }
 }
 
-/// Returns the phase after a status with `code` and `state` of a device that was asked to leave.
+/// Returns the phase after a leave request, if GETSTATUS then returned `code` and `state`.
 fn close_polled(work: Work, place: Place, code: Code, state: State) -> Phase
     ensures { result ≡ close_polled work place code state }
 {
@@ -59,7 +59,7 @@ fn close_polled(work: Work, place: Place, code: Code, state: State) -> Phase
     }
 }
 
-/// Returns the phase after GETSTATUS, which asks if the device leaves.
+/// Returns the phase after GETSTATUS, with which the session finds out if the device leaves.
 pub(crate) fn on_close_poll(work: Work, place: Place, heard: &Heard) -> Phase
     ensures { result ≡ on_close_poll work place heard.now }
 {

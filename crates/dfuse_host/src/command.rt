@@ -1,4 +1,4 @@
-//! Commands of DfuSe, and the phases after them.
+//! DfuSe commands, and the phases that follow them.
 
 ghost use Rattle.std.specs.Prelude.{◌≡◌};
 ghost use Rattle.dfuse_host.specs.Commands.{write_command, command_of, end_of_work, phase_after_erase, phase_after_write, phase_after_command, phase_to_clear, work_after_unsure_write, phase_if_unsure};
@@ -10,18 +10,18 @@ use crate::plan::Plan;
 use crate::step::Step;
 use crate::work::Work;
 
-/// Command that a DNLOAD carries.
+/// DfuSe command, which a session sends with a DNLOAD.
 #[derive(Clone, Copy)]
 pub(crate) enum Command {
     /// Set the address pointer.
     SetAddress(u64),
-    /// Erase the page that has the address.
+    /// Erase the page that contains this address.
     ErasePage(u64),
-    /// Write the bytes of the image from this address on, to which the pointer was set.
+    /// Write the bytes of the image from this address on. The pointer must already hold this address.
     Write(u64),
 }
 
-/// Returns the next command to write the bytes at `at`: their write if `place` is At this address, else the setting of the pointer.
+/// Returns the next command for writing the bytes at `at`: `Write` if the pointer was set to `at`, and `SetAddress` otherwise.
 #[tactic(auto, using(std::proofs::lemmas::Bool::Decides::nat_tests))]
 fn command_to_write(place: Place, at: u64) -> Command
     ensures { result ≡ write_command place at }
@@ -32,7 +32,7 @@ fn command_to_write(place: Place, at: u64) -> Command
     }
 }
 
-/// Returns the phase that clears the device, and then goes on with `work`.
+/// Returns the phase that clears the device before `work` goes on.
 pub(crate) fn cleared(work: Work) -> Phase
     ensures { result ≡ phase_to_clear work }
 {
@@ -46,7 +46,7 @@ pub(crate) fn cleared(work: Work) -> Phase
 impl Plan<'_> {
     ghost use Rattle.dfuse_host.specs.declared.work.Work.{Work};
 
-    /// Returns the command of `work` at `place`.
+    /// Returns the command of `work`, which depends on the known address in the pointer.
     pub(crate) fn command_of(&self, work: Work, place: Place) -> Command
         ensures { result ≡ command_of self.now work place }
     {
@@ -59,7 +59,7 @@ impl Plan<'_> {
         }
     }
 
-    /// Returns the address at which `work` ends; 0 for Leave.
+    /// Returns the address at which `work` ends; 0 for `Leave`.
     pub(crate) fn end_of_work(&self, work: Work) -> u64
         ensures { result ≡ end_of_work self.now work }
     {
@@ -71,7 +71,7 @@ impl Plan<'_> {
         }
     }
 
-    /// Returns the phase after the page of `at` was erased for `work`.
+    /// Returns the phase after the page at `at` was erased for `work`.
     fn erased(&self, work: Work, at: u64) -> Phase
         ensures { result ≡ phase_after_erase self.now work at }
     {
@@ -106,7 +106,8 @@ impl Plan<'_> {
         }
     }
 
-    /// Returns the work that repeats a write of `work` that may have stopped halfway; other works stay.
+    /// Returns the work that repeats a write that may have stopped halfway, beginning with an erase of its page. A work that doesn't write
+    /// stays unchanged.
     fn again(&self, work: Work) -> Work
         ensures { result ≡ work_after_unsure_write self.now work }
     {
@@ -123,7 +124,7 @@ impl Plan<'_> {
         }
     }
 
-    /// Returns the phase after `command`, if it may have been started and its end isn't known.
+    /// Returns the phase after a `command` that may have been started and has an unknown outcome.
     pub(crate) fn phase_when_unsure(&self, work: Work, command: Command) -> Phase
         ensures { result ≡ phase_if_unsure self.now work command }
     {

@@ -1,4 +1,4 @@
-//! Bytes of an image, by their addresses.
+//! Bytes of an image and their addresses.
 
 ghost use Rattle.std.specs.Prelude.{◌≡◌, ◌≤◌, ◌<◌, ◌+◌, ◌^◌, length, IfSome};
 ghost use Rattle.dfuse_host.specs.Images.{end_of, element_holds, element_at, next_byte, image_start, image_end};
@@ -8,7 +8,7 @@ use dfu_formats::dfuse::Element;
 /// Returns the address after the last byte of `element`.
 pub(crate) fn end_of(element: &Element<'_>) -> u64
     ensures value { result ≡ end_of element.now }
-    ensures fits { result < 2 ^ 63 + 2 ^ 32 }
+    ensures in_64_bits { result < 2 ^ 63 + 2 ^ 32 }
 {
     element.address as u64 + element.bytes.len() as u64
 }
@@ -20,7 +20,7 @@ fn holds(at: u64, element: &Element<'_>) -> bool
     element.address as u64 <= at && at < end_of(element)
 }
 
-/// Returns the first element of `image` that has a byte at address `at`; None if none has.
+/// Returns the first element of `image` that has a byte at address `at`, or None if there is none.
 #[tactic(auto, unfolding(crate::specs::Images::element_at))]
 pub(crate) fn element_at<'f>(at: u64, image: &[Element<'f>]) -> Option<Element<'f>>
     ensures value { result ≡ element_at at image.now }
@@ -34,7 +34,8 @@ pub(crate) fn element_at<'f>(at: u64, image: &[Element<'f>]) -> Option<Element<'
     None
 }
 
-/// Returns the first address from `at` on at which `image`, whose elements ascend and have bytes, has a byte; None if there is none.
+/// Returns the first address from `at` on at which `image` has a byte, or None if there is none. The elements must ascend, and none may be
+/// empty.
 #[tactic(auto, unfolding(crate::specs::Images::next_byte))]
 pub(crate) fn next_byte(at: u64, image: &[Element<'_>]) -> Option<u64>
     ensures { result ≡ next_byte at image.now }
@@ -51,7 +52,7 @@ pub(crate) fn next_byte(at: u64, image: &[Element<'_>]) -> Option<u64>
 #[tactic(auto, unfolding(crate::specs::Images::image_start))]
 pub(crate) fn image_start(image: &[Element<'_>]) -> u64
     ensures value { result ≡ image_start image.now }
-    ensures fits { result < 2 ^ 32 }
+    ensures in_32_bits { result < 2 ^ 32 }
 {
     if image.len() == 0 {
         return 0;

@@ -5,10 +5,10 @@ use crate::report::Report;
 use crate::step::Step;
 use crate::work::Work;
 
-/// A work of a session, its knowledge of the address pointer, and its next step.
+/// Standing of a session: its work, its knowledge of the address pointer, and its next step.
 #[derive(Clone, Copy)]
 pub struct Standing {
-    /// Work under way.
+    /// Work that the session is doing.
     pub work: Work,
     /// Knowledge of the device's address pointer.
     pub place: Place,
@@ -16,11 +16,11 @@ pub struct Standing {
     pub step: Step,
 }
 
-/// A phase of a session.
+/// Phase of a session: it goes on, or it is over.
 #[derive(Clone, Copy)]
 pub enum Phase {
-    /// The session goes on.
+    /// The session goes on from this standing.
     On(Standing),
-    /// The session is over.
+    /// The session is over with this report.
     Over(Report),
 }

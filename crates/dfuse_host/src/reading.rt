@@ -1,4 +1,4 @@
-//! Reading the image back.
+//! Reading the image back with UPLOAD.
 
 ghost use Rattle.std.specs.Prelude.{◌≡◌};
 ghost use Rattle.dfuse_host.specs.Table.{place_with_reading_begun, place_with_reading_ended, place_after_reading_abort, on_reading_abort, read_on, on_read};
@@ -13,7 +13,7 @@ use crate::settling::stand;
 use crate::step::Step;
 use crate::work::Work;
 
-/// Returns the place after `place` once the device went to dfuIDLE, from which bytes can be read.
+/// Returns `place` after the device went to dfuIDLE for reading.
 fn begun(place: Place) -> Place
     ensures { result ≡ place_with_reading_begun place }
 {
@@ -23,7 +23,7 @@ fn begun(place: Place) -> Place
     }
 }
 
-/// Returns the place after `place` once the device left dfuUPLOAD-IDLE.
+/// Returns `place` after the device left dfuUPLOAD-IDLE.
 fn place_after_reading(place: Place) -> Place
     ensures { result ≡ place_with_reading_ended place }
 {
@@ -33,7 +33,7 @@ fn place_after_reading(place: Place) -> Place
     }
 }
 
-/// Returns the place after `step`: an ABORT that begins or ends reading keeps the pointer's address, and other steps change nothing.
+/// Returns `place` after `step`. An ABORT that begins or ends reading leaves the pointer at its address, and other steps change nothing.
 fn place_after_step(step: Step, place: Place) -> Place
     ensures { result ≡ place_after_reading_abort step place }
 {
@@ -47,7 +47,7 @@ fn place_after_step(step: Step, place: Place) -> Place
 impl Plan<'_> {
     ghost use Rattle.dfuse_host.specs.declared.work.Work.{Work};
 
-    /// Returns the phase after an ABORT that begins reading or ends it, according to `step`.
+    /// Returns the phase after the ABORT of `step`, which begins or ends reading.
     pub(crate) fn on_reading_abort(
         &self,
         work: Work,
@@ -64,7 +64,7 @@ impl Plan<'_> {
         }
     }
 
-    /// Returns `work` once its next bytes were read back: a comparison goes on behind them, and other works stay.
+    /// Returns `work` after its next bytes were read back. A comparison goes on after these bytes, and other works stay unchanged.
     fn read_on(&self, work: Work) -> Work
         ensures { result ≡ read_on self.now work }
     {

@@ -1,4 +1,4 @@
-//! Refusals of a plan.
+//! Checks of a plan. A session refuses a plan that fails one of them.
 
 ghost use Rattle.std.specs.Prelude.{◌≡◌, ◌↔◌, IsTrue, IfErr, OnOk};
 ghost use Rattle.dfu_formats.specs.dfuse.Images.{ascends_from};
@@ -10,7 +10,7 @@ use crate::plan::Plan;
 use dfu_formats::dfuse::Element;
 use dfu_formats::memory::Access;
 
-/// Returns true if `image` has no element, or an element without bytes.
+/// Returns true if `image` has no element, or if one of its elements has no bytes.
 #[tactic(auto, using(std::proofs::lemmas::Bool::Decides::nat_tests))]
 fn is_empty(image: &[Element<'_>]) -> bool
     ensures { result ≡ is_empty image.now }
@@ -31,7 +31,7 @@ fn has_empty(image: &[Element<'_>]) -> bool
     false
 }
 
-/// Returns true if no element of `image` begins before the one in front of it begins.
+/// Returns true if no element of `image` begins before the previous one begins.
 #[tactic(auto, using(std::proofs::lemmas::Bool::Decides::nat_tests))]
 fn ascends(image: &[Element<'_>]) -> bool
     ensures { result ≡ ascends_from 0 image.now }
@@ -46,7 +46,7 @@ fn ascends(image: &[Element<'_>]) -> bool
     true
 }
 
-/// Returns true if no element of `image` begins before the one in front of it ends.
+/// Returns true if no element of `image` begins before the previous one ends.
 #[tactic(auto, using(std::proofs::lemmas::Bool::Decides::nat_tests))]
 fn are_apart(image: &[Element<'_>]) -> bool
     ensures { result ≡ apart_from 0 image.now }
@@ -62,7 +62,7 @@ fn are_apart(image: &[Element<'_>]) -> bool
 }
 
 impl Plan<'_> {
-    /// Returns true if the pages of the image grant the access `wanted`.
+    /// Returns true if each page of the image grants the access `wanted`.
     fn grants(&self, wanted: Access) -> bool
         ensures { IsTrue result ↔ PlanGrants self.now wanted }
     {
@@ -77,7 +77,7 @@ impl Plan<'_> {
         true
     }
 
-    /// Checks the plan, and returns its first fault, if it has one.
+    /// Returns the plan's first fault as an error, in the order of `PlanFault`.
     pub(crate) fn check(&self) -> Result<(), PlanFault>
         ensures sound { OnOk result (IsSoundPlan self.now) }
         ensures fault { IfErr result (FirstPlanFault self.now) }

@@ -1,4 +1,4 @@
-//! The table of a session.
+//! The table of a session: the next phase for each step and result.
 
 ghost use Rattle.std.specs.Prelude.{◌≡◌};
 ghost use Rattle.dfuse_host.specs.Table.{row};
@@ -15,7 +15,7 @@ use crate::step::Step;
 use crate::work::Work;
 
 impl Plan<'_> {
-    /// Returns the phase after the result `heard` in `work`, `place` and `step`.
+    /// Returns the phase after the result `heard` at `step` of `work`, where `place` is the session's knowledge of the address pointer.
     pub(crate) fn row(&self, work: Work, place: Place, step: Step, heard: &Heard) -> Phase
         ensures { result ≡ row self.now work place step heard.now }
     {

@@ -1,4 +1,4 @@
-//! Commands: a DNLOAD brings the command, and the GETSTATUS after it starts the command.
+//! Commands: a DNLOAD carries the command, and the next GETSTATUS starts it.
 
 ghost use Rattle.std.specs.Prelude.{◌≡◌};
 ghost use Rattle.dfuse_host.specs.Commands.{command_of, phase_if_unsure};
@@ -36,7 +36,7 @@ pub(crate) fn on_poll_wait(work: Work, place: Place, ms: u32, heard: &Heard) -> 
     }
 }
 
-/// Returns the milliseconds to wait after a stalled GETSTATUS: as many as at the last wait for the command, or 100 if these are 0.
+/// Returns the milliseconds to wait after a stalled GETSTATUS: the length of the last wait for the command, or 100 before any wait.
 #[tactic(auto, using(std::proofs::lemmas::Bool::Decides::nat_tests))]
 fn stalled_ms(last: u32) -> u32
     ensures { result ≡ stalled_ms last }
@@ -45,14 +45,14 @@ fn stalled_ms(last: u32) -> u32
 }
 
 impl Plan<'_> {
-    /// Returns the phase after the command of `work` at `place`, if it may have been started and its end isn't known.
+    /// Returns the phase after the command of `work`, if the command may have been started and has an unknown outcome.
     fn on_unsure_command(&self, work: Work, place: Place) -> Phase
         ensures { result ≡ phase_if_unsure self.now work (command_of self.now work place) }
     {
         self.phase_when_unsure(work, self.command_of(work, place))
     }
 
-    /// Returns the phase after `state` of a device that didn't acknowledge a command.
+    /// Returns the phase after an unacknowledged command, if GETSTATE then returned `state`.
     fn probed(&self, work: Work, place: Place, state: State) -> Phase
         ensures { result ≡ probed self.now work place state }
     {
@@ -64,7 +64,7 @@ impl Plan<'_> {
         }
     }
 
-    /// Returns the phase after GETSTATE, which asks if a command arrived.
+    /// Returns the phase after GETSTATE, with which the session finds out if a command arrived.
     pub(crate) fn on_probe(&self, work: Work, place: Place, heard: &Heard) -> Phase
         ensures { result ≡ on_probe self.now work place heard.now }
     {
@@ -86,7 +86,7 @@ impl Plan<'_> {
         }
     }
 
-    /// Returns the phase after `status`, asked for after a command.
+    /// Returns the phase after the `status` that follows a command.
     fn on_polled_status(&self, work: Work, place: Place, status: &Status) -> Phase
         ensures { result ≡ phase_after_poll self.now work place status.now.code status.now.poll_ms status.now.state }
     {
@@ -100,7 +100,7 @@ impl Plan<'_> {
         }
     }
 
-    /// Returns the phase after GETSTATUS, which starts a command, or asks if it is done.
+    /// Returns the phase after GETSTATUS, with which the session starts a command or checks if it is done.
     pub(crate) fn on_poll(&self, work: Work, place: Place, last: u32, heard: &Heard) -> Phase
         ensures { result ≡ on_poll self.now work place last heard.now }
     {

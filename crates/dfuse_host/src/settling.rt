@@ -1,4 +1,4 @@
-//! Order of works: the next work once the device is ready for a command.
+//! Order of the works: the next work when the device is ready for a command.
 
 ghost use Rattle.std.specs.Prelude.{◌≡◌};
 ghost use Rattle.dfuse_host.specs.Settling.{address_if_before, byte_in, can_read, comparing_step, sending_step, settled_phase, phase_when_compared, phase_to_set_start, to_leave, to_compare_front, to_write_front, to_compare, to_write, to_erase};
@@ -18,7 +18,7 @@ pub(crate) fn stand(work: Work, place: Place, step: Step) -> Phase
     Phase::On(Standing { work, place, step })
 }
 
-/// Returns the next step from `place` towards a command.
+/// Returns the next step on the way to a command: `EndReading` if the session is reading, and `Send` otherwise.
 fn sending(place: Place) -> Step
     ensures { result ≡ sending_step place }
 {
@@ -29,7 +29,7 @@ fn sending(place: Place) -> Step
 }
 
 impl Plan<'_> {
-    /// Returns the address of the image's next byte from `at` on, if it is before `end`; else None.
+    /// Returns the address of the image's next byte from `at` on, or None if it isn't below `end`.
     #[tactic(auto, using(std::proofs::lemmas::Bool::Decides::nat_tests), unfolding(crate::specs::Settling::byte_in))]
     fn byte_in(&self, at: u64, end: u64) -> Option<u64>
         ensures { result ≡ byte_in self.now at end }
@@ -40,7 +40,8 @@ impl Plan<'_> {
         }
     }
 
-    /// Returns true if an UPLOAD block begins at `at`, in the same element, with the pointer set to `base`.
+    /// Returns true if an UPLOAD block with a number of at most 65,535 begins at `at` when the pointer is set to `base`, and both addresses
+    /// are in the same element.
     #[tactic(auto, using(std::proofs::lemmas::Bool::Decides::nat_tests), unfolding(crate::specs::Settling::can_read))]
     fn can_read(&self, base: u64, at: u64) -> bool
         ensures { result ≡ can_read self.now base at }
@@ -59,7 +60,8 @@ impl Plan<'_> {
         }
     }
 
-    /// Returns the next step from `place` towards reading back the bytes at `at`.
+    /// Returns the next step on the way to an UPLOAD of the bytes at `at`: the pointer must be set to a suitable address, and the device
+    /// must be ready for reading.
     #[tactic(auto, using(std::proofs::lemmas::Bool::Decides::nat_tests))]
     fn read_step(&self, at: u64, place: Place) -> Step
         ensures { result ≡ comparing_step self.now at place }
@@ -123,7 +125,7 @@ impl Plan<'_> {
         }
     }
 
-    /// Returns the phase that writes the image from `at` to before `end`.
+    /// Returns the phase that writes the image from `at` up to `end`.
     #[tactic(auto, unfolding(crate::specs::Settling::to_write))]
     pub(crate) fn to_write(&self, place: Place, at: u64, end: u64) -> Phase
         ensures { result ≡ to_write self.now place at end }
@@ -134,7 +136,7 @@ impl Plan<'_> {
         }
     }
 
-    /// Returns the phase that erases pages from `at` on.
+    /// Returns the phase that erases the pages of the image from `at` on.
     #[tactic(auto, unfolding(crate::specs::Settling::to_erase))]
     pub(crate) fn to_erase(&self, place: Place, at: u64) -> Phase
         ensures { result ≡ to_erase self.now place at }
@@ -145,7 +147,7 @@ impl Plan<'_> {
         }
     }
 
-    /// Returns the next phase of `work` once the device is ready for a command.
+    /// Returns the next phase of `work` when the device is ready for a command.
     #[tactic(auto, unfolding(crate::specs::Settling::settled_phase))]
     pub(crate) fn settle(&self, work: Work, place: Place) -> Phase
         ensures { result ≡ settled_phase self.now work place }

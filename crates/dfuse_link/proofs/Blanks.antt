@@ -1,4 +1,4 @@
--- A blank byte stays blank, unless bytes are written at its address.
+-- A blank byte stays blank unless a device writes bytes at its address.
 use Rattle.std.proofs.Common.{◌≡◌, ℕ, ◌⊎◌, inl, inr, true, List, Option, sym, subst}
 use Rattle.dfu_wire.specs.declared.states.State.{State}
 use Rattle.dfu_wire.specs.declared.states.State.TheVariants as state
@@ -18,30 +18,28 @@ use Rattle.dfuse_link.specs.Histories.{RequestArrives, never, again, RequestUnde
 use Rattle.dfuse_link.proofs.Changes.{OrderMayChange, byte_stays_if_safe, stall_keeps_fact, started_order_keeps_fact, told_status_keeps_fact}
 use Rattle.dfuse_link.proofs.Claims.{IsQuiet, DeviceFitsStep, DeviceFitsPhase}
 use Rattle.dfuse_link.proofs.SentClaims.{DeedArrives}
-use Rattle.dfuse_link.proofs.Staying.{HoldsInPhase}
+use Rattle.dfuse_link.proofs.UnchangedBytes.{HoldsInPhase}
 use Rattle.dfuse_link.proofs.Pairs.{DeviceAndSession, IsTurnOfBoth}
 
--- The order writes nothing at the address `a`: it erases, or may not change the byte.
+-- The order is an erase, or it may not change the byte at the address `a`.
 abbrev pub OrderWritesNothingAt : Chip → (a : ℕ) → Order → Type 0
 OrderWritesNothingAt chip a (ErasesPage at) = Unit {0}
 OrderWritesNothingAt chip a order = OrderMayChange chip order a → ⊥
 
--- The work of a device writes nothing at the address `a`.
+-- The order of the device's work, if there is one, writes nothing at the address `a`.
 abbrev pub WorkWritesNothingAt : Chip → (a : ℕ) → DeviceWork → Type 0
 WorkWritesNothingAt chip a (RestsInState s) = Unit {0}
 WorkWritesNothingAt chip a (Pending order) = OrderWritesNothingAt chip a order
 WorkWritesNothingAt chip a (CarriesOut order) = OrderWritesNothingAt chip a order
 
--- The request brings no order that writes at the address `a`.
+-- The request gives the device no order that writes at the address `a`.
 abbrev pub RequestWritesNothingAt : Chip → (a : ℕ) → Request → List ℕ → (pointer : ℕ) → Type 0
 RequestWritesNothingAt chip a (request.Dnload block n) body pointer = OrderWritesNothingAt chip a (order_of chip pointer block body)
 RequestWritesNothingAt chip a q body pointer = Unit {0}
 
 -- The byte at `a` is blank, and the work of the device writes nothing there.
 pub record StaysBlankAt (chip : Chip) (a : ℕ) (d : Device) : Type 0 where
-  -- The byte is blank.
   pub blank : chip.blank (d.memory a) ≡ true
-  -- The work writes nothing there.
   pub work_writes_nothing : WorkWritesNothingAt chip a d.device_work
 
 pub quiet_work_writes_nothing : (chip : Chip) (a : ℕ) (device_work : DeviceWork) → IsQuiet device_work →
@@ -86,7 +84,7 @@ module _ (chip : Chip) (a : ℕ) where
     work_writes_nothing = subst (WorkWritesNothingAt chip a) (sym e') tt;
   }
 
-  -- A restart of the device leaves a blank byte blank.
+  -- A blank byte stays blank when the device restarts, if the device's work writes nothing at the byte's address.
   pub restart_keeps_blank : (d d' : Device) (s : State) → d'.device_work ≡ RestsInState s →
       ChangedBy chip d.device_work d.memory d'.memory →
       StaysBlankAt chip a d → StaysBlankAt chip a d'
@@ -94,8 +92,6 @@ module _ (chip : Chip) (a : ℕ) where
     blank = changed_byte_stays_blank d.device_work d.memory d'.memory k.work_writes_nothing changed k.blank;
     work_writes_nothing = subst (WorkWritesNothingAt chip a) (sym rests) tt;
   }
-
-  -- Requests that reach a device.
 
   started_order_writes_nothing : (device_work : DeviceWork) → WorkWritesNothingAt chip a device_work →
       WorkWritesNothingAt chip a (work_with_order_started device_work)
@@ -160,9 +156,7 @@ module _ (chip : Chip) (a : ℕ) where
       let m = arriving_request_keeps_blank q body d before mid first new k in
       reaction_keeps_blank mid q body reaction d' last m.1 m.0
 
-  -- Turns of a device and its session.
-
-  -- The request of an action brings no order that writes at the address `a`.
+  -- The request that a session sends gives the device no order that writes at the address `a`.
   abbrev pub DeedWritesNothingAt : DfuseDeed → (pointer : ℕ) → Type 0
   DeedWritesNothingAt (Send q body) pointer = RequestWritesNothingAt chip a q body pointer
   DeedWritesNothingAt (Wait ms) pointer = Unit {0}
@@ -191,7 +185,8 @@ module _ (chip : Chip) (a : ℕ) where
     request_under_way_keeps_blank d mid (request {reaction = reaction} asked body is comes) q k h =
         phase_request_keeps_blank s.phase d reaction mid q k (subst (λ (x : DfuseDeed). DeedArrives chip x d reaction mid) (sym is) comes) h
 
-  -- A blank byte stays blank in a turn, if no action of the session, at a work of which `Q` holds, writes there.
+  -- Suppose that `Q` holds for the session's work, and that no request of a work for which `Q` holds writes at the address `a`. Then a turn
+  -- leaves a blank byte at `a` blank.
   pub turn_keeps_blank : (Q : Work → Type 0) (l l' : DeviceAndSession) → ((w : Work) (p : Place) (at : Step) (d : Device) → Q w →
       DeviceFitsStep chip l.session.plan w p at d → DeedWritesNothingAt (deed_of_step l.session.plan w p at) d.pointer) → (x : Seen) →
       IsTurnOfBoth chip l x l' →

@@ -1,4 +1,4 @@
--- Ends of blocks, and places at which a block can be read.
+-- Ends of blocks, and addresses from which a block can be read.
 use Rattle.std.proofs.Common.{◌≡◌, ℕ, ◌-◌, ◌/◌, ◌%◌, ◌<◌, ◌≤◌, max, Bool, true, false, eqb, leb, Option, Some, None, ap, refl, ◌∙◌, arith}
 use Rattle.std.proofs.lemmas.Bool.Decides.{nat_tests}
 use Rattle.std.proofs.lemmas.Bool.{and_from, le-leb, eq-eqb}
@@ -27,7 +27,7 @@ element_begins_by_address : (plan : Plan) (a : ℕ) (e : Element) → element_at
 element_begins_by_address plan a e is low =
     ap (λ (o : Option Element). elim o as (λ _. Bool) [ None ↦ false | Some x ↦ leb x.address a ]) is ∙ le-leb e.address a low
 
--- A byte of the image can be read if the pointer is set to its own address.
+-- If the pointer is set to the address of a byte of the image, this byte can be read.
 pub pointer_address_can_be_read : (plan : Plan) (a : ℕ) → HasByte a plan.image.now → can_read plan a a ≡ true
 unfolding can_read
 pointer_address_can_be_read plan a b =
@@ -44,12 +44,12 @@ pointer_address_can_be_read plan a b =
     and_from _ _ (le-leb a a (omega arith)) (and_from _ _ whole (and_from _ _ first (element_begins_by_address plan a h.element h.is
     h.low)))
 
--- A block that is read from a byte of the image before `end` ends after this byte.
+-- A block that is read from a byte before `end` ends after this byte.
 pub read_ends_after_byte : (plan : Plan) (a end : ℕ) → HasByte a plan.image.now → a < end → a < read_end plan a end
 unfolding read_end
 read_ends_after_byte plan a end b less = omega (arith, element_ends_after_byte plan a b, less)
 
--- A block that is written from a byte of the image before `end` ends after this byte, if the byte lies before the end of its page.
+-- A block that is written from a byte before `end` ends after this byte, if the byte lies before the end of its page.
 pub write_ends_after_byte : (plan : Plan) (a end : ℕ) → HasByte a plan.image.now → a < end → a < page_end plan a → a < write_end plan a end
 unfolding write_end
 write_ends_after_byte plan a end b less page = omega (arith, element_ends_after_byte plan a b, less, page)

@@ -1,4 +1,4 @@
--- The byte of an image at an address.
+-- Facts about the byte of an image at an address.
 use Rattle.std.proofs.Common.{◌≡◌, ℕ, suc, ◌+◌, ◌-◌, ◌<◌, ◌≤◌, ◌^◌, ◌⊎◌, inl, inr, Bool, true, false, cond, leb, List, [], ◌∷◌, get_or, take, drop, Option, Some, None, refl, sym, ap, ◌∙◌, subst, arith}
 use Rattle.std.specs.List.{All, AllByRecursion}
 use Rattle.std.proofs.lemmas.Bool.{leb-true, and_parts}
@@ -16,16 +16,16 @@ use Rattle.dfuse_host.specs.ReadBack.{HasByte}
 use Rattle.dfuse_link.specs.Reactions.{BytesInMemoryAt}
 use Rattle.dfuse_link.proofs.OnPages.{range_at_cons}
 
--- The byte of an element at the address `a`, or 0 if there is no element.
+-- Byte of an element at the address `a`, or 0 if there is no element.
 abbrev pub byte_of_element_at : (a : ℕ) → Option Element → ℕ
 byte_of_element_at a None = 0
 byte_of_element_at a (Some e) = get_or e.bytes.now (a - e.address) 0
 
--- The byte of an image at the address `a`.
+-- Byte of an image at the address `a`, or 0 if no element contains the address.
 abbrev pub byte_at : (a : ℕ) → List Element → ℕ
 byte_at a es = byte_of_element_at a (element_at a es)
 
--- The element at an address is the first one if it holds the address, and else one of the others.
+-- The element at an address is the first element if it contains the address, and is among the later elements otherwise.
 pub element_at_cons : (at : ℕ) (e : Element) (es : List Element)
     → element_at at (e ∷ es) ≡ cond (element_holds at e) (Some e) (element_at at es)
 unfolding element_at
@@ -44,7 +44,7 @@ held_address_is_within a e h = grind (arith, nat_tests)
 element_ends_before_address : (a : ℕ) (e : Element) → end_of e ≤ a → element_holds a e ≡ false
 element_ends_before_address a e h = grind (arith, nat_tests)
 
--- An element that is found is the first one, or is found among the others.
+-- The element found at an address is the first element, which then contains the address, or it is found among the later elements.
 element_first_or_rest_by_test : (at : ℕ) (x e : Element) (xs : List Element) (t : Bool) → element_holds at x ≡ t →
     cond t (Some x) (element_at at xs) ≡ Some e →
     ((x ≡ e) × (element_holds at x ≡ true)) ⊎ (element_at at xs ≡ Some e)
@@ -56,7 +56,7 @@ pub element_first_or_among_rest : (at : ℕ) (x e : Element) (xs : List Element)
 element_first_or_among_rest at x e xs h = element_first_or_rest_by_test at x e xs (element_holds at x) refl (sym (element_at_cons at x xs)
     ∙ h)
 
--- An element that is found has the address, and begins at `from` or later if the elements do.
+-- An element that is found contains the address, and begins at `from` or later if all elements do.
 pub found_element_has_address : (at from : ℕ) (e : Element) (es : List Element) → apart_from from es ≡ true → element_at at es ≡ Some e →
     (from ≤ e.address) × (e.address ≤ at) × (at < end_of e)
 found_element_has_address at from e [] apart h = absurd (no_element_in_empty_image at e h)
@@ -77,7 +77,8 @@ element_at_passes_first : (at : ℕ) (x : Element) (xs : List Element) → eleme
     ≡ element_at at xs
 element_at_passes_first at x xs h = element_at_cons at x xs ∙ ap (λ (t : Bool). cond t (Some x) (element_at at xs)) h
 
--- A later address of the element that is found has the same element, if the elements ascend and don't overlap.
+-- If an element contains the address `at`, it is also found at each later address that it contains, provided the elements ascend and don't
+-- overlap.
 pub later_address_same_element : (at a from : ℕ) (e : Element) (es : List Element) → apart_from from es ≡ true → element_at at es
     ≡ Some e → at ≤ a →
     a < end_of e → element_at a es ≡ Some e
@@ -96,7 +97,7 @@ later_address_same_element at a from e (x ∷ xs) apart h low high =
           ∙ later_address_same_element at a (end_of x) e xs both.1 w low high
     ]
 
--- No byte of the image lies before the address from which its elements are apart.
+-- No byte of the image has an address below `from` if all elements begin at `from` or later.
 pub image_byte_not_before_start : (from a : ℕ) (es : List Element) → apart_from from es ≡ true → HasByte a es → from ≤ a
 image_byte_not_before_start from a [] h b = absurd b
 image_byte_not_before_start from a (e ∷ es) h b =
@@ -104,7 +105,7 @@ image_byte_not_before_start from a (e ∷ es) h b =
     let first = leb-true from e.address both.0 in
     elim b [ inl w ↦ omega (arith, first, w.0) | inr w ↦ omega (arith, first, image_byte_not_before_start (end_of e) a es both.1 w) ]
 
--- The byte at `a` is the same in a part of the element from `at` on and in the whole element.
+-- The part of an element from `at` up to `end` has the same byte at the address `a` as the whole element.
 pub part_has_same_byte : (e : Element) (at a end : ℕ) → e.address ≤ at → at ≤ a → a < end →
     get_or (take (end - at) (drop (at - e.address) e.bytes.now)) (a - at) 0 ≡ get_or e.bytes.now (a - e.address) 0
 part_has_same_byte e at a end low from to =
@@ -114,7 +115,7 @@ part_has_same_byte e at a end low from to =
     ∙ get_or-drop (at - e.address) e.bytes.now (a - at) 0
     ∙ ap (λ (n : ℕ). get_or e.bytes.now n 0) sum
 
--- An image is in the memory if each of its bytes is.
+-- If a memory holds each byte of an image at the byte's address, it holds all bytes of each element.
 
 first_element_is_in_memory : (memory : ℕ → ℕ) (e : Element) (es : List Element) →
     ((a : ℕ) → HasByte a (e ∷ es) → memory a ≡ byte_at a (e ∷ es)) → BytesInMemoryAt memory e.address e.bytes.now
@@ -136,8 +137,6 @@ all_elements_are_in_memory memory from (e ∷ es) apart h =
           (λ a b. h a (inr b) ∙ ap (byte_of_element_at a) (element_at_passes_first a e es (element_ends_before_address a e
           (image_byte_not_before_start (end_of e) a es both.1 b)))),
     )
-
--- Each byte of an image has an address below 2^32.
 
 no_range_grants_nothing : (wanted : Access) (a : ℕ) → IsGranted wanted (range_at a []) → ⊥
 unfolding range_at

@@ -1,4 +1,4 @@
--- Bytes that an order may change, and facts that a stall, a started order or a status keeps.
+-- Bytes that an order may change, and facts that remain true after a stall, a started order or a status.
 use Rattle.std.proofs.Common.{◌≡◌, ◌⊎◌, inl, inr, ℕ, ◌+◌, ◌<◌, ◌≤◌, true, sym, subst}
 use Rattle.dfu_wire.specs.declared.states.State.{State}
 use Rattle.dfu_wire.specs.declared.states.State.TheVariants as state
@@ -12,13 +12,13 @@ OrderMayChange chip (ErasesPage at) a = chip.erases at a ≡ true
 OrderMayChange chip (WritesByteRange at count) a = (at ≤ a) × (a < at + count)
 OrderMayChange chip Other a = Unit {0}
 
--- No order that the device carries out may change the byte at `a`; an order that isn't started may.
+-- No order that the device carries out may change the byte at `a`. An order that isn't started may change it.
 abbrev pub IsSafeBeforeStart : Chip → (a : ℕ) → DeviceWork → Type 0
 IsSafeBeforeStart chip a (RestsInState s) = Unit {0}
 IsSafeBeforeStart chip a (Pending order) = Unit {0}
 IsSafeBeforeStart chip a (CarriesOut order) = OrderMayChange chip order a → ⊥
 
--- A byte that no running order may change stays as it is.
+-- A byte stays unchanged if no order that is carried out may change it.
 pub byte_stays_if_safe : (chip : Chip) (a : ℕ) (device_work : DeviceWork) (memory memory' : ℕ → ℕ) →
     ChangedBy chip device_work memory memory' →
     IsSafeBeforeStart chip a device_work → memory' a ≡ memory a
@@ -29,14 +29,15 @@ byte_stays_if_safe chip a (CarriesOut (ErasesPage at)) memory memory' changed no
 byte_stays_if_safe chip a (CarriesOut (WritesByteRange at count)) memory memory' changed now = changed a now
 byte_stays_if_safe chip a (CarriesOut Other) memory memory' changed now = absurd (now tt)
 
--- A fact of the work before a stall, and of dfuERROR, is one of the work after the stall.
+-- A fact about a device's work stays true after a stall, if it also holds in dfuERROR.
 pub stall_keeps_fact : (P : DeviceWork → Type 0) (before device_work : DeviceWork) → (device_work ≡ before) ⊎ (device_work
     ≡ RestsInState state.Error) → P before →
     P (RestsInState state.Error) → P device_work
 stall_keeps_fact P before device_work (inl e) same error = subst P (sym e) same
 stall_keeps_fact P before device_work (inr e) same error = subst P (sym e) error
 
--- A fact of an order that isn't started is kept when the order is started, if it passes to the order that is carried out.
+-- A fact about a device's work stays true when its order is started, if it holds for the started order whenever it holds for the pending
+-- one.
 pub started_order_keeps_fact : (P : DeviceWork → Type 0) → ((order : Order) → P (Pending order) → P (CarriesOut order)) →
     (device_work : DeviceWork)
     → P device_work →
@@ -45,7 +46,7 @@ started_order_keeps_fact P sets (RestsInState s) h = h
 started_order_keeps_fact P sets (Pending order) h = sets order h
 started_order_keeps_fact P sets (CarriesOut order) h = h
 
--- A fact of a device at rest in any state is kept when it reports its status.
+-- A fact stays true when the device reports its status, if it holds for a device at rest regardless of the state.
 pub told_status_keeps_fact : (P : DeviceWork → Type 0) → ((s t : State) → P (RestsInState s) → P (RestsInState t)) →
     (device_work : DeviceWork) → P device_work
     → P (work_after_status device_work)

@@ -1,4 +1,4 @@
--- Number of requests and waits of leaving, in a clean run.
+-- Number of results that leaving takes in a clean run, and number of those that end a wait.
 use Rattle.std.proofs.Common.{◌≡◌, ℕ, suc, ◌+◌, ◌*◌, Bool, true, false, cond, eqb, Option, Some, None, refl, ap, ◌∙◌, subst, arith}
 use Rattle.std.proofs.lemmas.Bool.{eq-eqb}
 use Rattle.dfuse_host.specs.declared.plan.Plan.{Plan}
@@ -12,7 +12,7 @@ use Rattle.dfuse_host.specs.declared.report.Leaving.TheVariants as leaving
 use Rattle.dfuse_host.specs.declared.report.Report.TheVariants.{Verified}
 use Rattle.dfuse_host.specs.Settling.{phase_with_step, settled_phase, phase_to_set_start, phase_when_compared, to_leave}
 use Rattle.dfuse_link.specs.Counts.{start_pointer_sets}
-use Rattle.dfuse_link.proofs.Lasting.{CleanRunLasts, lasts_by_equal_counts, lasts_from_equal_phase, over_phase_lasts_none}
+use Rattle.dfuse_link.proofs.CleanRunCounts.{CleanRunLasts, lasts_by_equal_counts, lasts_from_equal_phase, over_phase_lasts_none}
 use Rattle.dfuse_link.proofs.CleanSteps.{end_reading_lasts_one_more, close_lasts_two_more, command_lasts_four_more}
 use Rattle.dfuse_link.proofs.CleanWriting.{place_of_pointer, owed_abort_count}
 
@@ -28,11 +28,11 @@ settled_leave_work : (plan : Plan) (p : Place) → settled_phase plan work.Leave
 unfolding settled_phase
 settled_leave_work plan p = refl
 
--- Number of requests to leave, without the ABORT that is owed.
+-- Number of results of leaving, after the reading has ended: four for setting the pointer, if it must be set, and two for leaving.
 abbrev pub leave_request_count : Plan → Option ℕ → Bool → ℕ
 leave_request_count plan last t = cond t (4 * start_pointer_sets plan last + 2) 0
 
--- Number of waits to leave.
+-- Number of results of leaving that end a wait: one if the pointer must be set, and none otherwise.
 abbrev pub leave_wait_count : Plan → Option ℕ → Bool → ℕ
 leave_wait_count plan last t = cond t (start_pointer_sets plan last) 0
 
@@ -54,7 +54,7 @@ module _ (plan : Plan) (leaves : plan.leaves ≡ true) where
       (lasts_by_equal_counts plan _ (suc (suc 0)) 2 0 0 (omega arith) refl (close_lasts_two_more plan work.Leave (place.At p) 0 0
       left_session_is_over))
 
-  -- From a step that sets the pointer to the start of the application, a clean run takes six requests and a wait.
+  -- Setting the pointer to the start of the application and leaving take six results, one of which ends a wait.
   pointer_to_start_lasts : (p : Place) → CleanRunLasts plan (phase_with_step work.Leave p step.Send) (4 + 2) (1 + 0)
   pointer_to_start_lasts p =
       command_lasts_four_more plan work.Leave p 2 0

@@ -1,4 +1,4 @@
--- Number of requests and waits of reading back, in a clean run.
+-- Number of results that reading back takes in a clean run, and number of those that end a wait.
 use Rattle.std.proofs.Common.{◌≡◌, ℕ, suc, ◌+◌, ◌*◌, ◌≤◌, Bool, true, false, cond, eqb, Option, Some, None, refl, sym, ap, ◌∙◌, subst, arith}
 use Rattle.std.proofs.lemmas.Bool.{eqb-true, eq-eqb}
 use Rattle.dfuse_host.specs.declared.plan.Plan.{Plan}
@@ -17,27 +17,28 @@ use Rattle.dfuse_host.specs.Table.{read_on}
 use Rattle.dfuse_host.proofs.ForCallers.{set_address}
 use Rattle.dfuse_link.specs.Counts as counts
 use Rattle.dfuse_link.specs.Counts.{reaches, BlocksRead, no_read, pointer_set_anew}
-use Rattle.dfuse_link.proofs.Lasting.{CleanRunLasts, lasts_by_equal_counts, lasts_from_equal_phase}
+use Rattle.dfuse_link.proofs.CleanRunCounts.{CleanRunLasts, lasts_by_equal_counts, lasts_from_equal_phase}
 use Rattle.dfuse_link.proofs.CleanSteps.{command_lasts_four_more, begin_reading_lasts_one_more, end_reading_lasts_one_more, read_lasts_one_more}
 use Rattle.dfuse_link.proofs.NextBytes.{IsByteIn, byte_in_is_byte_of_part}
 use Rattle.dfuse_link.proofs.BlockEnds.{pointer_address_can_be_read, read_ends_after_byte}
 use Rattle.dfuse_link.proofs.CleanWriting.{place_of_pointer, owed_abort_count}
 
--- `works` reads the image from `here` up to `end`, and then the phase is `next`. Its commands set the pointer to the byte that is read.
+-- `works b` is the work that reads the image back from the address `b` up to `end`. Its command sets the pointer to `b`. `here` is the
+-- phase for a place and an address, and `next` the phase after the last byte.
 pub record IsReadingWork (plan : Plan) (works : ℕ → Work) (here : Place → ℕ → Phase) (end : ℕ) (next : Place → Phase) : Type 0 where
-  -- Without a next byte the phase is `next`.
+  -- The phase is `next` if no byte is left before `end`.
   pub none : (p : Place) (at : ℕ) → byte_in plan at end ≡ None → here p at ≡ next p
-  -- With a next byte the work compares it.
+  -- If a byte is left before `end`, the work compares it.
   pub some : (p : Place) (at b : ℕ) → byte_in plan at end ≡ Some b → here p at ≡ phase_with_step (works b) p (comparing_step plan b p)
-  -- The command sets the pointer to the byte.
+  -- The command of the work sets the pointer to the byte.
   pub sends : (p : Place) (b : ℕ) → command_of plan (works b) p ≡ set_address b
-  -- A work that settles is in the phase of its byte.
+  -- When the device is ready for a command, the work for a byte is in the phase for this byte.
   pub settles : (p : Place) (b : ℕ) → settled_phase plan (works b) p ≡ here p b
-  -- After a block the work is at the end of the block.
+  -- After a block, the work continues at the end of the block.
   pub reads : (b : ℕ) → read_on plan (works b) ≡ works (read_end plan b end)
 
 module _ (plan : Plan) where
-  -- If a byte can't be read from the address `x`, it is not the byte at `x`.
+  -- A byte that can't be read when the pointer is set to `x` isn't the byte at `x`.
   other_address_by_test : (x b : ℕ) (t : Bool) → eqb x b ≡ t → HasByte b plan.image.now → can_read plan x b ≡ false → t ≡ false
   other_address_by_test x b true e has not_so =
       let same : x ≡ b = eqb-true x b e in
@@ -60,12 +61,12 @@ module _ (plan : Plan) where
 
 module _ (plan : Plan) (filled : has_empty plan.image.now ≡ false) (works : ℕ → Work) (here : Place → ℕ → Phase) (end : ℕ)
     (next : Place → Phase) (r : IsReadingWork plan works here end next) where
-  -- If the step that compares a byte is `s`, the work goes on with the step `s`.
+  -- The phase for a byte has the step that `comparing_step` selects.
   work_comes_to_step : (p : Place) (at b : ℕ) (s : Step) → byte_in plan at end ≡ Some b → comparing_step plan b p ≡ s
       → here p at ≡ phase_with_step (works b) p s
   work_comes_to_step p at b s is e = r.some p at b is ∙ ap (phase_with_step (works b) p) e
 
-  -- A block that is read takes one request, and then the rest of the work.
+  -- Reading a block takes one result, in addition to the results of the rest of the work.
   block_read_lasts : (x b m v : ℕ) → CleanRunLasts plan (here (place.Reading x) (read_end plan b end)) m v →
       CleanRunLasts plan (phase_with_step (works b) (place.Reading x) step.Read) (suc m) v
   block_read_lasts x b m v l =
@@ -73,7 +74,7 @@ module _ (plan : Plan) (filled : has_empty plan.image.now ≡ false) (works : �
       ap (λ (w : Work). settled_phase plan w (place.Reading x)) (r.reads b) ∙ r.settles (place.Reading x) (read_end plan b end) in
       read_lasts_one_more plan (works b) (place.Reading x) m v (lasts_from_equal_phase plan _ _ m v on l)
 
-  -- The pointer is set, reading begins, and a block is read: six requests and a wait, and then the rest of the work.
+  -- Setting the pointer and reading the first block take six results, one of which ends a wait. Then the rest of the work follows.
   pointer_set_read_lasts : (p : Place) (at b m v : ℕ) → IsByteIn plan at end b →
       CleanRunLasts plan (here (place.Reading b) (read_end plan b end)) m v →
       CleanRunLasts plan (phase_with_step (works b) p step.Send) (4 + suc (suc m)) (1 + v)
@@ -92,7 +93,8 @@ module _ (plan : Plan) (filled : has_empty plan.image.now ≡ false) (works : �
       ∙ work_comes_to_step (place.At b) b b step.BeginReading is.is_its_own_next (comparing_begins_at_pointer plan b) in
       command_lasts_four_more plan (works b) p (suc (suc m)) v (lasts_from_equal_phase plan _ _ (suc (suc m)) v set begins)
 
-  -- The first block after the pointer is set anew takes six requests and a wait, and an ABORT before them if one is owed.
+  -- If the pointer must be set again, the next block takes six results, one of which ends a wait. If the session was reading before, an
+  -- ABORT precedes them.
   first_block_read_lasts : (pointer : Option ℕ) (at b m v : ℕ) → byte_in plan at end ≡ Some b → reaches plan pointer b ≡ false →
       CleanRunLasts plan (here (place.Reading b) (read_end plan b end)) m v →
       CleanRunLasts plan (here (place_of_pointer pointer) at) (owed_abort_count pointer + (6 + m)) (1 + v)
@@ -112,7 +114,7 @@ module _ (plan : Plan) (filled : has_empty plan.image.now ≡ false) (works : �
       (end_reading_lasts_one_more plan (works b) (place.Reading x) _ _ (lasts_from_equal_phase plan _ _ _ _ back (pointer_set_read_lasts
       (place.At x) at b m v byte l))))
 
-  -- A further block takes one request.
+  -- A block that can be read without setting the pointer again takes one result.
   further_block_read_lasts : (pointer : Option ℕ) (at b m v : ℕ) → byte_in plan at end ≡ Some b → reaches plan pointer b ≡ true →
       CleanRunLasts plan (here (place_of_pointer pointer) (read_end plan b end)) m v →
       CleanRunLasts plan (here (place_of_pointer pointer) at) (suc m) v
@@ -138,7 +140,7 @@ module _ (plan : Plan) (filled : has_empty plan.image.now ≡ false) (works : �
       lasts_by_equal_counts plan _ (suc (owed_abort_count pointer + (6 * sets + (k + n)))) _ (sets + u) _ (omega arith) refl
       (further_block_read_lasts pointer at byte _ _ is can more)
 
--- If reading begins at `low` or later, the pointer is set for it at `low` or later.
+-- If reading begins at `low` or later, and the pointer was not set to an address before `low`, it isn't set to such an address afterwards.
 pub reading_pointer_not_before : (plan : Plan) (filled : has_empty plan.image.now
     ≡ false) (end low : ℕ) (pointer : Option ℕ) (at sets k : ℕ)
     (last : Option ℕ) → BlocksRead plan end pointer at sets k last → low ≤ at → ((x : ℕ) → pointer ≡ Some x → low ≤ x) → (x : ℕ) →

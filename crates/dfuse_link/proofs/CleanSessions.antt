@@ -1,4 +1,4 @@
--- Number of requests and waits of a whole session, in a clean run.
+-- Number of results that a whole session takes in a clean run, and number of those that end a wait.
 use Rattle.std.proofs.Common.{◌≡◌, ℕ, suc, ◌+◌, ◌*◌, max, Bool, true, false, cond, Option, Some, None, refl, sym, ◌∙◌, arith}
 use Rattle.std.proofs.lemmas.Bool.{false_from_ne_true}
 use Rattle.dfuse_host.specs.declared.plan.Plan.{Plan}
@@ -11,7 +11,7 @@ use Rattle.dfuse_host.specs.Refusing.{has_empty, is_empty}
 use Rattle.dfuse_host.specs.Settling.{phase_with_step, byte_in, to_leave, to_compare_front, to_write_front, to_compare, to_write}
 use Rattle.dfuse_host.proofs.TouchedBytes.{nonempty_image_is_filled}
 use Rattle.dfuse_link.specs.Counts.{IsPlanned, BlocksWritten, no_block, PlanCounts, BlocksRead, no_read, pointer_set_anew, read_on, start_pointer_sets, pointer_after_reading, command_count, request_count, CleanRunsAreCounted}
-use Rattle.dfuse_link.proofs.Lasting.{CleanRunLasts, lasts_by_equal_counts, lasts_from_equal_phase}
+use Rattle.dfuse_link.proofs.CleanRunCounts.{CleanRunLasts, lasts_by_equal_counts, lasts_from_equal_phase}
 use Rattle.dfuse_link.proofs.CleanSteps.{abort_lasts_one_more, ask_state_lasts_one_more}
 use Rattle.dfuse_link.proofs.CleanWriting.{place_of_pointer, owed_abort_count, erasing_pages_lasts, blocks_written_last, blocks_written_last_from_pointer}
 use Rattle.dfuse_link.proofs.CleanReading.{blocks_read_last, reading_pointer_not_before}
@@ -25,7 +25,7 @@ planned_image_is_filled plan ready = nonempty_image_is_filled plan.image.now (fa
 some_is_not_none : (b : ℕ) → Some b ≡ None → ⊥
 some_is_not_none b e = cc
 
--- If no byte is left before the end, no blocks are read, and the pointer isn't set for them.
+-- If no byte is left before `end`, the session reads no block and doesn't set the pointer.
 no_byte_means_no_reads : (plan : Plan) (end : ℕ) (pointer : Option ℕ) (at sets k : ℕ) (last : Option ℕ) →
     BlocksRead plan end pointer at sets k last →
     byte_in plan at end ≡ None → (sets ≡ 0) × (k ≡ 0)
@@ -39,12 +39,13 @@ leave_counts_add_up true s = omega arith
 leave_counts_add_up false s = omega arith
 
 module _ (plan : Plan) (ready : IsPlanned plan) (c : PlanCounts plan) where
-  -- Number of requests for the front, by the number of its blocks.
+  -- Number of results for writing and reading the front and for leaving, as a function of the number of front blocks.
   abbrev front_request_count : (front : ℕ) → ℕ
   front_request_count front = 8 * front + (6 * c.front_pointer_sets + (c.front_block_reads
       + leave_request_count plan (pointer_after_reading front c.pointer_after_rest c.pointer_after_front) plan.leaves))
 
-  -- Number of waits for the front, by the number of its blocks.
+  -- Number of results that end a wait while the front is written and read and the device leaves, as a function of the number of front
+  -- blocks.
   abbrev front_wait_count : (front : ℕ) → ℕ
   front_wait_count front =
       2 * front + (c.front_pointer_sets + leave_wait_count plan (pointer_after_reading front c.pointer_after_rest c.pointer_after_front)
@@ -86,11 +87,11 @@ module _ (plan : Plan) (ready : IsPlanned plan) (c : PlanCounts plan) where
       plan.leaves))) _
       (c.front_pointer_sets + leave_wait_count plan c.pointer_after_front plan.leaves) _ (omega arith) refl compared)
 
-  -- Number of requests once the image after the front is written.
+  -- Number of results that remain once the session has written the image after the front.
   abbrev rest_request_count : ℕ
   rest_request_count = 6 * c.rest_pointer_sets + (c.rest_block_reads + front_request_count c.front)
 
-  -- Number of waits once the image after the front is written.
+  -- Number of results that end a wait, once the session has written the image after the front.
   abbrev rest_wait_count : ℕ
   rest_wait_count = c.rest_pointer_sets + front_wait_count c.front
 

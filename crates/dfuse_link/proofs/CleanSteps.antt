@@ -1,4 +1,4 @@
--- Results of each request and wait of a clean run.
+-- Effect of each request and each wait in a clean run.
 use Rattle.std.proofs.Common.{◌≡◌, ℕ, zero, suc, ◌+◌, ◌<◌, Bool, true, cond, List, [], ◌∷◌, length, slice_index_or, refl, sym, ap, ◌∙◌, subst, arith}
 use Rattle.std.specs.Str.{bytes_eq}
 use Rattle.std.proofs.lemmas.Slice.Eq.{bytes_eq-Decides}
@@ -30,17 +30,15 @@ use Rattle.dfuse_host.specs.Wire.{DfuseReadsStatus, DfuseReadsState, DfuseSeenMe
 use Rattle.dfuse_host.proofs.ForCallers.{AnyHeard, heards_have_fact, heard_comparison, heard_nothing}
 use Rattle.dfuse_link.specs.CleanRuns.{BytesAnswered, StatusAnswered, BusyReported, StateAnswered}
 use Rattle.dfu_wire.specs.OneValue.{state_byte_is_injective}
-use Rattle.dfuse_link.proofs.Lasting.{wait_count_of, session_in_phase, CleanRunLasts, lasts_by_equal_counts, LeadsToLastingPhase, step_lasts_one_more, request_lasts_one_more, acked_request_lasts_one_more}
+use Rattle.dfuse_link.proofs.CleanRunCounts.{wait_count_of, session_in_phase, CleanRunLasts, lasts_by_equal_counts, LeadsToLastingPhase, step_lasts_one_more, request_lasts_one_more, acked_request_lasts_one_more}
 
--- Equal bytes are found equal when they are compared.
+-- A comparison of a list of bytes with itself finds no difference.
 equal_bytes_compare_equal : (xs : List ℕ) → heard_of_compare xs xs ≡ heard_comparison true
 equal_bytes_compare_equal xs =
     ap (λ (t : Bool). cond t (heard_comparison (bytes_eq xs xs)) heard_nothing) (eq-eqb (length xs) (length xs) refl)
     ∙ ap heard_comparison ((bytes_eq-Decides xs xs).1 refl)
 
 module _ (plan : Plan) (w : Work) (p : Place) where
-  -- Answers with bytes.
-
   bytes_answered_are_no_wait : (bytes : List ℕ) (x : Seen) → BytesAnswered bytes x → wait_count_of x ≡ 0
   bytes_answered_are_no_wait bytes (seen.Bytes b) is = refl
   bytes_answered_are_no_wait bytes x is = absurd is
@@ -143,8 +141,6 @@ module _ (plan : Plan) (w : Work) (p : Place) where
       }
   block_read_goes_on n u l x h is hears = absurd is
 
-  -- Requests that are acknowledged or answered.
-
   pub abort_lasts_one_more : (n u : ℕ) → CleanRunLasts plan (phase_with_step w place.Lost step.AskState) n u
       → CleanRunLasts plan (phase_with_step w p step.Abort) (suc n) u
   abort_lasts_one_more n u l = acked_request_lasts_one_more plan w p step.Abort (phase_with_step w place.Lost step.AskState) n u (λ x c. c)
@@ -178,7 +174,7 @@ module _ (plan : Plan) (w : Work) (p : Place) where
   read_lasts_one_more n u l = request_lasts_one_more plan w p step.Read n u (λ x c. bytes_answered_are_no_wait (read_bytes plan w) x c) (λ
       x h c e. block_read_goes_on n u l x h c e)
 
-  -- Leaving takes two requests.
+  -- The leave request, a DNLOAD without bytes, takes two results: its acknowledgement, and the status after it.
   pub close_lasts_two_more : (n u : ℕ) → CleanRunLasts plan (Over (Verified leaving.Left)) n u →
       CleanRunLasts plan (phase_with_step w p step.Close) (suc (suc n)) u
   close_lasts_two_more n u l = acked_request_lasts_one_more plan w p step.Close (phase_with_step w p step.ClosePoll) (suc n) u (λ x c. c)
@@ -187,9 +183,7 @@ module _ (plan : Plan) (w : Work) (p : Place) where
       (request_lasts_one_more plan w p step.ClosePoll n u (λ x c. status_answered_is_no_wait c.status x c.told) (λ x h c e.
       manifest_status_ends_session n u l x h c e))
 
-  -- Parts of a command.
-
-  -- A poll after a wait finds the command done, by one more result.
+  -- A poll after a wait finds the command done, and adds one result.
   poll_lasts_one_more : (ms n u : ℕ) → 0 < ms → CleanRunLasts plan (phase_after_command plan w (command_of plan w p)) n u
       → CleanRunLasts plan (phase_with_step w p (step.Poll ms)) (suc n) u
   poll_lasts_one_more zero n u some l = absurd (omega (arith, some))
@@ -209,7 +203,7 @@ module _ (plan : Plan) (w : Work) (p : Place) where
             (subst (λ (y : Seen). DfuseSeenMeaning plan w (step.PollWait ms) y h) c hears);
       })
 
-  -- A command is sent, started, waited for, and done: four more results, one of them the end of a wait.
+  -- A command takes four results: the acknowledgement of its DNLOAD, two statuses, and the end of a wait.
   pub command_lasts_four_more : (n u : ℕ) → CleanRunLasts plan (phase_after_command plan w (command_of plan w p)) n u
       → CleanRunLasts plan (phase_with_step w p step.Send) (4 + n) (1 + u)
   command_lasts_four_more n u l =

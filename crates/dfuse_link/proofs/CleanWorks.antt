@@ -1,4 +1,4 @@
--- The works of a session, as they erase, write and read.
+-- The works of a session satisfy IsWritingWork where they write and IsReadingWork where they read back.
 use Rattle.std.proofs.Common.{◌≡◌, ℕ, ◌≤◌, Some, None, refl, ap, arith}
 use Rattle.dfuse_host.specs.declared.plan.Plan.{Plan}
 use Rattle.dfuse_host.specs.declared.work.Work.TheVariants as work

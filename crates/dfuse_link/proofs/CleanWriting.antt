@@ -1,4 +1,4 @@
--- Number of requests and waits of erasing and writing, in a clean run.
+-- Number of results that erasing and writing take in a clean run, and number of those that end a wait.
 use Rattle.std.proofs.Common.{◌≡◌, ℕ, suc, ◌+◌, ◌*◌, ◌<◌, ◌≤◌, Bool, false, cond, eqb, Option, Some, None, refl, ap, ◌∙◌, arith}
 use Rattle.std.proofs.lemmas.Bool.Decides.{nat_tests}
 use Rattle.std.proofs.lemmas.Bool.{eq-eqb}
@@ -16,21 +16,19 @@ use Rattle.dfuse_host.specs.Refusing.{has_empty}
 use Rattle.dfuse_host.specs.Settling.{phase_with_step, settled_phase, sending_step, byte_in, erase_phase_for, to_erase, to_write}
 use Rattle.dfuse_host.proofs.ForCallers.{set_address, write_bytes_at}
 use Rattle.dfuse_link.specs.Counts.{Pages, no_page_left, page, BlocksWritten, no_block, block}
-use Rattle.dfuse_link.proofs.Lasting.{CleanRunLasts, lasts_by_equal_counts, lasts_from_equal_phase}
+use Rattle.dfuse_link.proofs.CleanRunCounts.{CleanRunLasts, lasts_by_equal_counts, lasts_from_equal_phase}
 use Rattle.dfuse_link.proofs.CleanSteps.{command_lasts_four_more, end_reading_lasts_one_more}
 use Rattle.dfuse_link.proofs.NextBytes.{IsByteIn, byte_in_is_byte_of_part}
 
--- Place of a session that reads from the pointer, or has not set the pointer for reading.
+-- Place of a session: Reading with the address to which the pointer was set, or Lost if the pointer was not set for reading.
 abbrev pub place_of_pointer : Option ℕ → Place
 place_of_pointer None = place.Lost
 place_of_pointer (Some pointer) = place.Reading pointer
 
--- Number of ABORTs that are owed before a command: one, if the session reads.
+-- Number of ABORTs that must precede the next command: one if the session is reading, and none otherwise.
 abbrev pub owed_abort_count : Option ℕ → ℕ
 owed_abort_count None = 0
 owed_abort_count (Some pointer) = 1
-
--- Pages that are erased.
 
 no_page_left_to_erase : (plan : Plan) (p : Place) (at : ℕ) → byte_in plan at (image_end plan.image.now) ≡ None →
     to_erase plan p at ≡ to_write plan p (front_end plan) (image_end plan.image.now)
@@ -55,19 +53,18 @@ erasing_pages_lasts plan n u at (suc k) (page byte is rest) l =
     (omega arith)
     (command_lasts_four_more plan (work.Erase byte) place.Lost (4 * k + n) (k + u) more))
 
--- Blocks that are written.
-
--- `works` writes the image from `here` up to `end`, and then the phase is `next`.
+-- `works b` is the work that writes the image from the address `b` up to `end`. `here` is the phase for a place and an address, and `next`
+-- the phase after the last byte.
 pub record IsWritingWork (plan : Plan) (works : ℕ → Work) (here : Place → ℕ → Phase) (end : ℕ) (next : Place → Phase) : Type 0 where
-  -- Without a next byte the phase is `next`.
+  -- The phase is `next` if no byte is left before `end`.
   pub none : (p : Place) (at : ℕ) → byte_in plan at end ≡ None → here p at ≡ next p
-  -- With a next byte the work writes it.
+  -- If a byte is left before `end`, the work writes it.
   pub some : (p : Place) (at b : ℕ) → byte_in plan at end ≡ Some b → here p at ≡ phase_with_step (works b) p (sending_step p)
-  -- The command writes the byte, or sets the pointer to it.
+  -- The command of the work sets the pointer to the byte, or writes the byte.
   pub sends : (p : Place) (b : ℕ) → command_of plan (works b) p ≡ write_command p b
-  -- A work that settles is in the phase of its byte.
+  -- When the device is ready for a command, the work for a byte is in the phase for this byte.
   pub settles : (p : Place) (b : ℕ) → settled_phase plan (works b) p ≡ here p b
-  -- After a block the phase is that of the end of the block.
+  -- After a block, the work continues at the end of the block.
   pub writes : (at b : ℕ) → IsByteIn plan at end b → phase_after_command plan (works b) (write_bytes_at b) ≡ here place.Lost
       (write_end plan b end)
 
@@ -82,7 +79,7 @@ write_command_sets_pointer x b h = ap (λ (t : Bool). cond t (write_bytes_at b) 
 
 module _ (plan : Plan) (filled : has_empty plan.image.now ≡ false) (works : ℕ → Work) (here : Place → ℕ → Phase) (end : ℕ)
     (next : Place → Phase) (r : IsWritingWork plan works here end next) where
-  -- A block takes two commands: the pointer is set, and the bytes are sent.
+  -- Writing a block takes two commands of four results each: one sets the pointer, and one sends the bytes.
   block_write_lasts : (p : Place) (at b m v : ℕ) → IsByteIn plan at end b → write_command p b ≡ set_address b →
       CleanRunLasts plan (here place.Lost (write_end plan b end)) m v
       → CleanRunLasts plan (phase_with_step (works b) p step.Send) (4 + (4 + m)) (1 + (1 + v))
@@ -109,7 +106,8 @@ module _ (plan : Plan) (filled : has_empty plan.image.now ≡ false) (works : �
       (omega arith)
       (block_write_lasts place.Lost at byte (8 * k + n) (2 * k + u) (byte_in_is_byte_of_part plan at end byte filled is) refl more))
 
-  -- Writing from a place that reads takes the owed ABORT too, if the pointer is not before the end of the bytes that are written.
+  -- Writing takes eight results for each block, and one more for an ABORT if the session is reading. The address to which the pointer was
+  -- set for reading must not lie before `end`.
   pub blocks_written_last_from_pointer : (pointer : Option ℕ) (n u at k : ℕ) → ((x : ℕ) → pointer ≡ Some x → end ≤ x) →
       BlocksWritten plan end at (suc k) →
       CleanRunLasts plan (next place.Lost) n u → CleanRunLasts plan (here (place_of_pointer pointer) at) (owed_abort_count pointer + (8 *

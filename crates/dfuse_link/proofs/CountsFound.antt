@@ -12,33 +12,27 @@ use Rattle.dfuse_link.proofs.BlockEnds.{read_ends_after_byte, write_ends_after_b
 use Rattle.dfuse_link.proofs.OnPages.{page_start_of_page, page_end_of_page, page_addresses_share_page, image_byte_has_page}
 use Rattle.dfuse_link.proofs.CleanSessions.{planned_image_is_filled}
 
--- From `at` on, some number of pages have a byte of the image.
+-- Number of pages from `at` on that contain a byte of the image, with a proof that the number is right.
 record HasPageCount (plan : Plan) (at : ℕ) : Type 0 where
-  -- Number of pages.
   n : ℕ
-  -- So many pages have a byte of the image.
   are : Pages plan at n
 
--- From `at` to before `end`, the image is written in some number of blocks.
+-- Number of blocks in which the image is written from `at` up to `end`, with a proof that the number is right.
 record HasBlockCount (plan : Plan) (end at : ℕ) : Type 0 where
-  -- Number of blocks.
   n : ℕ
-  -- The image is written in so many blocks.
   are : BlocksWritten plan end at n
 
--- From `at` to before `end`, the image is read in some number of blocks, with the pointer set some number of times.
+-- Numbers of blocks and of pointer settings for reading the image from `at` up to `end`, with a proof that they are right.
 record HasReadCount (plan : Plan) (end : ℕ) (pointer : Option ℕ) (at : ℕ) : Type 0 where
-  -- Number of times that the pointer is set.
+  -- Number of times that the session sets the pointer for this reading.
   sets : ℕ
-  -- Number of blocks.
   n : ℕ
-  -- Address to which the pointer is set last.
+  -- Address to which the pointer is set last, or None if it is never set.
   last : Option ℕ
-  -- The image is read in so many blocks.
   are : BlocksRead plan end pointer at sets n last
 
 module _ (one : AddressOnOnePage) (plan : Plan) (ready : IsPlanned plan) where
-  -- The page of a byte ends after the byte.
+  -- The page that contains a byte of the image ends after this byte.
   page_ends_after_byte : (b : ℕ) → HasByte b plan.image.now → b < page_end plan (page_start plan b)
   page_ends_after_byte b has =
       let h = image_byte_has_page plan b ready.sound ready.ranges has in

@@ -1,4 +1,4 @@
--- While a session writes its front, the rest of the image is in the memory.
+-- While a session writes the front, the memory holds the rest of the image.
 use Rattle.std.proofs.Common.{◌≡◌, ℕ, ◌≤◌, inl, inr, List, [], ◌∷◌, Some, sym, ap, ◌∙◌, subst}
 use Rattle.dfu_formats.specs.declared.dfuse.element.Element.{Element}
 use Rattle.dfuse_host.specs.declared.plan.Plan.{Plan}
@@ -12,7 +12,7 @@ use Rattle.dfuse_link.specs.Fronts.{RestInMemory}
 use Rattle.dfuse_link.proofs.Bytes.{byte_of_element_at, byte_at, element_first_or_among_rest, held_address_is_within, no_element_in_empty_image}
 use Rattle.dfuse_link.proofs.Verified.{begun_session_has_facts, history_has_session_facts, history_keeps_plan}
 
--- An element that is found at an address has a byte there.
+-- If an element is found at an address, the image has a byte at this address.
 pub found_element_has_byte : (a : ℕ) (e : Element) (es : List Element) → element_at a es ≡ Some e → HasByte a es
 found_element_has_byte a e [] h = absurd (no_element_in_empty_image a e h)
 found_element_has_byte a e (x ∷ xs) h =

@@ -1,4 +1,4 @@
--- The front, and the page that it is on.
+-- Facts about the front and the page that contains it.
 use Rattle.std.proofs.Common.{◌≡◌, ℕ, ◌%◌, ◌^◌, ◌<◌, ◌≤◌, inl, inr, max, Bool, true, false, cond, eqb, List, [], ◌∷◌, length, Some, None, sym, ap, ◌∙◌, arith}
 use Rattle.std.proofs.lemmas.Bool.{cases_lt, or_parts, lt-ltb}
 use Rattle.dfu_formats.specs.memory.Ranges.{are_apart}
@@ -16,36 +16,27 @@ use Rattle.dfuse_link.specs.Promises.{IsPlanFor}
 use Rattle.dfuse_link.specs.Touched.{IsTrueMap}
 use Rattle.dfuse_link.specs.Fronts.{IsFrontAddress, IsOffFrontPage, ErasesFront}
 use Rattle.dfuse_link.proofs.OnPages.{page_start_of_page, page_end_of_page, page_addresses_share_page, image_byte_has_page}
-use Rattle.dfuse_link.proofs.OwnTurns.{plan_image_is_filled}
-use Rattle.dfuse_link.proofs.Turns.{plan_elements_are_apart}
+use Rattle.dfuse_link.proofs.UntouchedTurns.{plan_image_is_filled}
+use Rattle.dfuse_link.proofs.SessionTurns.{plan_elements_are_apart}
 use Rattle.dfuse_link.proofs.NextBytes.{nonempty_element_has_end}
 
--- The plan is for the device, no two ranges of its map share an address, the map is true of the image's pages, and an erase of the front's
--- page reaches the front.
+-- Premises of `NoMixture`: the plan is for the device, no two ranges of its map share an address, the map is true of the image's pages, and
+-- an erase of the front's page erases the front.
 pub record HasNoMixturePremises (chip : Chip) (plan : Plan) : Type 0 where
-  -- The plan is for the device.
   pub for : IsPlanFor chip plan
-  -- No two ranges of the map share an address.
   pub apart : are_apart plan.map.now.ranges ≡ true
-  -- The map is true of the image's pages.
   pub map : IsTrueMap chip plan
-  -- An erase of the front's page reaches the front.
   pub erases : ErasesFront chip plan
-
--- The first byte of an image.
 
 nonempty_first_element : (e : Element) (es : List Element) → is_empty (e ∷ es) ≡ false → e.address < end_of e
 nonempty_first_element e es h =
     let all = or_parts (eqb (length (e ∷ es)) 0) (has_empty (e ∷ es)) h in
     nonempty_element_has_end e (or_parts (eqb (length e.bytes.now) 0) (has_empty es) all.1).0
 
--- The first byte of the image has the lowest address, is its own next byte, and lies before the end.
+-- The image has a byte at its start address. The next byte from this address on is at this address, which lies before the end of the image.
 record IsFirstByte (es : List Element) : Type 0 where
-  -- The image has this byte.
   has : HasByte (image_start es) es
-  -- The byte is its own next byte.
   next : next_byte (image_start es) es ≡ Some (image_start es)
-  -- The byte lies before the end.
   within : image_start es < image_end es
 
 image_has_first_byte : (es : List Element) → is_empty es ≡ false → IsFirstByte es
@@ -85,7 +76,7 @@ module _ (one : AddressOnOnePage) (chip : Chip) (plan : Plan) (m : HasNoMixtureP
   pub image_start_is_first_byte : byte_in plan (image_start plan.image.now) (image_end plan.image.now) ≡ Some (image_start plan.image.now)
   image_start_is_first_byte = first_byte_is_next plan plan_image_has_first_byte
 
-  -- Each address of the front is on the front's page.
+  -- Each address of the front lies on the front's page.
   pub front_address_on_first_page : (a : ℕ) → IsFrontAddress plan a → page_start plan a ≡ page_start plan (image_start plan.image.now)
   front_address_on_first_page a f =
       let h = image_byte_has_page plan (image_start plan.image.now) m.for.sound m.for.ranges image_start_has_byte in
@@ -98,7 +89,7 @@ module _ (one : AddressOnOnePage) (chip : Chip) (plan : Plan) (m : HasNoMixtureP
       (omega (arith, f.1, front_ends_by_page_end plan, ends)) in
       page_start_of_page plan a h.page there ∙ sym (page_start_of_page plan (image_start plan.image.now) h.page h.on)
 
-  -- Each byte of the image before the end of the front is on the front's page.
+  -- Each byte of the image before the end of the front lies on the front's page.
   pub front_byte_on_first_page : (a : ℕ) → HasByte a plan.image.now → a < front_end plan →
       page_start plan a ≡ page_start plan (image_start plan.image.now)
   front_byte_on_first_page a has less = front_address_on_first_page a (
@@ -107,7 +98,7 @@ module _ (one : AddressOnOnePage) (chip : Chip) (plan : Plan) (m : HasNoMixtureP
     less,
   )
 
-  -- A byte of the image that is not on the front's page lies after the front.
+  -- A byte of the image that doesn't lie on the front's page lies after the front.
   pub byte_off_page_is_after_front : (a : ℕ) → HasByte a plan.image.now → IsOffFrontPage plan a → front_end plan ≤ a
   byte_off_page_is_after_front a has other = elim (cases_lt a (front_end plan)) [
     | inl w ↦ absurd (other (front_byte_on_first_page a has w))

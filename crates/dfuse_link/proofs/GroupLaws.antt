@@ -1,4 +1,4 @@
--- Works of each group lead to works of the group, until a command is done.
+-- The groups of works satisfy IsWorkGroup: until a command is done, a work of a group leads only to works of the same group.
 use Rattle.std.proofs.Common.{◌≡◌, ℕ, ◌%◌, ◌^◌, inl, max, Bool, true, false, cond, eqb, refl, sym, ap, ◌∙◌, subst}
 use Rattle.dfuse_host.specs.declared.plan.Plan.{Plan}
 use Rattle.dfuse_host.specs.declared.phase.Phase.{Phase}
@@ -21,8 +21,6 @@ use Rattle.dfuse_link.proofs.FrontPages.{HasNoMixturePremises, image_start_is_fi
 use Rattle.dfuse_link.proofs.Groups.{front_page_start, WritesFrontOnItsPage, ErasesFirstPage, IsAfterComparison, FrontBlankAndQuiet, fact_keeps_any_phase_in_group, to_leave_stays_in_group, compare_front_stays_in_group, write_front_stays_in_group, compare_stays_in_group, write_stays_in_group, erase_stays_in_group}
 
 module _ (one : AddressOnOnePage) (chip : Chip) (plan : Plan) (m : HasNoMixturePremises chip plan) (d : Device) where
-  -- Works that write the front.
-
   write_front_keeps_front_page : (p : Place) (at : ℕ) → StaysInGroup (WritesFrontOnItsPage plan) ⊥ (to_write_front plan p at)
   write_front_keeps_front_page p at = write_front_stays_in_group one chip plan m (WritesFrontOnItsPage plan) ⊥ (λ c h. h) (λ c. tt) tt p at
 
@@ -84,15 +82,13 @@ module _ (one : AddressOnOnePage) (chip : Chip) (plan : Plan) (m : HasNoMixtureP
       (λ at. erased_page_keeps_front_page w at)
       (λ at. written_block_keeps_front_page w at) (command_of plan w p)
 
-  -- The erase of the first page.
-
   settled_first_page_erase : (p : Place) →
       settled_phase plan (work.Erase (image_start plan.image.now)) p ≡ phase_with_step (work.Erase (image_start plan.image.now)) p
       (sending_step p)
   unfolding settled_phase to_erase
   settled_first_page_erase p = ap (erase_phase_for plan p) (image_start_is_first_byte one chip plan m)
 
-  -- The erase of the image's first page settles in a phase of this erase.
+  -- A work that erases the image's first page still erases this page when the device is ready for a command.
   settled_first_erase_stays : (w : Work) (p : Place) → ErasesFirstPage plan w →
       StaysInGroup (ErasesFirstPage plan) (FrontBlankAndQuiet chip plan d) (settled_phase plan w p)
   settled_first_erase_stays w p e =
@@ -110,7 +106,7 @@ module _ (one : AddressOnOnePage) (chip : Chip) (plan : Plan) (m : HasNoMixtureP
         (λ at. inl (ap (work_after_unsure_write plan) e)) c;
   }
 
-  -- A device that has erased the front's page has a blank front, and is quiet.
+  -- If the device is quiet and the bytes that an erase of the front's page reaches are blank, the front is blank.
   erased_front_page_is_blank : IsQuiet d.device_work → ErasedBytesBlank chip (front_page_start plan % 2 ^ 32) d.memory →
       FrontBlankAndQuiet chip plan d
   erased_front_page_is_blank quiet phase_after_erase = (
@@ -125,15 +121,13 @@ module _ (one : AddressOnOnePage) (chip : Chip) (plan : Plan) (m : HasNoMixtureP
       fact_keeps_any_phase_in_group (ErasesFirstPage plan) (FrontBlankAndQuiet chip plan d) (erased_front_page_is_blank quiet
       phase_after_erase) (phase_after_command plan w (command_of plan w p))
 
-  -- Works after the comparison.
-
-  -- A phase that writes the front, or has written it, stays after the comparison.
+  -- The phase to which a session goes to write the front has a work of the group IsAfterComparison, or the session is over.
   front_write_stays_after_compare : (p : Place) (at : ℕ) → StaysInGroup (IsAfterComparison plan) (FrontBlankAndQuiet chip plan d)
       (to_write_front plan p at)
   front_write_stays_after_compare p at = write_front_stays_in_group one chip plan m (IsAfterComparison plan) (FrontBlankAndQuiet chip plan
       d) (λ c h. h) (λ c. tt) tt p at
 
-  -- A work after the comparison settles in a phase after it.
+  -- A work after the comparison is still in its group when the device is ready for a command.
   settled_work_stays_compared : (w : Work) (p : Place) → IsAfterComparison plan w →
       StaysInGroup (IsAfterComparison plan) (FrontBlankAndQuiet chip plan d) (settled_phase plan w p)
   unfolding settled_phase

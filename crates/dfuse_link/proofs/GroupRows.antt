@@ -1,4 +1,4 @@
--- Rows of the table stay with the works of a group, or go on after a command that is done.
+-- Unless a command is done, each row of the table keeps the session's work in its group, or ends the session.
 use Rattle.std.proofs.Common.{◌≡◌, ℕ, ◌⊎◌, inl, Bool, true, false}
 use Rattle.dfu_wire.specs.declared.codes.Code.{Code}
 use Rattle.dfu_wire.specs.declared.codes.Code.TheVariants as code
@@ -19,23 +19,21 @@ use Rattle.dfuse_host.specs.Table.{state_found, phase_after_comparing_fault, pha
 use Rattle.dfuse_host.proofs.ForCallers.{AnyCommand, AnyHeard, heards_have_fact, heard_comparison}
 use Rattle.dfuse_link.proofs.Claims.{HeardSaysState}
 
--- The phase has a work of the group `G`, or the fact `B` holds, or the session is over.
+-- The work of the phase is in the group `G`, or the fact `B` holds, or the session is over.
 abbrev pub StaysInGroup : (G : Work → Type 0) (B : Type 0) → Phase → Type 0
 StaysInGroup G B (On s) = G s.work ⊎ B
 StaysInGroup G B (Over r) = Unit {0}
 
--- Works of a group lead to works of the group, or to the fact `B`, as long as no command is done.
+-- Until a command is done, a work of the group `G` leads only to works of `G`, unless the fact `B` becomes true.
 pub record IsWorkGroup (plan : Plan) (G : Work → Type 0) (B : Type 0) : Type 0 where
-  -- A work of the group settles in the group.
+  -- When the device is ready for a command, a work of the group is still in the group.
   pub settles : (w : Work) (p : Place) → G w → StaysInGroup G B (settled_phase plan w p)
-  -- A work of the group reads on in the group.
+  -- After a block is read, the work is still in the group.
   pub reads : (w : Work) → G w → G (read_on plan w)
-  -- After a command whose end isn't known, the work is of the group.
+  -- After a command with an unknown outcome, the work is still in the group.
   pub doubts : (w : Work) (c : AnyCommand) → G w → StaysInGroup G B (phase_if_unsure plan w c)
 
 module _ (plan : Plan) (G : Work → Type 0) (B : Type 0) (r : IsWorkGroup plan G B) (w : Work) (p : Place) (g : G w) where
-  -- Rows that clear the device.
-
   abort_stays_in_group : (h : AnyHeard) → StaysInGroup G B (on_abort w h)
   abort_stays_in_group h =
       heards_have_fact (λ x. StaysInGroup G B (on_abort w x)) (inl g) (λ s. inl g) (λ s. inl g) (λ b. inl g) (inl g) (inl g) (inl g) (inl
@@ -81,8 +79,6 @@ module _ (plan : Plan) (G : Work → Type 0) (B : Type 0) (r : IsWorkGroup plan 
       heards_have_fact (λ x. StaysInGroup G B (on_clear_wait w ms x)) (inl g) (λ s. inl g) (λ s. inl g) (λ b. inl g) (inl g) (inl g) (inl
       g) (inl g) h
 
-  -- Rows of a command.
-
   send_stays_in_group : (h : AnyHeard) → StaysInGroup G B (on_send w p h)
   send_stays_in_group h =
       heards_have_fact (λ x. StaysInGroup G B (on_send w p x)) (inl g) (λ s. inl g) (λ s. inl g) (λ b. inl g) (inl g) (inl g) (inl g)
@@ -106,7 +102,7 @@ module _ (plan : Plan) (G : Work → Type 0) (B : Type 0) (r : IsWorkGroup plan 
   refusal_stays_in_group code.Vendor = tt
   refusal_stays_in_group c = tt
 
-  -- After a status the phase stays in the group, if the phase after a command that is done does.
+  -- After a status the phase is in the group, if the phase after the completed command is in the group.
   polled_status_stays_in_group : (u : State) → (u ≡ state.DownloadIdle →
       StaysInGroup G B (phase_after_command plan w (command_of plan w p))) →
       (c : Code) (poll : ℕ) (t : State) →
@@ -131,8 +127,6 @@ module _ (plan : Plan) (G : Work → Type 0) (B : Type 0) (r : IsWorkGroup plan 
       heards_have_fact (λ x. StaysInGroup G B (on_poll_wait w p ms x)) (inl g) (λ s. inl g) (λ s. inl g) (λ b. inl g) (inl g) (inl g)
       (inl g) (inl g) h
 
-  -- Rows of reading.
-
   begin_reading_stays_in_group : (h : AnyHeard) → StaysInGroup G B (on_begin_reading plan w p h)
   begin_reading_stays_in_group h =
       heards_have_fact (λ x. StaysInGroup G B (on_begin_reading plan w p x)) (r.settles w (place_with_reading_begun p) g) (λ s. inl g) (λ
@@ -156,8 +150,6 @@ module _ (plan : Plan) (G : Work → Type 0) (B : Type 0) (r : IsWorkGroup plan 
       heards_have_fact (λ x. StaysInGroup G B (on_read plan w p x)) (inl g) (λ s. inl g) (λ s. inl g) (λ b. comparison_stays_in_group b)
       (inl g) (inl g) (inl g)
       (inl g) h
-
-  -- Rows of leaving.
 
   close_stays_in_group : (h : AnyHeard) → StaysInGroup G B (on_close w p h)
   close_stays_in_group h =
@@ -190,9 +182,7 @@ module _ (plan : Plan) (G : Work → Type 0) (B : Type 0) (r : IsWorkGroup plan 
       g) (λ b. inl g) (inl g)
       (inl g) (inl g) (inl g) h
 
-  -- Rows of every step.
-
-  -- At Poll, the phase after the result stays in the group; of other steps nothing is claimed.
+  -- At Poll, the phase after the result is in the group. At other steps there is no condition.
   abbrev pub PollStaysInGroup : Step → AnyHeard → Type 0
   PollStaysInGroup (step.Poll last) h = StaysInGroup G B (on_poll plan w p last h)
   PollStaysInGroup s h = Unit {0}

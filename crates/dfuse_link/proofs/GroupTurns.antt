@@ -1,4 +1,4 @@
--- Turns stay with the works of a group, or go on after a command that is done.
+-- Unless a command is done, each turn keeps the session's work in its group, or ends the session.
 use Rattle.std.proofs.Common.{◌≡◌, ℕ, inl, Option, refl, sym, ap, subst}
 use Rattle.dfuse_host.specs.declared.plan.Plan.{Plan}
 use Rattle.dfuse_host.specs.declared.phase.Phase.{Phase}
@@ -21,15 +21,13 @@ use Rattle.dfuse_link.specs.Reactions.{Reaction}
 use Rattle.dfuse_link.specs.Histories as histories
 use Rattle.dfuse_link.specs.Histories.{SeenOfReaction, sent, waited}
 use Rattle.dfuse_link.proofs.Claims.{IsQuiet, IsCommandDone, DeviceFitsStep, DeviceFitsPhase}
-use Rattle.dfuse_link.proofs.Deviced.{arriving_statuses_keep_command, idle_status_means_done}
-use Rattle.dfuse_link.proofs.Heards.{arrived_request_answers_status, get_status_says_state}
+use Rattle.dfuse_link.proofs.RequestEffects.{arriving_statuses_keep_command, idle_status_means_done}
+use Rattle.dfuse_link.proofs.HeardStates.{arrived_request_answers_status, get_status_says_state}
 use Rattle.dfuse_link.proofs.SentClaims.{DeedArrives}
-use Rattle.dfuse_link.proofs.Staying.{HoldsInPhase}
+use Rattle.dfuse_link.proofs.UnchangedBytes.{HoldsInPhase}
 use Rattle.dfuse_link.proofs.GroupRows.{StaysInGroup, IsWorkGroup, PollStaysInGroup, poll_stays_in_group, row_stays_in_group}
 use Rattle.dfuse_link.proofs.Pairs.{DeviceAndSession, IsTurnOfBoth}
 use Rattle.dfuse_link.proofs.ToldPhases.{fact_holds_after_restart, fact_holds_after_heard}
-
--- Restarts and the budget of actions.
 
 module _ (plan : Plan) (G : Work → Type 0) (B : Type 0) (r : IsWorkGroup plan G B) where
   resumed_phase_stays_in_group : (w : Work) (p : Place) (s : Step) → G w → StaysInGroup G B (phase_resumed plan w p s)
@@ -43,9 +41,7 @@ module _ (s : Session) (G : Work → Type 0) (B : Type 0) (r : IsWorkGroup s.pla
   heard_step_stays_in_group w p at h g = fact_holds_after_heard (StaysInGroup G B) (λ x. tt) s w p at h (resumed_phase_stays_in_group
       s.plan G B r w p at g)
 
--- Turns of a device and its session.
-
--- After a command that is done, the next phase stays in the group.
+-- After a completed command of a work in the group, the next work is in the group, or the fact `B` holds, or the session is over.
 abbrev pub DoneStaysInGroup : Chip → Plan → (G : Work → Type 0) (B : Device → Type 0) → Device → Type 0
 DoneStaysInGroup chip plan G B d =
     (w : Work) (p : Place) → G w → IsQuiet d.device_work → IsCommandDone chip (command_of plan w p) d.pointer d.memory →

@@ -1,4 +1,4 @@
--- Groups of works: those before the front's page is erased, and those after the comparison of all but the front.
+-- Groups of works: those that erase the first page, and those after the comparison of the image after the front.
 use Rattle.std.proofs.Common.{◌≡◌, ℕ, inl, inr, true, false, cond, eqb, Option, Some, None, refl}
 use Rattle.dfuse_host.specs.declared.plan.Plan.{Plan}
 use Rattle.dfuse_host.specs.declared.phase.Phase.{Phase}
@@ -17,15 +17,15 @@ use Rattle.dfuse_link.specs.Chips.{Chip, Device}
 use Rattle.dfuse_link.specs.Fronts.{FrontIsBlank}
 use Rattle.dfuse_link.proofs.Claims.{IsQuiet}
 use Rattle.dfuse_link.proofs.NextBytes.{byte_in_is_byte_of_part}
-use Rattle.dfuse_link.proofs.OwnTurns.{plan_image_is_filled}
+use Rattle.dfuse_link.proofs.UntouchedTurns.{plan_image_is_filled}
 use Rattle.dfuse_link.proofs.GroupRows.{StaysInGroup}
 use Rattle.dfuse_link.proofs.FrontPages.{HasNoMixturePremises, front_byte_on_first_page}
 
--- The address at which the front's page begins.
+-- Address at which the front's page begins.
 abbrev pub front_page_start : Plan → ℕ
 front_page_start plan = page_start plan (image_start plan.image.now)
 
--- If the work writes the front, the address that it writes is on the front's page.
+-- If the work writes the front, it writes at an address on the front's page.
 abbrev pub WritesFrontOnItsPage : Plan → Work → Type 0
 WritesFrontOnItsPage plan (work.WriteFront at) = page_start plan at ≡ front_page_start plan
 WritesFrontOnItsPage plan w = Unit {0}
@@ -34,7 +34,7 @@ WritesFrontOnItsPage plan w = Unit {0}
 abbrev pub ErasesFirstPage : Plan → Work → Type 0
 ErasesFirstPage plan w = w ≡ work.Erase (image_start plan.image.now)
 
--- The work comes after the comparison of all but the front, and writes only on the front's page; or it erases this page again.
+-- The work follows the comparison of the image after the front and writes only on the front's page, or it erases this page again.
 abbrev pub IsAfterComparison : Plan → Work → Type 0
 IsAfterComparison plan (work.EraseAgain page end) = page ≡ front_page_start plan
 IsAfterComparison plan (work.WriteFront at) = page_start plan at ≡ front_page_start plan
@@ -90,7 +90,6 @@ module _ (one : AddressOnOnePage) (chip : Chip) (plan : Plan) (m : HasNoMixtureP
   unfolding to_write_front
   write_front_stays_in_group p at = write_front_phase_stays p at (byte_in plan at (front_end plan)) refl
 
-  -- Phases of a group that also has the works before the comparison.
   module _ (er : (at : ℕ) → G (work.Erase at)) (wr : (at end : ℕ) → G (work.Write at end)) (co : (at : ℕ) → G (work.Compare at)) where
     compare_phase_stays : (p : Place) (o : Option ℕ) → StaysInGroup G B (compare_phase_for plan p o)
     compare_phase_stays p None = write_front_stays_in_group p (image_start plan.image.now)

@@ -1,4 +1,4 @@
--- Facts at each moment: the front is blank, or the bytes off its page are all old or all new.
+-- The facts from which NoMixture and NoneButErasing follow stay true through each history.
 use Rattle.std.proofs.Common.{◌≡◌, ℕ, ◌⊎◌, inl, inr, List, ◌∷◌, sym, ap, ◌∙◌, subst}
 use Rattle.dfu_formats.specs.memory.Lookups.{AddressOnOnePage}
 use Rattle.dfuse_host.specs.declared.plan.Plan.{Plan}
@@ -21,39 +21,40 @@ use Rattle.dfuse_link.proofs.GroupRows.{StaysInGroup, IsWorkGroup}
 use Rattle.dfuse_link.proofs.GroupTurns.{DoneStaysInGroup, turn_stays_in_group}
 use Rattle.dfuse_link.proofs.GroupLaws.{front_page_works_are_group, done_command_keeps_front_page, erasing_works_are_group, done_erase_blanks_front, later_works_are_group, done_command_stays_compared}
 use Rattle.dfuse_link.proofs.Groups.{WritesFrontOnItsPage, ErasesFirstPage, IsAfterComparison, FrontBlankAndQuiet}
-use Rattle.dfuse_link.proofs.Own.{IsSafeInPhase, safe_byte_is_safe_in_phase}
-use Rattle.dfuse_link.proofs.OwnTurns.{plan_image_is_filled}
+use Rattle.dfuse_link.proofs.UntouchedBytes.{IsSafeInPhase, safe_byte_is_safe_in_phase}
+use Rattle.dfuse_link.proofs.UntouchedTurns.{plan_image_is_filled}
 use Rattle.dfuse_link.proofs.Rows.{turn_is_session_row}
 use Rattle.dfuse_host.proofs.RunLaws.{heard_phase_keeps_plan}
-use Rattle.dfuse_link.proofs.Spared.{IsBeforeComparison, erasing_leaves_other_page, later_work_leaves_other_page, early_deed_spares_front}
-use Rattle.dfuse_link.proofs.Staying.{HoldsInPhase, turn_keeps_byte_safe, advance_keeps_byte_safe}
+use Rattle.dfuse_link.proofs.OtherPages.{IsBeforeComparison, erasing_leaves_other_page, later_work_leaves_other_page, early_deed_spares_front}
+use Rattle.dfuse_link.proofs.UnchangedBytes.{HoldsInPhase, turn_keeps_byte_safe, advance_keeps_byte_safe}
 use Rattle.dfuse_link.proofs.Passing.{advance_keeps_session_facts}
-use Rattle.dfuse_link.proofs.Turns.{SessionFactsHold, IsRightInMemory, turn_keeps_session_facts}
+use Rattle.dfuse_link.proofs.SessionTurns.{SessionFactsHold, IsRightInMemory, turn_keeps_session_facts}
 use Rattle.dfuse_link.proofs.Pairs.{DeviceAndSession, IsTurnOfBoth, device_with_session}
 
--- Before the front's page is erased: the bytes of the other pages are as at first, and may not change.
+-- Each byte outside the front's page has its value in the device `first`, and is safe in phase `p`, as defined by IsSafeInPhase.
 abbrev pub OtherPagesOld : Chip → Plan → Device → Phase → Device → Type 0
 OtherPagesOld chip plan first p d = (a : ℕ) → IsOffFrontPage plan a → IsSafeInPhase chip a p d.device_work × (d.memory a
     ≡ first.memory a)
 
--- The bytes of the front are blank, and stay blank.
+-- The bytes of the front are blank, and the device's work writes none of them.
 abbrev pub FrontStaysBlank : Chip → Plan → Device → Type 0
 FrontStaysBlank chip plan d = (a : ℕ) → IsFrontAddress plan a → StaysBlankAt chip a d
 
--- The other pages have the bytes of the image, which may not change.
+-- The memory holds each byte of the image outside the front's page, and each is safe in this phase, as defined by IsSafeInPhase.
 abbrev pub OtherPagesNew : Chip → Plan → Phase → Device → Type 0
 OtherPagesNew chip plan p d =
     (a : ℕ) → IsOffFrontPage plan a → HasByte a plan.image.now → IsSafeInPhase chip a p d.device_work × (d.memory a
     ≡ byte_at a plan.image.now)
 
--- The other pages are old, the front is blank, or the other pages are new, by the work of the phase.
+-- One of three cases holds. The session erases the first page, and OtherPagesOld holds. Or the work is before the end of the comparison,
+-- and the front is blank. Or the work is after the comparison, and OtherPagesNew holds.
 abbrev pub OldBlankOrNew : Chip → Plan → Device → Phase → Device → Type 0
 OldBlankOrNew chip plan first p d =
     (HoldsInPhase (ErasesFirstPage plan) p × OtherPagesOld chip plan first p d)
     ⊎ ((HoldsInPhase (IsBeforeComparison plan) p × FrontStaysBlank chip plan d) ⊎ (HoldsInPhase (IsAfterComparison plan) p
     × OtherPagesNew chip plan p d))
 
--- At this moment memory is no mixture: the front is blank, or the bytes off its page are all old or all new.
+-- The facts about the session and the premises of `NoMixture` hold, the work touches the image, and OldBlankOrNew holds.
 pub record NoMixtureSoFar (chip : Chip) (first : Device) (l : DeviceAndSession) : Type 0 where
   pub so : SessionFactsHold chip l
   pub mixture_facts : HasNoMixturePremises chip l.session.plan
@@ -62,14 +63,14 @@ pub record NoMixtureSoFar (chip : Chip) (first : Device) (l : DeviceAndSession) 
   pub old_blank_or_new : OldBlankOrNew chip l.session.plan first l.session.phase l.device
 
 module _ (one : AddressOnOnePage) (chip : Chip) (plan : Plan) (m : HasNoMixturePremises chip plan) (first : Device) where
-  -- If all bytes off the front's page were read back, these pages have the image.
+  -- If the session has read back each byte of the image outside the front's page, the memory holds these bytes.
   read_back_pages_are_new : (p : Phase) (d : Device) → ((a : ℕ) → HasByte a plan.image.now → IsOffFrontPage plan a →
       WasReadInPhase plan p a) →
       ((a : ℕ) → HasByte a plan.image.now → WasReadInPhase plan p a → IsRightInMemory chip plan d a) → OtherPagesNew chip plan p d
   read_back_pages_are_new p d was right = λ a other has.
       let r = right a has (was a has other) in (safe_byte_is_safe_in_phase chip a p d.device_work r.1, r.0)
 
-  -- With a blank front, a work comes before the comparison of all but the front, or after it.
+  -- Each work that touches the image precedes the end of the comparison of the image after the front, or follows it.
   work_before_or_after_comparison : (w : Work) → WorkTouchesImage plan w → WritesFrontOnItsPage plan w →
       IsBeforeComparison plan w ⊎ (IsAfterComparison plan w × ((a : ℕ) → HasByte a plan.image.now → IsOffFrontPage plan a →
       WasReadInWork plan w a))
@@ -110,7 +111,6 @@ left_of_impossible_right A k = elim k [ inl a ↦ a | inr b ↦ absurd b ]
 
 module _ (one : AddressOnOnePage) (read : OnlyReadBack) (closes : AlwaysClosesAfterCompare) (always : WorkAlwaysTouchesImage) (chip : Chip)
     (first : Device) where
-  -- Facts after a turn, by the plan of the session before the turn.
   module _ (l l' : DeviceAndSession) (x : Seen) (turn : IsTurnOfBoth chip l x l') (k : NoMixtureSoFar chip first l)
       (touches : PhaseTouchesImage l.session.plan l'.session.phase) (placed : HoldsInPhase (WritesFrontOnItsPage l.session.plan)
       l'.session.phase)
@@ -125,7 +125,7 @@ module _ (one : AddressOnOnePage) (read : OnlyReadBack) (closes : AlwaysClosesAf
         OldBlankOrNew chip l.session.plan first l'.session.phase l'.device
     no_mixture_from_erased b = no_mixture_from_blank (blank_and_quiet_is_blank one chip l.session.plan k.mixture_facts first l'.device b)
 
-    -- A session at a work of the group stays in the group, or the front becomes blank.
+    -- If the session's work is in the group `G`, a turn keeps it in this group, or leaves the front blank and the device quiet.
     turn_stays_or_blanks_front : (G : Work → Type 0) → IsWorkGroup l.session.plan G (FrontBlankAndQuiet chip l.session.plan l'.device) →
         DoneStaysInGroup chip l.session.plan G (λ d. FrontBlankAndQuiet chip l.session.plan d) l'.device → HoldsInPhase G l.session.phase →
         HoldsInPhase G l'.session.phase ⊎ FrontBlankAndQuiet chip l.session.plan l'.device

@@ -1,4 +1,4 @@
--- Place of the next byte of an image, and end of a block.
+-- Address of the next byte of an image, and the element that contains a byte.
 use Rattle.std.proofs.Common.{◌≡◌, ℕ, ◌<◌, ◌≤◌, inl, inr, max, Bool, true, false, cond, eqb, ltb, List, [], ◌∷◌, length, Option, Some, None, refl, sym, ap, ◌∙◌, arith}
 use Rattle.std.proofs.lemmas.Bool.{ltb-true, ltb-false, or_parts, lt-ltb, le-ltb}
 use Rattle.std.proofs.lemmas.Bool.Decides.{nat_tests}
@@ -12,9 +12,7 @@ use Rattle.dfuse_host.specs.Refusing.{has_empty}
 use Rattle.dfuse_host.specs.ReadBack.{HasByte}
 use Rattle.dfuse_host.specs.Settling.{address_if_before, byte_in}
 
--- The next byte of an image.
-
--- An element with bytes ends after its own address.
+-- An element that isn't empty ends after its own address.
 pub nonempty_element_has_end : (e : Element) → eqb (length e.bytes.now) 0 ≡ false → e.address < end_of e
 nonempty_element_has_end e h = grind (arith, nat_tests)
 
@@ -27,13 +25,11 @@ no_next_byte_of_none : (at c : ℕ) → next_byte at [] ≡ Some c → ⊥
 unfolding next_byte
 no_next_byte_of_none at c h = cc
 
--- `c` is the next byte from `at` on: it is not before `at`, is a byte of the image, and is its own next byte.
+-- `c` is the address of the next byte of the image from `at` on. It is not before `at`, and the next byte from `c` on is at `c`.
 record IsNextByte (at c : ℕ) (es : List Element) : Type 0 where
-  -- The byte is not before `at`.
   from : at ≤ c
-  -- The image has the byte.
   has : HasByte c es
-  -- The byte is its own next byte.
+  -- The next byte from `c` on is at `c` itself.
   is_its_own_next : next_byte c es ≡ Some c
 
 next_byte_by_end_test : (at c : ℕ) (e : Element) (es : List Element) (t : Bool) → ltb at (end_of e) ≡ t → e.address < end_of e →
@@ -72,15 +68,12 @@ if_before_is_before : (end c : ℕ) (o : Option ℕ) → address_if_before end o
 if_before_is_before end c None h = cc
 if_before_is_before end c (Some b) h = let k = cond_some (ltb b end) b c h in (ap Some k.1, omega (arith, k.1, ltb-true b end k.0))
 
--- `c` is the next byte of the part of the image from `at` to before `end`.
+-- `c` is the address of the next byte of the image from `at` up to `end`.
 pub record IsByteIn (plan : Plan) (at end c : ℕ) : Type 0 where
-  -- The byte is not before `at`.
   pub from : at ≤ c
-  -- The byte is before `end`.
   pub to : c < end
-  -- The image has the byte.
   pub has : HasByte c plan.image.now
-  -- The byte is its own next byte.
+  -- The next byte from `c` on is at `c` itself.
   pub is_its_own_next : byte_in plan c end ≡ Some c
 
 pub byte_in_is_byte_of_part : (plan : Plan) (at end c : ℕ) → has_empty plan.image.now ≡ false → byte_in plan at end ≡ Some c →
@@ -95,17 +88,11 @@ byte_in_is_byte_of_part plan at end c h f =
       is_its_own_next = ap (address_if_before end) n.is_its_own_next ∙ ap (λ (t : Bool). cond t (Some c) None) (lt-ltb c end b.1);
     }
 
--- The element that holds a byte.
-
--- The image has an element with a byte at `a`.
+-- An element of the image contains the address `a`.
 pub record IsByteHeld (a : ℕ) (es : List Element) : Type 0 where
-  -- Element that has the byte.
   pub element : Element
-  -- The element is found at `a`.
   pub is : element_at a es ≡ Some element
-  -- The element begins at `a` or before it.
   pub low : element.address ≤ a
-  -- The element ends after `a`.
   pub high : a < end_of element
 
 held_byte_by_test : (a : ℕ) (e : Element) (es : List Element) (t : Bool) → element_holds a e ≡ t → (element_holds a e ≡ false →

@@ -1,4 +1,4 @@
--- No mixture: at each moment the front is blank, or the bytes off its page are all old or all new.
+-- Proofs of the laws NoMixture and NoneButErasing from the facts that hold in each history.
 use Rattle.std.proofs.Common.{◌≡◌, ℕ, ◌≤◌, ◌⊎◌, inl, inr, refl, sym, ap, ◌∙◌, subst}
 use Rattle.dfu_formats.specs.memory.Lookups.{AddressOnOnePage}
 use Rattle.dfuse_host.specs.declared.plan.Plan.{Plan}
@@ -19,13 +19,13 @@ use Rattle.dfuse_link.proofs.Bytes.{byte_of_element_at}
 use Rattle.dfuse_link.proofs.FrontLast.{found_element_has_byte}
 use Rattle.dfuse_link.proofs.FrontPages.{HasNoMixturePremises}
 use Rattle.dfuse_link.proofs.Groups.{ErasesFirstPage, IsAfterComparison}
-use Rattle.dfuse_link.proofs.OwnTurns.{plan_image_is_filled, idle_work_is_safe_before_start}
-use Rattle.dfuse_link.proofs.Turns.{IsRightInMemory}
+use Rattle.dfuse_link.proofs.UntouchedTurns.{plan_image_is_filled, idle_work_is_safe_before_start}
+use Rattle.dfuse_link.proofs.SessionTurns.{IsRightInMemory}
 use Rattle.dfuse_link.proofs.Verified.{begun_session_has_facts, history_keeps_plan}
 use Rattle.dfuse_link.proofs.Mixtures.{OldBlankOrNew, NoMixtureSoFar, no_mixture_in_history}
 use Rattle.dfuse_link.proofs.Pairs.{session_begun_with}
 
--- When a session begins, memory is no mixture.
+-- When a session begins, NoMixtureSoFar holds, because the session erases the first page and no byte has changed.
 no_mixture_at_begin : (always : WorkAlwaysTouchesImage) (chip : Chip) (plan : Plan) (limits : Limits) (d : Device) →
     HasNoMixturePremises chip plan → CarriesNoOrder d →
     NoMixtureSoFar chip d (session_begun_with d plan limits)
@@ -53,9 +53,7 @@ no_mixture one read closes always chip plan limits d d' s seens for apart map er
       ]
     ]
 
--- Moments at which no page is to be erased.
-
--- The work is to erase a page.
+-- The work is to erase a page, for the first time or again.
 abbrev pub IsToErase : Work → Type 0
 IsToErase (work.Erase at) = Unit {0}
 IsToErase (work.EraseAgain page end) = Unit {0}
@@ -67,7 +65,7 @@ other_work_erases_nothing (work.Erase at) first again is = first at refl
 other_work_erases_nothing (work.EraseAgain page end) first again is = again page end refl
 other_work_erases_nothing w first again is = is
 
--- After the comparison, each byte of the image after the front was read back.
+-- After the comparison, the session has read back each byte of the image after the front, unless it erases the front's page again.
 rest_was_read_after_comparison : (plan : Plan) (w : Work) (a : ℕ) → IsAfterComparison plan w → (IsToErase w → ⊥) → front_end plan ≤ a →
     WasReadInWork plan w a
 rest_was_read_after_comparison plan (work.EraseAgain page end) a b no_erase low = absurd (no_erase tt)

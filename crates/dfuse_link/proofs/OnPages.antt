@@ -1,4 +1,4 @@
--- Pages of the map, and the addresses on them.
+-- Facts about the pages of the map and the addresses on them.
 use Rattle.std.proofs.Common.{◌≡◌, ℕ, suc, ◌+◌, ◌-◌, ◌*◌, ◌/◌, ◌<◌, ◌≤◌, ◌^◌, inl, inr, Bool, true, false, cond, List, [], ◌∷◌, Option, Some, None, refl, sym, ap, ◌∙◌, subst, arith}
 use Rattle.std.specs.List.{All}
 use Rattle.std.specs.Option.{option_map}
@@ -18,20 +18,15 @@ use Rattle.dfuse_host.specs.Plans.{page_of, page_start, page_end}
 use Rattle.dfuse_host.specs.Refusing.{EachAddressGranted, IsSoundPlan, wanted_access}
 use Rattle.dfuse_host.specs.ReadBack.{HasByte}
 
--- Ranges of a map.
-
--- The range that has an address is the first range, if that has it, and else a later one.
+-- The range that contains an address is the first range if it contains the address, and is a later range otherwise.
 pub range_at_cons : (a : ℕ) (p : Pages) (ps : List Pages) → range_at a (p ∷ ps) ≡ cond (range_has a p) (Some p) (range_at a ps)
 unfolding range_at
 range_at_cons a p ps = refl
 
--- The range `q` that was found for `a` has `a`, and is sound if all ranges are.
+-- The range `q` was found for the address `a`. It contains `a`, and it is sound if all ranges are.
 record IsInRange (a : ℕ) (q : Pages) (ps : List Pages) : Type 0 where
-  -- The range begins at `a` or before it.
   low : q.start ≤ a
-  -- The range ends after `a`.
   high : a < ranges.end_of_range q
-  -- The range is sound if all are.
   range : All IsRange ps → IsRange q
 
 range_found_by_test : (a : ℕ) (p q : Pages) (ps : List Pages) (t : Bool) → range_has a p ≡ t → (range_at a ps ≡ Some q → IsInRange a q ps) →
@@ -51,17 +46,13 @@ found_range_has_address a q [] e = absurd (no_range_in_empty_map a q e)
 found_range_has_address a q (p ∷ ps) e = range_found_by_test a p q ps (range_has a p) refl (found_range_has_address a q ps) (sym
     (range_at_cons a p ps) ∙ e)
 
--- Pages of a map.
-
--- On the map of the plan, the address is on the page.
+-- The address lies on this page of the plan's map.
 pub record IsOnPage (plan : Plan) (a : ℕ) (page : Page) : Type 0 where
-  -- The map has this page for the address.
+  -- The map returns this page for the address.
   pub is : page_at a plan.map.now.ranges ≡ Some page
-  -- The page begins at the address or before it.
   pub low : page.start ≤ a
-  -- The page ends after the address.
   pub high : a < page.start + page.size
-  -- The address has 32 bits.
+  -- The address has at most 32 bits.
   pub fits : a < 2 ^ 32
 
 quotient_multiple_above : (x n : ℕ) → 1 ≤ n → x < x / n * n + n
@@ -82,7 +73,7 @@ found_range_has_page plan a page (Some q) e all h =
       fits = omega (arith, there.high, range.ends);
     })
 
--- The page that the map has for an address has the address.
+-- The page that the map returns for an address contains the address.
 pub page_at_has_address : (plan : Plan) (a : ℕ) (page : Page) → All IsRange plan.map.now.ranges → page_at a plan.map.now.ranges
     ≡ Some page →
     IsOnPage plan a page
@@ -101,14 +92,12 @@ page_end_of_page plan a page on =
     (lt-ltb a (2 ^ 32) on.fits)
     ∙ ap (λ (o : Option Page). elim o as (λ _. ℕ) [ None ↦ a | Some p ↦ p.start + p.size ]) on.is
 
--- Each address of a page is on that page.
+-- Each address within the bounds of a page lies on this page.
 pub page_addresses_share_page : AddressOnOnePage → (plan : Plan) (a b : ℕ) (page : Page) → All IsRange plan.map.now.ranges
     → are_apart plan.map.now.ranges ≡ true →
     IsOnPage plan a page → page.start ≤ b → b < page.start + page.size → IsOnPage plan b page
 page_addresses_share_page one plan a b page all apart on low high =
     page_at_has_address plan b page all (one plan.map.now.ranges a b page all apart on.is low high)
-
--- Each byte of an image is on a page.
 
 each_image_byte_granted : (wanted : Access) (a : ℕ) (ps : List Pages) (es : List Element) → EachAddressGranted wanted ps es → HasByte a es →
     IsGranted wanted (range_at a ps)
@@ -116,11 +105,9 @@ each_image_byte_granted wanted a ps [] granted b = absurd b
 each_image_byte_granted wanted a ps (e ∷ es) granted b =
     elim b [ inl w ↦ granted.0 a w.0 w.1 | inr w ↦ each_image_byte_granted wanted a ps es granted.1 w ]
 
--- The address has a page.
+-- The address lies on a page of the plan's map.
 pub record HasPage (plan : Plan) (a : ℕ) : Type 0 where
-  -- Page of the address.
   pub page : Page
-  -- The address is on this page.
   pub on : IsOnPage plan a page
 
 granted_range_has_page : (plan : Plan) (a : ℕ) (wanted : Access) (o : Option Pages) → range_at a plan.map.now.ranges ≡ o →

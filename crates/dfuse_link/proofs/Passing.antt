@@ -1,4 +1,4 @@
--- The facts of a device and its session stay while the device goes on by itself.
+-- The facts about a device and its session stay true while the device continues its work by itself.
 use Rattle.std.proofs.Common.{◌≡◌, subst}
 use Rattle.dfuse_host.specs.declared.plan.Plan.{Plan}
 use Rattle.dfuse_host.specs.declared.phase.Phase.{Phase}
@@ -11,9 +11,9 @@ use Rattle.dfuse_host.specs.Commands.{command_of}
 use Rattle.dfuse_host.proofs.ForCallers.{AnyCommand}
 use Rattle.dfuse_link.specs.Chips.{Chip, Order, CarriesOut, Device, DeviceAdvances, goes_on, ends, fails}
 use Rattle.dfuse_link.proofs.Claims.{IsQuiet, MayHaveCommand, DeviceFitsStep, DeviceFitsPhase}
-use Rattle.dfuse_link.proofs.Deviced.{quiet_work_is_not_busy, advance_keeps_command}
+use Rattle.dfuse_link.proofs.RequestEffects.{quiet_work_is_not_busy, advance_keeps_command}
 use Rattle.dfuse_link.proofs.Safe.{advance_keeps_byte}
-use Rattle.dfuse_link.proofs.Turns.{SessionFactsHold, kept_byte_is_right}
+use Rattle.dfuse_link.proofs.SessionTurns.{SessionFactsHold, kept_byte_is_right}
 use Rattle.dfuse_link.proofs.Pairs.{DeviceAndSession}
 
 pub advancing_device_is_busy : (chip : Chip) (d d' : Device) → DeviceAdvances chip d d' → (order : Order) × (d.device_work

@@ -1,4 +1,4 @@
--- A byte that was read back is the byte of the image.
+-- A byte that the session has read back is the byte of the image.
 use Rattle.std.proofs.Common.{◌≡◌, ℕ, ◌+◌, ◌-◌, ◌*◌, ◌/◌, ◌%◌, ◌^◌, ◌<◌, ◌≤◌, Bool, true, false, cond, eqb, leb, List, [], length, get_or, take, drop, Option, Some, None, refl, sym, ap, ◌∙◌, subst, arith, length-take, length-drop}
 use Rattle.std.specs.Str.{bytes_eq}
 use Rattle.std.proofs.lemmas.Bool.{leb-true, eqb-true, and_parts}
@@ -25,14 +25,12 @@ use Rattle.dfuse_link.specs.Chips.{Chip, Device}
 use Rattle.dfuse_link.specs.Reactions.{Reaction, Acks, Data, Stalls, BytesInMemoryAt, Reacts, gives, gives_other_bytes}
 use Rattle.dfuse_link.specs.Histories.{RequestArrives, again, SeenOfReaction}
 use Rattle.dfuse_link.proofs.Claims.{IsQuiet, KnowsPointer, CanReadWork, DeviceFitsStep}
-use Rattle.dfuse_link.proofs.Deviced.{arriving_uploads_keep_quiet}
+use Rattle.dfuse_link.proofs.RequestEffects.{arriving_uploads_keep_quiet}
 use Rattle.dfuse_link.proofs.SentClaims.{DeedArrives}
 use Rattle.dfuse_link.proofs.Safe.{IsSafeAt}
 use Rattle.dfuse_link.proofs.Bytes.{byte_of_element_at, byte_at, found_element_has_address, later_address_same_element, part_has_same_byte}
 
--- Place in memory of the bytes that are read.
-
--- The bytes from `at` on are a whole number of blocks after `base`, few enough for a block number.
+-- The address `at` lies a whole number of blocks after `base`, and at most 65533 blocks.
 record BlockReadableFrom (plan : Plan) (base at : ℕ) : Type 0 where
   low : base ≤ at
   whole : (at - base) % block_size plan ≡ 0
@@ -65,7 +63,7 @@ pub upload_block_is_two_at_least : (plan : Plan) (p : Place) (at : ℕ) → 2 �
 unfolding upload_block
 upload_block_is_two_at_least plan p at = omega arith
 
--- The bytes of the block that is requested are those from `at` on.
+-- UPLOAD of the requested block returns the bytes from `at` on.
 requested_block_begins_at : (plan : Plan) (transfer base at pointer : ℕ) → can_read plan base at ≡ true → plan.transfer ≡ transfer →
     1 ≤ transfer → at < 2 ^ 32 → pointer ≡ base % 2 ^ 32 → pointer + (upload_block plan (place.Reading base) at - 2) * transfer ≡ at
 requested_block_begins_at plan transfer base at pointer can e some fits known =
@@ -79,8 +77,6 @@ requested_block_begins_at plan transfer base at pointer can e some fits known =
     ap (λ (n : ℕ). n * transfer) same ∙ ap (λ (n : ℕ). (at - base) / block_size plan * n) (sym size) ∙ whole in
     let low : pointer ≡ base = omega (arith, known, fits, reads.low) in
     omega (arith, there, low, reads.low)
-
--- Bytes of the image in a block.
 
 bytes_in_are_of_element : (plan : Plan) (at end : ℕ) (e : Element) → element_at at plan.image.now ≡ Some e →
     bytes_in plan at end ≡ take (end - at) (drop (at - e.address) e.bytes.now)
@@ -144,9 +140,7 @@ wanted_byte_in_length plan w a apart low high =
           length (read_bytes_are_part plan w),
     )
 
--- Bytes that were compared.
-
--- The bytes that came are those of the image that the work reads, and the byte at `a` is one of them.
+-- The device returned the bytes of the image that the work reads, and one of them has the address `a`.
 record MatchesImage (plan : Plan) (w : Work) (given : List ℕ) (a : ℕ) : Type 0 where
   same : given ≡ read_bytes plan w
   low : stands_at w ≤ a
@@ -164,9 +158,7 @@ read_back_means_match : (plan : Plan) (w : Work) (given : List ℕ) (a : ℕ) �
 read_back_means_match plan w given a h =
     comparison_is_match plan w given a (eqb (length given) (length (read_bytes plan w))) (bytes_eq given (read_bytes plan w)) refl h
 
--- Bytes that the device gave.
-
--- The bytes that the device gave are in its memory, and its work may change none of them.
+-- The memory holds the bytes that the device returned, and the device's work may change none of them.
 record GaveBytes (chip : Chip) (p : Place) (block : ℕ) (bytes : List ℕ) (d : Device) : Type 0 where
   pointer : ℕ
   known : KnowsPointer p pointer
@@ -189,7 +181,7 @@ module _ (chip : Chip) (p : Place) where
   upload_gave_memory d block n body _ bytes _ e from known (gives_other_bytes _ _ _ sent may low) = absurd (omega (arith, from, low))
   upload_gave_memory d block n body r bytes d' e from known step = cc
 
-  -- An UPLOAD that was answered with bytes, however often it came, gave bytes of the memory.
+  -- If the session sees the bytes of an UPLOAD, they are bytes of the memory, even if the UPLOAD arrived several times.
   given_of : (d : Device) (block n : ℕ) (body bytes : List ℕ) (d' : Device) → 2 ≤ block → IsQuiet d.device_work × KnowsPointer p d.pointer →
       RequestArrives chip (request.Upload block n) body d (Some (Data bytes)) d' → GaveBytes chip p block bytes d'
   given_of d block n body bytes d' from known (again {before = before} {mid = mid} first last) =
@@ -232,7 +224,7 @@ module _ (chip : Chip) (plan : Plan) (w : Work) (a : ℕ) (transfer : plan.trans
   nothing_heard_reads_nothing : (h x : AnyHeard) → h ≡ x → (ReadsBack plan w step.Read x a → ⊥) → ReadsBack plan w step.Read h a → ⊥
   nothing_heard_reads_nothing h x e none reads = none (subst (λ y. ReadsBack plan w step.Read y a) e reads)
 
-  -- A byte that a session has just read back is the byte of the image, and safe.
+  -- A byte that the session has just read back is the byte of the image, and the device's work may not change it.
   pub read_back_byte_is_right : (p : Place) (d d' : Device) (h : AnyHeard) (r : Option Reaction) (x : Seen) →
       DeviceFitsStep chip plan w p step.Read d →
       DeedArrives chip (deed_of_step plan w p step.Read) d r d' → SeenOfReaction r x → DfuseSeenMeaning plan w step.Read x h

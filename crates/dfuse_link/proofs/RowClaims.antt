@@ -1,4 +1,4 @@
--- Facts of a device after each row of the table.
+-- The device fits the phase of the session after each row of the table.
 use Rattle.std.proofs.Common.{◌≡◌, ℕ, Bool, true, false}
 use Rattle.dfu_wire.specs.declared.codes.Code.{Code}
 use Rattle.dfu_wire.specs.declared.codes.Code.TheVariants as code
@@ -15,7 +15,7 @@ use Rattle.dfuse_host.proofs.ForCallers.{AnyHeard, heard_comparison, heards_have
 use Rattle.dfuse_link.specs.Chips.{Chip, Device, state_in}
 use Rattle.dfuse_link.proofs.Claims.{IsQuiet, KnowsPointer, MayHaveCommand, HasCommand, CanReadWork, DeviceFitsPhase, HeardSaysState}
 use Rattle.dfuse_link.proofs.SentClaims.{AckMeansHasCommand}
-use Rattle.dfuse_link.proofs.Deviced.{idle_work_is_quiet, idle_status_means_done, sync_state_has_command}
+use Rattle.dfuse_link.proofs.RequestEffects.{idle_work_is_quiet, idle_status_means_done, sync_state_has_command}
 use Rattle.dfuse_link.proofs.SettlingClaims.{device_fits_settled_phase, device_fits_after_command, device_fits_unsure_phase}
 
 begun_reading_knows_pointer : (p : Place) (pointer : ℕ) → KnowsPointer p pointer → KnowsPointer (place_with_reading_begun p) pointer
@@ -27,8 +27,6 @@ ended_reading_knows_pointer (place.Reading p) pointer k = k
 ended_reading_knows_pointer p pointer k = k
 
 module _ (chip : Chip) (plan : Plan) (w : Work) (p : Place) (d : Device) where
-  -- Rows that clear the device.
-
   pub device_fits_after_abort : (h : AnyHeard) → DeviceFitsPhase chip plan (on_abort w h) d
   device_fits_after_abort h = heards_have_fact (λ x. DeviceFitsPhase chip plan (on_abort w x) d) tt (λ s. tt) (λ s. tt) (λ b. tt) tt tt
       tt tt h
@@ -69,8 +67,6 @@ module _ (chip : Chip) (plan : Plan) (w : Work) (p : Place) (d : Device) where
   pub device_fits_after_clear_wait : (ms : ℕ) (h : AnyHeard) → DeviceFitsPhase chip plan (on_clear_wait w ms h) d
   device_fits_after_clear_wait ms h = heards_have_fact (λ x. DeviceFitsPhase chip plan (on_clear_wait w ms x) d) tt (λ s. tt) (λ s. tt)
       (λ b. tt) tt tt tt tt h
-
-  -- Rows of a command.
 
   pub device_fits_after_send : (h : AnyHeard) → AckMeansHasCommand chip (command_of plan w p) d h →
       MayHaveCommand (command_of plan w p) d.device_work × KnowsPointer p d.pointer →
@@ -127,8 +123,6 @@ module _ (chip : Chip) (plan : Plan) (w : Work) (p : Place) (d : Device) where
   device_fits_after_poll_wait ms h k = heards_have_fact (λ x. DeviceFitsPhase chip plan (on_poll_wait w p ms x) d) k (λ s. k) (λ s. k) (λ
       b. k) k k k k h
 
-  -- Rows of reading.
-
   pub device_fits_begun_reading : (h : AnyHeard) → IsQuiet d.device_work × KnowsPointer p d.pointer →
       DeviceFitsPhase chip plan (on_begin_reading plan w p h) d
   device_fits_begun_reading h k =
@@ -156,8 +150,6 @@ module _ (chip : Chip) (plan : Plan) (w : Work) (p : Place) (d : Device) where
       heards_have_fact (λ x. DeviceFitsPhase chip plan (on_read plan w p x) d) k (λ s. k) (λ s. k)
       (λ b. device_fits_after_comparison b k)
       tt k k k h
-
-  -- Rows of leaving.
 
   pub device_fits_after_close : (h : AnyHeard) → DeviceFitsPhase chip plan (on_close w p h) d
   device_fits_after_close h = heards_have_fact (λ x. DeviceFitsPhase chip plan (on_close w p x) d) tt (λ s. tt) (λ s. tt) (λ b. tt) tt tt

@@ -1,4 +1,4 @@
--- A byte stays if no order that the device has may change it.
+-- A byte stays unchanged if no order of the device may change it.
 use Rattle.std.proofs.Common.{◌≡◌, ℕ, ◌-◌, ◌%◌, ◌^◌, ◌≤◌, ◌⊎◌, inl, inr, Bool, true, false, cond, eqb, List, [], length, take, drop, Option, Some, None, refl, sym, ◌∙◌, subst, arith, length-take}
 use Rattle.std.proofs.lemmas.Bool.{eqb-true}
 use Rattle.dfu_wire.specs.declared.states.State.{State}
@@ -26,26 +26,24 @@ use Rattle.dfuse_link.proofs.Changes.{OrderMayChange, byte_stays_if_safe, stall_
 use Rattle.dfuse_link.proofs.Claims.{KnowsPointer, DeviceFitsStep}
 use Rattle.dfuse_link.proofs.SentClaims.{set_address_order}
 
--- The work may change the byte at `a` once its order is started.
+-- The device's order may change the byte at `a` now, or once it is started.
 abbrev pub WorkMayChange : Chip → DeviceWork → (a : ℕ) → Type 0
 WorkMayChange chip (RestsInState s) a = ⊥
 WorkMayChange chip (Pending order) a = OrderMayChange chip order a
 WorkMayChange chip (CarriesOut order) a = OrderMayChange chip order a
 
--- The work of a device may not change the byte at `a`, also once its order is started.
+-- The device's order may not change the byte at `a`, now or once it is started.
 abbrev pub IsSafeAt : Chip → (a : ℕ) → DeviceWork → Type 0
 IsSafeAt chip a device_work = WorkMayChange chip device_work a → ⊥
 
--- The request brings no order that may change the byte at `a`.
+-- The request gives the device no order that may change the byte at `a`.
 abbrev pub RequestLeavesByte : Chip → (a : ℕ) → Request → List ℕ → (pointer : ℕ) → Type 0
 RequestLeavesByte chip a (request.Dnload block n) body pointer = OrderMayChange chip (order_of chip pointer block body) a → ⊥
 RequestLeavesByte chip a q body pointer = Unit {0}
 
--- The byte at `a` stays, and the work may not change it afterwards.
+-- The byte at `a` stays unchanged, and afterwards the device's order may not change it.
 pub record KeepsByte (chip : Chip) (a : ℕ) (d d' : Device) : Type 0 where
-  -- The byte stays.
   pub byte : d'.memory a ≡ d.memory a
-  -- The work may not change it.
   pub safe : IsSafeAt chip a d'.device_work
 
 module _ (chip : Chip) (a : ℕ) where
@@ -81,7 +79,7 @@ module _ (chip : Chip) (a : ℕ) where
   safe_work_leaves_byte (CarriesOut order) memory memory' changed safe = byte_stays_if_safe chip a (CarriesOut order) memory memory'
       changed safe
 
-  -- A restart keeps a byte that the work may not change.
+  -- A restart leaves a byte unchanged if the device's order may not change it.
   pub restart_keeps_byte : (d d' : Device) (s : State) → d'.device_work ≡ RestsInState s →
       ChangedBy chip d.device_work d.memory d'.memory →
       IsSafeAt chip a d.device_work → KeepsByte chip a d d'
@@ -140,15 +138,13 @@ module _ (chip : Chip) (a : ℕ) where
       let l = reaction_keeps_byte mid q body reaction d' last k.1 k.0.safe in
       (record { byte = l.0.byte ∙ k.0.byte; safe = l.0.safe }, l.1)
 
-  -- A request that brings no order that may change the byte leaves the byte as it is.
+  -- A request leaves a byte unchanged if neither the device's order nor the order that the request gives may change the byte.
   pub harmless_request_keeps_byte : (q : Request) (body : List ℕ) (d : Device) (r : Option Reaction) (d' : Device) →
       RequestArrives chip q body d r d' →
       RequestLeavesByte chip a q body d.pointer → IsSafeAt chip a d.device_work → KeepsByte chip a d d'
   harmless_request_keeps_byte q body d r d' comes new safe = (arriving_request_keeps_byte q body d r d' comes new safe).0
 
--- Requests that a session sends.
-
--- The request of an action brings no order that may change the byte at `a`.
+-- The request that a session sends gives the device no order that may change the byte at `a`.
 abbrev pub DeedLeavesByte : Chip → (a : ℕ) → DfuseDeed → (pointer : ℕ) → Type 0
 DeedLeavesByte chip a (Send q body) pointer = RequestLeavesByte chip a q body pointer
 DeedLeavesByte chip a (Wait ms) pointer = Unit {0}
@@ -205,7 +201,7 @@ module _ (chip : Chip) (plan : Plan) (a pointer : ℕ) where
   send_leaves_read_byte (work.CompareFront at) p was k = set_address_leaves_byte (work.CompareFront at) at
   send_leaves_read_byte work.Leave p was k = set_address_leaves_byte work.Leave plan.start
 
--- No request of a session may change a byte that was read back.
+-- No request of a session may change a byte that the session has read back.
 pub deed_leaves_read_byte : (chip : Chip) (plan : Plan) (a : ℕ) (w : Work) (p : Place) (s : Step) (d : Device) → WasReadInWork plan w a →
     DeviceFitsStep chip plan w p s d →
     DeedLeavesByte chip a (deed_of_step plan w p s) d.pointer

@@ -1,4 +1,4 @@
--- The order that a device gets is that of the command that a session sends.
+-- A device that has received a command of the session has the order of this command.
 use Rattle.std.proofs.Common.{◌≡◌, ℕ, ◌%◌, ◌^◌, ◌∷◌, length, Option, Some, None, sym, ap, subst, arith}
 use Rattle.std.specs.Int.{w32, to_le_bytes}
 use Rattle.std.proofs.lemmas.Nat.{from_le_bytes-to_le_bytes_4}
@@ -17,25 +17,25 @@ use Rattle.dfuse_link.specs.Chips.{Chip, SetsPointer, ErasesPage, Device}
 use Rattle.dfuse_link.specs.Reactions.{Reaction, Acks, Data, Stalls, order_of}
 use Rattle.dfuse_link.specs.Histories.{RequestArrives, SeenOfReaction}
 use Rattle.dfuse_link.proofs.Claims.{KnowsPointer, MayHaveCommand, HasCommand}
-use Rattle.dfuse_link.proofs.Deviced.{dnloads_arriving_keep_command, acked_dnloads_have_command}
+use Rattle.dfuse_link.proofs.RequestEffects.{dnloads_arriving_keep_command, acked_dnloads_have_command}
 
--- The request that an action sends arrives.
+-- The device receives the request that the session sends, any number of times.
 abbrev pub DeedArrives : Chip → DfuseDeed → Device → Option Reaction → Device → Type 0
 DeedArrives chip (Send q body) d r d' = RequestArrives chip q body d r d'
 DeedArrives chip (Wait ms) d r d' = ⊥
 DeedArrives chip (Done report) d r d' = ⊥
 
--- The order of a command that sets the pointer is to set it.
+-- The bytes of a command that sets the pointer give the device an order to set it.
 pub set_address_order : (chip : Chip) (pointer at : ℕ) → order_of chip pointer 0 (0x21 ∷ to_le_bytes w32 (at % 2 ^ 32))
     ≡ SetsPointer (at % 2 ^ 32)
 set_address_order chip pointer at = ap SetsPointer (from_le_bytes-to_le_bytes_4 (at % 2 ^ 32) (omega arith))
 
--- The order of a command that erases is to erase.
+-- The bytes of a command that erases give the device an order to erase.
 pub erase_command_order : (chip : Chip) (pointer at : ℕ) → order_of chip pointer 0 (0x41 ∷ to_le_bytes w32 (at % 2 ^ 32))
     ≡ ErasesPage (at % 2 ^ 32)
 erase_command_order chip pointer at = ap ErasesPage (from_le_bytes-to_le_bytes_4 (at % 2 ^ 32) (omega arith))
 
--- If the acknowledgement of a command is heard, the device has the command.
+-- If the session receives the acknowledgement of a command, the device has the command.
 abbrev pub AckMeansHasCommand : Chip → AnyCommand → Device → AnyHeard → Type 0
 AckMeansHasCommand chip c d h =
     heards_have_fact (λ _. Type 0) (HasCommand chip c d.device_work d.pointer d.memory) (λ s. Unit {0}) (λ s. Unit {0}) (λ b. Unit {0})
@@ -76,7 +76,7 @@ module _ (chip : Chip) (plan : Plan) (w : Work) (p : Place) (d d' : Device) wher
       (bytes_in plan at (write_end plan at (end_of_work plan w))) (λ pointer k. tt) (λ pointer memory e. tt) comes h)
       c
 
-  -- A command whose acknowledgement is heard has reached the device.
+  -- A command has reached the device if the session receives its acknowledgement.
   pub heard_ack_means_has_command : (h : AnyHeard) (r : Option Reaction) (x : Seen) (c : AnyCommand) → SeenOfReaction r x
       → DeedArrives chip (command_deed plan w c) d r d' →
       MayHaveCommand c d.device_work × KnowsPointer p d.pointer → DfuseSeenMeaning plan w step.Send x h → AckMeansHasCommand chip c d' h

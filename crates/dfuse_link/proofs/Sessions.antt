@@ -14,8 +14,6 @@ use Rattle.dfuse_link.proofs.Claims.{DeviceFitsPhase}
 use Rattle.dfuse_link.proofs.SettlingClaims.{device_fits_unsure_phase}
 use Rattle.dfuse_link.proofs.ToldPhases.{fact_holds_after_restart, fact_holds_after_heard}
 
--- Restarts and the budget of actions.
-
 module _ (chip : Chip) (s : Session) (d : Device) where
   device_fits_resumed_phase : (w : Work) (p : Place) (at : Step) → DeviceFitsPhase chip s.plan (phase_resumed s.plan w p at) d
   device_fits_resumed_phase w p (step.Poll last) = device_fits_unsure_phase chip s.plan d w (command_of s.plan w p)
@@ -26,7 +24,7 @@ module _ (chip : Chip) (s : Session) (d : Device) where
   device_fits_restart_phase w p at = fact_holds_after_restart (λ x. DeviceFitsPhase chip s.plan x d) (λ r. tt) s w p at
       (device_fits_resumed_phase w p at)
 
-  -- After a result is heard, the device fits the phase, if it fits the phase of the table's row.
+  -- After a result the device fits the phase of the session, if it fits the phase of the table's row.
   pub device_fits_after_heard : (w : Work) (p : Place) (at : Step) (h : AnyHeard) → DeviceFitsPhase chip s.plan (row s.plan w p at h) d →
       DeviceFitsPhase chip s.plan (session_after_step_heard s w p at h).phase d
   device_fits_after_heard w p at h = fact_holds_after_heard (λ x. DeviceFitsPhase chip s.plan x d) (λ r. tt) s w p at h

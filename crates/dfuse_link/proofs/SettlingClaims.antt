@@ -1,4 +1,4 @@
--- A quiet device fits the phase with which a session goes on.
+-- A quiet device whose pointer the session knows fits the next phase of each work.
 use Rattle.std.proofs.Common.{◌≡◌, ℕ, Bool, true, false, cond, eqb, Option, Some, None, refl}
 use Rattle.dfuse_host.specs.declared.plan.Plan.{Plan}
 use Rattle.dfuse_host.specs.declared.phase.Phase.{Phase}
@@ -15,7 +15,7 @@ use Rattle.dfuse_host.specs.Deeds.{stands_at}
 use Rattle.dfuse_host.proofs.ForCallers.{AnyCommand, commands_have_fact}
 use Rattle.dfuse_link.specs.Chips.{Chip, Device}
 use Rattle.dfuse_link.proofs.Claims.{IsQuiet, KnowsPointer, IsCommandDone, DeviceFitsStep, DeviceFitsPhase}
-use Rattle.dfuse_link.proofs.Deviced.{quiet_work_may_have_command}
+use Rattle.dfuse_link.proofs.RequestEffects.{quiet_work_may_have_command}
 
 module _ (chip : Chip) (plan : Plan) (d : Device) (quiet : IsQuiet d.device_work) where
   device_fits_send_step : (w : Work) (p : Place) → KnowsPointer p d.pointer → DeviceFitsStep chip plan w p step.Send d
@@ -63,7 +63,7 @@ module _ (chip : Chip) (plan : Plan) (d : Device) (quiet : IsQuiet d.device_work
       p)) d)
       [ true ↦ device_fits_leaving p k | false ↦ device_fits_staying p k ]
 
-  -- A fact of a phase without a next byte, and of the phases with one, holds of the phase that the next byte decides.
+  -- The device fits the phase `F o` for each next byte `o`, if it fits `F None` and fits `F (Some at)` for each address `at`.
   device_fits_by_next_byte : (F : Option ℕ → Phase) → DeviceFitsPhase chip plan (F None) d → ((at : ℕ) →
       DeviceFitsPhase chip plan (F (Some at)) d) → (o : Option ℕ) →
       DeviceFitsPhase chip plan (F o) d
@@ -115,8 +115,6 @@ module _ (chip : Chip) (plan : Plan) (d : Device) (quiet : IsQuiet d.device_work
   device_fits_settled_phase (work.CompareFront at) p k = device_fits_to_compare_front p at k
   device_fits_settled_phase work.Leave p k = device_fits_to_leave p k
 
-  -- Phases after a command.
-
   device_fits_after_erase : (w : Work) (at : ℕ) → DeviceFitsPhase chip plan (phase_after_erase plan w at) d
   device_fits_after_erase (work.EraseAgain page end) at = device_fits_to_write place.Lost _ end tt
   device_fits_after_erase w at = device_fits_to_erase place.Lost (page_end plan at) tt
@@ -131,7 +129,7 @@ module _ (chip : Chip) (plan : Plan) (d : Device) (quiet : IsQuiet d.device_work
       DeviceFitsPhase chip plan (phase_after_command plan w v) d)
       (λ at k. device_fits_settled_phase w (place.At at) k) (λ at k. device_fits_after_erase w at) (λ at k. device_fits_after_write w at) c
 
--- If the end of a command isn't known, nothing is claimed of the device.
+-- After a command with an unknown outcome, any device fits the next phase.
 pub device_fits_unsure_phase : (chip : Chip) (plan : Plan) (d : Device) (w : Work) (c : AnyCommand) →
     DeviceFitsPhase chip plan (phase_if_unsure plan w c) d
 device_fits_unsure_phase chip plan d w c = commands_have_fact (λ v. DeviceFitsPhase chip plan (phase_if_unsure plan w v) d) (λ at. tt) (λ

@@ -1,4 +1,4 @@
--- Facts of a device after each action of a session.
+-- The device fits the phase of the session after each action.
 use Rattle.std.proofs.Common.{◌≡◌, ℕ, Option}
 use Rattle.dfuse_host.specs.declared.plan.Plan.{Plan}
 use Rattle.dfuse_host.specs.declared.work.Work.{Work}
@@ -15,13 +15,13 @@ use Rattle.dfuse_link.specs.Chips.{Chip, Device}
 use Rattle.dfuse_link.specs.Reactions.{Reaction}
 use Rattle.dfuse_link.specs.Histories.{SeenOfReaction}
 use Rattle.dfuse_link.proofs.Claims.{DeviceFitsStep, DeviceFitsPhase}
-use Rattle.dfuse_link.proofs.Deviced.{arriving_aborts_keep_quiet, arriving_uploads_keep_quiet, arriving_get_states_keep_command, arriving_statuses_keep_command}
-use Rattle.dfuse_link.proofs.Heards.{arrived_request_answers_state, arrived_request_answers_status, get_state_says_state, get_status_says_state}
+use Rattle.dfuse_link.proofs.RequestEffects.{arriving_aborts_keep_quiet, arriving_uploads_keep_quiet, arriving_get_states_keep_command, arriving_statuses_keep_command}
+use Rattle.dfuse_link.proofs.HeardStates.{arrived_request_answers_state, arrived_request_answers_status, get_state_says_state, get_status_says_state}
 use Rattle.dfuse_link.proofs.SentClaims.{DeedArrives, sent_command_may_arrive, heard_ack_means_has_command}
 use Rattle.dfuse_link.proofs.RowClaims.{device_fits_after_abort, device_fits_after_ask_state, device_fits_after_ask_status, device_fits_after_clear_wait, device_fits_after_send, device_fits_after_probe, device_fits_after_poll, device_fits_after_poll_wait, device_fits_begun_reading, device_fits_ended_reading, device_fits_after_read, device_fits_after_close, device_fits_after_close_probe, device_fits_after_close_poll}
 
 module _ (chip : Chip) (plan : Plan) (w : Work) (p : Place) (d d' : Device) (h : AnyHeard) where
-  -- After a request the device fits the phase of the row.
+  -- If the device fits the step, it fits the phase of the table's row after the request.
   pub device_fits_after_request : (s : Step) (r : Option Reaction) (x : Seen) → DeviceFitsStep chip plan w p s d →
       DeedArrives chip (deed_of_step plan w p s) d r d' →
       SeenOfReaction r x →
@@ -61,7 +61,7 @@ command_deed_is_no_wait : (plan : Plan) (w : Work) (c : AnyCommand) (ms : ℕ) �
 command_deed_is_no_wait plan w c ms = commands_have_fact (λ v. command_deed plan w v ≡ Wait ms →
     ⊥) (λ at e. cc) (λ at e. cc) (λ at e. cc) c
 
--- After a wait the device fits the phase of the row.
+-- If the device fits the step, it fits the phase of the table's row after the wait.
 pub device_fits_after_wait : (chip : Chip) (plan : Plan) (w : Work) (p : Place) (d : Device) (h : AnyHeard) (s : Step) (ms : ℕ) →
     DeviceFitsStep chip plan w p s d →
     deed_of_step plan w p s ≡ Wait ms → DeviceFitsPhase chip plan (row plan w p s h) d

@@ -1,4 +1,5 @@
--- Facts of each session that is over, and of the one that a restart resumes, hold after the result of a step.
+-- A fact holds for the phase after a result, if it holds for the phase of the table's row, for the phase that a restart resumes, and for
+-- every session that is over.
 use Rattle.std.proofs.Common.{ℕ, zero, suc, pred}
 use Rattle.dfuse_host.specs.declared.phase.Phase.{Phase}
 use Rattle.dfuse_host.specs.declared.phase.Phase.TheVariants.{On, Over}
@@ -20,7 +21,7 @@ module _ (P : Phase → Type 0) (over : (r : Report) → P (Over r)) where
   fact_holds_of_spent_phase work.Leave s = over _
   fact_holds_of_spent_phase w s = over _
 
-  -- A fact of a phase, and of a session that is out of actions, holds once the action is counted.
+  -- A fact about a phase stays true when an action is counted, because the fact holds for every session that is over.
   fact_holds_in_budget : (n : ℕ) (p : Phase) → P p → P (phase_within_budget n p)
   fact_holds_in_budget n (Over r) h = over r
   fact_holds_in_budget zero (On s) h = fact_holds_of_spent_phase s.work s.step
@@ -39,13 +40,13 @@ module _ (P : Phase → Type 0) (over : (r : Report) → P (Over r)) where
         (over _)
     fact_holds_of_leaving_restart p at h = fact_holds_of_restarted_phase (phase_resumed s.plan work.Leave p at) s.restarts h
 
-    -- A fact of the phase that a restart resumes holds once the device has restarted.
+    -- A fact holds after the device restarts if it holds for the phase that the restart resumes.
     pub fact_holds_after_restart : (w : Work) (p : Place) (at : Step) → P (phase_resumed s.plan w p at) →
         P (session_after_restart s w p at).phase
     fact_holds_after_restart work.Leave p at h = fact_holds_of_leaving_restart p at h
     fact_holds_after_restart w p at h = fact_holds_of_restarted_phase (phase_resumed s.plan w p at) s.restarts h
 
-    -- A fact of the phase that a restart resumes, and of the phase of the row, holds after a result is heard.
+    -- A fact holds after a result if it holds for the phase of the table's row and for the phase that a restart resumes.
     pub fact_holds_after_heard : (w : Work) (p : Place) (at : Step) (h : AnyHeard) → P (phase_resumed s.plan w p at) →
         P (row s.plan w p at h)
         → P (session_after_step_heard s w p at h).phase

@@ -1,4 +1,4 @@
--- Once Verified is reported, the image is in the device's memory.
+-- Once a session reports Verified, the device's memory holds the image.
 use Rattle.std.proofs.Common.{◌≡◌, ℕ, List, ◌∷◌, refl, sym, ap, ◌∙◌, subst}
 use Rattle.std.specs.List.{AllByRecursion}
 use Rattle.dfu_formats.specs.declared.dfuse.element.Element.{Element}
@@ -17,10 +17,10 @@ use Rattle.dfuse_link.proofs.Rows.{turn_is_session_row}
 use Rattle.dfuse_host.proofs.RunLaws.{heard_phase_keeps_plan}
 use Rattle.dfuse_link.proofs.Bytes.{all_elements_are_in_memory}
 use Rattle.dfuse_link.proofs.Passing.{advance_keeps_session_facts}
-use Rattle.dfuse_link.proofs.Turns.{SessionFactsHold, plan_elements_are_apart, turn_keeps_session_facts}
+use Rattle.dfuse_link.proofs.SessionTurns.{SessionFactsHold, plan_elements_are_apart, turn_keeps_session_facts}
 use Rattle.dfuse_link.proofs.Pairs.{session_begun_with, device_with_session}
 
--- The facts hold when a session begins, because no byte counts as read back.
+-- The facts hold when a session begins, because the session has not read back any byte.
 pub begun_session_has_facts : (chip : Chip) (plan : Plan) (limits : Limits) (d : Device) → IsPlanFor chip plan →
     SessionFactsHold chip (session_begun_with d plan limits)
 begun_session_has_facts chip plan limits d for = record { for = for; closes = tt; stands = tt; right = λ a b was. absurd was }
@@ -39,7 +39,7 @@ history_has_session_facts chip only always d d' s s' (x ∷ seens) (turns {mid =
 row_keeps_plan : (s s' : Session) (x : Seen) → SessionRow s x s' → s'.plan ≡ s.plan
 row_keeps_plan s s' x row = ap (λ (t : Session). t.plan) row.same ∙ heard_phase_keeps_plan s s.phase row.heard
 
--- A session keeps its plan through a history.
+-- The plan of a session stays the same through a history.
 pub history_keeps_plan : (chip : Chip) (d d' : Device) (s s' : Session) (seens : List Seen) → History chip d s seens d' s' → s'.plan
     ≡ s.plan
 history_keeps_plan chip d _ s _ _ so_far = refl

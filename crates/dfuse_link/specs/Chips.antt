@@ -3,38 +3,39 @@ use Rattle.std.specs.Prelude.{◌≡◌, ◌⊎◌, ℕ, ◌+◌, ◌<◌, ◌�
 use Rattle.dfu_wire.specs.declared.states.State.{State}
 use Rattle.dfu_wire.specs.declared.states.State.TheVariants as state
 
--- Make of a device: it counts addresses by blocks of `transfer` bytes; `erases` says which bytes an erase at an address may change; `blank`
--- says which bytes an erase leaves, for example FFh alone, or any byte if erases can't be relied on.
+-- Properties of a device model. `transfer` is the block size. `erases` is true for a byte that an erase at an address may change. `blank`
+-- is true for a byte value that an erase may leave: FFh alone, for example, or any value if erases can't be relied on.
 pub record Chip : Type 0 where
-  -- Number of bytes of a block.
+  -- Number of bytes in a block.
   pub transfer : ℕ
-  -- An erase at the address `at` may change the byte at `a`.
+  -- True if an erase at the address `at` may change the byte at `a`.
   pub erases : (at a : ℕ) → Bool
-  -- An erase may leave this byte.
+  -- True if an erase may leave this byte.
   pub blank : (byte : ℕ) → Bool
 
--- Order that a DNLOAD brings: to set the address pointer, to erase the page of an address, to write `count` bytes from an address on, or
--- anything else.
+-- Order that a DNLOAD gives to a device: set the address pointer, erase the page that contains an address, write `count` bytes from an
+-- address on, or anything else.
 pub data Order : Type 0 where
   -- Sets the pointer to an address.
   SetsPointer : (at : ℕ) → Order
-  -- Erases the page of an address.
+  -- Erases the page that contains an address.
   ErasesPage : (at : ℕ) → Order
-  -- Writes a number of bytes from an address on.
+  -- Writes `count` bytes from the address `at` on.
   WritesByteRange : (at count : ℕ) → Order
-  -- Does anything else.
+  -- Any other order, which may change any byte.
   Other : Order
 
--- Work of a device: no order, in some state; an order that isn't started (dfuDNLOAD-SYNC); or an order that is carried out (dfuDNBUSY).
+-- Work of a device: it has no order and rests in a state, it has an order that isn't started (dfuDNLOAD-SYNC), or it carries out an order
+-- (dfuDNBUSY).
 pub data DeviceWork : Type 0 where
-  -- Has no order.
+  -- The device has no order and is in this state.
   RestsInState : State → DeviceWork
-  -- Has an order that isn't started.
+  -- The device has an order that the next GETSTATUS starts.
   Pending : Order → DeviceWork
-  -- Carries an order out.
+  -- The device carries out an order.
   CarriesOut : Order → DeviceWork
 
--- The state that a device reports.
+-- State that a device reports during this work.
 abbrev pub state_in : DeviceWork → State
 state_in (RestsInState s) = s
 state_in (Pending order) = state.DownloadSync
@@ -42,16 +43,16 @@ state_in (CarriesOut order) = state.DownloadBusy
 
 -- A device: the byte of each address, the address pointer, and the device's work.
 pub record Device : Type 0 where
-  -- Byte of each address.
+  -- Byte at each address.
   pub memory : ℕ → ℕ
   -- Address to which the pointer is set.
   pub pointer : ℕ
-  -- Order, if the device has one, or state.
+  -- Order that the device has, or the state in which it rests.
   pub device_work : DeviceWork
 
--- The memory may become `memory'` while a device does its work, also if the work is cut off. An erase leaves each byte that it doesn't
--- reach as it was, and each blank byte blank. A write leaves each byte out of its range as it was. An order of no known kind may change any
--- byte. In all other work, also while the pointer is set, all bytes stay.
+-- While the device does this work, `memory` may become `memory'`, even if a restart interrupts the work. An erase changes only bytes that
+-- it reaches, and leaves each blank byte blank. A write changes only bytes in its range. An order of another kind may change any byte. All
+-- other work, such as setting the pointer, changes no byte.
 abbrev pub ChangedBy : Chip → DeviceWork → (memory memory' : ℕ → ℕ) → Type 0
 ChangedBy chip (CarriesOut (ErasesPage at)) memory memory' = (a : ℕ) →
     ((chip.erases at a ≡ true → ⊥) → memory' a ≡ memory a) × (chip.blank (memory a) ≡ true → chip.blank (memory' a) ≡ true)
@@ -59,24 +60,24 @@ ChangedBy chip (CarriesOut (WritesByteRange at count)) memory memory' = (a : ℕ
 ChangedBy chip (CarriesOut Other) memory memory' = Unit {0}
 ChangedBy chip device_work memory memory' = (a : ℕ) → memory' a ≡ memory a
 
--- Memory and pointer once an order is carried out: the pointer is at the address that was set, or the bytes that an erase reaches are
--- blank. After any order but the first of these the pointer may be anywhere.
+-- Pointer and memory after an order is done. SetsPointer leaves the pointer at its address. An erase leaves each byte that it reaches
+-- blank. After any order except SetsPointer, the pointer may hold any address.
 abbrev pub OrderCarriedOut : Chip → Order → (pointer : ℕ) → (memory : ℕ → ℕ) → Type 0
 OrderCarriedOut chip (SetsPointer at) pointer memory = pointer ≡ at
 OrderCarriedOut chip (ErasesPage at) pointer memory = (a : ℕ) → chip.erases at a ≡ true → chip.blank (memory a) ≡ true
 OrderCarriedOut chip order pointer memory = Unit {0}
 
--- A device goes on with the order that it carries out, ends it, or fails.
+-- A device continues its order, completes it, or fails.
 pub data DeviceAdvances (chip : Chip) (d d' : Device) : Type 0 where
   -- The order isn't done yet.
   goes_on : (order : Order) → d.device_work ≡ CarriesOut order → d'.device_work ≡ CarriesOut order →
       ChangedBy chip (CarriesOut order) d.memory d'.memory →
       DeviceAdvances chip d d'
-  -- The order is done, and the device is in one of three states until it reports the end.
+  -- The order is done. Until a GETSTATUS reports it, the device is in dfuDNLOAD-SYNC, dfuDNBUSY or dfuDNLOAD-IDLE.
   ends : (order : Order) (s : State) → d.device_work ≡ CarriesOut order → d'.device_work ≡ RestsInState s →
       (s ≡ state.DownloadSync) ⊎ ((s ≡ state.DownloadBusy) ⊎ (s ≡ state.DownloadIdle)) →
       ChangedBy chip (CarriesOut order) d.memory d'.memory → OrderCarriedOut chip order d'.pointer d'.memory → DeviceAdvances chip d d'
-  -- The order fails.
+  -- The order fails, and the device is in dfuERROR.
   fails : (order : Order) → d.device_work ≡ CarriesOut order → d'.device_work ≡ RestsInState state.Error →
       ChangedBy chip (CarriesOut order) d.memory d'.memory →
       DeviceAdvances chip d d'

@@ -1,4 +1,4 @@
--- Sessions from which nothing gets lost, with a device that works.
+-- Sessions with a device that works, over a link that loses nothing.
 use Rattle.std.specs.Prelude.{◌≡◌, ℕ, zero, suc, ◌+◌, ◌<◌, List, [], ◌∷◌}
 use Rattle.dfu_wire.specs.declared.codes.Code.TheVariants as code
 use Rattle.dfu_wire.specs.declared.states.State.{State}
@@ -17,41 +17,41 @@ use Rattle.dfuse_host.specs.declared.session.Session.{Session}
 use Rattle.dfuse_host.specs.Deeds.{read_bytes}
 use Rattle.dfuse_host.specs.Sessions.{SessionRow}
 
--- The answer is these bytes.
+-- The device answers with exactly these bytes.
 abbrev pub BytesAnswered : List ℕ → Seen → Type 0
 BytesAnswered wanted (seen.Bytes bytes) = bytes.now ≡ wanted
 BytesAnswered wanted s = ⊥
 
--- The answer is the bytes of this status.
+-- The device answers with the bytes of this status.
 abbrev pub StatusAnswered : StatusFields → Seen → Type 0
 StatusAnswered status (seen.Bytes bytes) = IsStatus status bytes.now
 StatusAnswered status s = ⊥
 
--- The device reports that it is busy, and a time to wait that is not 0.
+-- The device reports dfuDNBUSY and a poll timeout that is not 0.
 pub record BusyReported (s : Seen) : Type 0 where
   -- Status that the device reports.
   pub status : StatusFields
-  -- The answer is this status.
+  -- The answer holds the bytes of this status.
   pub told : StatusAnswered status s
-  -- Its state is dfuDNBUSY.
+  -- The state in the status is dfuDNBUSY.
   pub is_busy : status.state ≡ state.DownloadBusy
-  -- Its time to wait is not 0.
+  -- The poll timeout is not 0.
   pub time : 0 < status.poll_ms
 
--- The device reports the state, and no fault.
+-- The device reports the state `t` and the status OK.
 pub record StateAnswered (t : State) (s : Seen) : Type 0 where
   -- Status that the device reports.
   pub status : StatusFields
-  -- The answer is this status.
+  -- The answer holds the bytes of this status.
   pub told : StatusAnswered status s
-  -- Its code is OK.
+  -- The status code is OK.
   pub no_fault : status.code ≡ code.Ok
-  -- Its state is `t`.
+  -- The state in the status is `t`.
   pub is_there : status.state ≡ t
 
--- Result of an action if the device works, gives back only bytes of the image, and nothing gets lost. The device is in dfuIDLE at first. A
--- command is started by a GETSTATUS, which reports dfuDNBUSY, and is done by the next one, after a wait. Steps that a clean run doesn't
--- take have no clean result.
+-- Result of an action in a clean run: the device works, each UPLOAD returns bytes of the image, and the link loses nothing. The device is
+-- in dfuIDLE at first. A GETSTATUS starts each command and reports dfuDNBUSY. After a wait, the next GETSTATUS reports that the command is
+-- done. A step that no clean run takes has no clean result.
 abbrev pub IsCleanResult : Plan → Work → Step → Seen → Type 0
 IsCleanResult plan w step.Abort s = s ≡ seen.Ack
 IsCleanResult plan w step.AskState s = BytesAnswered (state_byte state.DfuIdle ∷ []) s
@@ -66,15 +66,15 @@ IsCleanResult plan w step.Close s = s ≡ seen.Ack
 IsCleanResult plan w step.ClosePoll s = StateAnswered state.Manifest s
 IsCleanResult plan w at s = ⊥
 
--- A session that isn't over sees results, one after the other, each as in a clean run.
+-- A session sees results one after the other, and each is the result of a clean run.
 pub data CleanSession : Session → List Seen → Session → Type 0 where
-  -- Nothing is seen, and the session stays.
+  -- The session has seen no result and is unchanged.
   clean_nothing_seen : {s : Session} → CleanSession s [] s
-  -- A clean result is seen, and then others.
+  -- The session sees a clean result first, and then the other results.
   clean_result_more : {s mid s' : Session} {seen : Seen} {more : List Seen} (at : Standing) → s.phase ≡ On at
       → IsCleanResult s.plan at.work at.step seen → SessionRow s seen mid → CleanSession mid more s' → CleanSession s (seen ∷ more) s'
 
--- Number of results that are ends of waits. The others are answers to requests.
+-- Number of results that end a wait. In a clean session all other results are answers to requests.
 abbrev pub waits_in : List Seen → ℕ
 waits_in [] = 0
 waits_in (seen.Waited ∷ more) = 1 + waits_in more

@@ -1,5 +1,5 @@
--- Facts of the device that follow from a session's report. In each law a session begins with d, and later d' is the device and s the
--- session.
+-- Laws of a session with a device: its results follow the table, it ends in time, and its report Verified is true. In the laws about a plan
+-- the session begins with the device `d`; later the device is `d'` and the session is `s`.
 use Rattle.std.specs.Prelude.{◌≡◌, ◌≤◌, max, List, length}
 use Rattle.std.specs.List.{All, AllByRecursion}
 use Rattle.dfu_formats.specs.memory.Ranges.{IsRange}
@@ -17,27 +17,27 @@ use Rattle.dfuse_link.specs.Chips.{Chip, Device}
 use Rattle.dfuse_link.specs.Reactions.{BytesInMemoryAt}
 use Rattle.dfuse_link.specs.Histories.{History}
 
--- A session can begin with the plan, the ranges of its map are sound, and the device counts addresses by the blocks of the plan.
+-- A session can begin with the plan, the ranges of its map are sound, and plan and device use the same block size.
 pub record IsPlanFor (chip : Chip) (plan : Plan) : Type 0 where
   -- A session can begin with the plan.
   pub sound : IsSoundPlan plan
-  -- The ranges of the map are sound.
+  -- Each range of the map is sound.
   pub ranges : All IsRange plan.map.now.ranges
-  -- The blocks of the plan are those of the device.
+  -- The plan and the device use the same block size.
   pub transfer : plan.transfer ≡ chip.transfer
 
--- Once Verified is reported of a plan that is for the device, each element of the image is in its range of the device's memory.
+-- Once a session reports Verified, the device's memory holds each element of the image at its address, if the plan is for the device.
 abbrev pub VerifiedIsTrue : Type 0
 VerifiedIsTrue = (chip : Chip) (plan : Plan) (limits : Limits) (d d' : Device) (s : Session) (seens : List Seen) (leaving : Leaving)
     → IsPlanFor chip plan → History chip d (initial_dfuse_session plan limits) seens d' s → s.phase ≡ Over (Verified leaving)
     → AllByRecursion (λ (e : Element). BytesInMemoryAt d'.memory e.address e.bytes.now) plan.image.now
 
--- The results that the session sees lead by rows of the table, one after the other.
-abbrev pub HistoriesAreRows : Type 0
-HistoriesAreRows = (chip : Chip) (d d' : Device) (s s' : Session) (seens : List Seen) → History chip d s seens d' s' →
+-- In each history every result changes the session by a row of the table.
+abbrev pub HistoriesFollowRows : Type 0
+HistoriesFollowRows = (chip : Chip) (d d' : Device) (s s' : Session) (seens : List Seen) → History chip d s seens d' s' →
     SessionRows s seens s'
 
--- In each history the session is over after as many results as it has actions, and after one if it has none.
+-- In each history the session is over after at most `limits.actions` results, or after one result if that limit is 0.
 abbrev pub EndsWithinActions : Type 0
 EndsWithinActions = (chip : Chip) (plan : Plan) (limits : Limits) (d d' : Device) (s : Session) (seens : List Seen)
     → History chip d (initial_dfuse_session plan limits) seens d' s → max 1 limits.actions ≤ length seens → DfuseIsOver s.phase

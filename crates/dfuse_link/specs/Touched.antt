@@ -1,4 +1,4 @@
--- Bytes of the device's memory that a session changes.
+-- Bytes of the device's memory that a session may change.
 use Rattle.std.specs.Prelude.{◌≡◌, ℕ, true, List}
 use Rattle.dfuse_host.specs.declared.plan.Plan.{Plan}
 use Rattle.dfuse_host.specs.declared.seen.Seen.{Seen}
@@ -21,8 +21,8 @@ IsTrueMap chip plan =
 abbrev pub CarriesNoOrder : Device → Type 0
 CarriesNoOrder d = (order : Order) → d.device_work ≡ CarriesOut order → ⊥
 
--- At each moment, a byte on a page that has no byte of the image is as it was when the session began, if the plan is for the device, the
--- map is true of the image's pages, and the device carried out no order at first.
+-- A byte on a page without a byte of the image keeps its value, if the plan is for the device, the map is true of the image's pages, and
+-- the device carried out no order when the session began.
 abbrev pub OtherPagesStay : Type 0
 OtherPagesStay = (chip : Chip) (plan : Plan) (limits : Limits) (d d' : Device) (s : Session) (seens : List Seen) (a : ℕ) →
     IsPlanFor chip plan

@@ -1,5 +1,5 @@
-//! Laws of the reports that the host of DfuSe gives of a device over a link, on which any message may be lost and the device may restart at
-//! any time. Each law holds of every history.
+//! Laws about a DfuSe host and a device over a link. The link may lose any message, and the device may restart at any time. Only the law
+//! `clean_runs_are_counted` assumes a link that loses nothing.
 #![tactic(auto)]
 
 pub mod laws;

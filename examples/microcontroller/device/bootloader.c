@@ -1,6 +1,6 @@
 /* SPDX-License-Identifier: MIT OR Apache-2.0 */
-/* A bootloader around the proved device: what comes over the serial port is handed to it, what it asks for is carried out, and what it
- * answers is sent. All of this happens in interrupts, so that an image that runs needs to do nothing for it. */
+/* A bootloader around the proved device: it passes the bytes of the serial port to the device, carries out the operations that the device
+ * requests, and sends its answers. All of this happens in interrupts, so a running image needs no code for it. */
 #include "dfu_install.h"
 
 #include <string.h>
@@ -25,15 +25,15 @@ static int is_upgrading;
 
 enum { NO_ANSWER = -100 };
 
-/* Returns the result of a call. If it is a refusal, because the record or the flash is not as it was left, the device restarts as after a
- * loss of power. */
+/* Returns the result of a call. A refusal means that the record or the flash has changed, and then the processor restarts as after a loss
+ * of power. */
 static int32_t checked(int32_t result) {
     if (result < 0 && result != DFU_STALL)
         restart(NOTE_NONE);
     return result;
 }
 
-/* A control transfer, but for its answer. A frame has the data stage that its setup says, or it is none. */
+/* Handles a setup frame without sending the answer. A frame with a data stage of another length than the setup's wLength is ignored. */
 static int32_t setup_came(void) {
     const uint8_t *setup = request.bytes + FRAME_HEAD, *body = setup + 8;
     size_t stage = setup[0] & 0x80 ? 0 : (size_t)(setup[6] | setup[7] << 8);
@@ -62,8 +62,8 @@ static int32_t frame_came(void) {
     }
 }
 
-/* The work, once an answer is out, while the host waits: nothing else is taken from the serial port before it is done. Then what runs is as
- * the state says: each change of it is a reset of the processor, so that an image finds it as after power. */
+/* Does the pending work after an answer was sent, while the host waits; no other byte of the serial port is handled before the work is
+ * done. Then the state decides which program runs: each change resets the processor, so that an image finds it as after power-on. */
 static void go_on(void) {
     checked(dfu_device_work(&device));
     int32_t state = dfu_device_state(&device);
@@ -101,13 +101,13 @@ void on_text(const uint8_t *text, uint32_t length) {
         frame_send(serial_put, FRAME_TEXT, 0, text, length < 64 ? length : 64);
 }
 
-/* The run area is brought to the image: whether it holds all of it now, whatever happened to it before. */
+/* Copies the image to the run area. Returns 1 if the run area then holds all of it. */
 static int is_installed(const struct dfu_place *place) {
     struct dfu_install install = {.run = flash_run, .size = CAPACITY, .area = {PAGE, DFU_NOWHERE}, .driver = &run_driver};
     return dfu_install_settle(&install, flash_medium + place->at, place->length) == 0;
 }
 
-/* The program that is to run is in the run area. After a fault no image is started, but for one on trial, as often as it may be. */
+/* Returns 1 if the run area holds the image to start. After a fault only an image on trial is started, as long as it has starts left. */
 static int is_ready(enum note note, struct dfu_place *place) {
     if (TRIES == 0)
         return note != NOTE_FAULT && dfu_device_image(&device, place) == 0 && is_installed(place);
@@ -123,7 +123,7 @@ int main(void) {
     device.flash = flash_medium, device.size = MEDIUM_SIZE;
     device.block = block, device.most = sizeof block;
     device.driver = &driver;
-    /* The upgrade begins in dfuIDLE. Without an active image this board was never made: it does nothing. */
+    /* For an upgrade the device begins in dfuIDLE. Without an active image the board was never written by the factory, and does nothing. */
     while ((note == NOTE_UPGRADE ? dfu_device_begin(&device) : dfu_device_power_on(&device)) != 0)
         __asm__ volatile("wfi");
     is_upgrading = dfu_device_state(&device) > DFU_STATE_APP_DETACH;

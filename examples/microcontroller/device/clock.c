@@ -14,7 +14,7 @@
 #define CC1 TIMER(0x544)
 #define OF_COMPARE0 (1u << 16)
 
-/* When the time was passed on last, in microseconds. */
+/* Time up to which clock_passed has counted, in microseconds. */
 static uint32_t last;
 
 static uint32_t now(void) {
@@ -24,7 +24,7 @@ static uint32_t now(void) {
 
 void clock_begin(void) {
     BITMODE = 3;   /* 32 bits */
-    PRESCALER = 4; /* of 16 MHz */
+    PRESCALER = 4; /* 16 MHz / 2^4 = 1 MHz */
     START = 1;
     last = now();
 }

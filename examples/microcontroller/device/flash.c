@@ -1,6 +1,6 @@
 /* SPDX-License-Identifier: MIT OR Apache-2.0 */
-/* The NVMC of the nRF51. It erases pages of 1,024 bytes, and writes words, of which each bit can only become 0. The processor stops
- * for that time if it runs from flash. */
+/* The NVMC of the nRF51. It erases pages of 1,024 bytes, and writes words, in which a bit can only change to 0. If the processor runs from
+ * flash, it stops during an operation. */
 #include "flash.h"
 
 #include "board.h"
@@ -22,7 +22,7 @@ static void allow(uint32_t what) {
     wait_until_ready();
 }
 
-/* The two writes that change the flash. They are functions, so that a debugger can stop at each. */
+/* The two writes that change the flash. They are separate functions, so that a debugger can stop at each. */
 __attribute__((noinline)) void flash_erase_page(uint32_t page);
 void flash_erase_page(uint32_t page) {
     NVMC_ERASEPAGE = page;
@@ -35,8 +35,8 @@ void flash_write_word(volatile uint32_t *to, uint32_t word) {
     wait_until_ready();
 }
 
-/* The range that is asked for lies in the medium or in the run area, by the libraries' contracts. A bootloader is not to erase itself, so
- * that is looked at again. */
+/* Returns 1 if a range lies in the medium or in the run area. The contracts of the libraries guarantee that. It is checked again, because a
+ * bootloader must not erase itself. */
 static int is_in(uint32_t begins, uint32_t at, uint32_t length, uint32_t whole) {
     const uint32_t size = begins == MEDIUM ? MEDIUM_SIZE : begins == RUN ? CAPACITY : 0;
     return at <= size && length <= size - at && at % whole == 0 && length % whole == 0;

@@ -4,13 +4,13 @@
 #define SERIAL_H
 #include <stdint.h>
 
-/* Switches it on, with an interrupt for each byte that comes. */
+/* Switches the port on, with an interrupt for each received byte. */
 void serial_begin(void);
 
-/* The next byte that came, or -1 if there is none. */
+/* Returns the next received byte, or -1 if there is none. */
 int serial_get(void);
 
-/* Sends a byte, and returns once it is sent. */
+/* Sends a byte, and returns once it was sent. */
 void serial_put(uint8_t byte);
 
 #endif

@@ -1,6 +1,6 @@
 /* SPDX-License-Identifier: MIT OR Apache-2.0 */
-/* The vectors of the bootloader, and the way into it and out of it. The Cortex-M0 takes all exceptions by the table at address 0, and has
- * no register that moves it: those that are an image's are forwarded to the table of the image that runs. */
+/* The vectors of the bootloader, and the switches between it and an image. The Cortex-M0 finds all handlers by the table at address 0, and
+ * has no register that moves the table. Therefore exceptions of an image are forwarded to the table of the running image. */
 #include "start.h"
 
 #include "board.h"
@@ -15,10 +15,10 @@ enum { UART0 = 2, TIMER0 = 8 };
 
 extern uint32_t __stack[], __stack_begins[], __bss[], __bss_end[];
 
-/* It lasts through a reset of the processor, which leaves the memory as it is: a note, and its complement. */
+/* A note and its complement. This memory keeps its contents through a reset of the processor. */
 static volatile uint32_t written[2] __attribute__((section(".noinit")));
 
-/* The image that runs; its address 0 is none. */
+/* The running image; NULL if none runs. */
 __attribute__((used)) static const uint8_t *volatile image;
 
 enum note note_taken(void) {
@@ -40,31 +40,32 @@ __attribute__((used)) static void fault(void) {
     restart(NOTE_FAULT);
 }
 
-/* A fault, of the image or of the bootloader: no image is started then, until the next reset. (The stack may be what is wrong.) */
+/* Handles a fault of the image or of the bootloader: restarts the processor with NOTE_FAULT, after which at most an image on trial is
+ * started. The handler resets the stack pointer first, because a wrong stack may be the cause. */
 __attribute__((naked)) static void on_fault(void) {
     __asm__ volatile("ldr r0, =__stack\nmov sp, r0\nbl fault");
 }
 
-/* The image's call: r0 and r1 of the thread are at its stack pointer. */
+/* Handles the image's SVC: passes its r0 and r1, which the exception saved at the thread's stack pointer, to on_text. */
 __attribute__((naked)) static void on_call(void) {
     __asm__ volatile("mrs r2, psp\nldr r0, [r2]\nldr r1, [r2, #4]\nldr r3, =on_text\nbx r3");
 }
 
-/* An exception of the image's: its number is that of its word. */
+/* Forwards an exception to the image: IPSR holds its number, which is the index of its word in the image's table. */
 __attribute__((naked)) static void forward(void) {
     __asm__ volatile(
         ".syntax unified\nldr r0, =image\nldr r0, [r0]\n"
         "mrs r1, ipsr\nlsls r1, r1, #2\nldr r0, [r0, r1]\nbx r0");
 }
 
-/* Memory begins as zeros; the stack's words say by their value how deep it went. */
+/* Sets memory to zeros, and the stack to a pattern, which shows later how much of the stack was used. */
 void on_reset(void) {
     uint32_t *here = __builtin_frame_address(0);
     for (uint32_t *at = __stack_begins; at < here - 16; at++)
         *at = 0xa5a5a5a5;
     for (uint32_t *at = __bss; at < __bss_end; at++)
         *at = 0;
-    /* The bootloader's exceptions have the highest priority, and never interrupt one another; all others have the lowest. */
+    /* The exceptions of the bootloader have the highest priority, so they never interrupt each other; all others have the lowest. */
     for (uint32_t word = 0; word < 8; word++)
         NVIC_PRIORITY(word) = 0xc0c0c0c0;
     NVIC_PRIORITY(UART0 / 4) &= ~(0xffu << UART0 % 4 * 8);
@@ -84,7 +85,7 @@ void image_start(const uint8_t *at, size_t length) {
         return;
     image = at;
     NVIC_ENABLE = 1u << UART0 | 1u << TIMER0;
-    /* The image has a stack of its own; that of the bootloader begins anew, for its exceptions. */
+    /* The image uses its own stack. The bootloader's stack starts again from its end, for exceptions. */
     __asm__ volatile("msr psp, %0\nmsr msp, %1\nmovs r0, #2\nmsr control, r0\nisb\nbx %2"
                      :
                      : "r"(table[0]), "r"(__stack), "r"(table[1])

@@ -1,23 +1,23 @@
 /* SPDX-License-Identifier: MIT OR Apache-2.0 */
-/* The start, the exceptions and the image of a Cortex-M0. */
+/* Start and exceptions of a Cortex-M0, and the start of an image. */
 #ifndef START_H
 #define START_H
 #include <stddef.h>
 #include <stdint.h>
 
-/* Reason of a restart, which is noted before the processor is reset. A loss of power leaves NOTE_NONE. */
+/* Reason of a restart, which is stored before the processor is reset. After a loss of power it is NOTE_NONE. */
 enum note { NOTE_NONE = 0, NOTE_UPGRADE = 1, NOTE_FAULT = 2 };
 enum note note_taken(void);
 void restart(enum note note) __attribute__((noreturn));
 
-/* Starts an image at its place in flash, as image.h says, and returns only if it is none. */
+/* Starts the image at this address, as image.h describes. Returns only if there is no image. */
 void image_start(const uint8_t *image, size_t length);
 
-/* Runs first after each reset of the processor. */
+/* Handler of each reset of the processor. */
 void on_reset(void) __attribute__((noreturn));
 
 /* Functions that start.c calls: the bootloader, and the handlers for a byte from the serial port, for the interrupt that clock_wake_in
-   sets, and for a text from the image. */
+ * requests, and for a text from the image. */
 int main(void);
 void on_serial(void);
 void on_time(void);

@@ -16,10 +16,10 @@ static const struct dfu_trial trial = {
     .tries = {16, PAGE, TRIES},
 };
 
-/* Result of the look of this start, which its boot takes: the images are read once. */
+/* Result of dfu_trial_look at this start. dfu_trial_boot_from uses it, so the images are read only once. */
 static struct dfu_standing standing;
 
-/* Place in the medium of the image that was started last. The image runs elsewhere, so it can't know its place itself. */
+/* Offset in the medium of the image that was started last. The image doesn't know this offset, because it runs in the run area. */
 static uint32_t started;
 
 int32_t trials_transfer(struct dfu_device *device, const uint8_t setup[8]) {
@@ -33,7 +33,8 @@ int trials_active(int is_trial_wanted, struct dfu_place *place) {
     return 1;
 }
 
-/* A trial without a start left has ended; an image that runs on trial has one start less. */
+/* Prints the remaining starts of the image on trial, without the start that was just marked. Prints nothing if no image is on trial, or if
+ * its trial has just ended because no start was left. */
 static void say_trial(void) {
     char text[] = "trial, 0 starts left";
     if (standing.on_trial == 0 || standing.left == 0)

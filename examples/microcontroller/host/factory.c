@@ -1,5 +1,6 @@
 /* SPDX-License-Identifier: MIT OR Apache-2.0 */
-/* Writes what a programmer puts into the flash of a new board: the bootloader, the medium with a first image, and the run area with it. */
+/* Builds the contents for the flash of a new board, which a device programmer writes: the bootloader, the medium with a first image, and
+ * the run area with the same image. */
 #include <stdio.h>
 #include <string.h>
 
@@ -33,7 +34,7 @@ int main(int count, char **words) {
     }
     const struct dfu_driver driver = DFU_MEMORY_DRIVER(flash + RUN);
     struct dfu_install install = {.run = flash + RUN, .size = CAPACITY, .area = {PAGE, DFU_NOWHERE}, .driver = &driver};
-    /* With trials the first image is confirmed here, so that the next one is on trial. */
+    /* With trials the first image is confirmed here, because only then the next one runs on trial. */
     int32_t refusal = TRIES > 0 ? dfu_trial_format_memory(&board_config, TRIES, flash + MEDIUM, MEDIUM_SIZE, image, length)
                                 : dfu_memory_format(&board_config, flash + MEDIUM, MEDIUM_SIZE, image, length);
     if (refusal == 0)

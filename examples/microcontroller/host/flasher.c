@@ -1,6 +1,6 @@
 /* SPDX-License-Identifier: MIT OR Apache-2.0 */
-/* Installs a file on the board and verifies it: the proved host decides each step, and link.c carries it over the serial line. It waits
- * at a socket for QEMU; if the device is gone it waits for the next one there, and goes on. */
+/* Installs a file on the board and verifies it: the proved host decides each step, and link.c sends it over the serial line. It waits at a
+ * socket for QEMU. If the device is gone, it waits for the next connection, and continues. */
 #define _POSIX_C_SOURCE 200809L
 #include <stdio.h>
 #include <stdlib.h>
@@ -12,11 +12,11 @@
 
 enum {
     MOST_FILE = 1 << 18,
-    ANSWER_MS = 3000,   /* a request that has no answer then is lost */
-    CONNECT_MS = 60000, /* how long a device may be away */
+    ANSWER_MS = 3000,   /* a request without an answer after this time counts as lost */
+    CONNECT_MS = 60000, /* maximum time without a device */
     ABOUT_MS = 300,
     ABOUT_TURNS = 30,
-    START_MS = 5000, /* how long an image may take to begin */
+    START_MS = 5000, /* maximum time until an image sends its first text */
     ACTIONS = 100000,
     RESTARTS = 100
 };
@@ -33,8 +33,8 @@ static int read_file(const char *path, size_t *length) {
     return is_wrong ? -1 : 0;
 }
 
-/* Asks the device who it is, as a host does with each device that comes to the bus. A question may come while the device still starts, so
- * it is asked again; it changes nothing. */
+/* Requests the ids and the functional descriptor of the device, as a host does for each new device on the bus. The device may still be
+ * starting, so the request is repeated; it changes nothing. */
 static enum link_outcome greet(uint8_t about[FRAME_ABOUT_LENGTH]) {
     enum link_outcome outcome = LINK_SILENT;
     for (int turn = 0; turn < ABOUT_TURNS && outcome == LINK_SILENT; turn++) {
@@ -46,7 +46,8 @@ static enum link_outcome greet(uint8_t about[FRAME_ABOUT_LENGTH]) {
     return outcome;
 }
 
-/* Waits for a device, until one answers and its image has begun: a host that is faster would begin the upgrade before that. */
+/* Waits until a device answers and its image has sent a text. Without the second wait a fast host would begin the upgrade before the image
+ * runs. */
 static int connect_device(uint8_t about[FRAME_ABOUT_LENGTH]) {
     while (link_accept(CONNECT_MS) == 0) {
         printf("connected\n");
@@ -66,7 +67,7 @@ static uint32_t seen_of(enum link_outcome outcome, const struct dfu_action *acti
     }
 }
 
-/* Does one action: what was seen of it, with how many bytes came. */
+/* Carries out one action. Returns its outcome as a DFU_SEEN_ number, with the number of received bytes in `count`. */
 static uint32_t act(const struct dfu_action *action, size_t *count) {
     uint8_t frame[FRAME_MOST], about[FRAME_ABOUT_LENGTH];
     *count = 0;
@@ -85,7 +86,7 @@ static uint32_t act(const struct dfu_action *action, size_t *count) {
     return seen_of(link_ask(FRAME_SETUP, frame, 8 + action->length, ANSWER_MS, answer, sizeof answer, count), action);
 }
 
-/* Runs a session to its end: its report, or -1 if no device came back, or a refusal of the library. */
+/* Runs a session to its end. Returns its report, or -1 if no device reconnected in time or the library refused a call. */
 static int32_t run(struct dfu_session *session, uint64_t payload) {
     for (;;) {
         struct dfu_action action;

@@ -16,7 +16,7 @@
 static int listening = -1, line = -1;
 static uint8_t number;
 static struct frame incoming;
-/* Bytes that are to be sent: a frame of FRAME_MOST bytes, each of them escaped, with its check sum and two END. */
+/* Bytes to send: room for a frame of FRAME_MOST bytes and its check sum, all escaped, and two END bytes. */
 static uint8_t outgoing[2 * (FRAME_MOST + 2) + 2];
 static size_t out_length;
 
@@ -39,7 +39,7 @@ int link_listen(const char *path) {
     return listen(listening, 1);
 }
 
-/* Waits until something can be read: 1, or 0 if nothing came by then. */
+/* Waits until `from` can be read. Returns 1, or 0 if it can't be read before the time `until`. */
 static int comes(int from, int64_t until) {
     for (;;) {
         int64_t left = until - now();
@@ -80,7 +80,7 @@ static int send_all(void) {
     return 0;
 }
 
-/* The image's words are printed as they are, but for what is no letter. */
+/* Prints the image's text, with '?' for each byte that is not a printable ASCII character. */
 static void print_text(void) {
     size_t length = incoming.length - FRAME_HEAD;
     printf("device: ");
@@ -91,10 +91,10 @@ static void print_text(void) {
     putchar('\n');
 }
 
-/* Events that a wait is for: an answer with a number, 0 to 255, or one of these. */
+/* Events to wait for: an answer with a number from 0 to 255, or one of these. */
 enum { A_TEXT = -1, THE_TIME = -2 };
 
-/* Takes frames until that came: 1; or 0, if the time is over; or -1 if the device is gone. */
+/* Receives frames until the event `wanted`. Returns 1; 0 after the time `until`; or -1 if the device is gone. */
 static int await(int wanted, int64_t until) {
     while (comes(line, until)) {
         uint8_t byte;
@@ -120,7 +120,7 @@ enum link_outcome link_ask(uint8_t kind, const uint8_t *bytes, size_t length, in
     *count = 0;
     if (line < 0)
         return LINK_GONE;
-    if (length > FRAME_MOST - FRAME_HEAD) /* such a block the descriptor rules out */
+    if (length > FRAME_MOST - FRAME_HEAD) /* can't happen, because the transfer size is smaller */
         return LINK_SILENT;
     number++;
     out_length = 0;

@@ -1,13 +1,13 @@
 /* SPDX-License-Identifier: MIT OR Apache-2.0 */
-/* An image: it says where it runs and whether it is whole, and later that its interrupts come. NUMBER is its name and LENGTH how many
- * bytes it has, with what the build adds to the program; all words of it together are 0. */
+/* An image: it prints its address, and if it is whole, and later that its interrupts arrive. NUMBER is its name. LENGTH is the number of
+ * its bytes, with those that the build appends to the program. The sum of all its words is 0. */
 #include "image.h"
 
 #ifndef CONFIRMS
-#define CONFIRMS 0 /* whether it confirms itself once its interrupts have come */
+#define CONFIRMS 0 /* 1 if it confirms itself once its interrupts arrived */
 #endif
 #ifndef FAULTS
-#define FAULTS 0 /* whether it faults once it has begun */
+#define FAULTS 0 /* 1 if it causes a fault after its start */
 #endif
 
 #define TIMER1(at) (*(volatile uint32_t *)(0x40009000 + (at)))
@@ -32,7 +32,7 @@ static void start_timer(void) {
     TIMER1(0x508) = 3; /* 32 bits */
     TIMER1(0x510) = 4; /* microseconds */
     TIMER1(0x540) = TICK_US;
-    TIMER1(0x200) = 1; /* from 0 again at each */
+    TIMER1(0x200) = 1; /* restart from 0 at each match */
     TIMER1(0x304) = OF_COMPARE0;
     TIMER1(0x000) = 1;
     NVIC_ENABLE = 1u << 9;

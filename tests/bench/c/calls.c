@@ -1,4 +1,4 @@
-/* Time that each call takes, on a medium whose active image has 1 byte, 64 KiB and 1 MiB, and the other slot is closed. */
+/* Measures the time of each call on a flash whose active image has 1 byte, 64 KiB and 1 MiB, and whose other slot is closed. */
 #define _POSIX_C_SOURCE 200809L
 #include <stdio.h>
 #include <time.h>

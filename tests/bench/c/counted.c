@@ -1,6 +1,6 @@
-/* Makes one call of the device's library so many times, for a tool that counts instructions: WHAT BYTES TURNS. BYTES is how long
- * the active image is, and both slots are open, as after a download. `download` sends an image as long, in blocks of TURNS bytes,
- * and `begin` is all that comes before it. */
+/* Sends a request to the device library TURNS times, for a tool that counts instructions. Arguments: WHAT BYTES TURNS. WHAT is GETSTATUS,
+ * GETSTATE or DNLOAD; BYTES is the length of the active image, and both slots are open, as after a download. With `download` as WHAT it
+ * downloads an image of BYTES bytes once, in blocks of TURNS bytes, and with `begin` it makes only the calls before that. */
 #include <stdio.h>
 #include <stdlib.h>
 #include <string.h>
@@ -21,7 +21,7 @@ static int32_t ask(uint8_t kind, uint8_t request, uint16_t value, const uint8_t 
     return dfu_device_handle(&device, setup, body, out, sizeof out);
 }
 
-/* To dfuIDLE, as a host brings it there. */
+/* Starts the device in dfuIDLE, from which a host begins a download. */
 static int begin(void)
 {
     return dfu_device_begin(&device) == 0;

@@ -1,7 +1,7 @@
 /* SPDX-License-Identifier: MIT OR Apache-2.0 */
-/* Counts how many instructions a run of counted.c, or of another program whose main is named `counted`, takes in QEMU: on a Cortex-M of the
- * mps2 boards with `-icount shift=6`, where an instruction takes 64 ns and the board's timer ticks each 40 ns; on RV32 by the processor's
- * own count. Two loops whose instructions are known show whether that is so. */
+/* Counts the instructions of a run of counted.c, or of another program whose main is named `counted`, in QEMU. A Cortex-M of the mps2
+ * boards runs with `-icount shift=6`, where an instruction takes 64 ns and the board's timer ticks every 40 ns. On RV32 the processor
+ * counts instructions itself. Two loops with a known number of instructions check the result. */
 #include <stdint.h>
 #include <stdio.h>
 
@@ -29,7 +29,7 @@ static uint64_t stop(void)
     return now() - began;
 }
 
-/* Twice as many instructions. */
+/* A loop of 2 * turns instructions. */
 __attribute__((noinline)) static uint64_t loop(uint32_t turns)
 {
     start();
@@ -37,14 +37,14 @@ __attribute__((noinline)) static uint64_t loop(uint32_t turns)
     return stop();
 }
 #else
-#define TIMER ((volatile uint32_t *)0x40000000) /* of the CMSDK: control, value, what it begins with, and whether it came to 0 */
+#define TIMER ((volatile uint32_t *)0x40000000) /* CMSDK timer: control, value, reload value, interrupt status */
 
 static uint32_t began;
 
 static void start(void)
 {
     TIMER[0] = 0, TIMER[1] = TIMER[2] = 0xffffffff, TIMER[3] = 1;
-    TIMER[0] = 9; /* it runs, and notes that it came to 0 */
+    TIMER[0] = 9; /* enables the timer and its interrupt status */
     began = TIMER[1];
 }
 
@@ -58,7 +58,7 @@ static uint64_t stop(void)
     return (uint64_t)(began - ended) * 40 / 64;
 }
 
-/* Twice as many instructions. */
+/* A loop of 2 * turns instructions. */
 __attribute__((noinline)) static uint64_t loop(uint32_t turns)
 {
     start();

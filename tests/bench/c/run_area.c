@@ -1,6 +1,6 @@
 /* SPDX-License-Identifier: MIT OR Apache-2.0 */
-/* A run area of 64 KiB in memory: run_area compare SECTOR compares it with its image, run_area install SECTOR brings it to the image from
- * zeros, and run_area begin SECTOR does neither. */
+/* A run area of 64 KiB in memory. `run_area compare SECTOR` compares it with its image, `run_area install SECTOR` copies the image over
+ * zeros, and `run_area begin SECTOR` does neither. */
 #include "dfu_device_memory.h"
 #include "dfu_install.h"
 

@@ -1,6 +1,6 @@
-/* Asks a device in dfuDNLOAD-IDLE for its status so many times, for a tool that counts instructions: SECTOR TURNS. Before that a block
- * of 64 bytes is put, in units of 16, so that the rest of its sector of SECTOR bytes is erased. With `download` as a third word TURNS
- * blocks of 1,024 bytes are sent, and written with the polls between; SECTOR is 0 for plain memory then. */
+/* Sends GETSTATUS to a device in dfuDNLOAD-IDLE TURNS times, for a tool that counts instructions. Arguments: SECTOR TURNS. Before that a
+ * block of 64 bytes is written, in units of 16, so that the rest of its sector of SECTOR bytes is erased. With `download` as third argument
+ * it sends and writes TURNS blocks of 1,024 bytes, with polls between them; SECTOR 0 then means plain memory. */
 #include <stdio.h>
 #include <stdlib.h>
 
@@ -27,7 +27,6 @@ static int32_t ask(uint8_t kind, uint8_t request, uint8_t length)
     return send(kind, request, 0, length);
 }
 
-/* A status, the work that is due then, and the status after it. */
 static int poll(void)
 {
     return ask(0xa1, DFU_GETSTATUS, 6) == 6 && dfu_device_work(&device) == 0 && ask(0xa1, DFU_GETSTATUS, 6) == 6;

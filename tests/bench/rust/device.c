@@ -1,5 +1,6 @@
 /* SPDX-License-Identifier: MIT OR Apache-2.0 */
-/* A session of the device: it is formatted, takes an image by 1,024 and gives it back. package/src/device.rs is the same in Rust. */
+/* A session of the device: it is formatted, receives an image in blocks of 1,024 bytes and sends it back. package/src/device.rs does the
+ * same in Rust. */
 #include "dfu_core.h"
 #include "session.h"
 
@@ -43,7 +44,7 @@ static int format(struct board *board)
     return answer == 0;
 }
 
-/* A request of DFU with its data stage: how many bytes answer it, or a negative number. */
+/* Serves a DFU request with its data stage. Returns the number of bytes of the answer, or a negative number. */
 static int32_t serve(struct board *board, uint8_t kind, uint8_t request, uint32_t value, uint32_t size, const uint8_t *body, size_t length)
 {
     struct room *room = board->room;

@@ -1,11 +1,11 @@
 /* SPDX-License-Identifier: MIT OR Apache-2.0 */
-/* A session of the host: it reads a file, installs it and compares it. package/src/host.rs is the same in Rust. */
+/* A session of the host: it reads a file, installs it and compares it. package/src/host.rs does the same in Rust. */
 #include "dfu_host.h"
 #include "session.h"
 
 static const struct dfu_ids ids = {0x0100, 1, 0x1209};
 
-/* Does an action: what is seen of it, and how many bytes came. */
+/* Carries out an action. Returns its outcome, with the number of received bytes in `count`. */
 static uint32_t act(struct room *room, const struct dfu_action *action, size_t *count)
 {
     *count = 0;

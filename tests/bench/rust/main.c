@@ -1,6 +1,7 @@
 /* SPDX-License-Identifier: MIT OR Apache-2.0 */
-/* Runs a session of tests/bench/rust, in Rust or in C, with the word `session`; with `stack` it prints how deep it went, and with another
- * word it makes all ready alone. With -DNONE=0 there is no session, and with -DNONE=1 but the calls of the peer that a host's makes. */
+/* Runs a session of tests/bench/rust, in Rust or in C, with the argument `session`. With `stack` it prints the stack depth of the session.
+ * With any other argument it only prepares the session. -DNONE=0 builds it without a session, and -DNONE=1 with only those calls of the
+ * peer that a host's session makes. */
 #include "painted.h"
 #include "session.h"
 
@@ -20,7 +21,7 @@ uint32_t session(struct room *given)
 }
 #endif
 
-/* Memory of a device, and the register of a suffix (USB DFU 1.1, appendix B). */
+/* Fills the descriptor, the erased flash and the file, whose suffix contains the CRC (USB DFU 1.1, appendix B). */
 static void prepare(void)
 {
     static const uint8_t descriptor[9] = {9, 0x21, 7, 255, 0, TRANSFER & 0xff, TRANSFER >> 8, 0x10, 1};
@@ -71,7 +72,7 @@ void stopped(void)
 }
 
 #ifdef __x86_64__
-/* Symbol that core wants there, which is made for programs that unwind. */
+/* The crate `core` needs this symbol, which only a program that unwinds would call. */
 void rust_eh_personality(void);
 void rust_eh_personality(void)
 {

@@ -1,5 +1,5 @@
 /* SPDX-License-Identifier: MIT OR Apache-2.0 */
-/* A device for the host's session: it keeps what it is sent, and answers as USB DFU 1.1 says of a tolerant one that never waits. */
+/* A device for the host's session: it stores the payload, and answers as USB DFU 1.1 specifies for a tolerant device without poll times. */
 #include "session.h"
 
 #include <string.h>

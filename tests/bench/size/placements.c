@@ -1,8 +1,8 @@
 /* SPDX-License-Identifier: MIT OR Apache-2.0 */
-/* A bootloader with flash of its own in memory: it starts, takes a download of a block, and starts again. With -DHOME it has two areas,
- * with -DDFU_READ=read_flash it reads by a call, and with -DPLACES over a placement besides; with -DNONE it does nothing, so that a size
- * less that of NONE is the library's and the calls'. It prints how deep it went below main. tests/bench/size/placements builds and runs
- * it. */
+/* A bootloader whose flash is memory: it starts, receives a download of one block, and starts again. -DHOME gives it two areas,
+ * -DDFU_READ=read_flash makes it read the flash through a function, and -DPLACES adds a placement. With -DNONE it does nothing, so that the
+ * difference in size is that of the library and its calls. It prints the stack depth below main. tests/bench/size/placements builds and
+ * runs it. */
 #include "../../lib/c/painted.h"
 #include <stdio.h>
 

@@ -1,7 +1,7 @@
 /* SPDX-License-Identifier: MIT OR Apache-2.0 */
-/* The seven calls that a bootloader makes of the device. tests/bench/size/device links it, and with -DNONE without the calls: what it is
- * larger by is what a bootloader pays. With -DCHECK it makes those of a check of images too, and with -DTRIALS those of images on trial.
- * Nothing runs it. */
+/* Makes the seven calls of the device library that a bootloader needs. tests/bench/size/device links this program with the calls, and with
+ * -DNONE without them: the difference in size is the cost for a bootloader. -DCHECK adds the calls of a check of images, and -DTRIALS those
+ * of images on trial. The program is never run. */
 #include "dfu_device.h"
 #include "dfu_trial.h"
 

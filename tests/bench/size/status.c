@@ -1,6 +1,6 @@
 /* SPDX-License-Identifier: MIT OR Apache-2.0 */
-/* Asks the device for its status TURNS times, for a tool that counts instructions: BYTES TURNS. The active image has so many bytes, and the
- * device is in dfuIDLE. With a third word it gets power so often. */
+/* Sends GETSTATUS to the device TURNS times, for a tool that counts instructions. Arguments: BYTES TURNS. BYTES is the length of the active
+ * image, and the device is in dfuIDLE. With a third argument it starts the device TURNS times instead. */
 #include <stdlib.h>
 
 #include "dfu_device_memory.h"

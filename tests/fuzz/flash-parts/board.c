@@ -11,7 +11,7 @@ static uint32_t some_ms(void)
     return times[below(sizeof times / sizeof times[0])];
 }
 
-/* Blocks of a device: most are of a size that boards have. */
+/* Draws a wTransferSize, most often one that real boards have. */
 static uint16_t transfer(void)
 {
     static const uint16_t sizes[] = {8, 16, 64, 64, 128, 256, 512, 1024, 1024, 2048, 4096, 4096, 8192, 65535};
@@ -43,7 +43,7 @@ static void make_model(struct model *model)
     }
 }
 
-/* One whose application can't be asked to leave it stands in DFU mode. */
+/* Draws the initial state. A board without DFU in run-time mode begins in DFU mode, because no host can send it a DETACH. */
 static void make_state(struct board *board)
 {
     struct model *model = &board->model;

@@ -1,4 +1,4 @@
-/* The boards on the bus: what they look like in each mode, and what stands behind that. */
+/* The boards on the bus: their descriptors in each mode, and the model of each device. */
 #ifndef FUZZ_BOARD_H
 #define FUZZ_BOARD_H
 
@@ -15,7 +15,7 @@
 
 enum mode { RUN_TIME, UPGRADE };
 
-/* The bytes behind a descriptor. */
+/* Extra descriptors that follow a descriptor. */
 struct extra {
     uint8_t bytes[MOST_EXTRA];
     int length;
@@ -28,27 +28,27 @@ struct setting {
 };
 
 struct function {
-    uint8_t number, count;         /* count: settings that are told; they repeat those that are there */
+    uint8_t number, count;         /* count: number of settings in the descriptor; if it exceeds MOST_SETTINGS, settings repeat */
     struct setting settings[MOST_SETTINGS];
 };
 
-/* A string descriptor: units of UTF-16. */
+/* A string descriptor, in UTF-16 code units. */
 struct text {
     uint16_t units[MOST_UNITS];
     unsigned count;
 };
 
-/* Answers of a device about itself, from one enumeration to the next. */
+/* Descriptors of a device, which don't change until its next enumeration. */
 struct face {
     uint16_t vendor, product, release;
-    uint8_t serial;                /* the number of the text, 0 is none */
-    struct text texts[MOST_TEXTS]; /* by number, from 1 on */
-    uint8_t count;                 /* functions that are told; they repeat those that are there */
+    uint8_t serial;                /* index of the serial number's text; 0 is none */
+    struct text texts[MOST_TEXTS]; /* the text with index i is texts[i]; index 0 is not used */
+    uint8_t count;                 /* number of functions in the descriptor; if it exceeds MOST_FUNCTIONS, functions repeat */
     struct function functions[MOST_FUNCTIONS];
-    struct extra extra, asked;     /* behind the configuration; and the functional descriptor that can be asked for */
+    struct extra extra, asked;     /* descriptors after the configuration; functional descriptor that GET_DESCRIPTOR returns */
 };
 
-/* A bus and its ports. */
+/* Location of a device: a bus and the ports that lead to it. */
 struct place {
     uint8_t bus, ports[7];
     int depth;
@@ -60,36 +60,36 @@ struct board {
     struct place place;
     struct face faces[2];
     struct model model;
-    bool is_dead;                  /* it answers no transfer */
-    bool has_no_usb_in_app;        /* in run-time mode it isn't on the bus */
-    bool is_in_use, is_denied;     /* a claim, or an open, is refused */
+    bool is_dead;                  /* the device answers no transfer */
+    bool has_no_usb_in_app;        /* the device is not on the bus in run-time mode */
+    bool is_in_use, is_denied;     /* every claim fails; every open fails */
     enum mode mode;
     uint8_t address;
-    struct libusb_device *device;  /* as it is enumerated now, or NULL */
-    int64_t back_ms;               /* where it is NULL: when it comes, -1 never */
-    bool was_stalled;              /* the last request of the class was */
-    unsigned stalled_resets;       /* in run-time mode, behind a request that it stalled */
+    struct libusb_device *device;  /* the enumerated device, or NULL if it is not on the bus */
+    int64_t back_ms;               /* if device is NULL: time of its return, or -1 for never */
+    bool was_stalled;              /* the last request of the class was stalled in run-time mode */
+    unsigned stalled_resets;       /* number of resets in run-time mode after a request that the device stalled */
 };
 
-/* A board with a path of its own by its number. */
+/* Makes a random board, with a path that its number makes unique. */
 void board_make(struct board *board, unsigned number);
 
-/* The function that has DFU in that mode, as board_make made it. */
+/* Returns the function with DFU in the mode of this face, as board_make made it. */
 const struct function *board_function(const struct face *face);
 
-/* A face that no device should have. */
+/* Damages a face, so that it breaks the rules for descriptors. */
 void face_spoil(struct face *face);
 
-/* The setting of an interface's number that is of DFU, or NULL. */
+/* Returns the alternate setting of an interface if it is one of DFU, or NULL. */
 const struct setting *face_setting(const struct face *face, int interface, int alternate);
 
-/* Returns whether the text of that number is this one. */
+/* Returns true if the text with index `number` equals `text`. */
 bool face_says(const struct face *face, uint8_t number, const char *text);
 
-/* Writes it in UTF-8, up to a character 0; an empty text where it is no UTF-16. */
+/* Writes the text as UTF-8, up to the first character 0; an empty text if it is not valid UTF-16. */
 void face_text(const struct face *face, uint8_t number, char text[MOST_TEXT]);
 
-/* The path, as 1-2.3. */
+/* Writes the path of a place, such as 1-2.3. */
 void place_path(const struct place *place, char path[64]);
 
 #endif

@@ -1,4 +1,4 @@
-/* The books of a run: what the program took of libusb and has to give back, and what is found wrong. */
+/* Books of a run: the objects that the program got from libusb and must release, and the faults that were found. */
 #ifndef FUZZ_BOOKS_H
 #define FUZZ_BOOKS_H
 
@@ -6,38 +6,38 @@
 #include <stddef.h>
 #include <stdint.h>
 
-/* Files that a run leaves to the process that started it. */
+/* Result of a run, in memory that the run shares with the process that started it. */
 struct outcome {
-    bool is_done;           /* the program came to its end, and was looked at */
-    bool is_killed;         /* a signal was sent that ends a program, since none is caught */
-    bool is_fair, is_placed; /* status 0 of a download to a device that keeps the table, with its image in place */
-    int status;             /* of the program */
+    bool is_done;           /* the program ended, and was checked */
+    bool is_killed;         /* a signal was sent that ends the program, because it has no handler for it */
+    bool is_fair, is_placed; /* is_placed: status 0 of a fair download, and the device has the image */
+    int status;             /* exit status of the program */
     uint64_t calls, transfers;
-    char fault[600];        /* what is wrong, or empty */
+    char fault[600];        /* text of the fault, or empty */
 };
 
 extern struct outcome *outcome;
 extern bool is_traced;
 
-/* Ends the run: the program did what it must not. */
+/* Ends the run because the program made a mistake. */
 void fault(const char *format, ...) __attribute__((noreturn, format(printf, 1, 2)));
 
-/* Says what goes on, where a single run is played. */
+/* Prints an event if only one run is played. */
 void trace(const char *format, ...) __attribute__((format(printf, 1, 2)));
 
-/* Memory of the bus's own, which never fails. */
+/* Memory of the simulated bus: take never returns NULL, and give frees it. Neither counts in `books`. */
 void *take(size_t length);
 void give(void *memory);
 
-/* Handles that the program holds. */
+/* Objects that the program holds. */
 struct books {
     int contexts, lists, configurations, handles, references, claims;
-    int blocks; /* of memory */
+    int blocks; /* number of memory blocks */
 };
 
 extern struct books books;
 
-/* At the program's end it holds nothing of libusb, and of memory the file or the room of an upload. */
+/* Checks at the program's end that it holds no object of libusb, and no memory except the file or the buffer of an upload. */
 void books_close(void);
 
 #endif

@@ -88,7 +88,7 @@ void bus_make(void)
     }
 }
 
-/* Each stands in the other's place then. */
+/* Swaps the places of two boards, and removes both from the bus; they return later. */
 static void swap(struct board *first, struct board *second)
 {
     struct place place = first->place;
@@ -98,7 +98,8 @@ static void swap(struct board *first, struct board *second)
     bus_leave(second);
 }
 
-/* In a fair run the boards stay what they are: they lose their power, or nobody may have them for a while. */
+/* Changes a board at random. In a fair run boards keep their descriptors: they only lose power, or can't be opened or claimed for a while.
+ */
 static void stray(struct board *board)
 {
     switch (below(temper.is_fair ? 3 : 10)) {

@@ -1,4 +1,4 @@
-/* The boards, and what becomes of them. */
+/* The boards on the bus, and the events that change them. */
 #ifndef FUZZ_BUS_H
 #define FUZZ_BUS_H
 
@@ -9,27 +9,27 @@
 struct bus {
     struct board boards[MOST_BOARDS];
     unsigned count;
-    struct board *target; /* the one that the file and the words are made for */
-    bool is_over; /* its patience is at an end: all devices are gone or dead for good */
+    struct board *target; /* the board for which the file and the command line are made */
+    bool is_over; /* the run is near its end: all devices are gone or dead for good */
 };
 
 extern struct bus bus;
 
 void bus_make(void);
 
-/* Milliseconds pass on all boards. */
+/* Lets `ms` milliseconds pass for all boards. */
 void bus_elapse(uint64_t ms);
 
-/* The board leaves the bus, and comes back after some time with what it is then. */
+/* Removes the board from the bus. It returns after some time, in its current mode. */
 void bus_leave(struct board *board);
 
-/* Lets a board whose mode has changed leave the bus, and come back. */
+/* Removes a board from the bus if its mode has changed; it returns later. */
 void bus_look(struct board *board);
 
-/* Something comes, goes or changes. */
+/* Connects, removes or changes a board at random. */
 void bus_stray(void);
 
-/* All devices go, or answer no more. */
+/* Removes all devices, or stops all their answers. */
 void bus_end(void);
 
 #endif

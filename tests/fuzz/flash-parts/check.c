@@ -11,9 +11,9 @@
 #include <unistd.h>
 
 #define MOST_STALLED_RESETS 3
-#define STOP_MS 60000 /* within which a signal ends a session: what is under way may take 5 s, and there is more than one request */
+#define STOP_MS 60000 /* maximum time from a signal to the end of a session: a request may take 5 s, and there may be several */
 
-/* The device that the first request went to, and what it was in each mode. */
+/* The selected device: that of the first request, or of the last request in DFU mode; and its numbers in each mode. */
 static struct {
     struct board *board;
     char path[64];
@@ -31,7 +31,7 @@ static bool has_ids(const struct face *face, uint16_t vendor, uint16_t product)
     return (vendor == 0xffff || vendor == face->vendor) && (product == 0xffff || product == face->product);
 }
 
-/* The first request: the device is the one that the words name. */
+/* Keeps the device of the first request, and checks that the command line selects it. */
 static void check_choice(const struct libusb_device *device)
 {
     const struct face *face = &device->face;
@@ -73,7 +73,8 @@ static void check_setting(const struct libusb_device *device, uint16_t interface
         fault("a request of DFU goes to setting %u, which has another name", setting->alternate);
 }
 
-/* In one mode it stays the same device; once a block was sent, or may have been, one in run-time mode may be that of another image. */
+/* Checks that the device in a mode is always the same. After a block was sent, or may have been, a device in run-time mode may run another
+ * image. */
 static void check_again(const struct libusb_device *device, uint16_t interface, const struct setting *setting)
 {
     int mode = setting->protocol == 2;
@@ -184,7 +185,7 @@ static void check_upload(int status)
         fault("the status is 0, and OUT isn't the image of the device");
 }
 
-/* A signal, and an alarm, which is one, end the program soon. */
+/* Checks that the program ends soon after a signal, and within its --timeout and --wait. */
 static void check_time(void)
 {
     int64_t most_ms = STOP_MS + (int64_t)asked.timeout * 1000;
@@ -205,7 +206,7 @@ void check_status(int status)
         fault("the status is %d", status);
     if (status == 14)
         fault("the program says that it has a mistake");
-    /* Some words don't go with a DfuSe file. */
+    /* Some options can't be combined with a DfuSe file. */
     if (asked.is_sound && status == 2 && !firmware.is_dfuse)
         fault("words are refused that are sound");
     if (is_silent && chosen.requests + chosen.resets > 0)

@@ -10,7 +10,7 @@
 #include <signal.h>
 #include <time.h>
 
-#define MOST_WAITS 2000 /* once nothing will happen any more */
+#define MOST_WAITS 2000 /* maximum number of waits after the last possible event on the bus */
 
 static int64_t now_ms = 1000, came_ms = -1, alarm_ms = -1;
 
@@ -24,7 +24,7 @@ int64_t signal_came(void)
     return came_ms;
 }
 
-/* Sends the program a signal. If the program doesn't catch it, that ends the program; and so may a second one of a kind. */
+/* Sends the program a signal. This ends the program if it has no handler for it, and may end it if the same signal was sent before. */
 static void send(int number)
 {
     static bool was_sent[64];
@@ -45,7 +45,7 @@ void signal_comes(void)
     send(signals[below(4)]);
 }
 
-/* The program's own alarm is due in the midst of it, where one is set. */
+/* Advances the time, and sends SIGALRM once a set alarm expires. */
 void clock_pass(uint64_t ms)
 {
     int64_t end = now_ms + (int64_t)ms;
@@ -60,7 +60,7 @@ void clock_pass(uint64_t ms)
     now_ms = end;
 }
 
-/* Returns whether a signal is to come in a wait: by chance, and where nothing else will happen any more. */
+/* Returns true if a signal must end the current wait: at random, or because no other event is possible any more. */
 static bool is_cut(void)
 {
     static unsigned waits;
@@ -68,7 +68,7 @@ static bool is_cut(void)
     return chance(temper.stops / 10) || (waits > MOST_WAITS && waits % 100 == 0);
 }
 
-/* Lets the time pass, and returns how much of it is left if a signal ended the wait. */
+/* Lets time pass. Returns the time that remains because a signal ended the wait, or 0. */
 static uint64_t wait_ms(uint64_t ms)
 {
     uint64_t part = is_cut() && ms > 0 ? below(ms > UINT32_MAX ? UINT32_MAX : (uint32_t)ms) : ms;
@@ -106,7 +106,7 @@ int __wrap_nanosleep(const struct timespec *wanted, struct timespec *left)
     return -1;
 }
 
-/* A file that can be read ends it, as one that a handler wrote to. */
+/* A readable file ends the wait, such as a pipe to which a signal handler wrote. */
 int __wrap_poll(struct pollfd *files, nfds_t count, int ms)
 {
     int ready = __real_poll(files, count, 0);

@@ -1,20 +1,20 @@
-/* Time that costs nothing: the program's waits are over at once. And the signals that come meanwhile. */
+/* Simulated time: the program's waits end at once. Signals arrive during these waits. */
 #ifndef FUZZ_CLOCK_H
 #define FUZZ_CLOCK_H
 
 #include <stdbool.h>
 #include <stdint.h>
 
-/* Milliseconds since some moment. */
+/* Returns the milliseconds since the start. */
 int64_t clock_now(void);
 
-/* They pass, on the boards too. */
+/* Advances the time by `ms`, also for the boards. */
 void clock_pass(uint64_t ms);
 
-/* One of the signals that the program may get. */
+/* Sends the program one of the signals that it may receive. */
 void signal_comes(void);
 
-/* When the first signal came that the program caught, or -1. */
+/* Returns the time of the first signal that the program handled, or -1. */
 int64_t signal_came(void);
 
 #endif

@@ -1,4 +1,4 @@
-/* libusb's configuration descriptors, each part in memory of its own, so that a read past its end is seen. */
+/* Configuration descriptors of libusb. Each part has its own block of memory, so that the sanitizer detects a read beyond its end. */
 #include "usb.h"
 #include "books.h"
 

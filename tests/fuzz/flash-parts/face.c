@@ -10,7 +10,7 @@ static void say(struct text *text, const char *characters)
         text->units[text->count++] = (uint8_t)*characters;
 }
 
-/* Some in ASCII, some with what JSON and a terminal would mind. */
+/* Draws a text: in ASCII, or with characters that JSON or a terminal must escape. */
 static void some_text(struct text *text, const char *stem)
 {
     static const uint16_t odd[] = {0xe9, 0x1b, 0x22, 0x5c, 0x0a, 0x00, 0x7f, 0x9b, 0x20ac, 0xd83d, 0xde00, 0x202e, 0xfeff, 0xffff};
@@ -32,7 +32,8 @@ static void put_functional(struct extra *extra, const uint8_t bytes[9], int leng
     extra->length += length;
 }
 
-/* The functional descriptor stands behind a setting, or all of them, or the configuration, or can be asked for alone. */
+/* Puts the functional descriptor after the configuration, after each setting, or after the last one; or into none of them, so that only
+ * GET_DESCRIPTOR returns it. */
 static void place_functional(struct face *face, struct function *function, const uint8_t bytes[9], int length)
 {
     switch (below(6)) {
@@ -136,7 +137,7 @@ static void spoil_function(struct function *function)
     }
 }
 
-/* One thing of it. */
+/* Damages one field of a face. */
 static void spoil(struct face *face)
 {
     switch (below(7)) {

@@ -1,10 +1,10 @@
-/* Makes the faces of boards. */
+/* Draws the faces of boards. */
 #ifndef FUZZ_FACE_H
 #define FUZZ_FACE_H
 
 #include "board.h"
 
-/* Answers of a board of that model in that mode. */
+/* Makes the face of that board in that mode. */
 void face_make(struct face *face, const struct board *board, enum mode mode);
 
 #endif

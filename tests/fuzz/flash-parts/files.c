@@ -1,4 +1,4 @@
-/* Calls on files that fail at times. */
+/* Wrappers of calls for files, which fail at random. */
 #define _GNU_SOURCE
 #include "random.h"
 #include "temper.h"

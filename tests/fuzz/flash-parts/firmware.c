@@ -17,7 +17,7 @@
 
 struct firmware firmware;
 
-/* The register of a DFU file (USB DFU 1.1, appendix B). */
+/* Returns the CRC register of a DFU file (USB DFU 1.1, appendix B). */
 static uint32_t register_of(const uint8_t *bytes, uint32_t length)
 {
     uint32_t state = 0xffffffff;
@@ -49,7 +49,7 @@ static void suffix(uint8_t *at, uint8_t size)
         at[size - 4 + byte] = (uint8_t)(value >> 8 * byte);
 }
 
-/* For the board that is there, for any, or for none. */
+/* Sets the numbers of the suffix: those of the target board in one of its modes, or FFFFh for any. */
 static void address(void)
 {
     const struct face *face = &bus.target->faces[chance(8) ? !bus.target->mode : bus.target->mode];
@@ -66,7 +66,8 @@ static void spoil(void)
         firmware.length = below(firmware.length);
 }
 
-/* A file without a signature is a raw image, and is sent whole; but not what builds produce in a format of its own. */
+/* Determines the format of the file. A file without a signature is a raw image, and is sent whole. One in four raw images of over 11 bytes
+ * gets the first bytes of Intel HEX, S-records, UF2 or ELF instead, and must not be sent. */
 static void look(void)
 {
     static const char *const fronts[] = {":0400000041", ":10FFFE00aB", "S1070000", "S9030000", "UF2\n", "\x7f" "ELF"};
@@ -80,7 +81,7 @@ static void look(void)
         firmware.payload = firmware.length;
 }
 
-/* Files that an earlier run left, whose words named other files. */
+/* Removes all files of earlier runs from the working folder. */
 static void clear_folder(void)
 {
     DIR *folder = opendir(".");
@@ -116,7 +117,7 @@ void firmware_make(void)
     make_out();
 }
 
-/* Nothing else stands in the folder. */
+/* Checks that the folder holds only FILE, OUT, and the target of a link. */
 static void check_folder(void)
 {
     DIR *folder = opendir(".");
@@ -138,7 +139,7 @@ static bool has(const char *name, const void *bytes, size_t length)
     return count == length && memcmp(found, bytes, length) == 0;
 }
 
-/* The file that stood at OUT before stands there still. */
+/* Returns true if OUT is the same file, folder or link as before the run, or still doesn't exist. */
 static bool is_out_kept(void)
 {
     struct stat is;
@@ -153,7 +154,7 @@ static bool is_out_kept(void)
 
 void firmware_check(int status)
 {
-    /* With status 3 the file may stand there too, where only the report could not be printed. */
+    /* With status 3 the new file may be there too, if only the report could not be printed. */
     bool may_write = asked.job == JOB_UPLOAD && !asked.is_dry && (status == 0 || status == 3)
         && (firmware.out == OUT_NONE || (firmware.out == OUT_FILE && asked.is_forced));
     bool is_written = asked.job == JOB_UPLOAD && !asked.is_dry && status == 0;

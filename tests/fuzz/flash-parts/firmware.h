@@ -1,11 +1,11 @@
-/* The files of a run: FILE, whole or spoilt, and sometimes one that has the name of OUT already. */
+/* The files of a run: FILE, valid or damaged, and sometimes a file that exists at OUT. */
 #ifndef FUZZ_FIRMWARE_H
 #define FUZZ_FIRMWARE_H
 
 #include <stdbool.h>
 #include <stdint.h>
 
-/* (A file of this name may be a raw image; one in .dfu is none.) */
+/* A file with this name may be a raw image; one that ends in .dfu may not. */
 #define FILE_NAME "firmware.bin"
 #define OUT_NAME "out"
 #define MOST_FIRMWARE 6000
@@ -13,19 +13,19 @@
 struct firmware {
     uint8_t bytes[MOST_FIRMWARE + 300];
     uint32_t payload, length; /* bytes of the image, and of the file */
-    bool is_raw;              /* it has no suffix */
-    bool is_dfuse;            /* its suffix says that it is a DfuSe file */
-    bool has_format;          /* it has no suffix, and begins as a file of Intel HEX, S-records, UF2 or ELF */
+    bool is_raw;              /* the file has no suffix */
+    bool is_dfuse;            /* the suffix has bcdDFU 011Ah, that of a DfuSe file */
+    bool has_format;          /* the file has no suffix, and begins like a file of Intel HEX, S-records, UF2 or ELF */
     uint16_t vendor, product, release;
-    enum { OUT_NONE, OUT_FILE, OUT_FOLDER, OUT_LINK } out; /* what stands at OUT; a link names the file `other` */
+    enum { OUT_NONE, OUT_FILE, OUT_FOLDER, OUT_LINK } out; /* the file that exists at OUT; a link points to the file `other` */
 };
 
 extern struct firmware firmware;
 
-/* Makes them in the working folder. */
+/* Writes the files in the working folder. */
 void firmware_make(void);
 
-/* Ends the run where a file isn't what it should be behind a run with that status. */
+/* Checks the files after the program's end. Ends the run if one is not as this exit status requires. */
 void firmware_check(int status);
 
 #endif

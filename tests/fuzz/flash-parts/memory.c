@@ -1,4 +1,4 @@
-/* The program's memory: counted, and refused at times. */
+/* Wrappers of the program's allocations: they count its blocks of memory, and fail at random. */
 #include "books.h"
 #include "random.h"
 #include "temper.h"

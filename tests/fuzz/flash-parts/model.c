@@ -49,7 +49,7 @@ static void write_block(struct model *model)
     model->is_written = true;
 }
 
-/* The state behind it says whether that went well. */
+/* Makes the image active and enters `after`; or the write fails, and the device enters dfuERROR. */
 static void put_in_place(struct model *model, enum state after)
 {
     if (chance(model->fails)) {
@@ -93,7 +93,7 @@ static int piece(struct model *model, uint16_t number, uint16_t length, uint8_t 
     return (int)count;
 }
 
-/* GETSTATUS answers with the state that it leads to. */
+/* Enters the state that GETSTATUS reports. Returns its poll time. */
 static uint32_t pass_on(struct model *model)
 {
     if (model->state == DNLOAD_SYNC && !model->is_written && model->busy_ms > 0) {

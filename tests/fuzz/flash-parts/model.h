@@ -1,4 +1,4 @@
-/* A device that keeps the table of USB DFU 1.1 (appendix A), with the memory of its alternate settings. */
+/* A device that follows the table of USB DFU 1.1 (appendix A), with memory for each alternate setting. */
 #ifndef FUZZ_MODEL_H
 #define FUZZ_MODEL_H
 
@@ -20,19 +20,19 @@ struct image {
 };
 
 struct model {
-    /* Settings. */
+    /* Settings of the device. */
     uint8_t attributes;            /* bmAttributes */
     uint16_t detach_ms, transfer;
     uint32_t busy_ms, manifest_ms, least, capacity;
-    uint32_t fails;                /* a write fails, by chance() */
-    bool is_patient;               /* it answers GETSTATUS while it is busy, as some read the standard */
-    bool starts_itself;            /* once the image is in place it leaves DFU mode by itself */
-    bool is_deaf_in_app;           /* in run-time mode it stalls everything; */
-    bool takes_detach;             /* but DETACH, where this is set */
-    /* Where it stands. */
+    uint32_t fails;                /* writes fail at random: argument of chance() */
+    bool is_patient;               /* the device answers GETSTATUS while it is busy, as some devices do */
+    bool starts_itself;            /* the device leaves DFU mode by itself once the image is active */
+    bool is_deaf_in_app;           /* the device stalls every request in run-time mode; takes_detach is an exception */
+    bool takes_detach;             /* the device acknowledges DETACH in run-time mode even if is_deaf_in_app is set */
+    /* Current state. */
     enum state state;
     uint8_t code;
-    bool is_written, is_complete;  /* in dfuDNLOAD-SYNC: the block is; in dfuMANIFEST-SYNC: the image is in place */
+    bool is_written, is_complete;  /* in dfuDNLOAD-SYNC: the block is written; in dfuMANIFEST-SYNC: the image is active */
     uint16_t number;
     uint32_t taken, sent, passed_ms, timer_ms, block_length;
     unsigned setting;
@@ -40,7 +40,7 @@ struct model {
     struct image spare, images[MOST_SETTINGS];
 };
 
-/* A request of the class: how many bytes the answer has, or STALL. `answer` has room for what wLength says. */
+/* Handles a request of the class. Returns the number of bytes of the answer, or STALL. `answer` has room for wLength bytes. */
 int model_handle(struct model *model, const uint8_t setup[8], const uint8_t *body, uint8_t *answer);
 
 void model_elapse(struct model *model, uint64_t ms);

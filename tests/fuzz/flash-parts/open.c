@@ -1,4 +1,4 @@
-/* libusb's calls over an open device. */
+/* Calls of libusb for an open device. */
 #include "usb.h"
 #include "books.h"
 #include "bus.h"
@@ -97,7 +97,7 @@ int libusb_set_interface_alt_setting(libusb_device_handle *handle, int interface
         error = LIBUSB_ERROR_NO_DEVICE;
     if (error == 0 && face_setting(&handle->device->face, interface, alternate) == NULL)
         error = LIBUSB_ERROR_NOT_FOUND;
-    /* A device with one setting may stall it. */
+    /* USB 2.0 allows a device with only the default setting to stall SET_INTERFACE. */
     if (error == 0 && alternate == 0 && chance(10))
         error = LIBUSB_ERROR_PIPE;
     if (error != 0)
@@ -109,7 +109,7 @@ int libusb_set_interface_alt_setting(libusb_device_handle *handle, int interface
     return 0;
 }
 
-/* A reset that is carried out: the device may come back as another one, and stands in setting 0. */
+/* Resets the device: it returns to setting 0, and may be enumerated as another device. */
 static int reset(struct libusb_device_handle *handle)
 {
     struct board *board = handle->device->board;
@@ -143,11 +143,12 @@ int libusb_reset_device(libusb_device_handle *handle)
         check_stalled(handle->device->board);
     clock_pass(10);
     trace("a reset: %d", result);
-    /* Even if the call is reported as failed though it was carried out, the device is the same. */
+    /* An error may be returned even if the reset was carried out and the device is still the same. In a run that isn't fair, 0 may be
+     * returned although the device is another one. */
     return result == 0 ? error : !temper.is_fair && chance(20) ? 0 : result;
 }
 
-/* There has to be room for as many bytes as the program says. */
+/* Writes, if the device sends, and then reads `length` bytes of the buffer, so that the sanitizer detects a buffer that is too small. */
 static void touch(uint8_t type, unsigned char *data, uint16_t length)
 {
     static volatile unsigned char last;

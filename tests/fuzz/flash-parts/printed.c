@@ -1,4 +1,4 @@
-/* Checks the text that the program printed: it does no harm to a terminal, and a record is JSON and has the exit status. */
+/* Checks the text that the program printed: it has no control characters for a terminal, and its record is JSON with the exit status. */
 #include "books.h"
 #include "check.h"
 #include "run.h"
@@ -14,7 +14,7 @@
 
 struct streams streams;
 
-/* Returns how many bytes a character of UTF-8 has, or 0 where there is none. */
+/* Returns the number of bytes of a UTF-8 character, or 0 if it is not valid. */
 static int character(const unsigned char *at)
 {
     int more = at[0] < 0x80 ? 0 : at[0] < 0xc2 ? -1 : at[0] < 0xe0 ? 1 : at[0] < 0xf0 ? 2 : at[0] < 0xf5 ? 3 : -1;
@@ -29,7 +29,7 @@ static int character(const unsigned char *at)
 static void check_text(const char *stream, const char *text, bool has_bar)
 {
     const unsigned char *at = (const unsigned char *)text;
-    /* Words that weren't understood are shown as they were given. */
+    /* Unknown arguments are printed as they were given, so this output is not checked. */
     if (!asked.is_sound)
         return;
     while (*at != '\0') {
@@ -57,7 +57,8 @@ static const char *string_end(const char *at)
     return at + 1;
 }
 
-/* The end of a value: a text, a number, true, false, null, or with `depth` a list or a record of them; NULL where it is none. */
+/* Returns the end of a JSON value: a string, a number, true, false, null, or with `depth` an array or an object of values; NULL if it is
+ * none. */
 static const char *value_end(const char *at, int depth)
 {
     char close = *at == '{' ? '}' : ']';
@@ -112,7 +113,7 @@ static void read_all(int stream, char *text)
         fault("a stream has a byte 00");
 }
 
-/* A line for each setting. */
+/* Checks that each line of a list in JSON is a JSON value. */
 static void check_list(const char *out)
 {
     while (asked.is_json && *out != '\0') {
@@ -122,7 +123,7 @@ static void check_list(const char *out)
     }
 }
 
-/* The state of the device is said only where a block was sent. */
+/* Checks that the report states that no block was sent only if none was, and that the old image may remain only if one was. */
 static void check_harm(const char *line)
 {
     if (strstr(line, "no block was sent") != NULL && check_has_downloaded())
@@ -134,7 +135,7 @@ static void check_harm(const char *line)
 static void check_out(const char *out, int status)
 {
     const char *line = last_line(out);
-    /* Words that are refused have no report and no record. */
+    /* Refused arguments cause no report and no record. */
     if (!asked.is_sound || status == 2)
         return;
     check_harm(line);

@@ -1,4 +1,4 @@
-/* Dice: all that happens in a run follows from its seed. */
+/* Random numbers. The seed determines every event of a run. */
 #ifndef FUZZ_RANDOM_H
 #define FUZZ_RANDOM_H
 
@@ -8,13 +8,13 @@
 
 void random_begin(uint64_t seed);
 
-/* A number from 0 to `count` - 1. */
+/* Returns a number from 0 to `count` - 1. */
 uint32_t below(uint32_t count);
 
-/* A number from `least` to `most`. */
+/* Returns a number from `least` to `most`. */
 uint32_t between(uint32_t least, uint32_t most);
 
-/* True one time in `times`; 0 is never. */
+/* Returns true once in `times` calls on average; never if `times` is 0. */
 bool chance(uint32_t times);
 
 void any_bytes(uint8_t *bytes, size_t length);

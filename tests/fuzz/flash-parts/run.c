@@ -1,5 +1,5 @@
-/* Plays runs of dfu-flash: `fuzz RUNS SEED FOLDER [FAULTS]`. Each is a process of its own with a seed of its own, SEED and those behind
-   it. With one run, what goes on is printed; behind so many faults, or 20, no further one is looked for. */
+/* Plays runs of dfu-flash: `fuzz RUNS SEED FOLDER [FAULTS]`. Each run is a process with its own seed: SEED, SEED + 1, and so on. A single
+ * run prints its events. After FAULTS faults, or 20, no more runs are played. */
 #define _GNU_SOURCE
 #include "run.h"
 #include "books.h"
@@ -26,9 +26,9 @@
 #include <sys/wait.h>
 #include <unistd.h>
 
-#define MOST_SECONDS 60   /* of one run, by the clock on the wall */
+#define MOST_SECONDS 60   /* maximum real time of one run */
 #define MOST_FAULTS 20
-#define LEAKS_EVERY 50    /* runs: to look for leaks takes longer than to play one */
+#define LEAKS_EVERY 50    /* runs; a check for leaks takes longer than a run */
 #define STATUSES 32
 #define SAY_EVERY 10000
 
@@ -43,7 +43,8 @@ const char *__asan_default_options(void)
     return "exitcode=97:detect_leaks=1:leak_check_at_exit=0:allocator_may_return_null=1:detect_stack_use_after_return=0";
 }
 
-/* A file, in memory where it has no name, at a number that no program takes for a stream. */
+/* Opens a file, or one in memory if `name` is NULL. Its descriptor is 200 or more, so that it differs from those of the standard streams.
+ */
 static int stream(const char *name)
 {
     int file = name == NULL ? memfd_create("stream", 0) : open(name, O_WRONLY), high = fcntl(file, F_DUPFD_CLOEXEC, 200);
@@ -51,7 +52,8 @@ static int stream(const char *name)
     return high;
 }
 
-/* Each is a file, or full, or closed. */
+/* Opens standard output and standard error: each is a file in memory, is full, or is closed. Standard input is FILE if the command line
+ * says so. One run in three ignores SIGHUP. */
 static void streams_open(void)
 {
     int full = stream("/dev/full"), in = asked.is_piped ? open(FILE_NAME, O_RDONLY) : -1;
@@ -71,7 +73,7 @@ static void streams_open(void)
         signal(SIGHUP, SIG_IGN);
 }
 
-/* Standard streams and pipes don't count: one that was closed is held, and the pipe that wakes a wait stays as long as the program. */
+/* Returns the number of open files from descriptor 3 on, without pipes: the program keeps the pipe that wakes a wait until its end. */
 static int files_open(void)
 {
     struct stat file;
@@ -85,7 +87,7 @@ static void play(uint64_t seed)
 {
     int files;
 #ifdef __SANITIZE_ADDRESS__
-    /* Not that of the process that started it: it would be closed. */
+    /* The sanitizer must not use the parent's stream, which is closed here. */
     __sanitizer_set_report_fd((void *)(intptr_t)trace_stream);
 #endif
     random_begin(seed);
@@ -114,7 +116,7 @@ static void play(uint64_t seed)
     outcome->is_done = true;
 }
 
-/* 0, or what ended the run that should not have. */
+/* Returns NULL, or the reason for which a run is faulty. */
 static const char *why_bad(int how)
 {
     static char text[700];
@@ -131,7 +133,7 @@ static const char *why_bad(int how)
     return text;
 }
 
-/* Plays one in a process of its own. */
+/* Plays one run in its own process. */
 static const char *run(uint64_t seed)
 {
     const struct timespec most = {MOST_SECONDS, 0};

@@ -3,7 +3,7 @@
 
 struct temper temper;
 
-/* Seldom in most runs, so that they come far. */
+/* Draws a small probability, which is 0 in most runs, so that these proceed far. */
 static uint32_t seldom(void)
 {
     static const uint32_t times[] = {0, 0, 0, 0, 0, 1000, 200, 50, 15};

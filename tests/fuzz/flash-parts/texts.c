@@ -1,4 +1,4 @@
-/* Answers reads of a device's descriptors and strings. */
+/* Finds functions and settings in a face, and converts its texts to UTF-8. */
 #include "board.h"
 
 #include <string.h>
@@ -27,7 +27,7 @@ const struct setting *face_setting(const struct face *face, int interface, int a
     return NULL;
 }
 
-/* The bytes of a character in UTF-8. */
+/* Writes a character as UTF-8. Returns its number of bytes. */
 static int put(uint32_t point, char *at)
 {
     if (point < 0x80) {

@@ -1,4 +1,4 @@
-/* Carries out a transfer, or has it fail by chance. */
+/* Carries out a transfer, or lets it fail at random. */
 #include "usb.h"
 #include "books.h"
 #include "bus.h"
@@ -15,7 +15,7 @@
 
 static const int lost_errors[LOST_ERRORS] = {LIBUSB_ERROR_TIMEOUT, LIBUSB_ERROR_IO, LIBUSB_ERROR_OVERFLOW, LIBUSB_ERROR_OTHER};
 
-/* One that libusb doesn't finish: a time that runs out takes that time. */
+/* Fails a transfer that libusb can't finish. A timeout takes its full time. */
 static int lose(unsigned timeout)
 {
     int error = lost_errors[below(LOST_ERRORS)];
@@ -36,7 +36,7 @@ static int handled(struct libusb_device_handle *handle, const uint8_t setup[8], 
     return count;
 }
 
-/* A status that a device could tell, or bytes, or an error. */
+/* Makes up an answer: a status of a device, random bytes, or an error. */
 static int lie(const uint8_t setup[8], uint8_t *data, uint16_t length, unsigned timeout)
 {
     static const uint32_t polls[] = {0, 0, 1, 10, 1000, 70000, 0xffffff};
@@ -60,7 +60,7 @@ static int lie(const uint8_t setup[8], uint8_t *data, uint16_t length, unsigned 
     return chance(2) ? length : (int)below(length + 1u);
 }
 
-/* Power that is lost before or behind the handling of it. */
+/* Cuts power before or after the device handles the transfer. */
 static int leave(struct libusb_device_handle *handle, const uint8_t setup[8], uint8_t *data, uint16_t length)
 {
     struct board *board = handle->device->board;

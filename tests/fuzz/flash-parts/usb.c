@@ -1,4 +1,4 @@
-/* libusb's contexts, lists of devices, and what is read of a device before it is opened. */
+/* Contexts and device lists of libusb, and the calls for a device that is not open. */
 #include "usb.h"
 #include "books.h"
 #include "bus.h"
@@ -8,7 +8,7 @@
 
 #include <stdlib.h>
 
-#define MOST_CALLS 2000000 /* a program that makes more goes round in a circle */
+#define MOST_CALLS 2000000 /* more calls than this mean an endless loop */
 
 static char context;
 
@@ -99,7 +99,7 @@ void libusb_free_device_list(libusb_device **list, int unrefs)
     give(list);
 }
 
-/* The program may read what a device tells only while it holds it. */
+/* Checks that the program holds a reference to a device whose descriptors it reads. */
 static const struct libusb_device *held(const libusb_device *device)
 {
     if (device->references == 0 && device->handles == 0)

@@ -1,4 +1,4 @@
-/* Contents of the types that libusb keeps to itself. */
+/* Definitions of libusb's opaque types. */
 #ifndef FUZZ_USB_H
 #define FUZZ_USB_H
 
@@ -6,38 +6,38 @@
 
 #include <libusb.h>
 
-/* A device as it was enumerated once; what it tells stays as it was then. */
+/* A device as it was enumerated; later changes of the board don't change it. */
 struct libusb_device {
     struct board *board;
     struct face face;
     enum mode mode;
     struct place place;
     uint8_t address;
-    bool is_listed; /* it is on the bus */
-    int references; /* of the program */
+    bool is_listed; /* the device is on the bus */
+    int references; /* number of references that the program holds */
     int handles;
 };
 
 struct libusb_device_handle {
     struct libusb_device *device;
     bool claimed[256];
-    uint8_t alternates[256]; /* in which setting each interface was put */
-    bool is_lost;            /* behind a reset from which the device came back as another one */
+    uint8_t alternates[256]; /* current alternate setting of each interface */
+    bool is_lost;            /* set after a reset that enumerated the device as another one */
 };
 
-/* Every call of libusb begins with this: what may happen meanwhile. */
+/* Counts a call of libusb, and lets random events happen. Calls of libusb begin with it. */
 void call_begins(const char *name);
 
-/* An error that the call ends with though nothing is wrong, or 0. */
+/* Returns an error by which the call fails at random, or 0. */
 int call_fails(void);
 
-/* Returns whether the device of a handle is on the bus still. */
+/* Returns true if the device of a handle is still on the bus. */
 bool handle_is_there(const struct libusb_device_handle *handle);
 
-/* The request of the class, by the temper: what libusb_control_transfer answers. */
+/* Carries out a request of the class, with the faults of `temper`. Returns the result of libusb_control_transfer. */
 int class_transfer(struct libusb_device_handle *handle, const uint8_t setup[8], uint8_t *data, uint16_t length, unsigned timeout);
 
-/* A request of USB itself, for strings and descriptors. */
+/* Carries out a standard request for a string or a descriptor. */
 int standard_transfer(const struct libusb_device *device, uint8_t request, uint16_t value, uint8_t *data, uint16_t length);
 
 #endif

@@ -12,7 +12,7 @@
 
 struct asked asked;
 
-/* Each word in memory of its own, so that a read past its end is seen. */
+/* Adds an argument. Each has its own block of memory, so that the sanitizer detects a read beyond its end. */
 static void say(const char *format, ...)
 {
     char text[MOST_TEXT];
@@ -27,7 +27,7 @@ static void say(const char *format, ...)
     asked.count++;
 }
 
-/* Which device, by the board that it is to be: its identifiers in the mode in which it is, or in both. */
+/* Adds the option that selects the board by its identifiers, in its current mode or in both modes. */
 static void say_ids(const struct board *board)
 {
     const struct face *face = &board->faces[board->mode], *upgrade = &board->faces[UPGRADE];
@@ -100,7 +100,7 @@ static void say_device(void)
         say_alternate(upgrade);
 }
 
-/* Of a download and of an upload. */
+/* Adds options of a download or an upload. */
 static void say_session(void)
 {
     if (chance(asked.job == JOB_DOWNLOAD ? 3 : 0))
@@ -193,7 +193,7 @@ static void say_sound(void)
     }
 }
 
-/* Any words, that go together or not. */
+/* Adds random arguments, which may not fit together. */
 static void say_any(void)
 {
     static const char *const some[] = {

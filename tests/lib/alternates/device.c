@@ -1,12 +1,13 @@
-/* The device of examples/alternates on the bus of the stand-in for libusb (tests/lib/usb), in the place of its DfuSe device. Its settings:
+/* The device of examples/alternates on the bus of the stand-in for libusb (tests/lib/usb), instead of its DfuSe device. Its settings, with
+ * defaults in parentheses:
  *
  * ALTERNATES_RADIO   a file with the first image of the setting `radio` (no bytes)
- * ALTERNATES_CUT     the number of the operation of the part within which the power goes, from 1 (0: none)
- * ALTERNATES_TEAR    in which way, as part.h has it (1)
+ * ALTERNATES_CUT     the number of the operation of the part that loses power, from 1 (0: none)
+ * ALTERNATES_TEAR    how that operation is cut off, as in part.h (1)
  * ALTERNATES_FAIL    the number of the operation that fails (0: none)
  *
- * USB_STATE has the bytes of the part and the device's memory. After a loss of power, and after a reset that ends an upgrade, the firmware
- * runs: it answers in run-time mode by dfu_runtime.h, and DETACH and a reset lead to the bootloader. */
+ * The file USB_STATE holds the bytes of the part and the device's memory. After a loss of power, and after a reset that ends an upgrade,
+ * the firmware runs: it answers in run-time mode by dfu_runtime.h, and DETACH and a reset lead to the bootloader. */
 #include "../usb/bus.h"
 #include "../usb/model.h"
 #include "../usb/settings.h"
@@ -19,7 +20,7 @@
 #include <stdlib.h>
 #include <string.h>
 
-/* What it has in memory is kept too. */
+/* The memory of the device is part of the saved state too. */
 #include "alternates.c"
 
 #define TIMER_SLOWER 10
@@ -33,7 +34,7 @@ static unsigned number_of(const char *name, unsigned otherwise) {
     return text == NULL ? otherwise : (unsigned)strtoul(text, NULL, 10);
 }
 
-/* The bootloader begins, or it starts the firmware. */
+/* Starts the bootloader. It starts the firmware unless `is_wanted` requests an upgrade. */
 static void start(bool is_wanted) {
     app = (struct dfu_runtime){.detach_ms = shared_config.detach_ms, .attributes = shared_config.attributes};
     runs_app = !is_wanted;
@@ -69,8 +70,8 @@ static int handle(const uint8_t setup[8], const uint8_t *body, size_t length, ui
     return n;
 }
 
-/* The timer of appDETACH runs at a tenth of the speed. Else a busy machine, on which over a second may pass between a host's DETACH and its
- * reset, would be a host that is late. */
+/* The timer of appDETACH runs at a tenth of real time, because on a busy machine over a second may pass between a host's DETACH and its
+ * reset. */
 static void elapse(uint32_t ms) {
     static uint32_t rest;
     away_ms -= away_ms < ms ? away_ms : ms;
@@ -99,7 +100,7 @@ static void set_interface(void) {
         fail_loudly("another setting is chosen than %d", seen->setting);
 }
 
-/* The stand-in describes what its settings say: that has to be what the example describes. */
+/* Checks that the descriptors of the stand-in equal those of the example. */
 static void compare(void) {
     uint8_t said[CONFIGURATION];
     const char *names = settings.maps;

@@ -1,5 +1,5 @@
-/* examples/alternates as a USB stack calls it: SET_INTERFACE in each stage of a transfer, the power lost and an operation failed at each
- * operation of a download, and a store without an image. The bytes of the other settings stay as they were, each time. */
+/* Calls examples/alternates as a USB stack does: SET_INTERFACE in each stage of a transfer, a loss of power and a failure at each operation
+ * of a download, and a store without an image. The bytes of the other settings must never change. */
 #include "alternates.h"
 #include "part.h"
 #include "raw.h"
@@ -35,7 +35,7 @@ static int32_t select_setting(unsigned setting) {
     return request(0x01, 11, setting, 0);
 }
 
-/* Polls until the block is written, or a code is told: the code, or 0. */
+/* Polls, at most four times, until the block is written. Returns the status code of the last answer, or -1 if that poll was stalled. */
 static int32_t settled(void) {
     int32_t n = status();
     for (int i = 0; i < 3 && (n == DFU_STATE_DNBUSY || n == DFU_STATE_DNLOAD_SYNC); i++)
@@ -43,7 +43,8 @@ static int32_t settled(void) {
     return n < 0 ? n : n >> 8;
 }
 
-/* A download in the chosen setting up to a stage: 0 none, then a block and its status in turn, the close, its status. The first code. */
+/* Downloads to the chosen setting up to a stage: 0 is no request; then a block and its status alternate; the last two are the close and its
+ * status. Returns 0, the first status code that is not OK, or -1 if a request was stalled. */
 static int32_t download(unsigned stage) {
     for (unsigned i = 0; i < stage && i < STAGES - 1; i++) {
         const unsigned number = i / 2, at = number * BLOCK, length = at > LENGTH ? 0 : LENGTH - at < BLOCK ? LENGTH - at : BLOCK;
@@ -87,14 +88,14 @@ static void make(void) {
     operations = 0;
 }
 
-/* All of the part but this setting's place is as it was. */
+/* Checks that the part has changed only in the place of this setting. */
 static int others_stay(unsigned setting) {
     const struct place *place = setting_table[setting].place;
     const uint32_t end = place->at + place->length;
     return memcmp(part, before, place->at) == 0 && memcmp(part + end, before + end, PART - end) == 0;
 }
 
-/* An unfinished transfer of one setting, and a whole download in another one. */
+/* Begins a transfer in one setting, switches to another, and makes a whole download there. */
 static void change(unsigned from, unsigned to, unsigned stage) {
     make();
     must(select_setting(from) == 0 && download(stage) == 0, "a stage", from, stage);
@@ -110,7 +111,7 @@ static void change(unsigned from, unsigned to, unsigned stage) {
     must(download(STAGES) == 0 && has(from, new), "a download after it", from, stage);
 }
 
-/* The power goes within an operation of a download. */
+/* Loses power during operation `number` of a download. Returns 0 if the download has fewer operations. */
 static unsigned lose_power(unsigned setting, unsigned number, unsigned way) {
     make();
     cut = number;
@@ -133,7 +134,8 @@ static unsigned lose_power(unsigned setting, unsigned number, unsigned way) {
     return 1;
 }
 
-/* An operation fails, or the part lies about it: a code is told, and a store keeps its image. A lie that is true changes nothing. */
+/* Lets an operation fail, or lets the part report success without doing it. The device must report a status code, and a store must hold the
+ * old image or the whole new one. If the operation would change no byte, a false report has no effect. */
 static void fail(unsigned setting, unsigned number, unsigned *word) {
     make();
     *word = number;
@@ -165,7 +167,7 @@ static void refusals(void) {
     must(alternates_reset() == 1 && alternates_state() == DFU_STATE_APP_IDLE, "a reset", 0, 0);
     alternates_configured(1);
     must(alternates_state() == DFU_STATE_IDLE, "a device that is configured anew", 0, 0);
-    /* The raw area takes as many bytes as it has. */
+    /* The raw area receives as many bytes as it can hold. */
     must(select_setting(2) == 0, "SET_INTERFACE", 2, 0);
     const unsigned blocks = setting_table[2].place->length / BLOCK;
     for (unsigned i = 0; i < blocks; i++)
@@ -173,7 +175,7 @@ static void refusals(void) {
     must(request(0x21, DFU_DNLOAD, blocks, 1) < 0, "a block too many", 2, blocks);
     must(status() == (DFU_STATUS_ERR_ADDRESS << 8 | DFU_STATE_ERROR) && others_stay(2), "its code", 2, blocks);
     must(request(0x21, DFU_CLRSTATUS, 0, 0) == 0 && status() == DFU_STATE_IDLE, "CLRSTATUS", 2, 0);
-    /* The second store is damaged, and not blank: it can't be chosen, and the others go on. */
+    /* The second store is damaged, and not blank: it can't be chosen, and the other settings still work. */
     make();
     memset(part + setting_table[1].place->at, 0, setting_table[1].place->length);
     memcpy(before, part, sizeof part);

@@ -1,4 +1,4 @@
-/* The part as memory. A byte that is programmed and not erased, and an operation outside the places, end the run. */
+/* Implements the part as memory. A program of bytes that are not erased, and an operation outside of the places, end the run. */
 #include "part.h"
 
 #include <stdio.h>

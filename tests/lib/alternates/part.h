@@ -1,4 +1,4 @@
-/* The part of examples/alternates as memory, on which the power can go within an operation. */
+/* The part of examples/alternates as memory, which can lose power during an operation. */
 #ifndef PART_H
 #define PART_H
 
@@ -8,12 +8,13 @@
 
 enum { TEARS = 4 };
 
-/* Operations that came; the number of the one within which the power goes, or 0; and in which way: it does nothing, half, all, or leaves
- * A5h, which is an open gate. Then `off` is jumped to. */
+/* operations: their number so far. cut: number of the operation that loses power, or 0. tear: what that operation does: 0 nothing, 1 half,
+ * 2 sets every byte to A5h, the value of an open gate, 3 all. Then the test jumps to `off`. */
 extern unsigned operations, cut, tear;
 extern jmp_buf off;
 
-/* The number of the operation that the part reports as failed, and of the one that it lies about: it does nothing. 0: none. */
+/* failing: number of the operation that the part reports as failed. lying: number of the one that it reports as done without doing it. 0 is
+ * none. */
 extern unsigned failing, lying;
 
 #endif

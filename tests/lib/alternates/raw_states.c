@@ -1,5 +1,5 @@
-/* The raw area of examples/alternates beside the proved device, over the same requests: each answer, state and code has to be the same. The
- * one difference is a block after one that is no whole units, which the raw area refuses. */
+/* Compares the raw area of examples/alternates with the proved device, over the same requests: each answer, state and code must be equal.
+ * The only difference is a block after one that does not fill whole units, which the raw area refuses. */
 #include "alternates.h"
 #include "dfu_device_memory.h"
 #include "part.h"
@@ -43,7 +43,7 @@ static void start(void) {
         exit(1);
 }
 
-/* A request of one kind, with a number and a length that are often the ones that fit. */
+/* Draws a request of this kind; its number and length often fit the state. */
 static void choose(unsigned kind, uint8_t setup[8]) {
     static const uint8_t types[KINDS] = {0x21, 0x21, 0x21, 0xa1, 0xa1, 0xa1, 0xa1, 0x21, 0x21, 0x21, 0x21, 0x21, 0xa1, 0xc1, 0x21, 0xa1};
     static const uint8_t requests[KINDS] = {1, 1, 1, 2, 2, 3, 5, 4, 6, 0, 9, 3, 1, 3, 6, 2};

@@ -1,4 +1,4 @@
-/* A Cortex-M without an OS: the vectors. QEMU has put the data in place, and memory is 0. */
+/* Vectors of a Cortex-M without an OS. QEMU loads the data to its address, and all other memory is 0 at the start. */
 #include "machine.h"
 
 extern uint32_t __stack[];
@@ -10,8 +10,8 @@ void on_tick(void) {
 #define CCR ((volatile uint32_t *)0xe000ed14)
 #define CPACR ((volatile uint32_t *)0xe000ed88)
 
-/* Code for ARMv6-M makes no unaligned access: where it runs on a later processor, that one is to trap each (UNALIGN_TRP). A program of
- * the hard-float ABI has the floating point unit on. */
+/* Code for ARMv6-M makes no unaligned access, so a later processor must trap each (UNALIGN_TRP). A program for the hard-float ABI needs the
+ * floating point unit switched on. */
 static void reset(void) {
 #if __ARM_ARCH == 6
     *CCR |= 8;

@@ -1,4 +1,4 @@
-/* cut.h, by the SysTick of a Cortex-M and by the timer of QEMU's RISC-V machines. */
+/* Implements cut.h by the SysTick of a Cortex-M, and by the timer of QEMU's RISC-V machines. */
 #include "cut.h"
 
 #include "machine.h"
@@ -21,7 +21,7 @@ static void start(uint32_t ticks) {
     SYSTICK[1] = ticks, SYSTICK[2] = 0, SYSTICK[0] = 7;
 }
 
-/* The interrupt returns into leave_the_call: the frame's words 6 and 7 are the address and the status. */
+/* Changes the frame so that the interrupt returns to leave_the_call: words 6 and 7 are the return address and the status. */
 __attribute__((used)) static void turn(uint32_t *frame) {
     stop();
     frame[6] = (uint32_t)(uintptr_t)leave_the_call & ~1u;
@@ -34,8 +34,8 @@ __attribute__((naked)) void on_tick(void) {
 #else
 #define NOW ((volatile uint32_t *)0x0200bff8)
 #define THEN ((volatile uint32_t *)0x02004000)
-#define TIMER 0x80u  /* of mie */
-#define ENABLED 8u   /* of mstatus */
+#define TIMER 0x80u  /* bit of mie */
+#define ENABLED 8u   /* bit of mstatus */
 
 static void stop(void) {
     __asm__ volatile("csrc mie, %0" : : "r"(TIMER));

@@ -1,10 +1,10 @@
-/* A call, and a loss of power within it. */
+/* Simulates a loss of power during a call. */
 #ifndef BARE_CUT_H
 #define BARE_CUT_H
 #include <stdint.h>
 
-/* Calls `call`, and after so many ticks of a timer nothing of it goes on: 1; or 0, where it was over before. A tick is less than an
- * instruction, with the words for QEMU that the scripts give. */
+/* Calls `call` and ends it after this many ticks of a timer. Returns 1; or 0 if the call returned before the cut. With the QEMU options of
+ * the scripts a tick is shorter than an instruction. */
 int cut(void (*call)(void), uint32_t ticks);
 
 #endif

@@ -1,7 +1,7 @@
-/* Many calls of the device library over plain memory, chosen by dice of its own: downloads and uploads that mostly keep to the
-   protocol, requests that don't, losses of power between calls, odd configurations, and garbled records and mediums. After each 1,000
-   calls it prints a digest of every answer, record, buffer and medium so far, so that two builds of the library can be compared. It
-   takes how many calls to make, a seed, and how many bytes behind an aligned address each buffer begins. */
+/* Makes many random calls of the device library over plain memory: downloads and uploads that mostly follow the protocol, requests that
+ * don't, losses of power between calls, odd configurations, and garbled records and flash. After each 1,000 calls it prints a digest of all
+ * answers, records, buffers and flash contents so far, so that two builds of the library can be compared. Arguments: the number of calls, a
+ * seed, and the offset of each buffer from an aligned address. */
 #include <stdio.h>
 #include <stdlib.h>
 #include <string.h>
@@ -54,7 +54,7 @@ static int32_t count(int32_t answer) {
     return answer;
 }
 
-/* A board is made anew, with a configuration that is now and then none. */
+/* Formats a new board, with a configuration that is sometimes invalid. */
 static void make_board(void) {
     static const uint16_t sizes[] = {8, 64, 64, 512, ANSWER, 1, ANSWER + 1, 0}, units[] = {1, 16, 64, 256};
     size_t capacity = 1 + roll(roll(4) ? 300 : MOST);
@@ -83,7 +83,7 @@ static void make_board(void) {
     block = part = 0;
 }
 
-/* A setup, of whose bytes one in 200 has one that is any; and one in 100 has too little room for the answer. */
+/* Makes a request. One in 200 has a random byte in its setup, and one in 100 has a random room for the answer. */
 static int32_t ask(uint8_t kind, uint8_t request, uint16_t value, uint16_t length, size_t sent) {
     uint8_t setup[8] = {kind, request, (uint8_t)value, (uint8_t)(value >> 8), config.interface_number, 0,
                         (uint8_t)length, (uint8_t)(length >> 8)};
@@ -117,7 +117,7 @@ static int32_t fetch(void) {
     return ask(0xa1, 2, part++, config.transfer, 0);
 }
 
-/* The step that the protocol has where the device stands. */
+/* Takes the next step of the protocol in this state: a request, a reset, or a wait. */
 static int32_t keep_to_it(int32_t state) {
     switch (state) {
     case 0: return ask(0x21, 0, 100, 0, 0);

@@ -1,5 +1,5 @@
-/* Calls of the host library with garbled records, payloads and buffers, with a digest after each 10,000, so that two builds of the
- * library can be compared. It takes how many calls to make, and how many bytes behind an aligned address each buffer begins. */
+/* Calls the host library with garbled records, payloads and buffers, and prints a digest after each 10,000 calls, so that two builds of the
+ * library can be compared. Arguments: the number of calls, and the offset of each buffer from an aligned address. */
 #include <stdio.h>
 #include <stdlib.h>
 #include <string.h>
@@ -14,7 +14,7 @@ static uint64_t any(void) {
     return dice;
 }
 
-/* A number that is often small, and sometimes any. */
+/* Returns a random number, which is often small. */
 static uint64_t some(void) {
     return any() % 4 ? any() % 30 : any();
 }

@@ -1,7 +1,7 @@
-/* Whole sessions of the host library, chosen by dice of its own: downloads, downloads that are verified, and uploads, with a device that
- * mostly answers as one in its state does, and sometimes stalls, leaves, restarts, says anything, or gives other bytes back. It prints
- * a digest of every answer, record, action and buffer, so that two builds of the library can be compared, and how often each report came.
- * It takes how many sessions to run, and a seed. */
+/* Runs whole random sessions of the host library: downloads, verified downloads, and uploads. The device mostly answers correctly for its
+ * state; sometimes it stalls, leaves, restarts, sends random bytes, or sends back other bytes than it received. The program prints a digest
+ * of all answers, records, actions and buffers, so that two builds of the library can be compared, and the count of each report. Arguments:
+ * the number of sessions, and a seed. */
 #include <stdio.h>
 #include <stdlib.h>
 #include <string.h>
@@ -29,7 +29,8 @@ static void put16(uint8_t *at, uint32_t number) {
     at[0] = (uint8_t)number, at[1] = (uint8_t)(number >> 8);
 }
 
-/* A file with a suffix (USB DFU 1.1, appendix B), for the device 0001h of 1209h or for any; one of twenty is damaged. Its length. */
+/* Makes a file with a suffix (USB DFU 1.1, appendix B), for the device 1209:0001 or for any. One of twenty has a wrong bit in its suffix,
+ * and one of forty a wrong CRC. Returns its length. */
 static size_t make_file(size_t payload) {
     uint32_t crc = 0xffffffffu, suffix = roll(4) ? 16 : 16 + roll(240);
     size_t length = payload + suffix;
@@ -53,7 +54,8 @@ static size_t make_file(size_t payload) {
     return length;
 }
 
-/* A functional descriptor of 9 bytes, or of 7; one of sixteen is odd. Its length. */
+/* Makes a functional descriptor of 9 or 7 bytes. One of sixteen has a damaged byte, and one of forty a random length. Returns its length.
+ */
 static size_t make_descriptor(uint8_t *descriptor, uint32_t transfer) {
     size_t size = roll(3) ? 9 : 7;
     descriptor[0] = (uint8_t)size, descriptor[1] = 0x21, descriptor[2] = roll(8) ? (uint8_t)(3 | roll(4) << 2) : (uint8_t)roll(16);
@@ -65,12 +67,12 @@ static size_t make_descriptor(uint8_t *descriptor, uint32_t transfer) {
     return roll(40) ? size : roll(10);
 }
 
-/* State of the device: its state (bState), and how many bytes it has taken or given. */
+/* State of the device: bState, and the number of bytes that it received or sent. */
 struct peer {
     uint32_t state, taken, given;
 };
 
-/* Answers GETSTATUS (A1h 03h) as a device in its state, which goes on from there. */
+/* Answers GETSTATUS (A1h 03h) according to the state, and enters the next state. */
 static size_t status_of(struct peer *peer) {
     uint32_t state = peer->state;
     if (state == 3)
@@ -92,7 +94,7 @@ static size_t status_of(struct peer *peer) {
     return roll(80) ? 6 : roll(9);
 }
 
-/* Does what the session wants: what was seen, and in `count` how many bytes were answered. */
+/* Carries out an action of the session. Returns its outcome, with the number of answered bytes in `count`. */
 static uint32_t act(struct peer *peer, const struct dfu_action *action, size_t payload, size_t *count) {
     uint32_t request = action->setup[1];
     *count = 0;

@@ -1,11 +1,11 @@
-/* Semihosting of QEMU by each processor's own instruction, a call on another stack, and the way from the start to `main`. */
+/* Semihosting of QEMU by each processor's own instruction, a call on another stack, and the code from reset to `main`. */
 #include "machine.h"
 
 #include <stdio.h>
 #include <stdlib.h>
 #include <string.h>
 
-/* (QEMU wants the three instructions of RISC-V in one page) */
+/* QEMU requires the three instructions of RISC-V to be in one page. */
 __attribute__((noinline, noclone, aligned(64))) uintptr_t semihost(uintptr_t call, const void *words) {
 #if defined(__aarch64__)
     register uintptr_t result __asm__("x0") = call;
@@ -41,7 +41,7 @@ void exit(int status) {
     leave(status);
 }
 
-/* The old stack is kept in a register that a call leaves as it is. */
+/* A register that the call preserves holds the old stack pointer. */
 __attribute__((noinline)) void run_on(void *word, void *(*run)(void *), uint8_t *top) {
 #if defined(__aarch64__)
     register void *given __asm__("x0") = word;
@@ -63,7 +63,7 @@ __attribute__((noinline)) void run_on(void *word, void *(*run)(void *), uint8_t 
 
 int main(int count, char **words);
 
-/* The words of the command line of QEMU. */
+/* Reads the command line of QEMU into arguments, and calls main. */
 void begin(void) {
     static char line[256];
     static char *words[9];

@@ -1,21 +1,21 @@
-/* Calls by which the programs of this folder use QEMU's semihosting, and a processor without an OS. */
+/* QEMU's semihosting and start code for the programs of this folder, which run without an OS. */
 #ifndef BARE_MACHINE_H
 #define BARE_MACHINE_H
 #include <stdint.h>
 
-/* A call of semihosting: its number, and its words. */
+/* Makes a semihosting call with this number and these parameters. */
 uintptr_t semihost(uintptr_t call, const void *words);
 
-/* The end of the program. */
+/* Ends the program. */
 void leave(int status) __attribute__((noreturn));
 
-/* Takes each exception that nothing expects, and ends the program with status 3. */
+/* Handles each unexpected exception: ends the program with status 3. */
 void on_fault(void) __attribute__((noreturn));
 
-/* Runs first after a start, with a stack. */
+/* Calls main with the arguments of QEMU's command line. The code after reset calls it once the stack is set up. */
 void begin(void) __attribute__((noreturn));
 
-/* Runs a function on the stack that ends at `top`. */
+/* Runs a function with its argument `word` on the stack that ends at `top`. */
 void run_on(void *word, void *(*run)(void *), uint8_t *top);
 
 #endif

@@ -1,5 +1,5 @@
-/* Calls that the libraries for C want of a C library, byte by byte: no access of these is unaligned. On ARM by the names of its EABI too.
-   */
+/* Functions of a C library that the libraries need, byte by byte, so that they make no unaligned access. On ARM they have the names of its
+ * EABI too. */
 #include <stdint.h>
 #include <string.h>
 

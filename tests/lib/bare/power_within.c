@@ -1,6 +1,6 @@
-/* Two images are installed, one after the other, on a device that is tolerant and on one that isn't, and the power goes within each call
- * that may write, after each instruction in turn. On each medium that is left so the device gets power, its image is the one before or
- * the new one, whole, and never the one before again once it was the new one; and an image can be installed on it. */
+/* Installs two images, one after the other, on a tolerant device and on one that isn't, and cuts power during each call that may write,
+ * after each instruction in turn. On each resulting flash the device must start, and its image must be the whole previous one or the whole
+ * new one; once the new one was active, the previous one must not return. Then an image can be installed. */
 #include <stdio.h>
 #include <string.h>
 
@@ -19,7 +19,7 @@ static struct dfu_device device = {.config = &config, .flash = medium, .size = s
                                    .driver = &driver};
 static long cuts, mediums;
 
-/* The image before, and the new one. */
+/* The previous image, and the new one. */
 static const uint8_t *before, *next;
 static uint32_t length_before;
 static int is_new;
@@ -46,7 +46,7 @@ static void whole(void (*call)(void)) {
     call();
 }
 
-/* Installs an image; `may_write` makes each call that may write. */
+/* Installs an image; `may_write` wraps each call that may write. */
 static void install(const uint8_t image[IMAGE], void (*may_write)(void (*call)(void))) {
     dfu_device_power_on(&device);
     ask(0x21, 0, 100, image, 0);
@@ -65,7 +65,8 @@ static int has(const uint8_t *bytes, uint32_t length) {
         && memcmp(medium + place.at, bytes, length) == 0;
 }
 
-/* Returns whether the medium stands a loss of power now. */
+/* Simulates a loss of power now. Returns 1 if the device then starts with the whole previous or the whole new image, and can install a
+ * third one. */
 static int stands(void) {
     static uint8_t third[IMAGE] = {9, 9};
     memset(&device.record, 0xa5, sizeof device.record);
@@ -79,7 +80,7 @@ static int stands(void) {
 
 static int failed;
 
-/* Makes a call, cut after each number of ticks in turn, until it comes to its end. */
+/* Makes a call, cut after 1, 2, 3 and more ticks, until it returns before the cut. */
 static void each(void (*call)(void)) {
     static uint8_t start[sizeof medium], block[sizeof pending];
     static struct dfu_record record;

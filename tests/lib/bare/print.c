@@ -1,4 +1,4 @@
-/* The little of stdio.h, stdlib.h and string.h that the tests and the examples use, over QEMU's semihosting. */
+/* The few functions of stdio.h, stdlib.h and string.h that the tests and examples use, over QEMU's semihosting. */
 #include <stdarg.h>
 #include <stdint.h>
 #include <stdio.h>
@@ -40,7 +40,7 @@ int puts(const char *text) {
     return putchar('\n');
 }
 
-/* Text between % and the letter of a conversion. */
+/* Parsed text between % and the letter of a conversion. */
 struct form {
     int is_left, has_zeros, width, most, size; /* size: 0 int, 1 long or size_t, 2 long long */
 };
@@ -58,7 +58,7 @@ static const char *read_form(const char *at, struct form *form, va_list *words) 
     return at;
 }
 
-/* The digits of a number, at the end of `room`. */
+/* Writes the digits of a number to the end of `room`. Returns their beginning. */
 static const char *digits(uint64_t number, unsigned base, int is_minus, char room[24]) {
     char *at = room + 23;
     *at = 0;
@@ -142,7 +142,7 @@ FILE *fopen(const char *name, const char *mode) {
     return file.handle == UINTPTR_MAX ? NULL : &file;
 }
 
-/* Returns how many things were read; semihosting says how many bytes were not. */
+/* Returns the number of elements read; semihosting returns the number of bytes that were not read. */
 size_t fread(void *to, size_t each, size_t count, FILE *file) {
     const uintptr_t words[3] = {file->handle, (uintptr_t)to, each * count};
     return (each * count - semihost(6, words)) / each;

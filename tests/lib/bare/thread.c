@@ -1,4 +1,4 @@
-/* pthread.h of this folder. */
+/* Implements pthread.h of this folder. */
 #include <pthread.h>
 
 #include "machine.h"

@@ -1,4 +1,5 @@
-/* Causes that lead to on_fault: a load from an unaligned address, or with the word `vector` a use of AArch64's vector unit. */
+/* Causes an exception that calls on_fault: a load from an unaligned address, or with the argument `vector` a use of AArch64's vector unit.
+ */
 #include <stdio.h>
 
 int main(int count, char **words) {

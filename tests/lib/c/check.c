@@ -1,9 +1,9 @@
-/* Images that the program of a device refuses: at the close, and in dfuMANIFEST-SYNC and dfuMANIFEST. States, status, answers, the image
- * and the flash; where the image is that was taken; each refusal of the calls. On devices that are tolerant of manifestation and that are
- * not, with units of 1, 16, 64 and 256 bytes, in place and in sectors.
+/* Tests of a device whose program refuses images: at the close, in dfuMANIFEST-SYNC and in dfuMANIFEST. They check states, status codes,
+ * answers, the image and the flash, the candidate, and each refusal of the calls. The devices are tolerant of manifestation or not, have
+ * units of 1, 16, 64 and 256 bytes, and are overwritten in place or have sectors.
  *
- * The check of an image is the program's own, and open where it fails: a program that never asks takes every image, as the last row here
- * shows. And a check before an image is put in place is no secure boot. */
+ * The program decides what it checks. A program that never calls dfu_device_closes accepts every image, as the row "never asked" shows. A
+ * check before an image becomes active is no secure boot. */
 #include "checking.h"
 
 #define MODES 13
@@ -13,7 +13,7 @@
 
 static struct board stations[MODES];
 
-/* After the close: to the end, where the image is put in place. */
+/* Closes the download, checks that its image is the candidate, and polls until the image is active. */
 static void installs(enum which which) {
     expect("the close", ask(0x21, 1, 9, 0, NULL) == 0 && state() == DFU_STATE_MANIFEST_SYNC);
     candidate_is("the candidate in dfuMANIFEST-SYNC", payload[which], sizeof payload[which]);
@@ -27,7 +27,7 @@ static void installs(enum which which) {
     image_is("it is in place", payload[which], sizeof payload[which]);
 }
 
-/* A refused image: the host is told, the image stays, and the next download goes on from CLRSTATUS. */
+/* After a refusal GETSTATUS reports the code, the old image stays active, and after CLRSTATUS the next download succeeds. */
 static void goes_on(uint8_t code) {
     static const uint8_t first[1] = {0};
     no_candidate("none in dfuERROR");
@@ -40,7 +40,7 @@ static void goes_on(uint8_t code) {
     installs(N);
 }
 
-/* Rows 1, 2, 6 and 7: at the close. */
+/* Refuses an image at the close of its download. The next download must succeed. */
 static void at_the_close(uint8_t attributes, uint32_t busy, uint32_t manifest, uint32_t unit, uint32_t sector, uint8_t code) {
     row = "at the close";
     begin(attributes, busy, manifest, unit, sector);
@@ -51,7 +51,7 @@ static void at_the_close(uint8_t attributes, uint32_t busy, uint32_t manifest, u
     goes_on(code);
 }
 
-/* Rows 3, 4, 6, 7 and 8: after the close, in dfuMANIFEST-SYNC or in dfuMANIFEST. */
+/* Refuses an image after the close of its download, in dfuMANIFEST-SYNC or in dfuMANIFEST. */
 static void after_the_close(uint8_t attributes, uint32_t busy, uint32_t manifest, uint32_t unit, uint32_t sector, uint8_t code,
                             int manifests) {
     row = manifests ? "in dfuMANIFEST" : "in dfuMANIFEST-SYNC";
@@ -71,7 +71,7 @@ static void visit(void) {
         stations[board.record.mode] = board;
 }
 
-/* Row 5: `refuse` changes two modes and no other, `refuse_close` one; and the causes of a refusal, in their order. */
+/* `refuse` acts in exactly two modes, and `refuse_close` in exactly one. The refusals of both calls have a fixed order. */
 static void in_each_mode(uint8_t attributes, uint32_t unit, uint32_t sector) {
     static const uint32_t others[] = {0, 3, 4, 5, 6, 7, 8, 9, 10, 11, 12, 13, 14, 15, 16, 255, 257, 258, 65537, 0xffffffff};
     row = "in each mode";
@@ -136,7 +136,7 @@ static void in_each_mode(uint8_t attributes, uint32_t unit, uint32_t sector) {
     }
 }
 
-/* An image that is too short is none: the close is an error of its own, and no refusal. */
+/* The close of a download below config.least is an error of its own, and refuse_close returns DFU_NO_CLOSE for it. */
 static void too_short(void) {
     row = "too short";
     begin(7, 0, 0, 16, 0);
@@ -152,7 +152,7 @@ static void too_short(void) {
     config.least = 1;
 }
 
-/* A program that never asks takes every image. */
+/* A program that never calls dfu_device_closes accepts every image. */
 static void never_asked(uint32_t unit, uint32_t sector) {
     row = "never asked";
     begin(7, 5, 10, unit, sector);

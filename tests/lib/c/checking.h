@@ -1,4 +1,4 @@
-/* Parts that the rows of check.c share: a device whose program refuses images, and what is expected of it. */
+/* Common parts of the rows of check.c: a device whose program refuses images, and the checks of its state. */
 #ifndef CHECKING_H
 #define CHECKING_H
 #include "driver.h"
@@ -17,7 +17,7 @@ static void expect(const char *what, int holds) {
     }
 }
 
-/* The images here: W is one that the check refuses, N one that it takes. Neither is whole in a unit over 1. */
+/* The images of this test: the check refuses W and accepts N. Neither fills whole units, except units of 1 byte. */
 static uint8_t payload[2][71];
 enum which { W, N };
 
@@ -29,19 +29,19 @@ static int32_t state(void) {
     return dfu_core_state(&board.record);
 }
 
-/* GETSTATUS, answered with this code and this state. */
+/* Checks that GETSTATUS returns this code and this state. */
 static void status_is(const char *what, uint8_t code, uint8_t to) {
     expect(what, ask(0xa1, 3, 0, 6, NULL) == 6 && board.out[0] == code && board.out[4] == to);
 }
 
-/* The active image is this one. */
+/* Checks that this image is the active one. */
 static void image_is(const char *what, const uint8_t *image, uint32_t length) {
     struct dfu_place place;
     expect(what, dfu_core_image(&config, board.flash, board.size, &place) == 0 && place.length == length
                      && memcmp(board.flash + place.at, image, length) == 0);
 }
 
-/* The candidate is this image: its bytes on the flash, then those that are held back. */
+/* Checks that this image is the candidate: first its bytes on the flash, then those that are held back. */
 static void candidate_is(const char *what, const uint8_t *image, uint32_t length) {
     struct dfu_place place;
     uint32_t unit = config.unit, whole = length - length % unit;
@@ -57,7 +57,7 @@ static void no_candidate(const char *what) {
                      && place.length == 2);
 }
 
-/* The close of a download, as the program hands it in, and as it refuses it. */
+/* The DNLOAD that closes a download: the program passes it to the device, or refuses it. */
 static const uint8_t closing[8] = {0x21, 1, 9, 0, 0, 0, 0, 0};
 static int32_t refuse_close(uint32_t status) {
     return dfu_core_refuse_close(&config, &board.record, closing, status);
@@ -67,7 +67,7 @@ static int32_t refuse(uint32_t status) {
     return dfu_core_refuse(&config, &board.record, status);
 }
 
-/* Board before a call, to check that a refusal changes nothing but the mode, or nothing at all. */
+/* The board before a call, to check that a refusal changes nothing, or only the mode. */
 static struct board before;
 static void keep(void) {
     before = board;
@@ -77,7 +77,7 @@ static int is_same(void) {
     return memcmp(&board, &before, sizeof board) == 0;
 }
 
-/* Only the state changed: to dfuERROR, with this code. */
+/* Checks that only the state changed: to dfuERROR, with this code. */
 static void errs(const char *what, int32_t code) {
     expect(what, state() == DFU_STATE_ERROR && dfu_core_code(&board.record) == code
                      && memcmp(board.flash, before.flash, sizeof board.flash) == 0
@@ -87,7 +87,7 @@ static void errs(const char *what, int32_t code) {
                      && memcmp(board.record.header, before.record.header, sizeof board.record.header) == 0);
 }
 
-/* A device with the image 00, in dfuIDLE. */
+/* Makes a device in dfuIDLE with the one-byte image 00. */
 static void begin(uint8_t attributes, uint32_t busy, uint32_t manifest, uint32_t unit, uint32_t sector) {
     static const uint8_t first[1] = {0};
     config.attributes = attributes;
@@ -98,7 +98,7 @@ static void begin(uint8_t attributes, uint32_t busy, uint32_t manifest, uint32_t
     expect("begin", ask(0x21, 0, 1000, 0, NULL) == 0 && reset(&board) == 0 && state() == DFU_STATE_IDLE);
 }
 
-/* Sends an image, up to dfuDNLOAD-IDLE. The candidate is what was taken, after each block. */
+/* Sends an image, up to dfuDNLOAD-IDLE. After each block the candidate must be the bytes sent so far. */
 static void download(enum which which) {
     uint16_t at = 0, number = 0;
     no_candidate("none in dfuIDLE");

@@ -1,6 +1,6 @@
-/* Tries the question whether a setup closes a download. Over random requests of hosts that mostly do it right, the answer of
- * dfu_core_closes must be what handling the setup then does, and say whether dfu_core_refuse_close takes it; and after an answer of 1 the
- * candidate is there to be checked. Then its refusals. It takes the number of sequences. */
+/* Tests dfu_core_closes with random requests of hosts that mostly follow the protocol. Its result must agree with what the device then does
+ * with the setup, and with dfu_core_refuse_close. After a result of 1 the candidate must be available. At the end the refusals are tested.
+ * Argument: the number of sequences. */
 #include "driver.h"
 
 static const struct fate well = {WELL, 0, 0, 0};
@@ -18,7 +18,8 @@ static int32_t closes(const uint8_t setup[8])
     return dfu_core_closes(&config, &board.record, setup);
 }
 
-/* Before the setup is handed in: a refusal of the image is taken exactly if it closes, whichever of the two statuses it has. */
+/* Makes two checks before the setup is handled. refuse_close with one of its two statuses refuses the image exactly if the setup closes a
+ * download. In this case the candidate and the held bytes have the length of the download. */
 static void before(const uint8_t setup[8], int32_t result)
 {
     struct dfu_record copy = board.record;
@@ -29,7 +30,7 @@ static void before(const uint8_t setup[8], int32_t result)
                                     && place.length + board.record.held_length == board.record.first && board.record.first >= config.least);
 }
 
-/* A request: it closed a download if it was acknowledged, and an image waits from then on. */
+/* Makes a random request. It closed a download if it was acknowledged and led to mode 7, where an image is pending. */
 static void one(void)
 {
     uint8_t setup[8], body[MOST_BLOCK];
@@ -47,7 +48,7 @@ static void one(void)
     *(result == 1 ? &closed : &others) += 1;
 }
 
-/* While writes are due nothing is said of the next setup. */
+/* While operations are pending, dfu_core_closes returns DFU_BUSY. */
 static void due(void)
 {
     const uint8_t setup[8] = {0xa1, 3, 0, 0, 0, 0, 6, 0}, close[8] = {0x21, 1, 0, 0, 0, 0, 0, 0};

@@ -1,6 +1,6 @@
-/* Counts the erases and programs that a block costs, and putting an image in place: at most as many as the macros of dfu_device.h say, and
- * for some unit, sector and transfer size exactly as many. A format costs exactly what its macros say. Formats and downloads by dice, in
- * blocks of any size, over flash in memory. It takes the number of downloads. */
+/* Counts the erases and programs that each block needs, and those that make an image active. Their numbers must not exceed the macros of
+ * dfu_device.h, and must reach them for some unit, sector and transfer size. A format needs exactly the numbers of its macros. Formats and
+ * downloads are random, with blocks of any size, over flash in memory. Argument: the number of downloads. */
 #include <stdio.h>
 #include <stdlib.h>
 #include <string.h>
@@ -14,7 +14,7 @@ static uint8_t medium[DFU_MEDIUM_SIZE(256, 8192, 65536)], block[DFU_BLOCK_SIZE(M
 static uint32_t dice = 1, erases, programs;
 static long blocks, all_erases, all_programs;
 
-/* Numbers of blocks and of images put in place that cost as much as the macros say. */
+/* Numbers of blocks, and of images made active, that needed exactly as many erases or programs as the macros say. */
 static struct { long erases, programs; } of_blocks, of_commits, *full;
 
 static int erase(void *own, uint32_t at, uint32_t length) {
@@ -40,7 +40,8 @@ static int32_t serve(uint8_t kind, uint8_t request, uint16_t value, uint16_t len
     return dfu_device_serve(&dfu, setup, body, out, sizeof out);
 }
 
-/* GETSTATUS, which carries it out: whether it cost no more than that. */
+/* Sends GETSTATUS, which carries out the operations. Returns 1 if the status is OK, and there were at most this many
+ * erases and programs. */
 static int is_within(uint32_t most_erases, uint32_t most_programs) {
     erases = programs = 0;
     if (serve(0xa1, DFU_GETSTATUS, 0, 6) != 6 || out[0] != DFU_STATUS_OK)
@@ -54,7 +55,7 @@ static int is_within(uint32_t most_erases, uint32_t most_programs) {
     return 0;
 }
 
-/* One download of so many bytes. */
+/* Downloads this many bytes. Returns 1 on success. */
 static int download(uint32_t left) {
     uint16_t number = 0;
     while (left > 0) {
@@ -70,7 +71,7 @@ static int download(uint32_t left) {
     return serve(0x21, DFU_DNLOAD, number, 0) == 0 && is_within(DFU_COMMIT_ERASES(config.sector), DFU_COMMIT_PROGRAMS);
 }
 
-/* A format of an image of so many bytes: whether it cost what the macros say. */
+/* Formats with an image of this length. Returns 1 if the operations were exactly as many as the macros say. */
 static int format(uint32_t length) {
     const uint32_t all = DFU_FORMAT_ERASES(length, config.sector), more = DFU_FORMAT_PROGRAMS(length, config.sector);
     erases = programs = 0;
@@ -81,7 +82,7 @@ static int format(uint32_t length) {
     return 0;
 }
 
-/* Two downloads onto a board with a unit, a sector and a transfer size by dice: the second one has an open gate to close. */
+/* Downloads twice to a board with a random unit, sector and transfer size. The second download must first close an open gate. */
 static int both(void) {
     static const uint32_t units[] = {1, 16, 64, 256}, sectors[] = {0, 256, 512, 1024, 4096, 8192};
     config.unit = units[roll(4)], config.sector = sectors[roll(6)];

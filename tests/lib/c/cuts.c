@@ -1,6 +1,6 @@
-/* A failure, a lie and a loss of power at each write and erase that a download asks for, in each unit, in place and with sectors: a
- * failure and a lie are told, a loss of power leaves the old image or the whole new one, behind each byte of a write and with any
- * bytes behind it, and between any two calls. The next download works. */
+/* Injects a failure, a false report of success, and a loss of power at each write and erase of a download, for each unit, in place and with
+ * sectors. The status must report failures and false reports. A loss of power, after each byte of a write, with random bytes after it, and
+ * between any two calls, must leave the old image or the whole new one. The next download must succeed. */
 #include "driver.h"
 
 static const struct { uint32_t unit, sector; } parts[] = {{1, 0}, {16, 0}, {64, 0}, {256, 0}, {1, 256}, {16, 512}, {64, 256}, {256, 512}};
@@ -18,7 +18,7 @@ static void expect(const char *what, int holds, const struct fate *fate) {
     }
 }
 
-/* GETSTATUS, and the time that it says, until the device is not busy. */
+/* Polls with GETSTATUS, at most three times, until the device is no longer busy. 100 ms pass after each poll. */
 static void poll(const struct fate *fate) {
     for (int i = 0; i < 3 && !is_off; i++) {
         request(&board, 0xa1, 3, 0, 6, NULL, fate);
@@ -29,7 +29,7 @@ static void poll(const struct fate *fate) {
     }
 }
 
-/* A download in blocks of 90 bytes, with this trouble, behind so many calls at most. */
+/* Downloads in blocks of 90 bytes with this fault, and ends after at most `calls` calls. */
 static void download(const struct fate *fate, int calls) {
     downloads++;
     writes = 0;
@@ -57,7 +57,7 @@ static int has(const uint8_t *image, size_t length) {
         && memcmp(board.flash + place.at, image, length) == 0;
 }
 
-/* The power is gone, and comes back: an image is active, and the next download works. */
+/* Restores power: an image must be active, and the next download must succeed. */
 static void come_back(const struct fate *fate, int is_last) {
     cuts++;
     expect("power on", power_on(&board) == 0, fate);
@@ -74,8 +74,8 @@ static void try_all(void) {
     expect("a download", has(fresh, sizeof fresh) && dfu_core_state(&board.record) == 2, &none);
     for (uint32_t write = 0; write < all; write++) {
         struct fate fails = {FAILS, 1, write, 0}, lies = {LIES, 0, write, 0};
-        /* The last writes are those of the commit: what is held back if the unit is not whole, the header and the gate. With sectors
-         * the last two have an erase each before, and so has what is held back where it begins a sector. */
+        /* The last writes make the image active: those of the bytes held back if the last unit is not whole, of the header, and of the
+         * gate. On flash with sectors the last two have an erase before each, and so have the bytes held back if they begin a sector. */
         uint32_t over = sizeof fresh % board.unit, begins = board.sector != 0 && (sizeof fresh - over) % board.sector == 0;
         uint32_t commit = (over != 0) + (over != 0 && begins) + (board.sector != 0 ? 4 : 2);
         board = shipped, download(&fails, 1000);
@@ -88,7 +88,7 @@ static void try_all(void) {
                 board = shipped, download(&cut, 1000);
                 length = last_length;
                 expect("off", is_off, &cut);
-                /* An erase of the gate that is cut may leave an open one: behind it all stands already. */
+                /* An erase of the gate that is cut off may leave the gate open. By then all other bytes of the image are written. */
                 come_back(&cut, write + (board.sector != 0 ? 2 : 1) >= all);
             }
         }

@@ -1,5 +1,5 @@
-/* The host of DfuSe for C (dfuse_host.h), by values worked out by hand: memory maps, the whole dialogue of a session with two elements,
- * and plans that are refused. Then records that are no session's, over and over: each call answers or refuses. */
+/* Tests the host of DfuSe (dfuse_host.h) with values worked out by hand: memory maps, the whole dialogue of a session with two elements,
+ * and refused plans. Then it makes many calls with invalid records: each must return an answer or a refusal. */
 #include "dfuse_host.h"
 
 #include <stdio.h>
@@ -16,7 +16,7 @@ static void is(int holds, const char *what)
         printf("wrong: %s\n", what);
 }
 
-/* Numbers are the same on each machine and each run. */
+/* State of the random generator, which gives the same numbers on each machine and in each run. */
 static uint64_t seed = 1;
 
 static uint32_t chance(void)
@@ -29,11 +29,11 @@ static const char f4[] = "@Internal Flash  /0x08000000/04*016Kg,01*064Kg,07*128K
 
 #define EIGHT "1*1g,1*1g,1*1g,1*1g,1*1g,1*1g,1*1g,1*1g,"
 
-/* A string, and how it is read: a refusal, or 0 and its ranges. */
+/* Strings with the result of reading each: a refusal, or 0 and the ranges. */
 static const struct {
     const char *text;
     int32_t answer;
-    uint64_t name, ranges, start, size; /* of the last range */
+    uint64_t name, ranges, start, size; /* start and size of the last range */
     uint32_t count, access;
 } maps[] = {
     {"@Internal Flash  /0x08000000/04*016Kg,01*064Kg,07*128Kg", 0, 14, 3, 0x08020000, 131072, 7, 7},
@@ -83,7 +83,7 @@ static const struct dfuse_element image[] = {{.address = 0x08000000, .bytes = on
                                              {.address = 0x08004000, .bytes = two, .length = 2}};
 static const struct dfuse_plan plan = {0x08000000, 1000, 2, 2048, 32, 1};
 
-/* Each request in turn, its setup and its body; W is a wait of 5 ms. What a device answers is in `answer_to`. */
+/* The expected requests, each with its setup and its body; W is a wait of 5 ms. answer_to returns the device's answers. */
 static const char *const dialogue[] = {
     "2106000000000000", "a105000000000100",
     "2101000000000500 4100000008", "a103000000000600", "W", "a103000000000600",
@@ -99,7 +99,7 @@ static const char *const dialogue[] = {
     "2101020000000000", "a103000000000600",
 };
 
-/* Writes two digits for each byte, and the end of the text; where that is. */
+/* Writes two hexadecimal digits for each byte, and a terminating 0. Returns the address of that 0. */
 static char *spell_bytes(char *out, const uint8_t *bytes, uint64_t count)
 {
     static const char digits[] = "0123456789abcdef";
@@ -124,7 +124,7 @@ static void spell(const struct dfuse_action *action, const uint8_t *body, char o
     }
 }
 
-/* A device that needs 5 ms for each command. */
+/* Answers as a device that needs 5 ms for each command. */
 static size_t answer_to(const struct dfuse_action *action, int *is_busy, int is_closed, uint8_t answer[6])
 {
     static const uint8_t busy[6] = {0, 5, 0, 0, 4, 0}, done[6] = {0, 0, 0, 0, 5, 0}, leaves[6] = {0, 1, 0, 0, 7, 0};
@@ -214,7 +214,7 @@ static void try_refusals(void)
     is(dfuse_next(&session, (const uint8_t *)f4, strlen(f4), image, 2, body, 4, &action) == DFU_NO_SESSION, "another version");
 }
 
-/* Records of any bytes, and now and then of few bits. */
+/* Makes calls with random records, about half of whose bytes are less than 8. */
 static void try_garbled(long count)
 {
     static uint8_t body[65536], bytes[64];
@@ -237,7 +237,7 @@ static void try_garbled(long count)
     is(answered > 0, "some records are a session's");
 }
 
-/* Strings of any bytes, and maps in which one byte is another. */
+/* Reads random strings, and maps with one changed byte. */
 static void try_strings(long count)
 {
     struct dfuse_map map;

@@ -1,4 +1,4 @@
-/* DfuSe files as they come by chance, for the tests: some are sound, some are changed or cut. */
+/* Random DfuSe files for the tests: some are valid, and some are changed or truncated. */
 #ifndef DFUSE_CHANGED_H
 #define DFUSE_CHANGED_H
 
@@ -6,7 +6,7 @@
 
 #include <stdlib.h>
 
-/* The memory for which they are, and what is made. */
+/* The memory for which the files are made, and the file itself. */
 #define BASE 0x08000000u
 enum { SIZE = 16384, ROOM = 32768 };
 static uint8_t file[ROOM];
@@ -34,7 +34,7 @@ static void put_four(size_t at, size_t number)
         file[at + byte] = (uint8_t)(number >> 8 * byte);
 }
 
-/* Elements one behind the other as a rule, some over others, some outside of the memory. */
+/* Adds an element: mostly after the previous one, sometimes overlapping another, sometimes outside the memory. */
 static void put_element(uint32_t *next)
 {
     uint32_t size = 1 + below(one_in(3) ? 1500 : 40);

@@ -1,5 +1,5 @@
-/* DfuSe files for C (dfuse_file.h): a file worked out by hand, each of its refusals, and changed files, over and over, which are read as by
- * a second reader (dfuse_second.h), written another way. */
+/* Tests dfuse_file.h with a file worked out by hand, most of its refusals, and many changed files, for which it must agree with an
+ * independent reader (dfuse_second.h). */
 #include "dfuse_second.h"
 
 #include <stdio.h>
@@ -18,7 +18,8 @@ static void is(int holds, const char *what)
         printf("wrong: %s\n", what);
 }
 
-/* Elements 08000000h 01 02 03 04 and 08004000h 05 06 of setting 0, for 0483:df11; the name's 250 last bytes, from 27 on, are 0. */
+/* A file for 0483:df11 with elements 08000000h 01 02 03 04 and 08004000h 05 06 of setting 0; the last 250 bytes of the name, from offset
+ * 27, are 0. */
 static const char front[] = "446675536501" "33010000" "01" "546172676574" "00" "01000000" "53542e2e2e";
 static const char back[] = "16000000" "02000000" "00000008" "04000000" "01020304" "00400008" "02000000" "0506"
                            "ffff" "11df" "8304" "1a01" "554644" "10" "7d8755f9";
@@ -34,7 +35,7 @@ static void spell(const char *digits, uint8_t *out)
     }
 }
 
-/* The elements are those of the second reader, in the order of the file. */
+/* Compares the elements with those of the second reader, in the order of the file. */
 static int is_same_image(const struct second *second, const struct dfuse_element *image, uint64_t count)
 {
     int is_equal = count == second->count;
@@ -73,7 +74,7 @@ static void compare(const uint8_t *file, size_t length, uint8_t setting, const c
     is(answer == 0 ? is_same_image(&second, image, count) : count == 77, what);
 }
 
-/* A byte of the file that is another one, and the answer, the CRC being right. */
+/* A changed byte of the file, and the expected result if the CRC is right. */
 static const struct {
     size_t at;
     uint8_t byte;
@@ -120,8 +121,8 @@ static void try_sound(void)
         is(dfuse_read_file(sound, length, &fields) < 0, "a part of it");
 }
 
-/* A file of up to three targets for two settings, each with up to three elements, with up to three bytes changed in most of them. It is
- * in memory of its own, so that a byte too far is noticed. */
+/* Makes a file of up to three targets for two settings, each with up to three elements, and mostly changes up to three bytes. The file is
+ * in its own block of memory, so that the sanitizer detects a read beyond its end. */
 static void try_changed(void)
 {
     uint8_t file[4096];

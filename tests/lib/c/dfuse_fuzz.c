@@ -1,10 +1,10 @@
-/* Whole runs of dfu-flash with changed DfuSe files, over the stand-in's DfuSe device with changed settings and faults: dfuse_fuzz RUNS
- * SEED, in a folder with the old memory `old`, 16 pages of 1,024 bytes from 08000000h on. It is linked with dfu-flash, whose main is
- * flash_main, and with the stand-in, and each run is a process of its own. Each ends with a status of dfu-flash's own and no report of a
- * sanitizer, whose status is 99; a refusal sends nothing; a success is one by a second reader of the file, and has its bytes in the memory;
- * and if the device's map is true, no page without a byte of the file has changed. This last one isn't asked of a device that stalls
- * GETSTATE while a command that an earlier session sent isn't started: the host then asks for the status, which starts it, and the law of
- * dfuse_link leaves such a device out too. */
+/* Plays whole runs of dfu-flash with changed DfuSe files, on the stand-in's DfuSe device with random settings and faults: `dfuse_fuzz RUNS
+ * SEED`, in a folder with the old memory `old`, 16 pages of 1,024 bytes from address 08000000h. It is linked with dfu-flash, whose main is
+ * flash_main, and with the stand-in, and each run is a separate process. Each must end with an exit status of dfu-flash, and without a
+ * report of a sanitizer, whose status is 99. A refused file causes no request. After a success the memory must hold the bytes that a second
+ * reader finds in the file. If the device's map is true, no page without a byte of the file may change. This last rule is not checked for a
+ * device that stalls GETSTATE while a command of an earlier session is not started: the host then sends GETSTATUS, which starts the
+ * command, and the law of dfuse_link excludes such a device too. */
 #define _GNU_SOURCE
 #include "dfuse_varied.h"
 
@@ -27,7 +27,7 @@ static int wanted_alternate(void)
     return one_in(4) ? (int)below(2) : -1;
 }
 
-/* dfu-flash, in a process of its own. */
+/* Runs dfu-flash and ends this process with its status. */
 static void be_flash(int count, char **words)
 {
     static char *environment[MOST_SETTINGS + 1];
@@ -41,7 +41,7 @@ static void be_flash(int count, char **words)
     exit(flash_main(count, words));
 }
 
-/* The status of a run; over 255 if a signal ended it. */
+/* Plays a run in a separate process. Returns its status, or more than 255 if a signal ended it. */
 static int run(int limits)
 {
     static char texts[][12] = {"dfu-flash", "--quiet", "--alt", "--limits", "60", "1", "f.dfu"};
@@ -75,7 +75,7 @@ static size_t read_file(const char *name, uint8_t *bytes, size_t room)
     return count;
 }
 
-/* Returns whether the log has a request of the class. */
+/* Returns 1 if the log has a request of the class. */
 static int has_sent(void)
 {
     char line[256];
@@ -88,7 +88,7 @@ static int has_sent(void)
     return is_found;
 }
 
-/* Returns whether the device stalled GETSTATE before the first download, while a command of an earlier session wasn't started. */
+/* Returns 1 if the device stalled GETSTATE before the first DNLOAD, because it had not started a command of an earlier session. */
 static int has_hidden_command(void)
 {
     char line[256];
@@ -101,7 +101,7 @@ static int has_hidden_command(void)
     return is_found;
 }
 
-/* Returns whether the memory has the elements; and whether each page without one is as it was. */
+/* has_image returns 1 if the memory holds the elements; others_stand returns 1 if each page without an element is unchanged. */
 static int has_image(const struct second *second)
 {
     for (uint64_t at = 0; at < second->count; at++) {
@@ -126,7 +126,7 @@ static int others_stand(const struct second *second)
     return 1;
 }
 
-/* Fault of a run, or NULL. */
+/* Returns a description of the run's fault, or NULL. */
 static const char *fault_of(int status)
 {
     static struct second second;

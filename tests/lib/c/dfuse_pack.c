@@ -1,10 +1,10 @@
-/* Writes a DfuSe file (ST's UM0391) to standard output, for the tests:
+/* Writes a DfuSe file (ST's UM0391) to standard output for the tests:
  *
  *     dfuse_pack [-t] [-i VID:PID] [-c] [-p N=BYTE].. [-n BYTES] SETTING:ADDRESS=FILE.. [- SETTING:ADDRESS=FILE..]..
  *
- * Each `-` begins a target of its own. -t: the size in the prefix counts the suffix, as dfu-util's tools have it. -i: for that device
- * (1209:0001). -p: the byte at N, from the front, is this one, and -n: so many bytes alone are written; the CRC is made right behind both,
- * but with -c, which spoils it. A target that has no elements is SETTING: alone. Numbers are hexadecimal. */
+ * Each `-` begins a new target. -t: the size in the prefix includes the suffix, as in files from dfu-util's tools. -i: the device
+ * (1209:0001). -p: changes the byte at offset N. -n: writes only this many bytes. The CRC is computed after both changes; -c makes it
+ * wrong. A target without elements is `SETTING:`. Numbers are hexadecimal. */
 #include <stdint.h>
 #include <stdio.h>
 #include <stdlib.h>

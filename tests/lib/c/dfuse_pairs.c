@@ -1,10 +1,11 @@
-/* Each fault of the link at each transfer of a session of dfu-flash with the stand-in's DfuSe device, and each pair of them: dfuse_pairs
- * WORD.. runs dfu-flash with these words, and dfuse_pairs --singles WORD.. leaves the pairs out. It is linked with dfu-flash, whose main is
- * flash_main, and with the stand-in, and each run is a process of its own. It runs in a folder with the memory before, `old`, and that
- * which is wanted, `expected`, of up to 1 MiB; the settings of the device are in the environment.
+/* Tries each fault of the link at each transfer of a session of dfu-flash with the stand-in's DfuSe device, and each pair of faults.
+ * `dfuse_pairs WORD..` runs dfu-flash with these arguments, and `dfuse_pairs --singles WORD..` leaves out the pairs. It is linked with
+ * dfu-flash, whose main is flash_main, and with the stand-in, and each run is a separate process. Its folder contains the old memory,
+ * `old`, and the expected one, `expected`, of up to 1 MiB; the environment holds the settings of the device.
  *
- * A run ends as verified, and then the memory is the one that is wanted, and the application was started at most once; or it isn't, which
- * is counted by its status, and then no page of the memory that stays has changed, and the image's front stands only if all of it does. */
+ * If a run ends as verified, the memory must be the expected one, and the application must have started at most once. Other runs are
+ * counted by their status. After them no page that is equal in both memories may have changed, and the front of the image may be there only
+ * if all of it is. */
 #define _POSIX_C_SOURCE 200809L
 #include <fcntl.h>
 #include <stdio.h>
@@ -25,8 +26,8 @@ static unsigned char old[MOST], expected[MOST], saved[MOST];
 static size_t size;
 static long runs, wrong, counts[STATUSES];
 
-/* Requests that a run sent: the number of transfers; those whose answer can be cut to three bytes; and those that no device may stall:
- * GETSTATE while it was brought something that it hasn't started, as in the promises of crates/dfuse_link (specs/Reactions). */
+/* Transfers of a run. is_long marks those whose answer can be cut to three bytes. is_answered marks each GETSTATE while the device has not
+ * started a command, which no device may stall, as in the promises of crates/dfuse_link (specs/Reactions). */
 struct sent {
     unsigned count;
     int started;
@@ -72,7 +73,7 @@ static void be_flash(const char *fate)
     exit(flash_main(flash_count, flash_words));
 }
 
-/* The status of a run with these fates; over 255 if a signal ended it. */
+/* Runs dfu-flash with these faults. Returns its status, or more than 255 if a signal ended it. */
 static int run(const char *fate, struct sent *sent)
 {
     int status = 0;
@@ -89,7 +90,7 @@ static int run(const char *fate, struct sent *sent)
     return WIFEXITED(status) ? WEXITSTATUS(status) : 256 + status;
 }
 
-/* Returns whether each page that is the same in both memories is as it was. */
+/* Returns 1 if each page that is equal in both memories is unchanged. */
 static int others_stand(void)
 {
     for (size_t page = 0; page < size; page += PAGE)
@@ -98,7 +99,7 @@ static int others_stand(void)
     return 1;
 }
 
-/* The front: up to 32 bytes from the first on that is another one than before. */
+/* Returns 1 if the front holds the new bytes: the 32 bytes from the first one in which the two memories differ. */
 static int front_stands(void)
 {
     size_t at = 0;
@@ -122,7 +123,7 @@ static const char *fault_of(int status, const struct sent *sent)
     return front_stands() && !is_right ? "the front stands without the rest" : NULL;
 }
 
-/* Returns whether a fate of this kind can come to a transfer. */
+/* Returns 1 if a fault of this kind is possible at a transfer. */
 static int can_come(const struct sent *sent, unsigned at, int kind)
 {
     return kind == SHORT ? sent->is_long[at] : kind == STALL ? !sent->is_answered[at] : 1;
@@ -142,7 +143,7 @@ static void try(const char *fate, struct sent *sent)
         printf("%s: status %d\n", fate, status);
 }
 
-/* Each fault at each transfer behind `first`, of those that were sent. */
+/* Tries each fault at each transfer from number `from`, together with the fault `first`. */
 static void try_behind(const char *first, unsigned from, const struct sent *before)
 {
     static struct sent sent;

@@ -1,4 +1,4 @@
-/* A second reader of DfuSe files, written another way than the proved one, for the tests. It knows no file of over 16 MiB. */
+/* A second reader of DfuSe files for the tests, written independently of the proved one. It does not accept files of over 16 MiB. */
 #ifndef DFUSE_SECOND_H
 #define DFUSE_SECOND_H
 
@@ -31,7 +31,7 @@ static inline void sign(uint8_t *file, size_t length)
         file[length - 4 + (size_t)byte] = (uint8_t)(crc >> 8 * byte);
 }
 
-/* Findings of a second reader: the answer, what the file says, and the elements of a setting, in the order of the file. */
+/* Result of the second reader: the answer, the fields of the file, and the elements of a setting, in the order of the file. */
 struct second {
     int32_t answer;
     struct dfuse_file fields;

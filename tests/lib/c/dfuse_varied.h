@@ -1,5 +1,5 @@
-/* Settings of the stand-in's DfuSe device (tests/lib/usb/settings.c) as they come by chance, for the tests: maps, names and descriptors of
- * any bytes, sizes, times, habits, and faults of the link and of the device. The first FIXED of them are the same in each run. */
+/* Random settings of the stand-in's DfuSe device (tests/lib/usb/settings.c): maps, names and descriptors with random bytes, sizes, times,
+ * variants of behaviour, and faults of the link and of the device. The first FIXED settings are the same in each run. */
 #ifndef DFUSE_VARIED_H
 #define DFUSE_VARIED_H
 
@@ -12,9 +12,9 @@ enum { FIXED = 5, MOST_SETTINGS = 48, SETTING_ROOM = 512 };
 static const char true_maps[] = "@Internal Flash  /0x08000000/16*001Kg|@Bank 2 /0x08000000/16*001Kg";
 static char settings[MOST_SETTINGS][SETTING_ROOM];
 static int setting_count;
-static int is_true, is_dfuse; /* whether the map is that of the memory, and the device one of DfuSe by its descriptor */
+static int is_true, is_dfuse; /* is_true: the map is that of the memory; is_dfuse: the descriptor is that of a DfuSe device */
 
-/* A setting that was made is replaced. */
+/* Adds a setting, or replaces its earlier value. */
 static void set(const char *name, const char *value)
 {
     size_t size = strlen(name);
@@ -65,7 +65,7 @@ static void set_maps(void)
     set("USB_MAPS", maps);
 }
 
-/* A string of so many units of UTF-16, at most, each any. */
+/* Sets a string of at most this many random UTF-16 code units. */
 static void set_units(const char *name, const char *begin, unsigned most)
 {
     char text[SETTING_ROOM - 32];
@@ -82,7 +82,7 @@ static void set_hexadecimal(const char *name, unsigned number)
     set(name, text);
 }
 
-/* Fields of the descriptors, most of it as it has to be. */
+/* Sets the fields of the descriptors, most of them to valid values. */
 static void set_descriptors(void)
 {
     static const unsigned versions[] = {0x011a, 0x0110, 0x0100, 0x1a01, 0};

@@ -1,6 +1,6 @@
-/* Parts that the programs which try the device over flash share: flash in memory with a driver that writes it, and the loop of a program,
- * over the calls of dfu_core.h. Flash with sectors is as NOR flash is: a program needs a range that was erased, and a sector is erased
- * whole. */
+/* Common parts of the programs that test the device over flash: flash in memory, a driver that writes it, and the loop of a program, over
+ * the calls of dfu_core.h. Flash with sectors behaves like NOR flash: a program needs a range that was erased, and an erase covers a whole
+ * sector. */
 #ifndef DRIVER_H
 #define DRIVER_H
 #include <stdio.h>
@@ -21,7 +21,7 @@ static inline uint32_t roll(uint32_t sides) {
     return (dice >> 8) % sides;
 }
 
-/* Flash, and a device on it. */
+/* Flash, with a device on it. */
 struct board {
     struct dfu_record record;
     uint8_t flash[MOST_FLASH], pending[DFU_BLOCK_SIZE(MOST_BLOCK, 256)], out[MOST_BLOCK];
@@ -29,8 +29,8 @@ struct board {
     uint32_t unit, sector;
 };
 
-/* Fate of the writes that are asked for: all are carried out; or one of them fails, or lies, or is cut off behind so many bytes, with any
- * bytes behind those if `torn` is set. */
+/* Fault of the pending writes: none; or write number `write` fails, reports success with a wrong bit, or is cut off by a loss of power. A
+ * write that fails or is cut off writes only its first `behind` bytes, and with `torn` random bytes after them. */
 enum trouble { WELL, FAILS, LIES, CUT };
 struct fate {
     enum trouble trouble;
@@ -38,11 +38,11 @@ struct fate {
     uint32_t write, behind;
 };
 
-/* The writes so far, the bytes of the last one, and whether the power went. */
+/* Number of writes so far, length of the last one, and 1 if power was lost. */
 static uint32_t writes, last_length;
 static int is_off;
 
-/* Returns whether an ask is one for this flash. */
+/* Returns 1 if an operation is valid for this flash. */
 static inline int is_ask(const struct board *board, const struct dfu_ask *ask) {
     uint32_t whole = ask->kind == DFU_ERASE ? board->sector : board->unit;
     if (whole == 0 || ask->length < 1 || ask->at + (size_t)ask->length > board->size || ask->at % whole != 0 || ask->length % whole != 0)
@@ -82,7 +82,7 @@ static inline int program(struct board *board, const struct dfu_ask *ask, const 
     return 1;
 }
 
-/* The loop: what was asked for is carried out, until the answer is there. */
+/* Carries out the pending operations with this fault. Returns the answer of the call that needed them. */
 static inline int32_t settle(struct board *board, int32_t answer, const struct fate *fate) {
     while (answer == DFU_WRITE_PENDING && !is_off) {
         struct dfu_ask ask;
@@ -124,7 +124,7 @@ static inline int32_t power_on(struct board *board) {
     return dfu_core_power_on(&config, &board->record, board->flash, board->size);
 }
 
-/* A board with flash of this unit and sector, for images of so many bytes at most, and with this image. */
+/* Makes a board with flash of this unit and sector, for images of at most `capacity` bytes, and formats it with this image. */
 static inline int32_t ship_sectors(struct board *board, uint32_t unit, uint32_t sector, size_t capacity, const uint8_t *image,
                                    size_t length) {
     memset(board, 0x5a, sizeof *board);
@@ -140,7 +140,7 @@ static inline int32_t ship(struct board *board, uint32_t unit, size_t capacity, 
     return ship_sectors(board, unit, 0, capacity, image, length);
 }
 
-/* The next request of a host that does it right, in most cases; else any. */
+/* Chooses the next request of a host: mostly a correct one, else a random one. */
 static inline void choose(const struct dfu_record *record, uint16_t most, uint8_t setup[8]) {
     int32_t state = dfu_core_state(record);
     uint16_t number = state == 2 ? 0 : record->number, length = 0;

@@ -1,6 +1,6 @@
-/* Cases that the other programs do not come to: images of more than 4,096 bytes and mediums that are too large for them, names, files of
- * every refusal, requests without a body, and pointers that are NULL where nothing is to be read or written. The header forbids these, and
- * the libraries take another place for them: no call may crash. */
+/* Tests cases that the other programs do not reach: images of more than 4,096 bytes, images and flash of wrong sizes, names, files with
+ * every refusal, requests without a body, and NULL pointers where nothing is read or written. The headers forbid NULL, but no call may
+ * crash, because the libraries replace it by another address. */
 #include <stdio.h>
 #include <stdlib.h>
 #include <string.h>
@@ -21,7 +21,7 @@ static void is(const char *what, long got, long wanted) {
     }
 }
 
-/* Images of any length, in units of any size, and what is too large. */
+/* Formats with images of many lengths, in units of each size, and with lengths that are too large. */
 static void formats(void) {
     enum { SIZE = DFU_MEDIUM_SIZE(256, 0, 16384) };
     static uint8_t medium[SIZE], image[17000];
@@ -52,7 +52,7 @@ static void formats(void) {
     is("another version, image", dfu_core_image(&other, medium, SIZE, &place), DFU_NO_CONFIG);
 }
 
-/* Files of every refusal. One of more than 16 MiB takes that much memory, which a small machine does not have. */
+/* Reads files that cause every refusal. The test of more than 16 MiB allocates that much memory, which a small machine does not have. */
 static void files(void) {
     uint8_t file[32] = {0};
     struct dfu_file found;
@@ -92,7 +92,7 @@ static void names(void) {
     is("no such name", dfu_host_name(0xffffffffu, NULL, 0), 0);
 }
 
-/* Tries the calls that take NULL for nothing, and those that in every mode ask a device without a medium. */
+/* Makes calls with NULL for empty memory, and in each mode calls without a flash. */
 static void nothing(void) {
     static uint8_t medium[DFU_MEDIUM_SIZE(1, 0, 1024)], block[DFU_BLOCK_SIZE(64, 1)], out[64];
     static const uint8_t setup[8] = {0xa1, 3, 0, 0, 0, 0, 6, 0}, download[8] = {0x21, 1, 0, 0, 0, 0, 65, 0}, detach[8] = {0x21, 0, 255};

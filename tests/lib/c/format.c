@@ -1,6 +1,6 @@
-/* A format that asks for its writes, in each unit, in place and with sectors, on flash that holds anything: it leaves what
- * dfu_core_format makes in memory. A failure and a lie are told, at each write and erase; a loss of power leaves the new image, or
- * none, once both gates are closed; and the next format works. Meanwhile each other call is refused. */
+/* Tests a format without a driver, in each unit, in place and with sectors, on flash with any contents: it must leave the same bytes as
+ * dfu_memory_format. The result must report a failure and a false report of success at each write and erase. A loss of power must leave the
+ * new image, or none once both gates are closed, and the next format must succeed. Meanwhile every other call is refused. */
 #include "driver.h"
 
 enum { DATA = 8192, MOST = 2 * (2 * 4096 + DATA), IMAGE = 4500 };
@@ -20,7 +20,7 @@ static void expect(const char *what, int holds, uint32_t length, const struct fa
     }
 }
 
-/* Carries a piece out, or what the fate makes of it: whether it failed. */
+/* Carries out an operation with this fault. Returns 1 if the operation reports a failure. */
 static uint32_t carry(const struct dfu_ask *ask, const struct fate *fate) {
     static uint8_t blank[4096];
     memset(blank, 0xff, sizeof blank);
@@ -53,7 +53,7 @@ static uint32_t carry(const struct dfu_ask *ask, const struct fate *fate) {
     return 1;
 }
 
-/* While writes of a format are due each call for a device is refused, and changes nothing. */
+/* While operations of a format are pending, each call for a device is refused, and changes nothing. */
 static void others(uint32_t length) {
     static uint8_t block[DFU_BLOCK_SIZE(64, 256)], out[64];
     const uint8_t setup[8] = {0xa1, 3, 0, 0, 0, 0, 6, 0};
@@ -141,7 +141,7 @@ static void try_all(void) {
     }
 }
 
-/* Refusals, in their order, and the image of a format is a matter of each call. */
+/* Checks the refusals in their order. Each of the three calls checks the image that it receives. */
 static void refusals(void) {
     const struct fate well = {WELL, 0, 0, 0};
     config.unit = unit = 1;
@@ -163,7 +163,7 @@ static void refusals(void) {
                        && dfu_core_format_took(&config, &record, flash, size, image, 0, 0) == DFU_NO_DEVICE, 0, &well);
 }
 
-/* A record that was garbled asks for no write outside the flash. */
+/* With a garbled record no operation lies outside the flash. */
 static void garbled(void) {
     const struct fate well = {WELL, 0, 0, 0};
     for (long call = 0; call < 200000; call++) {

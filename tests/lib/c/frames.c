@@ -1,5 +1,5 @@
-/* The frames of examples/microcontroller: each that is sent is taken as it was, also behind noise; one of which a bit, a byte or the end
- * is lost is not taken; a longer one than is kept says so; and any bytes at all are borne. */
+/* Tests the frames of examples/microcontroller. Each frame is received as it was sent, even after noise. A frame with a changed bit, a lost
+ * byte or a lost end is not accepted. For a frame that is longer than the buffer its length is reported. Random bytes do no harm. */
 #include <stdio.h>
 #include <stdlib.h>
 #include <string.h>
@@ -27,7 +27,7 @@ static void expect(int holds, const char *what) {
     }
 }
 
-/* Returns how many whole frames are among the first `count` bytes of the line. */
+/* Returns the number of whole frames in the first `count` bytes of the line. */
 static int taken(struct frame *frame, size_t count) {
     int frames = 0;
     for (size_t at = 0; at < count; at++)

@@ -1,5 +1,5 @@
-/* Calls with a record or a medium that were garbled, over plain memory, with what they ask for carried out: each is answered or refused,
- * and nothing is written outside what it was given. One that is refused changes nothing at all. It takes how many calls to make. */
+/* Makes calls with garbled records or flash, over plain memory, and carries out the requested operations. Each call must return an answer
+ * or a refusal, and write only to its own memory. A refused call changes nothing. Argument: the number of calls. */
 #include <stdio.h>
 #include <stdlib.h>
 #include <string.h>
@@ -15,13 +15,13 @@ static uint32_t roll(uint32_t sides) {
     return (dice >> 8) % sides;
 }
 
-/* Returns whether a header is of version 2 with a length that fits. */
+/* Returns 1 if a header is of version 2 and its length is possible. */
 static int is_formed(const uint8_t *header) {
     return header[1] == 2 && !header[2] && !header[3] && !header[12] && !header[13] && !header[14] && !header[15]
         && (header[4] | header[5] << 8 | header[6] << 16 | (uint32_t)header[7] << 24) <= 64;
 }
 
-/* Returns whether the first of two slots is the active one by gates and headers alone. */
+/* Returns 1 if the first of two slots is the active one, by gates and headers alone. */
 static int is_newest(const uint8_t *mine, const uint8_t *other) {
     if (mine[0] != 0xa5 || !is_formed(mine + 16))
         return 0;
@@ -30,7 +30,7 @@ static int is_newest(const uint8_t *mine, const uint8_t *other) {
     return mine[16] == (uint8_t)(other[16] + 1);
 }
 
-/* Carries out what is asked for: the answer, or DFU_WRITE_PENDING if next or took refuses with this record, medium and room. */
+/* Carries out the requested operations. Returns the answer, or DFU_WRITE_PENDING if next or took refuses this record, flash and room. */
 static int32_t settle(const struct dfu_config *used, struct dfu_record *record, uint8_t *block, size_t most, uint8_t *medium,
                       uint8_t *out, size_t room) {
     int32_t result = DFU_WRITE_PENDING;
@@ -48,7 +48,7 @@ static int32_t settle(const struct dfu_config *used, struct dfu_record *record, 
 }
 
 int main(int count, char **words) {
-    /* A guard on both sides of each. */
+    /* Each buffer has guard bytes before and after it. */
     static uint8_t field[64 + 192 + 64], given[64 + 8 + 64], held[64 + DFU_BLOCK_SIZE(8, 17) + 4 + 64], start[192];
     static uint8_t field_before[sizeof field], given_before[sizeof given], tail_before[sizeof held];
     static struct dfu_record records[3], record_before;
@@ -67,10 +67,10 @@ int main(int count, char **words) {
         memcpy(medium, start, sizeof start);
         if (roll(2))
             medium[roll(192)] = (uint8_t)roll(256);
-        /* The spare's gate is closed in one of two, so that bytes may stand there. */
+        /* In half of the calls the spare slot's gate is closed, so that data there is allowed. */
         if (roll(2))
             medium[96] = 0;
-        /* In bytes or in units of 16; what is held back goes with where the puts end in seven of eight. */
+        /* The unit is 1 or 16. In seven of eight calls held_length is the remainder of put_end by the unit. */
         struct dfu_config used = config;
         used.unit = roll(2) ? 1 : 16;
         memset(record, 0, sizeof *record);
@@ -79,12 +79,12 @@ int main(int count, char **words) {
         record->number = (uint16_t)roll(18), record->length = (uint16_t)roll(10);
         block[8] = 1, block[9] = 2, block[10] = 3;
         record->held_length = (uint16_t)(roll(8) ? record->put_end % used.unit : roll(300));
-        /* Seven of eight note a header that stands on the medium. */
+        /* In seven of eight calls the record has a header that is on the flash. */
         if (roll(8))
             memcpy(record->header, medium + (record->slot ? 96 : 0) + 16, 16);
         if (roll(4) == 0)
             ((uint8_t *)record)[roll(sizeof *record)] = (uint8_t)roll(256);
-        /* One of sixteen is refused for the room, one for the configuration, one for both, and one for the block. */
+        /* Of sixteen calls one has too little room, three have a wrong configuration, one has both, and one has too small a block. */
         uint32_t fault = roll(16);
         size_t room = fault == 0 || fault == 2 ? roll(8) : 8;
         if (fault == 1 || fault == 2)
@@ -118,7 +118,7 @@ int main(int count, char **words) {
             || memcmp(given_before, given, sizeof given) != 0
             || memcmp(tail_before, held, sizeof held) != 0 || memcmp(&record_before, record, sizeof *record) != 0))
             return printf("garbled: call %ld was refused with %d and changed something\n", call, (int)result), 1;
-        /* The slot that the record notes is not written, where it stands there as the active one. */
+        /* The slot that the record names must not be written if it is the active one on the flash. */
         size_t slot = record_before.slot ? 96 : 0, spare = 96 - slot;
         if ((result >= -1 || result == DFU_WRITE_PENDING) && is_newest(field_before + 64 + slot, field_before + 64 + spare)
             && memcmp(record_before.header, field_before + 64 + slot + 16, 16) == 0

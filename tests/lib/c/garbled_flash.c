@@ -1,6 +1,6 @@
-/* Calls with garbled records, mediums and blocks: each answers or refuses as its header says, a refusal changes nothing, no call
- * changes the flash, and no write is asked for outside the spare slot of flash that has an image. It takes how many calls to make, and a
- * seed; the digest that it prints is of all that the calls gave and left, so that two builds of the library can be compared. */
+/* Makes calls with garbled records, flash and blocks. Each must answer or refuse as the headers of include/ describe. A refusal changes
+ * nothing, no call changes the flash, and on flash with an image no operation lies outside the spare slot. Arguments: the number of calls,
+ * and a seed. The program prints a digest of all results and of the resulting memory, so that two builds of the library can be compared. */
 #include "driver.h"
 
 static const uint32_t units[] = {1, 16, 64, 256};
@@ -18,10 +18,10 @@ static void stop(const char *what, long call) {
     exit(1);
 }
 
-/* A device on the way through a download, at a step by dice. */
+/* Makes a device at a random step of a download. */
 static void prepare(void) {
     static uint8_t body[MOST_BLOCK];
-    /* (each number by dice in a statement of its own, so that every compiler takes them in this order) */
+    /* (Each number is drawn in its own statement, so that every compiler draws them in this order.) */
     uint32_t unit = units[roll(4)], sector = roll(2) * 256, slot = 512;
     sector <<= roll(2), slot <<= roll(2);
     config.transfer = (uint16_t)(1 + roll(MOST_BLOCK));
@@ -43,12 +43,12 @@ static void prepare(void) {
         else
             transfer(&board, setup, body, &cut);
         if (is_off)
-            break; /* writes are due */
+            break; /* operations are pending */
     }
     is_off = 0;
 }
 
-/* A few bytes of something by dice. */
+/* Changes a few random bytes of an object. */
 static void garble(void *bytes, size_t size) {
     for (uint32_t i = 0, all = roll(4); i < all; i++) {
         uint32_t at = roll((uint32_t)size);
@@ -77,7 +77,7 @@ static int32_t one_call(const uint8_t setup[8], const uint8_t *body, uint32_t wh
     }
 }
 
-/* Carries out what is asked for, where it lies in the flash. */
+/* Carries out the requested operations whose range is in the flash. */
 static void carry_on(int32_t answer) {
     struct dfu_ask ask;
     struct board *b = &board;

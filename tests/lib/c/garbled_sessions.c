@@ -1,5 +1,5 @@
-/* Calls with garbled records, payloads and buffers: as many as the first word says. Each is answered or refused, and a part of an
- * upload is stored or finds no room as the header says. */
+/* Makes calls with garbled records, payloads and buffers; the first argument is their number. Each must return an answer or a refusal, and
+ * store a part of an upload, or find no room for it, as dfu_host.h describes. */
 #include <stdio.h>
 #include <stdlib.h>
 #include <string.h>
@@ -14,13 +14,13 @@ static uint64_t any(void) {
     return seed;
 }
 
-/* A number that is often small, and sometimes any. */
+/* Returns a random number, which is often small. */
 static uint64_t some(void) {
     return any() % 4 ? any() % 30 : any();
 }
 
-/* Returns whether the record and the buffer are what follows, where a call answered and these bytes were seen in a phase before: `size` of
- * the buffer's 64 bytes are the session's, and all of it was 5Ah. */
+/* Returns 1 if record and buffer are as expected after an answered call with these bytes. `size` of the buffer's 64 bytes belong to the
+ * session, and all of them were 5Ah before. */
 static int follows(const struct dfu_session *before, const struct dfu_session *now, const uint8_t *room, size_t size, uint32_t seen,
                    const uint8_t *bytes, size_t count) {
     uint64_t from = before->number ? before->kept : 0, kept = before->kept;
@@ -44,7 +44,7 @@ int main(int words, char **word) {
     long calls = words > 1 ? atol(word[1]) : 1000, answered = 0, refused = 0;
     for (long call = 0; call < calls; call++) {
         uint8_t payload[64], room[64], bytes[64];
-        int is_part = call % 4 == 1; /* each fourth call is for a part of an upload */
+        int is_part = call % 4 == 1; /* every fourth call is for a part of an upload */
         uint32_t version = any() % 16 ? DFU_VERSION : (uint32_t)some(), goal = is_part ? 2 : (uint32_t)(any() % 6);
         uint32_t phase = is_part ? 18 : (uint32_t)(any() % 27);
         struct dfu_session s = {version, goal, some(), some(), phase, (uint32_t)some(),

@@ -1,10 +1,10 @@
-/* Two areas in simulated flash: rows worked out by hand; and updates with the copy that follows, in which each operation is cut off in
- * several ways, and each of these lives is cut again at each later operation. The device takes the downloads, as a bootloader and as a
- * program that runs from the first slot. Whatever came, the old image or the new one is active, whole; the copy ends within its bound;
- * each of its operations lies in the first slot, and programs only what was erased since the power came, once; and while the program of
- * the first slot takes a download, no byte of that slot changes.
+/* Tests two areas in simulated flash, with rows worked out by hand, and with updates and the copy after each. Each operation is cut off in
+ * several ways, and after such a cut each later operation is cut off too. A bootloader and a program that runs from the first slot serve
+ * the downloads. After each cut the old or the new image must be active, whole. The copy must end within its bound; each of its operations
+ * must lie in the first slot, and program only bytes that were erased since power-on, once. While the program of the first slot serves a
+ * download, no byte of that slot may change.
  *
- * home STEP: every STEP-th second cut; prints how many lives there were. */
+ * `home STEP` tries every STEP-th second cut, and prints the number of lives. */
 #include "dfu_home.h"
 #include <setjmp.h>
 #include <stdio.h>
@@ -31,7 +31,7 @@ static void expect(const char *what, int holds) {
                cut[0], cut[1], tear[0], tear[1]);
     wrong += !holds;
 }
-/* How the next operation is torn; -1: it works. */
+/* Returns the way in which the next operation is torn, or -1 if it succeeds. */
 static int next_tear(void) {
     operations++;
     return operations == cut[0] ? tear[0] : operations == cut[1] ? tear[1] : -1;
@@ -80,7 +80,7 @@ static int32_t request(uint8_t type, uint8_t what, uint16_t value, uint16_t leng
     const int32_t n = guards ? dfu_home_transfer(&dfu, setup) : 0;
     return n != 0 ? n : dfu_device_serve(&dfu, setup, data, data, sizeof data);
 }
-/* A download, by the program in the first slot if `from_home`: it is the spare slot's, and the first one stays. */
+/* Downloads an image to the spare slot. If `from_home`, the program of the first slot serves it, and that slot must not change. */
 static void download(int image, int from_home) {
     uint16_t number = 0;
     guards = from_home;
@@ -107,13 +107,13 @@ static int which(const struct dfu_place *place) {
             return i;
     return -1;
 }
-/* A start of the bootloader: the image that it starts, which stands whole in the first slot. */
+/* Starts the bootloader. Returns the image that it starts, which must be whole in the first slot. */
 static int start(void) {
     struct dfu_place before, place;
     const long first = operations;
     int image;
     guards = 0;
-    memset(programmed, 1, sizeof programmed); /* what was erased before is not known to be */
+    memset(programmed, 1, sizeof programmed); /* erases before the start don't count */
     expect("an image is active", dfu_device_image(&dfu, &before) == 0);
     image = which(&before);
     expect("it is whole", image >= 0);
@@ -125,7 +125,7 @@ static int start(void) {
     expect("within the bound", (uint32_t)(operations - first) <= size / 128);
     return image;
 }
-/* Image 0 runs and takes image 1, with these cuts; then a later update has to work. Returns how many operations there were. */
+/* Installs image 1 over image 0 with these cuts; after that two more updates must succeed. Returns the number of operations. */
 static long life(long first, int first_tear, long second, int second_tear, int from_home) {
     volatile int taken = 0;
     int image;
@@ -182,7 +182,8 @@ static int never(void *own, uint32_t at, uint32_t length) {
     operations++;
     return 1;
 }
-/* An image of 600 bytes in sectors of 512, unit 16: 5 of them a slot, so the first one's header is at 512, and its data at 1,024. */
+/* Checks operations worked out by hand, for images of 600 bytes, sectors of 512 and a unit of 16. A slot has 5 sectors; the first header is
+ * at offset 512, and its data at 1,024. */
 static void rows(void) {
     static const struct dfu_driver worn = {NULL, never, program};
     struct dfu_home_record record = {DFU_NOWHERE, 0};
@@ -197,7 +198,7 @@ static void rows(void) {
     is_due(0, &record, 0, 0, 0);
     download(1, 1);
     memset(programmed, 1, sizeof programmed);
-    is_due(DFU_WRITE_PENDING, &record, DFU_ERASE, 0, 512); /* the gate is closed */
+    is_due(DFU_WRITE_PENDING, &record, DFU_ERASE, 0, 512); /* closes the gate */
     is_due(DFU_WRITE_PENDING, &record, DFU_ERASE, 1024, 512), is_due(DFU_WRITE_PENDING, &record, DFU_PROGRAM, 1024, 256);
     is_due(DFU_WRITE_PENDING, &record, DFU_PROGRAM, 1280, 256), is_due(DFU_WRITE_PENDING, &record, DFU_ERASE, 1536, 512);
     is_due(DFU_WRITE_PENDING, &record, DFU_PROGRAM, 1536, 256);
@@ -208,14 +209,14 @@ static void rows(void) {
     expect("the header but for its generation", memcmp(flash + 513, flash + size / 2 + 513, 15) == 0 && flash[size / 2 + 512] == 1);
     expect("ten operations were counted", record.count == 10);
 
-    /* A byte of the image fades: only its sector is copied, and the header stays. */
+    /* If a byte of the image decays, only its sector is copied, and the header stays. */
     flash[1600] ^= 1, record.last = DFU_NOWHERE, record.count = 0, memset(programmed, 1, sizeof programmed);
     is_due(DFU_WRITE_PENDING, &record, DFU_ERASE, 0, 512), is_due(DFU_WRITE_PENDING, &record, DFU_ERASE, 1536, 512);
     is_due(DFU_WRITE_PENDING, &record, DFU_PROGRAM, 1536, 256), is_due(DFU_WRITE_PENDING, &record, DFU_ERASE, 0, 512);
-    record.last = DFU_NOWHERE, record.count = 0, is_due(DFU_WRITE_PENDING, &record, DFU_ERASE, 0, 512); /* (after a loss of power) */
+    record.last = DFU_NOWHERE, record.count = 0, is_due(DFU_WRITE_PENDING, &record, DFU_ERASE, 0, 512); /* after a loss of power */
     is_due(DFU_WRITE_PENDING, &record, DFU_PROGRAM, 0, 16), is_due(0, &record, 0, 0, 0);
 
-    /* A part that never erases comes to the bound, and the image stays. */
+    /* On a part that never erases, the copy ends at its bound, and the image stays active. */
     download(2, 1);
     dfu.driver = &worn, operations = 0;
     expect("worn", dfu_home_settle(&dfu, &place) == DFU_NOT_WRITTEN && (uint32_t)operations == size / 128 && place.at == 7);

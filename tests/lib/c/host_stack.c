@@ -1,5 +1,4 @@
-/* Depth to which each call goes below its caller: a thread runs it on a stack that was painted. It takes the most bytes that
- * are allowed. */
+/* Measures the stack depth of each call: a thread runs it on a painted stack. Argument: the maximum number of bytes. */
 #include "painted.h"
 #include <stdio.h>
 

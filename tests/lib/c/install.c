@@ -1,9 +1,10 @@
-/* A run area in simulated flash: rows worked out by hand, and installs in which each operation in turn is cut off, fails or lies, at each
- * number of its bytes that was drawn, in areas that held other bytes before. Whatever came, the image is started only if the area holds
- * all of it. Each operation lies in the area, mends something, and programs no byte twice after an erase of this power-on; what stands
- * beside the image and in the slots stays; and the number of operations is the bound at most once the flash works.
+/* Tests a run area in simulated flash, with rows worked out by hand, and with installs over areas that held other bytes. Each operation in
+ * turn is cut off, fails, or reports a false success, after a random number of its bytes. The image may be started only if the area holds
+ * all of it. Each operation must lie in the area, change a byte that differs, and program a byte at most once after its erase. An erase
+ * before power-on doesn't count. The sectors after the image must not change. Without faults the number of operations must not exceed its
+ * bound.
  *
- * install RUNS: so many installs, and prints how many there were. */
+ * `install RUNS` makes this many installs, and prints their number. */
 #include "dfu_install.h"
 #include <stdio.h>
 #include <stdlib.h>
@@ -28,10 +29,10 @@ static void expect(const char *what, int holds) {
 }
 static void power_comes(void) {
     install.area.last = DFU_NOWHERE;
-    memset(programmed, 1, sizeof programmed); /* what was erased before is not known to be */
+    memset(programmed, 1, sizeof programmed); /* erases before power-on don't count */
 }
 
-/* Checks that the operation is one that may be asked for. */
+/* Checks that the operation is allowed. */
 static void look(const struct dfu_ask *ask) {
     const uint32_t end = ask->at + ask->length, whole = ask->kind == DFU_ERASE ? install.area.sector : 256;
     const uint32_t seen = end < length ? end : length;
@@ -43,7 +44,7 @@ static void look(const struct dfu_ask *ask) {
         expect("another byte", ask->bytes[i] == (ask->at + i < length ? slots[ask->at + i] : 0xff));
     }
 }
-/* The flash does it, or this harm comes to it. */
+/* Carries out an operation, with this fault. */
 static void carry_out(const struct dfu_ask *ask, int harm) {
     const uint32_t done = harm == WELL ? ask->length : draw(ask->length + 1);
     for (uint32_t i = 0; i < done; i++)
@@ -51,13 +52,13 @@ static void carry_out(const struct dfu_ask *ask, int harm) {
     if (harm != WELL && draw(2))
         for (uint32_t i = done; i < ask->length && draw(4); i++)
             area[ask->at + i] = (uint8_t)draw(256);
-    int is_blank = 1; /* (a lie whose bytes are right is an erase that worked) */
+    int is_blank = 1; /* an erase that leaves only FFh counts, even if it failed */
     for (uint32_t i = 0; i < ask->length; i++)
         is_blank &= area[ask->at + i] == 0xff;
     memset(programmed + ask->at, ask->kind == DFU_PROGRAM || !is_blank, ask->length);
 }
 
-/* Brings the area to the image, with this harm at that operation, and others at random if `often`. */
+/* Copies the image to the area, with this fault in operation `at`, and with random faults in other operations if `often`. */
 static void bring(uint32_t at, int harm, int often) {
     struct dfu_ask ask;
     const uint32_t most = DFU_INSTALL_OPERATIONS(length, install.area.sector);
@@ -75,7 +76,7 @@ static void bring(uint32_t at, int harm, int often) {
             losses++, power_comes();
         else
             dfu_install_took(&install, slots, length, &ask, now == FAILS);
-        if (often && draw(200) == 0) /* another image is to be started */
+        if (often && draw(200) == 0) /* the image to start changes */
             for (uint32_t i = 0; i < 100; i++)
                 slots[draw(length)] = (uint8_t)draw(256), since = 0;
     }
@@ -123,7 +124,7 @@ static void is_due(int32_t n, uint32_t kind, uint32_t at) {
         expect("took", dfu_install_took(&install, slots, length, &ask, 0) == 0);
     }
 }
-/* An image of 600 bytes, byte i being i modulo 251, in two sectors of 512. */
+/* Checks operations worked out by hand, for an image of 600 bytes, where byte i is i modulo 251, in two sectors of 512 bytes. */
 static void rows(void) {
     static const struct dfu_driver driver = {area, driver_erase, driver_program}, worn = {area, never, driver_program};
     install = (struct dfu_install){.run = area, .size = 1024, .area = {512, DFU_NOWHERE}};

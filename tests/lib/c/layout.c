@@ -1,5 +1,6 @@
-/* The layout that a DFU_VERSION stands for: the size of each struct of the headers, and where each of its fields begins. A program and a
- * library that agree on the version agree on these. So a change here takes a new version, and a new version takes a look at these. */
+/* Checks the layout that belongs to a DFU_VERSION: the size of each struct of the headers, and the offset of each field. A program and a
+ * library with the same version must agree on the layout. So a change here needs a new version, and with a new version this list must be
+ * reviewed. */
 #include "dfu_device.h"
 #include "dfu_host.h"
 #include "dfuse_watch.h"
@@ -66,7 +67,7 @@ SIZE(dfu_place, 8);
 AT(dfu_place, at, 0);
 AT(dfu_place, length, 4);
 
-/* The context has pointers: with those of 32 bits the memory is the one that dfu_device.h names. */
+/* The struct contains pointers. With pointers of 32 bits it has the size that dfu_device.h states. */
 SIZE(dfu_device, sizeof(void *) == 4 ? 96 : 120);
 AT(dfu_device, config, 0);
 AT(dfu_device, flash, sizeof(void *));

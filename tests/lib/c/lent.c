@@ -1,6 +1,6 @@
-/* The memory that a program lends for the block. With a byte less than DFU_BLOCK_SIZE each call that takes it answers DFU_NO_BLOCK and
- * changes nothing, whether operations are due or not; and a download touches no byte behind it, in each unit, in place and with sectors.
- * The bytes held back stand behind the transfer size, and with the bytes on the flash is the candidate. */
+/* Tests the memory that a program lends for the block. With one byte less than DFU_BLOCK_SIZE each call that needs the memory returns
+ * DFU_NO_BLOCK and changes nothing, with pending operations and without. A download touches no byte beyond the lent memory, in each unit,
+ * in place and with sectors. The bytes held back are stored after the transfer size, and follow the bytes on the flash in the candidate. */
 #include <stdio.h>
 #include <stdlib.h>
 #include <string.h>
@@ -24,7 +24,7 @@ static void expect(const char *what, int holds) {
     }
 }
 
-/* With a byte less each call is refused. */
+/* With one byte less than `least`, each call is refused, and changes nothing. */
 static void is_refused(void) {
     static const uint8_t setup[8] = {0xa1, DFU_GETSTATUS, 0, 0, 0, 0, 6, 0};
     static uint8_t flash[sizeof medium], block[DFU_BLOCK_SIZE(TRANSFER, 256)];
@@ -44,7 +44,7 @@ static void is_refused(void) {
     refusals++;
 }
 
-/* A request, with the operations that it asks for. */
+/* Makes a request, and carries out its operations. */
 static int32_t request(uint8_t kind, uint8_t what, uint16_t value, uint16_t length) {
     const uint8_t setup[8] = {kind, what, (uint8_t)value, (uint8_t)(value >> 8), 0, 0, (uint8_t)length, 0};
     is_refused();

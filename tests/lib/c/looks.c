@@ -1,5 +1,5 @@
-/* dfu_image.h by rows worked out by hand: what files without a suffix are, what names say, and where the first byte is that no record has
- * there. Each row is looked at in memory that ends with it, and the record is all ones before. */
+/* Tests dfu_image.h with rows worked out by hand: the format of files without a suffix, the format of names, and the first byte that can't
+ * be part of a record. Each file is at the end of its block of memory, and the result is filled with FFh before. */
 #include <stdio.h>
 #include <stdlib.h>
 #include <string.h>
@@ -9,7 +9,7 @@
 static long passed, failed;
 
 struct row {
-    const char *name, *file; /* what the file is called, and its bytes */
+    const char *name, *file; /* the file's name, and its bytes */
     size_t length;
     uint32_t looks, named;
     uint64_t line, column;
@@ -24,13 +24,14 @@ struct row {
 #define MARK "\xef\xbb\xbf" /* a byte order mark */
 
 static const struct row rows[] = {
-    /* Nothing is known against these. */
+    /* These files may be raw images. */
     PLAIN("", DFU_LOOKS_RAW),
     PLAIN("\0\x20\0\x20", DFU_LOOKS_RAW),
     PLAIN("hello\0", DFU_LOOKS_RAW),
     PLAIN("hello\x7f", DFU_LOOKS_RAW),
     PLAIN("hello\x1b", DFU_LOOKS_RAW),
-    /* Intel HEX: behind a byte order mark, blanks and empty lines a colon, and two digits or text alone. */
+    /* Intel HEX: after a byte order mark, blanks and empty lines the file has a colon and two digits, or a colon in a file that is all
+     * text. */
     PLAIN(":00000001FF\n", DFU_LOOKS_IHEX),
     PLAIN(":00000001ff\r\n", DFU_LOOKS_IHEX),
     PLAIN(MARK ":00000001FF\n", DFU_LOOKS_IHEX),
@@ -50,7 +51,7 @@ static const struct row rows[] = {
     PLAIN(":\xff\xff", DFU_LOOKS_RAW),
     PLAIN(":0\0", DFU_LOOKS_RAW),
     PLAIN("\0:00", DFU_LOOKS_RAW),
-    /* S-records: S, a digit, and two digits. */
+    /* S-records: S, a digit, and two hexadecimal digits. */
     PLAIN("S9030000FC\n", DFU_LOOKS_SREC),
     PLAIN(MARK " \nS0aF\r\n", DFU_LOOKS_SREC),
     PLACED("S1130\0", DFU_LOOKS_SREC, 1, 6),
@@ -59,7 +60,7 @@ static const struct row rows[] = {
     PLAIN("SA06\0", DFU_LOOKS_RAW),
     PLAIN("s903\0", DFU_LOOKS_RAW),
     PLAIN("S1O6\n", DFU_LOOKS_TEXT),
-    /* The others by their first bytes. */
+    /* Formats that are recognized by their first bytes. */
     PLAIN("UF2\nWQ]\x9e", DFU_LOOKS_UF2),
     PLAIN("UF2 \0", DFU_LOOKS_RAW),
     PLAIN("\x7f"
@@ -83,7 +84,7 @@ static const struct row rows[] = {
     PLAIN("\xc0\xaf", DFU_LOOKS_RAW),
     PLAIN("\xed\xa0\x80", DFU_LOOKS_RAW),
     PLAIN("\xf4\x90\x80\x80", DFU_LOOKS_RAW),
-    /* Names, in letters of either case. */
+    /* Names, in upper and lower case. */
     NAMED("a.dfu", DFU_NAMED_DFU),
     NAMED("a/b.DFU", DFU_NAMED_DFU),
     NAMED("a.hex", DFU_NAMED_IHEX),
@@ -108,7 +109,7 @@ static const struct row rows[] = {
     FILE_OF("a.s\x11"
             "9",
             "\0", DFU_LOOKS_RAW, DFU_NAMED_NONE, 0, 0),
-    /* The bytes come first, and the name is said beside it. */
+    /* The bytes decide the format, and the format of the name is returned too. */
     FILE_OF("a.dfu", "hello\n", DFU_LOOKS_TEXT, DFU_NAMED_DFU, 0, 0),
     FILE_OF("a.dfu", ":0O", DFU_LOOKS_IHEX, DFU_NAMED_DFU, 1, 3),
     FILE_OF("a.elf", "S903\n", DFU_LOOKS_SREC, DFU_NAMED_ELF, 0, 0),
@@ -119,7 +120,7 @@ static const struct row rows[] = {
     FILE_OF("a.uf2", "DfuSe", DFU_LOOKS_DFUSE, DFU_NAMED_UF2, 0, 0),
 };
 
-/* A copy of bytes in memory that ends with them. */
+/* Copies bytes to the end of a block of memory, so that a sanitizer detects a read beyond them. */
 static uint8_t *copy_of(const char *bytes, size_t length)
 {
     uint8_t *copy = malloc(length + 1);

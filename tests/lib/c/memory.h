@@ -1,5 +1,5 @@
-/* Parts that the programs share that try a device whose medium is plain memory: the calls, with what they ask for carried out by the driver
- * of dfu_device_memory.h. */
+/* Common parts of the programs that test a device over plain memory: calls that carry out their operations through the driver of
+ * dfu_device_memory.h. */
 #ifndef MEMORY_H
 #define MEMORY_H
 #include "dfu_device_memory.h"

@@ -1,23 +1,23 @@
-/* The start of a bootloader whose flash is misread: a look at it finds one bit changed, or bytes that all read FFh, and the next look reads
- * well. The image is kept in all cases, and a part that was never written gets its first image. With the word `old` it starts as the
- * listings once did, which formatted at the first DFU_NO_MEDIUM, and loses images. */
+/* Tests the start of a bootloader whose flash is misread: one check finds a changed bit, or all bytes read FFh, and the next check reads
+ * correctly. The image must never be lost, and a part that was never written must receive its first image. With the argument `old` the test
+ * uses an earlier version of the start, which formatted after the first DFU_NO_MEDIUM, and so lost images. */
 #include <stdio.h>
 #include <string.h>
 
-/* The inline calls of the header come to `power_on` and `is_blank`, which are below. */
+/* The inline calls of the header call `power_on` and `is_blank` below instead of the library. */
 #define dfu_core_power_on power_on
 #define dfu_core_is_blank is_blank
 #include "dfu_device_memory.h"
 #undef dfu_core_power_on
 #undef dfu_core_is_blank
 
-/* The calls of the library. */
+/* The library's calls, declared here because the header declared power_on and is_blank instead. */
 int32_t dfu_core_power_on(const struct dfu_config *config, struct dfu_record *record, const uint8_t *flash, size_t size);
 int32_t dfu_core_is_blank(const struct dfu_config *config, const uint8_t *flash, size_t size);
 
 enum { UNIT = 16, SECTOR = 256, CAPACITY = 1024, IMAGE = 300, LOOKS = 4, WELL = -1, EMPTY = -2 };
 
-/* Fate of each look: WELL; this bit reads changed; or EMPTY, FFh everywhere. */
+/* Fault of each check: WELL for none; the number of the bit that is inverted; or EMPTY, where every byte reads FFh. */
 static int fate[LOOKS], looks;
 static uint8_t part[2 * (2 * SECTOR + CAPACITY)], kept[sizeof part];
 
@@ -56,7 +56,7 @@ static struct dfu_device dfu = {
     .config = &config, .flash = part, .size = sizeof part, .block = block, .most = sizeof block, .driver = &driver};
 static int is_old, cases, kept_well, lost;
 
-/* The start of PORTING's listing, and of examples/c/nor_bootloader.c; or as it was. */
+/* Starts the device like the listing of docs/PORTING.md and examples/c/nor_bootloader.c; with is_old like the earlier version. */
 static int32_t start(void)
 {
     if (!is_old)
@@ -65,7 +65,7 @@ static int32_t start(void)
     return n == DFU_NO_MEDIUM ? dfu_device_format(&dfu, image, 0) : n;
 }
 
-/* A start with these looks on the part that was shipped. The image is kept if no byte of the part changed. */
+/* Starts the shipped part with these faults. The image is kept if no byte of the part changed. */
 static void try(int first, int second, int third, int fourth, int32_t wanted)
 {
     const int given[LOOKS] = {first, second, third, fourth};
@@ -87,7 +87,7 @@ static int told(const char *what)
     return is_right;
 }
 
-/* A part that was never written gets its image; if a bit of it is misread it waits for the next start. */
+/* A part that was never written is formatted; if a bit is misread, the format waits for the next start. */
 static int blank_part(void)
 {
     int is_right = 1, waited = 0;
@@ -129,7 +129,8 @@ int main(int count, char **words)
     try(EMPTY, EMPTY, EMPTY, WELL, DFU_NO_MEDIUM);
     try(EMPTY, EMPTY, WELL, EMPTY, DFU_NO_MEDIUM);
     is_right &= told("the whole part misread, at up to three looks");
-    /* Two looks that find no image, by a bit of the gate or of the image each; or one that finds nothing at all. */
+    /* Two or three misread checks. Both checks for an image fail, because of a bit of the gate, the header or the image, or because the
+     * part reads as empty. Then a check for a blank part may find the part empty too. */
     for (int bit = 0; bit < 8 * IMAGE; bit++) {
         const int of_image = 8 * 2 * SECTOR + bit;
         try(bit % 8, of_image, WELL, WELL, DFU_NO_MEDIUM);

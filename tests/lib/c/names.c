@@ -1,4 +1,5 @@
-/* Each name and each number that a program in C may have been built with: none is to change. The program compiles where all hold. */
+/* Checks each name and each number that a C program may have been built with; none may change. The program compiles only if all are
+ * correct. */
 #include "dfu_device_memory.h"
 #include "dfu_runtime.h"
 #include "dfu_host.h"
@@ -82,7 +83,7 @@ IS(DFU_CAN_UPLOAD, 2);
 IS(DFU_MANIFESTATION_TOLERANT, 4);
 IS(DFU_WILL_DETACH, 8);
 
-/* The worked examples of the header: parts of 64, 128 and 256 KiB. */
+/* The examples in the header: parts of 64, 128 and 256 KiB. */
 IS(DFU_MEDIUM_SIZE(16, 1024, 30720), 65536);
 IS(DFU_MEDIUM_SIZE(64, 2048, 61440), 131072);
 IS(DFU_MEDIUM_SIZE(256, 4096, 122880), 262144);

@@ -1,6 +1,6 @@
-/* Two chips of QSPI NOR flash, simulated, and the driver that docs/PORTING.md asks for. A chip programs a page of 256 bytes at a time, in
- * which it wraps around; a bit goes from 1 to 0 alone; and it is read by a command. The power may go at any of its operations, which then
- * leaves nothing of it, half, all, or any of its bits. */
+/* Two simulated chips of QSPI NOR flash, and the driver that docs/PORTING.md describes. A program of a chip covers up to 256 bytes, wraps
+ * around at the end of a page, and changes bits only from 1 to 0. The chips are read by commands, so the libraries read them through
+ * DFU_READ. If power is lost during an operation, the operation changes nothing, half of its bytes, all of them, or any of their bits. */
 #include <setjmp.h>
 #include <stdint.h>
 #include <stdio.h>
@@ -10,7 +10,7 @@
 enum { CHIP = 1 << 15, CHIPS = 2, NOR_PAGE = 256, TEARS = 4, NEVER = -1 };
 struct nor {
     uint8_t cells[CHIP];
-    const uint8_t *front; /* address that the libraries take for it: the cells, or memory that nobody may look at */
+    const uint8_t *front; /* address of the chip for the libraries: that of the cells, or of memory that must not be read */
     uint32_t sector;
 };
 static struct nor chips[CHIPS];
@@ -28,7 +28,7 @@ static uint32_t roll(uint32_t sides) {
     return (dice >> 8) % sides;
 }
 
-/* Bits of the byte number i of `length` that an operation changes before the power goes. */
+/* Returns the bits of byte i that an operation of `length` bytes changes before the loss of power. */
 static uint8_t reached(uint32_t i, uint32_t length, int is_cut) {
     if (!is_cut || tear == 2)
         return 0xff;
@@ -59,11 +59,12 @@ static void page_program(struct nor *chip, uint32_t at, const uint8_t *bytes, ui
 }
 
 static int nor_erase(void *own, uint32_t at, uint32_t length) {
-    (void)length; /* a sector */
+    (void)length; /* (always one sector) */
     sector_erase(own, at);
     return 0;
 }
-/* Splits at pages, or the chip wraps around. A driver that forgets that is tried too. */
+/* Programs bytes, split at pages, because the chip wraps around there. With `splits` 0 they aren't split, as by a driver with that mistake.
+ */
 static int nor_program(void *own, uint32_t at, const uint8_t *bytes, uint32_t length) {
     crossings += at / NOR_PAGE != (at + length - 1) / NOR_PAGE;
     while (length > 0) {
@@ -75,7 +76,7 @@ static int nor_program(void *own, uint32_t at, const uint8_t *bytes, uint32_t le
 }
 
 #ifdef DFU_READ
-/* The program's own: which chip it is, and where in it, is told by the address. */
+/* The program's function for DFU_READ: the address determines the chip and the offset in it. */
 void DFU_READ(const unsigned char *from, unsigned char *to, size_t count);
 void DFU_READ(const unsigned char *from, unsigned char *to, size_t count) {
     for (int i = 0; i < CHIPS; i++) {

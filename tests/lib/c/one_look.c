@@ -1,8 +1,9 @@
-/* Share of its images that a start reads. The flash is mapped so that one page of it can be read at a time, and the entries of pages of
- * data are counted: a pass over an image enters each of its pages once. A start of docs/PORTING.md, with a run area, reads one and a half
- * times the bytes of both images, whether one is on trial or not: a look at both, and the compare. A start by the standing of an earlier
- * look reads none. And it starts what a start with a look of its own would, whatever standing it is handed: each one of a session, its
- * downloads, confirmations and ends cut at each operation, on the flash as it was at each other moment of it. */
+/* Measures which share of its images a start reads. Only one page of the mapped flash is readable at a time, and each change to another
+ * page of data is counted, so a pass over an image counts each of its pages once. A start of docs/PORTING.md with a run area reads one and
+ * a half times the bytes of both images, with a trial or without: dfu_trial_look reads both, and the comparison reads one. A start with the
+ * standing of an earlier dfu_trial_look reads none, and must start the same image as a start that calls dfu_trial_look. This is tried for
+ * each pair of moments of a session: the standing of one with the flash of the other. The session has downloads, confirmations and ends of
+ * trials, and its moments are in the middle of operations and after them. */
 #define _GNU_SOURCE
 #include <signal.h>
 #include <stdio.h>
@@ -28,7 +29,7 @@ static void expect(const char *what, int holds)
         printf("one_look: %s\n", what);
 }
 
-/* The page is entered: it can be read, and the one before no more. */
+/* Handles a read of another page: makes that page readable, and the previous one unreadable. */
 static void on_fault(int number, siginfo_t *info, void *context)
 {
     uint8_t *const page = (uint8_t *)((uintptr_t)info->si_addr & ~(uintptr_t)(PAGE - 1));
@@ -55,7 +56,7 @@ static long counted(void)
     return entries;
 }
 
-/* The flash at each moment of the session: after each operation, and in the middle of it. */
+/* Contents of the flash at each moment of the session: in the middle of an operation, and after it. */
 static uint8_t *moments[MOMENTS];
 static struct dfu_standing standings[MOMENTS];
 static int has[MOMENTS], count, is_kept;
@@ -86,7 +87,7 @@ static int erase(void *own, uint32_t at, uint32_t length)
 static int program(void *own, uint32_t at, const uint8_t *bytes, uint32_t length)
 {
     (void)own;
-    const int is_seldom = at % SLOT < 2 * PAGE || at % 8192 == 0; /* of the data's operations some are enough */
+    const int is_seldom = at % SLOT < 2 * PAGE || at % 8192 == 0; /* some of the operations on data are enough */
     memcpy(part + at, bytes, length / 2);
     if (is_seldom)
         keep();
@@ -153,7 +154,7 @@ static int start_trial(struct dfu_place *place)
            && place->at == standing.active.at;
 }
 
-/* Each reads so many halves of both images. */
+/* Checks how many images each kind of start reads. A comparison with the run area counts as one. */
 static void try_counts(const char *when, long plain, long on_trial)
 {
     struct dfu_standing standing;
@@ -179,7 +180,7 @@ static void try_counts(const char *when, long plain, long on_trial)
     expect("a boot by it reads none", boot_pages == 0);
 }
 
-/* A start with a look of its own, and one by this standing: the same number, operation and places. */
+/* Compares a start that reads the images with one that uses this standing: results, operations and places must be equal. */
 static void try_same(const struct dfu_standing *standing)
 {
     struct dfu_ask asks[2];

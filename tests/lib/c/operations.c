@@ -1,4 +1,4 @@
-/* Rows of dfu_core.h: what each call answers, which operations are asked for, and each refusal in its order. */
+/* Tests the calls of dfu_core.h: the answer of each, the operations that it requests, and each refusal in its order. */
 #include "driver.h"
 
 static const struct fate well = {WELL, 0, 0, 0};
@@ -27,7 +27,7 @@ static int32_t took(uint32_t failed) {
                            sizeof board.out);
 }
 
-/* The next write is so many bytes at this place, of which the first is this; it is carried out, and this comes of it. */
+/* Checks that the next write has this many bytes at this offset, and this first byte. Carries it out, and checks the result of took. */
 static void write_is(const char *what, uint32_t at, uint32_t length, uint8_t first, int32_t then) {
     struct dfu_ask ask;
     expect(what, next(&ask) == 0 && ask.kind == DFU_PROGRAM && ask.at == at && ask.length == length && ask.bytes[0] == first);
@@ -35,7 +35,7 @@ static void write_is(const char *what, uint32_t at, uint32_t length, uint8_t fir
     expect(what, took(0) == then);
 }
 
-/* A download of 20 bytes in units of 16, on flash whose second slot is the spare: slot 32 + 64. */
+/* Checks a download of 20 bytes in units of 16, on flash whose second slot is spare. A slot has 32 + 64 bytes. */
 static void a_download(void) {
     struct dfu_ask ask;
     config.transfer = 20;
@@ -74,7 +74,7 @@ static void a_download(void) {
     expect("the end", handle(0xa1, 2, 1, 20, "") == 0 && dfu_core_state(&board.record) == 2);
 }
 
-/* Refusals, in their order. */
+/* Checks the refusals of the calls, in their order. */
 static void refusals(void) {
     struct dfu_config other = config, three = config, large = config, odd = config, sectors = config, huge = config;
     struct dfu_record device = board.record;
@@ -134,7 +134,7 @@ static void refusals(void) {
                        && dfu_core_took(&config, &device, board.pending, 0, none, 192, 0, out, 6) == DFU_NO_BLOCK);
 }
 
-/* A record that was garbled asks for no write in the active slot. */
+/* With a garbled record no write lies in the active slot. */
 static void no_write_outside(void) {
     struct dfu_ask ask;
     struct dfu_record device = board.record;
@@ -146,14 +146,14 @@ static void no_write_outside(void) {
     board.record = device;
 }
 
-/* Each call that reads the note answers this, and changes nothing. */
+/* Checks that each call that compares the record with the flash returns `number`, and changes nothing. */
 static void noted(const char *what, int32_t number) {
     struct dfu_record before = board.record;
     expect(what, handle(0xa1, 3, 0, 6, "") == number && pass(&board, 1, &well) == number && reset(&board) == number);
     expect(what, memcmp(&board.record, &before, sizeof before) == 0);
 }
 
-/* The record notes the active slot and its header: a request reads no image, and finds each change of what is noted. */
+/* The record holds the active slot and its header. A request reads no image, but detects each change of slot and header. */
 static void the_note(void) {
     struct dfu_record kept = board.record;
     expect("the new image is noted", kept.slot == 1 && memcmp(kept.header, board.flash + 112, 16) == 0);

@@ -1,4 +1,4 @@
-/* Depth to which a call goes below its caller: a thread runs it on a stack that was painted. */
+/* Measures the stack depth of a call: a thread runs it on a painted stack. */
 #ifndef PAINTED_H
 #define PAINTED_H
 #define _GNU_SOURCE
@@ -8,7 +8,7 @@
 #include <stdlib.h>
 #include <string.h>
 
-/* Bytes of the stack that this run touched, with what a thread takes by itself; all of it if there is no thread. */
+/* Returns the bytes of stack that this run touched, with those of the thread itself; or the whole size if no thread can be created. */
 static inline size_t touched(void *(*run)(void *), int *call)
 {
     static uint8_t painted[1 << 20] __attribute__((aligned(4096)));

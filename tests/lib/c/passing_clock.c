@@ -1,5 +1,5 @@
-/* A clock for programs that are tried over and over: a wait is over at once, and the time that it takes has passed. The stand-in for
- * libusb, which is linked to the program, reads the same clock. */
+/* A simulated clock for programs that are run many times: a wait ends at once, and advances the clock. The stand-in for libusb, which is
+ * linked to the program, reads the same clock. */
 #define _GNU_SOURCE
 #include <poll.h>
 #include <stdint.h>

@@ -1,5 +1,5 @@
-/* An image of 20 bytes in blocks of 8 is installed, with the power off after each call in turn: the record is thrown away,
- * the device gets power anew, and its image is the old one or the new one whole; then it is installed after all. */
+/* Installs an image of 20 bytes in blocks of 8, with a loss of power after each call in turn. The record is lost, the device starts again,
+ * and its image is the old one or the whole new one. After that the image can be installed. */
 #include <stdio.h>
 #include <string.h>
 
@@ -11,7 +11,7 @@ static const struct dfu_driver driver = DFU_MEMORY_DRIVER(medium);
 static struct dfu_device device = {.config = &config, .flash = medium, .size = sizeof medium, .block = pending, .most = sizeof pending,
                                    .driver = &driver};
 static const uint8_t old[3] = {1, 2, 3};
-/* Number of calls before the power goes, and number that were made. */
+/* Number of calls before the loss of power, and number of calls so far. */
 static int last, made;
 
 static int is_off(void) {

@@ -1,8 +1,8 @@
-/* Two images are installed, one after the other, and each call that may write is gone through instruction by instruction, on x86-64
- * by the processor's trap flag: after each instruction that changed the medium the power may have gone. On each medium that stood
- * there so a device gets power, its image is the one before or the one that is installed, whole, and never the one before again once
- * it was the new one; and an image can be installed on it. So it is in units of a byte and of 16 bytes. What caches and memory do behind
- * the processor is not seen here. */
+/* Installs two images, one after the other, and runs each call that may write instruction by instruction, with the trap flag of x86-64.
+ * After each instruction that changed the flash, the test keeps the flash's contents, as a loss of power would leave them. With each of
+ * these contents the device must start, and its image must be the whole previous one or the whole new one; once the new one was active, the
+ * previous one must not return. Then an image can be installed. The units are 1 and 16 bytes. The effects of caches and memory are not
+ * simulated. */
 #define _POSIX_C_SOURCE 200809L
 #include <signal.h>
 #include <stdio.h>
@@ -14,7 +14,7 @@
 #define MOST 20000
 #define TRAP 0x100
 
-#define IMAGE 150 /* bytes, in blocks of 100; in units of 16 some are held back after each */
+#define IMAGE 150 /* bytes, in blocks of 100; with units of 16 some are held back after each block */
 
 static struct dfu_config config = {DFU_VERSION, 0x0100, 1, 0x1209, 255, 100, 7, 0, 5, 10, 1, 1, 0, 0, 0};
 static uint8_t pending[DFU_BLOCK_SIZE(100, 16)], medium[DFU_MEDIUM_SIZE(1, 0, 160)], mediums[MOST][sizeof medium];
@@ -25,7 +25,7 @@ static unsigned count;
 static unsigned long steps;
 static int is_stepped;
 
-/* After each instruction. */
+/* Keeps the flash after each instruction that changed it. */
 static void on_step(int number) {
     (void)number;
     steps++;
@@ -74,7 +74,9 @@ static int has(const uint8_t *bytes, uint32_t length) {
         && memcmp(medium + place.at, bytes, length) == 0;
 }
 
-/* Returns whether each medium that was seen stands a loss of power; `length` is that of the image before. */
+/* Checks each kept flash in order: the device starts with the previous image or the new one, but not with the previous one once an earlier
+ * flash had the new one, and a third image can be installed. Returns 1 if all this holds, and the last flash has the new image. `length` is
+ * that of the previous image. */
 static int stands(const uint8_t *before, uint32_t length, const uint8_t image[IMAGE]) {
     uint8_t third[IMAGE] = {9, 9};
     int is_new = 0;
@@ -92,7 +94,7 @@ static int stands(const uint8_t *before, uint32_t length, const uint8_t image[IM
     return is_new;
 }
 
-/* An image goes in place of another, step by step. */
+/* Installs an image over another, instruction by instruction. */
 static int goes(const uint8_t *before, uint32_t length, const uint8_t image[IMAGE]) {
     uint8_t after[sizeof medium];
     memcpy(mediums[0], medium, sizeof medium);

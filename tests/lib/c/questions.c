@@ -1,6 +1,6 @@
-/* Questions of a program beside the rows: whether a setup will be stalled, and whether it closes a download, held against what
- * dfu_device_handle then does, in each mode; whether the flash is blank, by each of its bytes; when time changes the state; a body that is
- * too long; the functional descriptor; a beginning in dfuIDLE; a board without an application; the version. */
+/* Tests calls of a program that the rows don't cover: would_stall and closes, compared with what dfu_device_handle then does in each mode;
+ * is_blank, for each byte of the flash; the time until the state changes; a body that is too long; the functional descriptor; a start in
+ * dfuIDLE; a board without an application; and the version. */
 #include <stdio.h>
 #include <string.h>
 
@@ -34,13 +34,13 @@ static void pass(uint32_t ms) {
     expect("time", elapse_in_memory(&device, ms) == 0);
 }
 
-/* Keeps where the device is now, by its mode. */
+/* Keeps the current state of the device, by its mode. */
 static void keep(void) {
     stations[device.record.mode] = device.record;
     memcpy(mediums[device.record.mode], medium, sizeof medium);
 }
 
-/* The way through every mode. */
+/* Visits every mode. */
 static void visit(void) {
     dfu_device_format(&device, (const uint8_t *)"0123456789", 10);
     dfu_device_power_on(&device), keep();
@@ -60,7 +60,7 @@ static void visit(void) {
     device.record.mode = 10, keep();
 }
 
-/* A setup where the device stands at a station: what would_stall says, and what handle does. One for another interface changes nothing. */
+/* Compares would_stall with handle for a setup in a kept state. A setup for another interface must change nothing. */
 static void compare(int station, uint8_t kind, uint8_t request, uint16_t value, uint16_t index, uint16_t length) {
     static const uint8_t body[64] = {9, 8, 7};
     uint8_t setup[8] = {kind, request, (uint8_t)value, (uint8_t)(value >> 8), (uint8_t)index, (uint8_t)(index >> 8), (uint8_t)length, 0};
@@ -81,7 +81,7 @@ static void compare(int station, uint8_t kind, uint8_t request, uint16_t value, 
     *(will ? &stalls : &others) += 1;
 }
 
-/* A body that is too long: what too_long does is what handle does with the whole of it. */
+/* For a body that is too long, compares too_long with handle; for any other body too_long must return DFU_NOT_LONG. */
 static void too_long(int station, uint8_t kind, uint8_t request, uint8_t index, uint16_t length) {
     static const uint8_t body[64] = {9, 8, 7};
     uint8_t setup[8] = {kind, request, 0, 0, index, 0, (uint8_t)length, 0};
@@ -98,7 +98,8 @@ static void too_long(int station, uint8_t kind, uint8_t request, uint8_t index, 
             && dfu_device_state(&other) == dfu_device_state(&device) && dfu_device_code(&other) == dfu_device_code(&device));
 }
 
-/* When a change is due: one millisecond less leaves the state, and that many change it. */
+/* Checks the time until the state changes: one millisecond less leaves the state, and the full time changes it. Only three stations
+ * have such a time; time doesn't change the state of the others. */
 static void due(int station) {
     int32_t ms = dfu_core_due(&config, &stations[station]);
     for (int32_t passed = ms - 1; ms > 0 && passed <= ms; passed++) {

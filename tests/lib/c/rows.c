@@ -1,4 +1,4 @@
-/* Rows of the device table, from C: what a host asks, what the device answers, and where it stands then. */
+/* Tests rows of the device table from C: the host's request, the device's answer, and the state after it. */
 #include <stdio.h>
 #include <string.h>
 
@@ -18,7 +18,7 @@ static void expect(const char *what, int holds) {
     }
 }
 
-/* One transfer: the answer's number, its bytes, and the state then. */
+/* Makes a transfer. Checks the result, the bytes of the answer, and the state after it. */
 static void ask(const char *what, const char *setup, const void *body, size_t length, int32_t number, const char *bytes, int32_t state) {
     int32_t n = handle_in_memory(&device, (const uint8_t *)setup, body,
                                   length, out, sizeof out);
@@ -107,8 +107,8 @@ static void refusals(void) {
     expect("medium unchanged", memcmp(before, medium, sizeof medium) == 0);
 }
 
-/* In units of 16: what makes no whole unit is held back, and a unit is written as soon as it is whole; what is left then is
- * written, filled up with zeros, when the image is put in place. */
+/* Tests units of 16 bytes: bytes that don't fill a unit are held back, and a unit is written as soon as it is full. The rest is written,
+ * padded with zeros, when the image becomes active. */
 static void units(void) {
     uint8_t none[4] = {0};
     const uint8_t *spare = medium + 96 + 32;
@@ -147,7 +147,7 @@ static void units(void) {
         && dfu_device_due(&device) == DFU_NO_CONFIG);
 }
 
-/* A driver that says it failed, though all bytes stand there. */
+/* Writes all bytes, but reports a failure. */
 static int fails(void *own, uint32_t at, const uint8_t *bytes, uint32_t length) {
     dfu_memory_program(own, at, bytes, length);
     return -7;

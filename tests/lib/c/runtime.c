@@ -1,6 +1,6 @@
-/* The two states of run-time mode, dfu_runtime.h, beside the proved device in these states: every pair of bmRequestType and bRequest in
- * both, and requests, times and resets by dice, with the same answers, bytes, states and times, and both leave for the bootloader together.
- * It takes how many turns to make by dice; with a second word it makes only these, and prints a log that `dfu judge` reads. */
+/* Compares dfu_runtime.h with the proved device in the two states of run-time mode: every pair of bmRequestType and bRequest in both
+ * states, and random requests, times and resets. Answers, bytes, states and times must be equal, and both must leave for the bootloader at
+ * the same moment. Argument: the number of random turns. With a second argument it makes only these, and prints a log for `dfu judge`. */
 #include <stdio.h>
 #include <stdlib.h>
 #include <string.h>
@@ -28,7 +28,7 @@ static void print_bytes(const uint8_t *bytes, int32_t count) {
         printf("%02x", bytes[i]);
 }
 
-/* A line of the log: the setup, the body, and the answer. */
+/* Prints a line of the log: the setup, the body, and the answer. */
 static void note(const uint8_t setup[8], int32_t n) {
     int32_t length = setup[0] == 0x21 ? setup[6] | setup[7] << 8 : 0;
     if (!is_log)
@@ -42,7 +42,7 @@ static void note(const uint8_t setup[8], int32_t n) {
     puts(n == DFU_STALL ? "stall" : n == 0 ? "ack" : "");
 }
 
-/* Both are as an application is after power. */
+/* Puts the device and the application into the state after power-on, with new random settings. */
 static int power(void) {
     config.attributes = (uint8_t)(roll(2) ? 7 : 15);
     config.interface_number = is_log ? 0 : (uint8_t)roll(3);
@@ -69,7 +69,7 @@ static void choose(uint8_t setup[8]) {
     memcpy(setup, bytes, 8);
 }
 
-/* One turn: whether both did the same. */
+/* Makes a random turn. Returns 1 if device and application did the same. */
 static int turn(void) {
     uint8_t setup[8], other[8] = {0}, what = (uint8_t)roll(8);
     int leaves = 0;
@@ -99,7 +99,7 @@ static int turn(void) {
     return dfu_device_state(&dfu) == (int32_t)runtime.state && (roll(100) != 0 || power());
 }
 
-/* As much time of appDETACH is left to both. */
+/* Returns 1 if device and application have the same time left in appDETACH, or are not in appDETACH. */
 static int same_time(void) {
     const uint32_t most = runtime.left ? runtime.left : 1;
     if (runtime.state != DFU_STATE_APP_DETACH)
@@ -111,7 +111,7 @@ static int same_time(void) {
         && runtime.state == DFU_STATE_APP_IDLE;
 }
 
-/* A setup from this state on: whether both do the same. */
+/* Handles a setup in this state. In appDETACH it then lets the time run out. Returns 1 if device and application do the same. */
 static int tried(const struct dfu_device *device, const struct dfu_runtime *application, const uint8_t setup[8]) {
     static const uint8_t bytes[0x200];
     uint8_t answer[6] = {0}, other[8] = {0};
@@ -121,8 +121,8 @@ static int tried(const struct dfu_device *device, const struct dfu_runtime *appl
         && same_time();
 }
 
-/* Every bmRequestType and bRequest in the state that both are in, for this interface and others, with a few lengths and times: how many
- * setups they were, or 0 if one differs. */
+/* Tries every bmRequestType and bRequest in the current state, for this interface and others, with a few lengths and times. Returns the
+ * number of setups, or 0 if one differs. */
 static long every_request(void) {
     static const uint16_t values[] = {0, 1, 39, 40, 41, 0x100, 0xffff}, lengths[] = {0, 1, 5, 6, 7, 0x100, 0x106};
     static const uint16_t interfaces[] = {1, 2, 0x101};
@@ -142,7 +142,7 @@ static long every_request(void) {
     return all;
 }
 
-/* The same in both states. */
+/* Tries every request in both states. */
 static long both_states(void) {
     const uint8_t detach[8] = {0x21, DFU_DETACH, 30, 0, 1, 0, 0, 0};
     config.attributes = runtime.attributes = 7, config.interface_number = runtime.interface_number = 1;

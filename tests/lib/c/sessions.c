@@ -1,5 +1,5 @@
-/* Sessions of the host library against the device library: downloads, with and without losses, to a device that leaves of
- * itself, uploads into buffers of several sizes, refusals, and what is given up. */
+/* Runs sessions of the host library against the device library: downloads with and without lost answers, downloads to a device that leaves
+ * by itself, uploads into buffers of several sizes, refusals, and aborted sessions. */
 #include <stdio.h>
 #include <stdlib.h>
 #include <string.h>
@@ -32,7 +32,7 @@ static void start(const char *image, size_t length) {
     is("power on", dfu_device_power_on(&device), 0);
 }
 
-/* Does what the session wants: what was seen of it, and in `sent` how many bytes were answered. */
+/* Carries out an action of the session. Returns its outcome, with the number of answered bytes in `sent`. */
 static uint32_t act(const struct dfu_action *a, int32_t *sent) {
     *sent = 0;
     if (a->what == DFU_RESET) {
@@ -48,7 +48,7 @@ static uint32_t act(const struct dfu_action *a, int32_t *sent) {
     return *sent < 0 ? DFU_SEEN_STALL : a->setup[0] & 0x80 ? DFU_SEEN_BYTES : DFU_SEEN_ACK;
 }
 
-/* Goes on until the session is over, with a device that resets itself in the first wait behind the close: the report. */
+/* Runs a session to its end with a device that resets itself in the first wait after the close. Returns the report. */
 static uint32_t run_left(struct dfu_session *s) {
     struct dfu_action a;
     int closed = 0;
@@ -68,8 +68,8 @@ static uint32_t run_left(struct dfu_session *s) {
     return a.value;
 }
 
-/* Goes on until the session is over, with one answer lost and the rest given up at an action: the report. A session takes
- * 1,000 actions at most. */
+/* Runs a session to its end; one answer is lost, and the session is aborted at one action. Returns the report. A session has at most 1,000
+ * actions. */
 static uint32_t run(struct dfu_session *s, size_t payload, size_t room, int lost, int given_up) {
     struct dfu_action a;
     for (int step = 0; dfu_host_next(s, ones, payload, &a) == 0 && a.what != DFU_DONE; step++) {

@@ -1,6 +1,6 @@
-/* Verdicts of examples/signed/check.c of images: signed [RUNS]. One that is right, in every two parts; each bit of it another one; each
- * length of it; numbers that lie and are signed all the same; each verdict; and RUNS times garbled bytes, each tenth signed, for which it
- * is worked out apart whether they are right. */
+/* Tests the verdicts of examples/signed/check.c: `signed [RUNS]`. It checks a valid image in every division into two parts, with each bit
+ * changed, and with each length; images with wrong numbers and a valid signature; each verdict; and RUNS times garbled bytes, of which a
+ * tenth are signed, with the expected verdict computed separately. */
 #include "signed.h"
 
 static int wrong;
@@ -25,7 +25,7 @@ static enum signed_verdict says(void) {
     return verdict_of(made, length, length - length % 16, &told);
 }
 
-/* Taken, whatever its parts, and what it says of itself. */
+/* A valid image is accepted in every division into two parts, and its fields are returned. */
 static void in_parts(void) {
     struct signed_image told;
     make(LEAST, HARDWARE, 0);
@@ -60,7 +60,7 @@ static void each_length(void) {
     expect("twice", SIGNED_WRONG_LENGTHS, verdict_of(made, 2 * length, 0, &told));
 }
 
-/* Each number that says a length says another one, and the maker signs it. */
+/* Changes each field that holds a length; the maker signs the result. */
 static void lies(void) {
     static const uint32_t values[] = {0, 1, 2, 3, 4, 5, 6, 8, 16, 31, 32, 33, 0x7f, 0xff, 0x7fff, 0xfffc, 0xffff, 0x7fffffff, 0x80000000,
                                       0xffffff00, 0xfffffffc, 0xffffffff};
@@ -81,7 +81,7 @@ static void lies(void) {
         }
 }
 
-/* A bit of the header is another one, and the maker signs it. */
+/* Changes a bit of the magic number, or sets a flag; the maker signs the result. */
 static void header(void) {
     for (unsigned bit = 0; bit < 32; bit++) {
         make(LEAST, HARDWARE, 0);
@@ -115,7 +115,7 @@ static void each_verdict(void) {
     begin(512, 0), add_hardware(HARDWARE), add_counter(LEAST), end(), sign(0), expect("a large header", SIGNED_TAKEN, says());
     begin(32, 200), add_counter(9), add_hardware(7), add_counter(9), end(), sign(0), expect("a counter twice", SIGNED_WRONG_TLVS, says());
     begin(32, 200), add_counter(9), add(0xb0, 2), add(0, 2), add_hardware(7), end(), sign(0), expect("one more", SIGNED_TAKEN, says());
-    /* Parts that are left out of the unprotected TLVs, which are no bytes that are signed. */
+    /* Omits one of the unprotected TLVs, which the signature doesn't cover. */
     for (size_t i = 0; i < 3; i++) {
         static const uint32_t at[] = {4, 40, 76}, bytes[] = {36, 36, 68};
         static const enum signed_verdict verdicts[] = {SIGNED_WRONG_DIGEST, SIGNED_OTHER_KEY, SIGNED_WRONG_SIGNATURE};
@@ -136,7 +136,7 @@ static void each_verdict(void) {
     begin(32, 200), length = protect = body, put(10, 0, 2), sign(0), expect("none are protected", SIGNED_WRONG_LENGTHS, says());
 }
 
-/* Garbled bytes: they are taken only if they are those that were signed. */
+/* Garbled bytes are accepted only if they equal the signed ones. */
 static void garbled(void) {
     static uint8_t right[MOST];
     struct signed_image told;
@@ -159,7 +159,8 @@ static void garbled(void) {
            verdict_of(made, length, roll((uint32_t)length + 1), &told) == SIGNED_TAKEN ? SIGNED_TAKEN : SIGNED_NO_HEADER);
 }
 
-/* Any protected TLVs, which the maker signs: right with one counter, one number of a board, and lengths that end where the area ends. */
+/* Makes random protected TLVs, and signs them. They are valid with exactly one counter that is high enough, one number of this board, and
+ * lengths that end with the area. */
 static void garbled_and_signed(void) {
     unsigned counters = 0, boards = 0, is_right = 1, lies_about = 0;
     begin(32 + roll(40), roll(100));

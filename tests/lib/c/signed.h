@@ -1,5 +1,5 @@
-/* Images for tests/lib/c/signed*.c, signed as imgtool does it, by a key that is made here. What is in them is written piece by piece, so
- * that each can be wrong, and the whole be signed all the same. */
+/* Images for tests/lib/c/signed*.c, signed like those of imgtool with a generated key. They are written field by field, so that each field
+ * can be wrong under a valid signature. */
 #ifndef SIGNED_H
 #define SIGNED_H
 #include <sodium.h>
@@ -10,7 +10,7 @@
 #include "check.h"
 
 enum { MOST = 4096, HARDWARE = 7, LEAST = 3 };
-static uint8_t keys[2][SIGNED_KEY], secrets[2][64]; /* the board knows the first one */
+static uint8_t keys[2][SIGNED_KEY], secrets[2][64]; /* the board knows only the first key */
 static uint8_t made[MOST];
 static size_t length, body, protect;
 static uint32_t dice = 1;
@@ -46,7 +46,7 @@ static inline void make_keys(void) {
     }
 }
 
-/* A header and a program of so many bytes; the protected TLVs begin. */
+/* Writes a header and a program of these lengths, and begins the protected TLVs. */
 static inline void begin(uint32_t header, uint32_t program) {
     memset(made, 0, sizeof made);
     put(0, 0x96f3b83d, 4);
@@ -69,14 +69,14 @@ static inline void add_hardware(uint32_t value) {
     add(0xa0, 2), add(2, 2), add(value, 2);
 }
 
-/* The protected TLVs end. */
+/* Ends the protected TLVs. */
 static inline void end(void) {
     protect = length;
     put(10, (uint32_t)(protect - body), 2);
     put(body + 2, (uint32_t)(protect - body), 2);
 }
 
-/* The three unprotected TLVs, for the bytes as they are. */
+/* Appends the three unprotected TLVs for the current bytes. */
 static inline void sign(unsigned key) {
     uint8_t digest[32], hash[32], signature[64];
     crypto_hash_sha256(digest, made, protect);
@@ -98,7 +98,7 @@ static inline void make(uint32_t counter, uint32_t hardware, unsigned key) {
     sign(key);
 }
 
-/* Verdict on bytes in two parts, each in memory of its own that has not a byte more. */
+/* Returns the verdict on bytes in two parts. Each part is in a block of memory of exactly its length. */
 static inline enum signed_verdict verdict_of(const uint8_t *bytes, size_t count, size_t front, struct signed_image *told) {
     const struct signed_rules rules = {(const uint8_t (*)[SIGNED_KEY])keys, 1, HARDWARE, LEAST};
     uint8_t *first = malloc(front ? front : 1), *second = malloc(count > front ? count - front : 1);
@@ -106,7 +106,7 @@ static inline enum signed_verdict verdict_of(const uint8_t *bytes, size_t count,
         exit(2);
     memcpy(first, bytes, front);
     memcpy(second, bytes + front, count - front);
-    /* (a part of no bytes is not read) */
+    /* (an empty part must not be read) */
     const struct signed_bytes parts = {front ? first : NULL, front, count > front ? second : NULL, count - front};
     enum signed_verdict verdict = signed_check(&rules, &parts, told);
     (void)signed_counter(&parts);

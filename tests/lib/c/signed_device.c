@@ -1,6 +1,6 @@
-/* A device that takes signed images alone, by signed_serve of examples/signed: what the host is told of each image, that a refused one
- * changes no byte of flash and leaves the old one, that CLRSTATUS leads on, and with which image security counters are compared; with
- * images on trial and without, in several units, tolerant of manifestation or not. */
+/* Tests a device that accepts only signed images, by signed_serve of examples/signed. It checks the status for each image, that a refused
+ * image changes no byte of the flash and leaves the old one active, that a download succeeds after CLRSTATUS, and with which image security
+ * counters are compared. Images run on trial or not, in several units, and the device is tolerant of manifestation or not. */
 #include "serve.h"
 #include "signed.h"
 
@@ -48,7 +48,7 @@ static int32_t status(void) {
     return ask(0xa1, DFU_GETSTATUS, 0, 6, out) == 6 ? out[0] * STATES + out[4] : -1;
 }
 
-/* The image that is active is the one before. */
+/* Returns 1 if the previous image is active. */
 static int is_old(void) {
     struct dfu_place place;
     return dfu_device_image(&device, &place) == 0 && place.length == old_length && memcmp(flash + place.at, old, old_length) == 0;
@@ -103,7 +103,7 @@ static void confirm(const char *row) {
     expect(row, "it confirms itself", dfu_device_image(&device, &place) == 0 && dfu_trial_accept(&trial, place.at) == 0);
 }
 
-/* A new board, whose first image has this counter; with images on trial it is confirmed. */
+/* Formats a new board, whose first image has this counter. With trials that image is confirmed. */
 static void ship(uint32_t counter) {
     make(counter, HARDWARE, 0);
     memset(flash, 0xff, sizeof flash);
@@ -116,7 +116,7 @@ static void ship(uint32_t counter) {
         confirm("ship");
 }
 
-/* One image of each verdict, and after each refusal one that is taken. */
+/* Sends images that the check refuses, one for most verdicts, and at the end valid ones. */
 static void rows(void) {
     ship(5);
     make(5, HARDWARE, 0), made[40] ^= 1, refused("a bit of the program", SIGNED_WRONG_DIGEST);
@@ -136,7 +136,7 @@ static void rows(void) {
     }
     expect("empty", "it is stalled", ask(0x21, DFU_DNLOAD, 0, 0, out) == DFU_STALL && is_old());
     expect("empty", "CLRSTATUS", ask(0x21, DFU_CLRSTATUS, 0, 0, out) == 0);
-    /* A transfer that is too short for the device is an error of its table, and is not checked. */
+    /* A transfer below config.least is an error of the device table, so the image is not checked. */
     length = 4, send("too short"), board.verdict = SIGNED_TAKEN;
     expect("too short", "errNOTDONE", ask(0x21, DFU_DNLOAD, 1, 0, out) == DFU_STALL && board.verdict == SIGNED_TAKEN
                && status() == DFU_STATUS_ERR_NOTDONE * STATES + DFU_STATE_ERROR && ask(0x21, DFU_CLRSTATUS, 0, 0, out) == 0);
@@ -144,7 +144,7 @@ static void rows(void) {
     make(6, HARDWARE, 0), taken("a newer one");
 }
 
-/* Which image counters are compared with. */
+/* Checks that a download's security counter is compared with that of the active image, or with trials with that of the confirmed one. */
 static void counters(void) {
     ship(5);
     make(9, HARDWARE, 0), taken("a counter of 9");
@@ -152,7 +152,8 @@ static void counters(void) {
         make(8, HARDWARE, 0), refused("older than the active image", SIGNED_OLDER);
         return;
     }
-    /* It is on trial: the confirmed image counts, and comes back with the first block. */
+    /* The last image is still on trial: counters are compared with the confirmed image, which is active again from the next download's
+     * first block. */
     make(5, HARDWARE, 0), taken("as new as the confirmed image");
     make(9, HARDWARE, 0), taken("a counter of 9 again");
     confirm("a counter of 9 again");

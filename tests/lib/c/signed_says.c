@@ -1,11 +1,11 @@
-/* signed_says KEY HARDWARE LEAST FILE: what examples/signed/check.c says of a file, for a public key in DER. */
+/* `signed_says KEY HARDWARE LEAST FILE` prints the verdict of examples/signed/check.c on a file, for a public key in DER. */
 #include <sodium.h>
 #include <stdio.h>
 #include <stdlib.h>
 
 #include "check.h"
 
-/* A whole file, in memory that has not a byte more. */
+/* Reads a whole file into a block of memory of exactly its length. */
 static uint8_t *read_file(const char *name, size_t *length) {
     FILE *file = fopen(name, "rb");
     uint8_t *bytes = NULL;

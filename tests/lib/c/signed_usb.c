@@ -1,5 +1,5 @@
-/* Makes of the proved device on the stand-in's bus (tests/lib/usb) one that takes signed images alone: it is linked with
- * --wrap=dfu_core_handle, and hands each close to signed_serve of examples/signed. SIGNED_KEY_FILE names a public key in DER. With
+/* Turns the proved device on the stand-in's bus (tests/lib/usb) into one that accepts only signed images. It is linked with
+ * --wrap=dfu_core_handle, and passes each close to signed_serve of examples/signed. SIGNED_KEY_FILE names a public key in DER. With
  * SIGNED_LATE each image is refused after the close, as by a check that takes longer than a transfer may. */
 #include <sodium.h>
 #include <stdio.h>
@@ -36,7 +36,7 @@ int32_t __wrap_dfu_core_handle(const struct dfu_config *config, struct dfu_recor
         const int32_t closed = __real_dfu_core_handle(config, record, block, most, flash, size, setup, body, length, out, room);
         return closed == 0 ? dfu_core_refuse(config, record, DFU_STATUS_ERR_FILE) : closed;
     }
-    /* (the record is that of the model's device, which has a driver) */
+    /* (The record is in the struct dfu_device of the model, which has a driver.) */
     struct signed_board board = {.device = (struct dfu_device *)(void *)((char *)record - offsetof(struct dfu_device, record)),
                                  .rules = {(const uint8_t (*)[SIGNED_KEY])key, 1, 7, 0}};
     read_key();

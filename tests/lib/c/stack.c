@@ -1,5 +1,5 @@
-/* Depth to which each call goes below its caller: a thread runs it on a stack that was painted. It takes the most bytes that are allowed,
- * and prints the size of the record too. The lines that begin with "format" are those of calls that a bootloader may leave out. */
+/* Prints the stack depth of each call, which a thread runs on a painted stack, and the size of the record. The exit status is 1 if a call
+ * needs more bytes of stack than the argument allows. Lines that begin with "format" are for calls that a bootloader may leave out. */
 #include "painted.h"
 #include <stdio.h>
 

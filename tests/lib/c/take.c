@@ -1,5 +1,5 @@
-/* dfu_image_take.h by rows worked out by hand: the images of files, and each refusal. Each file, each room and all memory end where the
- * length says, the room and the record are all ones before, and one byte less of room is too short. */
+/* Tests dfu_image_take.h with rows worked out by hand: the images of files, and each refusal. Each file, room and memory ends where its
+ * length says, room and result are filled with FFh before, and one byte less of room must be too little. */
 #include <stdio.h>
 #include <stdlib.h>
 #include <string.h>
@@ -35,7 +35,7 @@ struct row {
     uint32_t format, fill;
     int32_t result;
     uint32_t address;
-    const char *image; /* or NULL */
+    const char *image; /* expected image, or NULL */
     size_t count;
     uint64_t from, to;
 };
@@ -50,7 +50,8 @@ struct row {
     { \
         what, file, sizeof(file) - 1, format, fill, result, 0, NULL, 0, from, to \
     }
-/* A block of UF2 with one byte of data for address 08000000h, of one block and no family; and an ELF file with one segment. */
+/* Bytes of a UF2 file with one block, without a family, and with one byte of data for address 08000000h; and of an ELF file with one
+ * segment. */
 #define ZEROS_8 "\0\0\0\0\0\0\0\0"
 #define ZEROS_64 ZEROS_8 ZEROS_8 ZEROS_8 ZEROS_8 ZEROS_8 ZEROS_8 ZEROS_8 ZEROS_8
 #define ZEROS_475 ZEROS_64 ZEROS_64 ZEROS_64 ZEROS_64 ZEROS_64 ZEROS_64 ZEROS_64 ZEROS_8 ZEROS_8 ZEROS_8 "\0\0\0"
@@ -92,7 +93,7 @@ static const struct row rows[] = {
     REFUSED("no file of HEX", "", IHEX, NONE, DFU_TAKE_NO_END, 0, 0),
 };
 
-/* Returns whether all bytes of a room from a place on are ones. */
+/* Returns 1 if all bytes of a room from an offset on are FFh. */
 static int are_ones(const uint8_t *room, size_t from, size_t size)
 {
     while (from < size)
@@ -123,7 +124,8 @@ static void taken_with(const struct row *row, size_t size, size_t words, int32_t
     free(taken);
 }
 
-/* With each count of words there is the answer, or no memory; once there is the answer, more words change nothing. */
+/* Tries each number of words. The result is that of the row, or DFU_TAKE_NO_MEMORY if there are too few words. More words than the smallest
+ * number that is enough change nothing. */
 static void with_less_memory(const struct row *row)
 {
     int is_enough = 0;
@@ -143,7 +145,7 @@ static void with_less_memory(const struct row *row)
     check(is_enough || row->result == DFU_TAKE_TOO_LARGE_FILLED, row->what);
 }
 
-/* The largest image, by one record of 255 bytes after the other, with the memory that the header names. */
+/* Reads the largest image, from records of 255 bytes, with as much memory as the header states. */
 static void largest(void)
 {
     enum { MOST = 16777216, COUNT = 255 };
@@ -180,7 +182,7 @@ static void largest(void)
     free(memory);
 }
 
-/* 1,024 parts of one byte each; and one more. */
+/* Reads a file of `count` parts of one byte each: 1,024 are allowed, one more is refused. */
 static void many_parts(uint32_t count, int32_t result)
 {
     size_t words = (4 * 2 * (size_t)count + 200000) / 8, at = 0;

@@ -1,6 +1,7 @@
-/* Time, as a program sees it: the work finds what is due whatever clock there is. A program that asks no clock, a host that asks too
- * early, and a reset or another request right behind the answer of dfuMANIFEST find the block and the image written, on devices that are
- * tolerant and on others, in place and with sectors. And which reset counts, a beginning in dfuIDLE, and an interface of another number. */
+/* Tests time as a program observes it: the work does everything that is pending, whatever clock the program has. The block and the image
+ * are written if a program reads no clock, if a host polls too early, and if dfu_device_reset or another request directly follows the
+ * answer with dfuMANIFEST. The devices are tolerant or not, and are overwritten in place or have sectors. Further tests: which reset
+ * counts, a start in dfuIDLE, and an interface with another number. */
 #include <stdio.h>
 #include <string.h>
 
@@ -22,13 +23,13 @@ static void expect(const char *what, int holds) {
     }
 }
 
-/* A request, served, and no word of when its answer is out. */
+/* Serves a request without a report that the answer was sent. */
 static int32_t serve(uint8_t kind, uint8_t request, uint16_t value, uint8_t index, uint8_t length) {
     const uint8_t setup[8] = {kind, request, (uint8_t)value, (uint8_t)(value >> 8), index, 0, length, 0};
     return dfu_device_serve(&dfu, setup, image, out, sizeof out);
 }
 
-/* GETSTATUS is answered with this state; the device is in it then. */
+/* Checks that GETSTATUS returns this state, and that the device is then in it. */
 static void status_is(const char *what, uint8_t state) {
     expect(what, serve(0xa1, DFU_GETSTATUS, 0, config.interface_number, 6) == 6 && out[0] == DFU_STATUS_OK && out[4] == state
         && dfu_device_state(&dfu) == state);
@@ -39,14 +40,14 @@ static int has(const uint8_t *bytes, uint32_t length) {
     return dfu_device_image(&dfu, &place) == 0 && place.length == length && memcmp(medium + place.at, bytes, length) == 0;
 }
 
-/* A board with an image of two bytes, in dfuIDLE. */
+/* Makes a board with an image of two bytes, in dfuIDLE. */
 static void start(void) {
     dfu.size = DFU_MEDIUM_SIZE(1, config.sector, 512);
     expect("format", dfu_device_format(&dfu, (const uint8_t *)"\x11\x22", 2) == 0);
     expect("begin", dfu_device_begin(&dfu) == 0 && dfu_device_state(&dfu) == DFU_STATE_IDLE);
 }
 
-/* Up to the answer that says dfuMANIFEST. The host asks at once, and the program has no clock and does no work by itself. */
+/* Downloads up to the answer with dfuMANIFEST. The host polls at once; the program has no clock and does no work itself. */
 static void download(void) {
     start();
     expect("DNLOAD", serve(0x21, DFU_DNLOAD, 0, config.interface_number, 4) == 0);
@@ -58,7 +59,7 @@ static void download(void) {
     expect("the old image", has((const uint8_t *)"\x11\x22", 2));
 }
 
-/* The work is done by the first that comes. */
+/* After the answer the first dfu_device_work, dfu_device_reset or request does the work. A bus reset doesn't, and drops the image. */
 static void first_comes(void) {
     download();
     expect("work", dfu_device_work(&dfu) == 0 && has(image, 4) && dfu_device_work(&dfu) == 0);
@@ -74,12 +75,12 @@ static void first_comes(void) {
     expect("the image", has(image, 4));
     download();
     expect("UPLOAD behind dfuMANIFEST", serve(0xa1, DFU_UPLOAD, 0, config.interface_number, 8) == DFU_STALL && has(image, 4));
-    /* Without the work the same drops the image. */
+    /* Without the work a reset drops the image. */
     download();
     expect("a reset without the work", dfu_device_usb_reset(&dfu) == 0 && has((const uint8_t *)"\x11\x22", 2));
 }
 
-/* A lazy clock: what it says late or never changes nothing, since the work is all that counts. */
+/* A late clock changes nothing, because the work does not depend on it. */
 static void lazy_clock(void) {
     download();
     expect("answered", dfu_device_answered(&dfu) == DFU_WRITE_PENDING && dfu_device_answered(&dfu) == DFU_BUSY);
@@ -87,7 +88,7 @@ static void lazy_clock(void) {
     int32_t state = dfu_device_state(&dfu);
     expect("a clock that comes late", dfu_device_elapse(&dfu, 499) == 0 && dfu_device_state(&dfu) == state
         && dfu_device_answered(&dfu) == 0);
-    /* A clock that is too slow, in place of the work, leaves the host in dfuDNBUSY. */
+    /* A clock that is too slow leaves the device in dfuDNBUSY, but the work ends the time. */
     start();
     expect("DNLOAD", serve(0x21, DFU_DNLOAD, 0, config.interface_number, 4) == 0);
     status_is("busy", DFU_STATE_DNBUSY);
@@ -95,7 +96,7 @@ static void lazy_clock(void) {
     expect("the work takes the rest", dfu_device_work(&dfu) == 0 && dfu_device_state(&dfu) == DFU_STATE_DNLOAD_SYNC);
 }
 
-/* A program that carries out what is asked by itself: nothing is done before it has. */
+/* Without a driver the operations are done only once the program carries them out. */
 static void no_driver(void) {
     struct dfu_ask ask;
     int32_t n = DFU_WRITE_PENDING;
@@ -115,7 +116,7 @@ static void no_driver(void) {
     expect("settled", dfu_device_settle(&dfu, DFU_WRITE_PENDING, out, sizeof out) == 0 && has(image, 4));
 }
 
-/* Resets. */
+/* Checks the state after resets in several states, and after the time of a DETACH. */
 static void resets(void) {
     start();
     expect("one more than an enumeration has", dfu_device_reset(&dfu) == 0 && dfu_device_state(&dfu) == DFU_STATE_APP_IDLE);
@@ -128,7 +129,7 @@ static void resets(void) {
         && dfu_device_state(&dfu) == (config.attributes & DFU_WILL_DETACH ? DFU_STATE_IDLE : DFU_STATE_APP_IDLE));
 }
 
-/* The interface has the number 3: a request to 3 is served, one to 0 or 4 is stalled and changes nothing. */
+/* Requests to the device's own interface are served; requests to another one are stalled and change nothing. */
 static void interfaces(void) {
     start();
     struct dfu_record before = dfu.record;

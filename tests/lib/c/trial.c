@@ -1,10 +1,11 @@
-/* Images on trial over the device's library, in simulated flash: rows worked out by hand, each refusal, and plans of downloads, uploads,
- * starts, confirmations and ends in which each operation in turn fails, lies or is cut off, with each of twenty tears. Beside it goes the
- * rule as a machine of four numbers: the base, the image on trial, the starts that are left, and whether anything was confirmed. Whatever
- * came, some image starts; it is the base, or the one on trial with its start recorded, at most `tries` times since it was taken; and one
- * whose trial ended does not start again unless it is offered anew. An upload gives the image that the next start runs.
+/* Tests images on trial with the device's library, in simulated flash: rows worked out by hand, each refusal, and plans of downloads,
+ * uploads, starts, confirmations and ends. In the plans each operation in turn fails, reports a false success, or loses power, and leaves
+ * its bytes in each of twenty ways. A model of four numbers gives the expected state: the base, the image on trial, its remaining starts,
+ * and if any image was confirmed. In each case an image must start: the base, or the image on trial with its start recorded, at most
+ * `tries` times since its download. An image whose trial ended may not start again unless it is downloaded again. An upload returns the
+ * image that the next start runs.
  *
- * trial RUNS: so many runs with a fault, and prints how many there were. */
+ * `trial RUNS` makes this many runs with a fault, and prints their number. */
 #include "dfu_trial.h"
 #include <stdio.h>
 #include <stdlib.h>
@@ -16,7 +17,7 @@ static struct dfu_config config = {.version = DFU_VERSION, .device = 0x0100, .pr
 static uint8_t part[2 * (2 * SECTOR + CAPACITY)], block[DFU_BLOCK_SIZE(64, 64)], out[64];
 static unsigned long runs, operations, starts, checks;
 static int wrong, harm, tear, is_offered, is_off;
-static long fuse; /* the operation of that number suffers the harm; once the power is off there are no more */
+static long fuse; /* number of the operation that gets the fault; after a loss of power there are no more operations */
 static uint32_t dice, made[64][3], count;
 
 static uint32_t roll(uint32_t sides) {
@@ -30,7 +31,7 @@ static void expect(const char *what, int holds) {
     wrong += !holds;
 }
 
-/* Value that a byte of the operation that suffers the harm comes to. */
+/* Returns the value of a byte after an operation with the fault. */
 static uint8_t torn(uint32_t i, uint32_t length, uint8_t old, uint8_t meant) {
     switch (tear) {
     case 0: return old;
@@ -88,7 +89,7 @@ static void power_comes(const uint8_t *image, size_t length) {
     expect("a format", dfu_device_format(&device, image, length) == 0);
     count = 0;
 }
-/* A download up to its last request, and its end. */
+/* Downloads an image up to the last request before the close; `finish` does the rest. */
 static int32_t send(const uint8_t *image, uint16_t length) {
     int32_t n;
     dfu_device_begin(&device);
@@ -101,7 +102,8 @@ static void finish(void) {
     request(0xa1, DFU_GETSTATUS, block, 6);
 }
 
-/* The rows by hand: unit 16, sector 256, 256 bytes of data, two tries. Slots at 0 and 768, data at 512 and 1,280. */
+/* Checks the last operation. The rows worked out by hand are for unit 16, sector 256, 256 bytes of data, and two tries. The slots are at
+ * offsets 0 and 768, and their data at 512 and 1,280. */
 static void did(const char *what, uint32_t kind, uint32_t at, uint32_t length) {
     const uint32_t *last = made[(count - 1) % 64];
     runs++;

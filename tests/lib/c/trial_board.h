@@ -1,4 +1,4 @@
-/* A board that runs new images on trial, in simulated flash whose power may go: at each point of what it does, counted from 0. */
+/* A board that runs new images on trial, in simulated flash. Power may be lost at any point of its work; the points are counted from 0. */
 #include "dfu_host.h"
 #include "dfu_trial.h"
 #include <setjmp.h>
@@ -6,9 +6,9 @@
 #include <string.h>
 
 enum { SECTOR = 256, CAPACITY = 256, SLOT = 2 * SECTOR + CAPACITY, TRANSFER = 64, LENGTH = 150 };
-enum { BASE = 7, OTHER = 20, PAYLOAD = 33 }; /* the images, by their first bytes */
+enum { BASE = 7, OTHER = 20, PAYLOAD = 33 }; /* first bytes of the images */
 enum { NEVER = -1 };
-enum behaviour { QUIET, CONFIRMS, FAULTS, BEHAVIOURS }; /* what the payload does when it runs */
+enum behaviour { QUIET, CONFIRMS, FAULTS, BEHAVIOURS }; /* behaviour of the payload when it runs */
 enum harm { FAILS, LIES, HARMS };
 
 static struct dfu_config config = {.version = DFU_VERSION, .device = 0x0100, .product = 1, .vendor = 0x1209, .detach_ms = 255,
@@ -17,15 +17,16 @@ static uint8_t part[2 * SLOT], block[DFU_BLOCK_SIZE(TRANSFER, 64)], out[TRANSFER
 static enum behaviour behaviour;
 static int wrong, is_without, is_blind, is_armed;
 
-/* The moments of a session: at which the power goes, or the operation that fails or lies. */
+/* Number of points so far, points of the two losses of power, number of operations so far, and number of the operation that fails or
+ * reports a false success. */
 static long points, cuts[2], operations, harm_at;
 static enum harm harm;
 static jmp_buf power;
-static int lost; /* how often it went */
+static int lost; /* number of losses of power so far */
 
-/* History of the board: the image that its last start ran first, the one that runs, whether it is within a reset by the host, and was as
- * the power went, how often the payload ran since it was put in place, whether the image before came back since, and whether a mark was
- * harmed. */
+/* History of the board: 1 during an upgrade, the image that its last start ran first, the running image, 1 during a reset by the host,
+ * is_in_reset at the last loss of power, the number of starts of the payload since it became active, 1 after the previous image returned,
+ * and 1 if a mark was harmed. */
 static int is_upgrading, first_ran, running, is_in_reset, was_in_reset, runs, is_back, is_mark_harmed;
 
 static void expect(const char *what, int holds);
@@ -43,11 +44,12 @@ static void point(void) {
         power_goes();
 }
 
-/* One that is cut leaves the front of what was meant, or the back. */
+/* Carries out an operation. If it fails or reports a false success, it writes nothing. If it is cut off, it writes nothing, the first or
+ * the last part of its bytes, or all of them. */
 static int operate(uint32_t kind, uint32_t at, const uint8_t *bytes, uint32_t length) {
     const int is_mark = kind == DFU_PROGRAM && at % SLOT > SECTOR && at % SLOT < 2 * SECTOR, is_harmed = operations++ == harm_at;
     if (kind == DFU_ERASE && at % SLOT == SECTOR)
-        runs = is_back = 0; /* another header comes */
+        runs = is_back = 0; /* a new header */
     if (is_harmed) {
         is_mark_harmed = is_mark;
         return harm == FAILS;
@@ -89,7 +91,7 @@ static int number_of(const struct dfu_place *place) {
     return place->length == LENGTH && memcmp(part + place->at, image, LENGTH) == 0 ? part[place->at] : -1;
 }
 
-/* An image runs. */
+/* Runs an image: counts the starts of the payload, which confirms itself if `behaviour` is CONFIRMS. */
 static void run(const struct dfu_place *place) {
     struct dfu_standing standing;
     running = number_of(place);
@@ -103,7 +105,7 @@ static void run(const struct dfu_place *place) {
     if (running == PAYLOAD && behaviour == CONFIRMS)
         dfu_trial_accept(&trial, place->at);
 }
-/* The processor begins as the application: an image is started. After a fault it begins again. */
+/* Starts an image, as after a reset of the processor. After a fault it starts again. */
 static void start(void) {
     struct dfu_place place = {0, 0};
     is_upgrading = 0, first_ran = 0;
@@ -117,7 +119,7 @@ static void start(void) {
             first_ran = running;
     } while (running == PAYLOAD && behaviour == FAULTS);
 }
-/* Resets the processor if the state calls for the other program, so that the one that runs is the one that the state says. */
+/* Resets the processor if the state requires the other program. */
 static void go_on(void) {
     const int is_upgrade = dfu_device_state(&device) > DFU_STATE_APP_DETACH;
     if (is_upgrade == is_upgrading)
@@ -136,12 +138,12 @@ static int32_t serve(const uint8_t setup[8], const uint8_t *body) {
     return dfu_device_serve(&device, setup, body, out, sizeof out);
 }
 
-/* Returns whether the payload is the next image to be started: it is active, and on trial with a start left. */
+/* Returns 1 if the next start runs the payload: it is active, and on trial with a start left. */
 static int is_next(void) {
     struct dfu_standing s;
     return dfu_trial_look(&trial, &s) == 0 && number_of(&s.active) == PAYLOAD && s.on_trial == 1 && s.left > 0;
 }
-/* Returns how many starts are marked in the second slot, to which every new image comes beside a confirmed one. */
+/* Returns the number of marked starts in the second slot, which receives every new image beside a confirmed one. */
 static uint32_t spent(void) {
     const uint32_t size = config.unit > 16 ? config.unit : 16;
     uint32_t count = 0;

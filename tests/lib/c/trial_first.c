@@ -1,6 +1,6 @@
-/* The first image of a board whose images run on trial. If dfu_trial_format made it, in memory or over a driver, an update that never
- * confirms itself is started as often as it may be, and then the first image is back; if dfu_device_format made it, the update runs for
- * ever. A refused call writes nothing. */
+/* Tests the first image of a board whose images run on trial. If dfu_trial_format wrote it, in memory or through a driver, an update that
+ * never confirms itself is started as often as it may be, and then the first image runs again. If dfu_device_format wrote it, the update
+ * runs forever. A refused call writes nothing. */
 #include <stdio.h>
 #include <string.h>
 
@@ -12,7 +12,7 @@ static const struct dfu_config config = {DFU_VERSION, 0x0100, 1, 0x1209, 255, 64
 static uint8_t part[DFU_MEDIUM_SIZE(UNIT, SECTOR, CAPACITY)], block[DFU_BLOCK_SIZE(64, UNIT)], out[64], made[sizeof part];
 static int wrong, left = -1;
 
-/* A driver that fails once `left` operations are done, and does nothing then. */
+/* A driver that fails, without a change, after `left` operations. */
 static int erase(void *own, uint32_t at, uint32_t length)
 {
     return left == 0 ? 1 : (left -= left > 0, dfu_memory_erase(own, at, length));
@@ -45,7 +45,7 @@ static int32_t request(uint8_t kind, uint8_t what, uint8_t length)
 static const uint8_t first[3] = {'A', 1, 2};
 static size_t first_length = sizeof first;
 
-/* An update by the image B, and so many starts: how many are of B, before the first one of another image. */
+/* Installs an update and starts STARTS times. Returns the number of starts of the update before another image was started. */
 static int starts_of_update(void)
 {
     struct dfu_place place;
@@ -82,7 +82,7 @@ static void reverts(uint32_t tries)
     expect("as many as it may be", over == (int)tries && in_memory == (int)tries && without == STARTS);
 }
 
-/* A first image of no bytes, which can't start, comes back too: then the bootloader waits for another. */
+/* A first image of no bytes, which can't start, becomes active again too; then the bootloader waits for another image. */
 static void empty(void)
 {
     trial.tries.tries = 4;
@@ -92,7 +92,7 @@ static void empty(void)
     first_length = sizeof first;
 }
 
-/* Whatever fails on the way, the answer isn't 0 unless the image is confirmed; and it can be made again. */
+/* With a failure of any operation the result is 0 only if the image is confirmed; and the format can be repeated. */
 static void fails(void)
 {
     struct dfu_standing standing;

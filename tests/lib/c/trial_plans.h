@@ -1,14 +1,16 @@
-/* The plans of trial.c, and the machine beside them. */
+/* The plans of trial.c, and a model of a board. The state of the model is a `struct view`: the base and the image on trial, by their first
+ * bytes, the remaining starts of the image on trial, and 1 once an image was confirmed. */
 struct view {
-    int base, on_trial, left, armed; /* images by their first byte; on_trial is -1 if nothing is */
+    int base, on_trial, left, armed; /* on_trial is -1 if no image is on trial */
 };
 static struct view now;
-static int started; /* how often the image on trial was started since it was taken */
-static int running; /* where the image begins that runs */
-static struct dfu_standing looks[8]; /* what the last looks told */
+static int started; /* number of starts of the image on trial since it was downloaded */
+static int running; /* offset of the running image, or -1 */
+static struct dfu_standing looks[8]; /* results of the last calls of dfu_trial_look */
 static unsigned looked;
 
-/* An image is as long as its first byte says, and so are its other bytes. */
+/* Returns the first byte of an image, which determines its other bytes and its length. Returns -3 if another byte is wrong, and -2 if the
+ * length is. */
 static int number_of(const struct dfu_place *place) {
     const int number = part[place->at];
     for (uint32_t i = 1; i < place->length; i++)
@@ -30,7 +32,7 @@ static struct view see(void) {
 static int is_same(struct view a, struct view b) {
     return a.base == b.base && a.on_trial == b.on_trial && a.left == b.left && a.armed == b.armed;
 }
-/* Checks that what is seen is one of these. */
+/* Checks that the state of the flash is one of these `n` views, and keeps that view in `now`. */
 static void may(const char *what, int n, const struct view *any) {
     const struct view view = see();
     int found = 0;
@@ -73,7 +75,7 @@ static void download(int number) {
     may("the end of a download", 2, after);
     is_offered = 0;
 }
-/* A start by a look of before, however old that is, is the one by a look of its own. */
+/* Checks that a start with any earlier standing does the same as a start that reads the images. */
 static void start_by_looks(void) {
     for (unsigned i = 0; i < 8; i++) {
         struct dfu_ask asks[2];
@@ -129,7 +131,8 @@ static void upload(void) {
     const int is_spent = now.on_trial != -1 && now.left == 0, next = now.on_trial != -1 ? now.on_trial : now.base;
     expect("an upload gives what the next start runs, or is stalled", is_spent ? n == DFU_STALL : n == next % 16 + 16 && out[0] == next);
 }
-/* After a loss of power: nothing, the end of a trial, a start, a confirmation, or an image that was offered. */
+/* Checks the state after a loss of power: unchanged, or the trial has ended, or a start, a confirmation or the offered image is recorded.
+ */
 static void after_a_loss(int offered) {
     const struct view was = now;
     struct view any[5] = {was, ended(was), confirmed(was), was, was};
@@ -142,7 +145,8 @@ static void after_a_loss(int offered) {
     started = now.on_trial != -1 ? (int)trial.tries.tries - now.left : 0;
 }
 
-/* s a start, c a confirmation, e an end, u an upload, and D with a letter a download of the image that begins with it. */
+/* Plans. s is a start, c a confirmation, e an end of the trial, u an upload, and D with a letter a download of the image that begins with
+ * that letter. */
 static const char *const all[] = {
     "scDasscDbssssDcscs", "sDascDbsDcsscDdsss", "scDaDbDcscDdsDesssss", "scDasesDbsesDcsc", "DaDbscDcscDdss", "scDasscDbsssDbsscss",
     "scDausuDbssusuDcusscu", "uscDasususususuDcscDdssuDesssssu",

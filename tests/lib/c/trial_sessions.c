@@ -1,20 +1,21 @@
-/* Sessions of the proved host with a board that runs new images on trial. The power goes at every point of a session, and at every pair of
- * points: before, within and behind each operation of the flash, between the mark of a start and its image, before each action of the host,
- * and between an answer and the work behind it. Or an operation fails, or lies. Whatever comes:
+/* Runs sessions of the proved host with a board that runs new images on trial. Power is lost at every point of a session, and at every pair
+ * of points: before, during and after each operation of the flash, between the mark of a start and its image, before each action of the
+ * host, and between an answer and the work after it. Or an operation fails, or reports a false success. The checks are:
  *
  * - If the host reports Verified or Installed, its last reset started the payload; or the mark of that start was harmed, and the payload is
- *   the next image to be started. So it is if the host sees each loss of power. If it sees none of them, the power may also have gone
- *   within that reset (payloads that fault are left out there).
- * - With 2 tries, and 2 more for each loss of power, the session is Verified. With fewer it is that, or Different once all are spent.
- * - The payload starts at most `tries` times, and not again once the image before came back.
+ *   the next image to be started. This holds if the host notices each loss of power. If it notices none, power may also have been lost
+ *   during that reset (payloads that fault are left out there).
+ * - With 2 tries, and 2 more for each loss of power, the session is Verified. With fewer tries it is Verified, or Different once all tries
+ *   are used up.
+ * - The payload starts at most `tries` times, and not again after the previous image was started again.
  *
- * trial_sessions [without]: prints how often each was reported. With the word an upload ends no trial: then Verified has to be false
- * somewhere, which shows that this search would see it. */
+ * `trial_sessions [without]` prints the count of each report. With `without` an upload ends no trial; then Verified must be false in some
+ * session, which shows that this search detects it. */
 #include "trial_board.h"
 
 static uint8_t file[LENGTH + 16];
 static unsigned long sessions, verified, different;
-static int is_verified, tightest; /* what is offered; whether one try less than enough was too few */
+static int is_verified, tightest; /* kind of the session; bit n: one try less than enough was too few with n losses of power */
 
 static void expect(const char *what, int holds) {
     if (!holds && wrong++ < 10)
@@ -23,7 +24,7 @@ static void expect(const char *what, int holds) {
                points, harm_at);
 }
 
-/* The file: the payload, and a suffix with the sum of all before it. */
+/* Makes the file: the payload, and a suffix with the CRC of all bytes before it. */
 static void make_file(void) {
     static const uint8_t suffix[12] = {0xff, 0xff, 0xff, 0xff, 0xff, 0xff, 0x00, 0x01, 'U', 'F', 'D', 16};
     uint32_t sum = 0xffffffff;
@@ -38,7 +39,7 @@ static void make_file(void) {
         file[LENGTH + 12 + i] = (uint8_t)(sum >> 8 * i);
 }
 
-/* One action of the host: what the board answers, and the work behind it. */
+/* Carries out an action of the host: the board answers, and then does the work. */
 static struct dfu_action action;
 static uint32_t seen;
 static size_t count;
@@ -58,7 +59,7 @@ static void answer(void) {
         seen = n < 0 ? DFU_SEEN_STALL : action.setup[0] & 0x80 ? DFU_SEEN_BYTES : DFU_SEEN_ACK;
         count = n < 0 ? 0 : (size_t)n;
     } else {
-        go_on(); /* the host sees the device again only once it is back */
+        go_on(); /* the host finds the device again only once it is back */
     }
     point();
     is_in_reset = 0;
@@ -67,7 +68,7 @@ static void work(void) {
     dfu_device_work(&device);
     go_on();
 }
-/* Returns whether the power goes in what is done. Then the board starts again, and the power may go in that too. */
+/* Makes a call. Returns 1 if power is lost during it; then the board starts again, and may lose power during that start too. */
 static int is_cut(void (*what)(void)) {
     switch (setjmp(power)) {
     case 0:
@@ -80,7 +81,7 @@ static int is_cut(void (*what)(void)) {
     }
 }
 
-/* A session, from the board's start on: its report. */
+/* Runs a session with the board. Returns its report. */
 static uint32_t offer(void) {
     static const struct dfu_ids ids = {0x0100, 1, 0x1209};
     static struct dfu_session session;
@@ -92,7 +93,7 @@ static uint32_t offer(void) {
                                         : dfu_host_download(&session, file, sizeof file, descriptor, 9, &ids, 1000, 9);
     expect("a session", refusal == 0);
     while (dfu_host_next(&session, file, LENGTH, &action) == 0 && action.what != DFU_DONE) {
-        if (is_gone) /* in the work behind the answer before */
+        if (is_gone) /* power was lost in the work after the previous answer */
             seen = DFU_SEEN_RESTART, count = 0, is_gone = 0;
         else if (is_cut(answer))
             seen = DFU_SEEN_RESTART, count = 0;
@@ -105,7 +106,7 @@ static uint32_t offer(void) {
     return action.value;
 }
 
-/* Report that has to come, and what has to be so. */
+/* Checks the report, and the state of the board that it asserts. */
 static void judge(uint32_t report) {
     const uint32_t done = is_verified ? DFU_VERIFIED : config.attributes & 4 ? DFU_INSTALLED : DFU_UNCONFIRMED;
     const int is_next_yet = is_mark_harmed && is_next(), was_unseen = is_blind && was_in_reset;
@@ -126,7 +127,7 @@ static void judge(uint32_t report) {
         tightest |= 1 << lost;
 }
 
-/* Another image on trial before, which was started so often; or none, if that is NEVER. */
+/* Installs another image on trial first, and starts it `often` times; installs none if `often` is NEVER. */
 static void install_other(int often) {
     uint8_t image[LENGTH];
     const uint8_t status[8] = {0xa1, DFU_GETSTATUS, 0, 0, 0, 0, 6, 0};
@@ -144,7 +145,8 @@ static void install_other(int often) {
     for (int i = 0; i < often; i++)
         start();
 }
-/* A session, with these losses of power or this harm, on a board with another image on trial before. */
+/* Runs a session with these losses of power, or with this fault, on a board with another image on trial, or without one if `often` is
+ * NEVER. */
 static void session(int often, long first, long second, long harmed) {
     uint8_t image[LENGTH];
     fill(image, BASE);
@@ -164,7 +166,7 @@ static void session(int often, long first, long second, long harmed) {
            running == (is_armed && behaviour != CONFIRMS ? BASE : PAYLOAD) || is_without || is_blind || harmed != NEVER);
 }
 
-/* Every point, every pair of points, and every operation. */
+/* Tries a loss of power at each point, if `is_in_pairs` also at each pair of points, and a fault of each operation. */
 static void search(int often, int is_in_pairs) {
     session(often, NEVER, NEVER, NEVER);
     const long most = points, all = operations;

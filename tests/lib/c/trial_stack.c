@@ -1,5 +1,5 @@
-/* Depth to which each call of dfu_trial.h goes below its caller, over a driver, as stack.c has it for the device. It takes the most bytes
- * that are allowed. */
+/* Prints the stack depth of each call of dfu_trial.h, over a driver, as stack.c does for the device. The exit status is 1 if a call needs
+ * more bytes of stack than the argument allows. */
 #include "painted.h"
 #include <stdio.h>
 
@@ -24,7 +24,7 @@ static int32_t serve(uint8_t kind, uint8_t request, uint8_t low, uint8_t high)
     return dfu_device_serve(&device, setup, image, out, sizeof out);
 }
 
-/* A download, whose image is on trial then. */
+/* Downloads an image, which is then on trial. */
 static int bring(void)
 {
     return dfu_device_begin(&device) == 0 && serve(0x21, DFU_DNLOAD, 0, 1) == 0 && serve(0xa1, DFU_GETSTATUS, 6, 0) == 6

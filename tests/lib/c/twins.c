@@ -1,7 +1,7 @@
-/* Sessions by dice, each call made twice: of a device whose medium is plain memory, written in place by dfu_device_memory.h, and of one
- * whose flash has sectors, by the calls of dfu_core.h. Both answer the same, with the same bytes, and leave the same record and the same
- * image, in each unit. What each says of a setup before its body is there is the same too, and is so. The first has one buffer for the
- * body and the answer, which holds the body still after a request that has one. */
+/* Runs random sessions on two devices, with each call made on both: one over plain memory, overwritten in place by dfu_device_memory.h, and
+ * one over flash with sectors, by the calls of dfu_core.h. In each unit both must return the same results and bytes, and leave the same
+ * record and image. would_stall must also agree on both, and with the result of the request. The first device has one buffer for body and
+ * answer, which still holds the body after a request that has one. */
 #include "driver.h"
 
 #include "dfu_device_memory.h"
@@ -9,7 +9,7 @@
 static const struct fate well = {WELL, 0, 0, 0};
 static const uint32_t units[] = {1, 16, 64, 256};
 
-/* The device over plain memory; what its buffer of data has before a call. */
+/* The device over plain memory, and its data buffer before a call. */
 static struct dfu_config in_place;
 static uint8_t medium[MOST_FLASH], pending[DFU_BLOCK_SIZE(MOST_BLOCK, 256)], data[MOST_BLOCK];
 static const struct dfu_driver driver = DFU_MEMORY_DRIVER(medium);
@@ -40,7 +40,8 @@ static int32_t make(struct board *board, uint32_t what, uint32_t ms, const uint8
     return length > config.transfer ? dfu_core_too_long(&config, &board->record, setup) : transfer(board, setup, body, &well);
 }
 
-/* Returns whether both left the same, and the buffer of data has what it had, this body, or the answer. */
+/* Returns 1 if both devices have the same state and the same active image, and the data buffer of the first holds `body`, or without a body
+ * the same bytes as the answer buffer of the second. */
 static int is_same(const struct board *board, const uint8_t *body) {
     const struct dfu_record *one = &plain.record, *two = &board->record;
     struct dfu_place here, there;
@@ -53,7 +54,7 @@ static int is_same(const struct board *board, const uint8_t *body) {
         && here.length == there.length && memcmp(medium + here.at, board->flash + there.at, here.length) == 0;
 }
 
-/* Both anew, in a unit and with a sector by dice. */
+/* Formats both devices, with a random unit and sector. */
 static int ship_both(struct board *board, uint32_t turn) {
     uint8_t image[64];
     uint32_t unit = units[turn % 4], sector = 256u << roll(2), capacity = roll(2) ? 512 : 1024, length = roll(64);

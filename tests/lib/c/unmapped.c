@@ -1,7 +1,7 @@
-/* Installs over flash that is mapped, and the same over flash that is not: with DFU_READ the flash of the device is memory that nobody may
- * look at, so that a read past the program's function ends the program by a signal. Units of 1, 16, 64 and 256 bytes, in place and in
- * sectors; formats, downloads, uploads, operations that fail and that lie, looks for the image, for a candidate and for a blank part. It
- * prints what came of each, which has to be the same for both. */
+/* Installs over mapped flash, and over flash that is not mapped: with DFU_READ the device's flash is memory without access, so any read
+ * other than by the program's function ends the program with a signal. It tests units of 1, 16, 64 and 256 bytes, in place and in sectors;
+ * formats, downloads and uploads; operations that fail or report a false success; and calls for the image, the candidate and a blank part.
+ * The output must be the same for both kinds of flash. */
 #define _DEFAULT_SOURCE
 #include <stdio.h>
 #include <stdlib.h>
@@ -37,7 +37,7 @@ static void note(int32_t n, const uint8_t *bytes, size_t count) {
 }
 
 #ifdef DFU_READ
-/* The program's own, as for a part behind SPI: a place is how far it is from the front of `flash`. */
+/* The program's function for DFU_READ, as for SPI flash: the offset is the distance from the first address of `flash`. */
 void DFU_READ(const unsigned char *from, unsigned char *to, size_t count) {
     size_t at = (uintptr_t)from - (uintptr_t)flash;
     if (at > device.size || count > device.size - at)
@@ -47,7 +47,7 @@ void DFU_READ(const unsigned char *from, unsigned char *to, size_t count) {
 }
 #endif
 
-/* Whether this operation works; else it fails, or it lies. */
+/* Returns 1 if this operation succeeds; else it fails, or reports a false success. */
 static int works(void) {
     operations++;
     return trouble == 0 || operations % trouble != 0;
@@ -89,7 +89,7 @@ static int32_t ask(uint8_t kind, uint8_t request, uint16_t value, uint16_t lengt
     return n;
 }
 
-/* A download of a new image, and what an upload gives after it. */
+/* Downloads a new image, and uploads it. */
 static void install(void) {
     uint8_t image[700];
     struct dfu_place place = {0, 0};

@@ -1,7 +1,7 @@
-/* Trials, a run area and two areas over flash that is mapped, and the same over flash that is not: with DFU_READ both chips are memory that
- * nobody may look at, so that a read past the program's function ends the program by a signal. A board takes an update and starts it; the
- * power goes once at each operation of a chip, in four ways. After each loss an image starts that is whole, the old or the new one. It
- * prints what came of each part, which has to be the same for both. */
+/* Tests trials, a run area and two areas over mapped flash, and over flash that is not mapped: with DFU_READ both chips are memory without
+ * access, so any read other than by the program's function ends the program with a signal. A board receives an update and starts it; power
+ * is lost once, at each operation of a chip, in four ways. After each loss the old or the new image starts, whole. The output must be the
+ * same for both kinds of flash. */
 #define _DEFAULT_SOURCE
 #include <sys/mman.h>
 
@@ -42,7 +42,7 @@ static int which(const uint8_t *bytes, uint32_t length) {
     return -1;
 }
 
-/* A request to the bootloader, which asks dfu_trial_transfer before, if there are trials. */
+/* Makes a request to the bootloader, which calls dfu_trial_transfer first if there are trials. */
 static int32_t request(int has_trials, uint8_t kind, uint8_t what, uint16_t value, uint16_t length, const uint8_t *body) {
     const uint8_t setup[8] = {kind, what, (uint8_t)value, (uint8_t)(value >> 8), 0, 0, (uint8_t)length, (uint8_t)(length >> 8)};
     int32_t n = has_trials ? dfu_trial_transfer(&trial, &device, setup) : 0;
@@ -52,7 +52,7 @@ static int32_t request(int has_trials, uint8_t kind, uint8_t what, uint16_t valu
     note(dfu_device_work(&device), NULL, 0);
     return n;
 }
-/* A download of the new image. Returns the state in which it ends: dfuIDLE if it is in place. */
+/* Downloads the new image. Returns the final state, which is dfuIDLE if the image is active. */
 static int32_t download(int has_trials) {
     uint16_t number = 0;
     expect("it begins", dfu_device_begin(&device) == 0);
@@ -67,7 +67,7 @@ static int32_t download(int has_trials) {
     return dfu_device_state(&device);
 }
 
-/* A start with a run area and trials: the image is brought to the run area before its start is marked. */
+/* Starts with a run area and trials: the image is copied to the run area before its start is marked. */
 static int start_of_trial(void) {
     struct dfu_standing standing;
     struct dfu_place place;
@@ -85,7 +85,7 @@ static int start_of_trial(void) {
         expect("it confirms itself", dfu_trial_accept(&trial, place.at) == 0);
     return image;
 }
-/* A start with two areas: the image is brought to the first slot. */
+/* Starts with two areas: the image is copied to the first slot. */
 static int start_at_home(void) {
     struct dfu_place place = {0, 0};
     int image;
@@ -97,7 +97,7 @@ static int start_at_home(void) {
     return image;
 }
 
-/* An update of a board that has the old image, with this loss of power. Returns how many operations there were. */
+/* Updates a board that has the old image, with this loss of power. Returns the number of operations. */
 static long life(int has_trials, long cut, int how) {
     volatile int is_offered = 0;
     int image;
@@ -137,7 +137,8 @@ static void try_part(int has_trials, uint32_t unit, uint32_t sector) {
            (unsigned)sector, all, (unsigned)updated, (unsigned)kept, (unsigned)sum);
     expect("some of both", updated > 0 && kept > 0);
 }
-/* A driver that splits no program at pages: the download is refused as it reads back other bytes, and the old image stays. */
+/* With a driver that does not split programs at pages, the read-back finds other bytes, the download is refused, and the old image stays.
+ */
 static void try_driver_that_wraps(void) {
     struct dfu_place place = {0, 0};
     config.unit = 16, config.sector = chips[SLOTS].sector = 256;

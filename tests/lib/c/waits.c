@@ -1,7 +1,7 @@
-/* Time that a host waits for a download, by the choice of busy_ms, and by each block's own time: the numbers of docs/PORTING.md,
- * "How long a host waits". The device is the library's; the part's times are modelled, and the bus takes none. After each answer that says
- * dfuDNBUSY the host waits bwPollTimeout, and its next request gets NAK until the block is written. By each block's own time the host must
- * wait at most one and a half times as long as the part is busy; else the status is 1. */
+/* Computes how long a host waits for a download, with different values of busy_ms, and with each block's own time: the numbers of
+ * docs/PORTING.md, "How long a host waits". The device is that of the library; the times of the part are modelled, and the bus takes none.
+ * After each answer with dfuDNBUSY the host waits bwPollTimeout, and its next request gets NAK until the block is written. With each
+ * block's own time the host may wait at most one and a half times as long as the part is busy; else the exit status is 1. */
 #include <stdio.h>
 #include <string.h>
 
@@ -9,7 +9,7 @@
 
 struct part {
     const char *name;
-    uint32_t unit, sector, image, erase_ms, erase_most, tenths, program_most; /* tenths of a millisecond for 256 bytes */
+    uint32_t unit, sector, image, erase_ms, erase_most, tenths, program_most; /* tenths: tenths of a millisecond for 256 bytes */
 };
 
 static uint32_t erases, programs;
@@ -29,7 +29,7 @@ static int program(void *own, uint32_t at, const uint8_t *bytes, uint32_t length
 static uint8_t data[4096], flash[2 * (2 * 4096 + 524288)];
 static double waited, needed, longest;
 
-/* A request, and the work after its answer: how long the part is busy, and how long it may be. */
+/* Makes a request, and does the work after its answer. Computes the typical and the maximum time for which the part is busy. */
 static int32_t ask(struct dfu_device *d, const struct part *p, uint8_t request, uint16_t length, double *busy, double *most)
 {
     static uint16_t number;
@@ -46,7 +46,7 @@ static int32_t ask(struct dfu_device *d, const struct part *p, uint8_t request, 
     return n;
 }
 
-/* A GETSTATUS: the host waits as it is told, and then until the part is done. False if it is no status without a fault. */
+/* Sends GETSTATUS, waits bwPollTimeout, and then until the part is done. Returns 0 if the status is not OK. */
 static int poll(struct dfu_device *d, const struct part *p)
 {
     double busy, most;
@@ -59,7 +59,7 @@ static int poll(struct dfu_device *d, const struct part *p)
     return 1;
 }
 
-/* Time that a download takes, in seconds; negative if it fails. */
+/* Returns the time of a download in seconds, or a negative number if it fails. */
 static double session(const struct part *p, uint16_t block, uint32_t busy_ms, uint16_t erase_ms, uint16_t program_ms)
 {
     const struct dfu_config config = {DFU_VERSION, 0, 0, 0, 1000, block, 7, 0, busy_ms, 0, 1, p->unit, p->sector, erase_ms, program_ms};
@@ -79,8 +79,7 @@ static double session(const struct part *p, uint16_t block, uint32_t busy_ms, ui
     return is_well ? waited / 1000 : -1;
 }
 
-/* Returns a choice of busy_ms: the time of a block that erases nothing; and more, if the longest block would keep a request waiting for
- * over 4 s. */
+/* Returns a value for busy_ms: the time of a block that erases nothing, or more if a request would wait over 4 s for the longest block. */
 static uint32_t chosen(const struct part *p, uint16_t block)
 {
     const uint32_t typical = (DFU_BLOCK_PROGRAMS(block) * p->tenths + 9) / 10;

@@ -1,5 +1,6 @@
-/* dfu_watch.h and dfuse_watch.h by rows worked out by hand: a device that stalls, is silent, leaves, or comes back as another one. And for
- * all facts and all records of small numbers: what is kept, how often another session begins, and that nothing else changes. */
+/* Tests dfu_watch.h and dfuse_watch.h with rows worked out by hand: a device that stalls, does not answer, leaves, or returns as another
+ * one. It also tries all facts with many records, and checks the record, how often another session begins, and that nothing else changes.
+ */
 #include <stdio.h>
 #include <string.h>
 
@@ -25,7 +26,7 @@ static struct dfu_action request(uint8_t kind, uint8_t number)
     return (struct dfu_action){.what = DFU_SEND, .setup = {kind, number, 0, 0, 0, 0, 0, 0}};
 }
 
-/* Says yes to one fact more, or no. */
+/* Returns the facts with one of them changed to `answer`. */
 static struct dfu_facts with(struct dfu_facts facts, uint8_t *fact, const struct dfu_facts *of, uint8_t answer)
 {
     ((uint8_t *)&facts)[fact - (const uint8_t *)of] = answer;
@@ -151,7 +152,7 @@ static void dfuse(void)
         is("silent", dfuse_watch_after(&watch, &writes, &status, 0, DFU_SEEN_NOTHING, &well), turn == 24 ? DFU_ENDS_SILENT : 0);
 }
 
-/* Every record of small numbers, each of the facts, every seen. */
+/* Tries records with 21 to 25 silent requests and up to 3 resets, with each combination of facts and each outcome. */
 static void everything(void)
 {
     struct dfu_action actions[] = {request(0x21, 1), request(0xa1, 2), request(0xa1, 3), waits, resets};

@@ -1,4 +1,4 @@
-/* The events of FunctionFS, and which of them drop others. */
+/* The events of FunctionFS, and which queued events each of them drops. */
 #include "kernel.h"
 
 #include <linux/usb/functionfs.h>

@@ -1,7 +1,7 @@
-/* The host's script, which GADGET_HOST names, and its log GADGET_SAID. A line has one step, or several with `;` between that come before
-   the program gets to see any: setup HEX [HEX | xN | none], reset, enable, alt, disable, suspend, resume, unbind, state (the
-   controller's is written), wait MS, signal N, sh COMMAND.
-   A line `image` has nothing come until the program's child has ended. */
+/* Plays the host's script, which GADGET_HOST names, and writes its log GADGET_SAID. A line has one step, or several separated by `;`, which
+ * all happen before the program can read any of their events: setup HEX [HEX | xN | none], reset, enable, alt, disable, suspend, resume,
+ * unbind, state (the controller's state changes), wait MS, signal N, sh COMMAND. After a line `image` no event happens until the program's
+ * child has ended. */
 #include "kernel.h"
 
 #include <linux/usb/functionfs.h>
@@ -75,7 +75,7 @@ static void play_setup(struct endpoint *endpoint, char *words)
     event_add(endpoint, FUNCTIONFS_SETUP);
 }
 
-/* A controller's state is written as it is reset, and as a configuration is set. */
+/* Sets or resets the configuration. Either changes the controller's state, so that the next poll reports an event of the state's file. */
 static void play_configured(struct endpoint *endpoint, bool is_set)
 {
     is_state_written = true;

@@ -1,4 +1,4 @@
-/* The calls of the program that the stand-in takes in place of Linux. */
+/* Calls of the program that the stand-in handles instead of Linux. */
 #define _GNU_SOURCE
 #include "kernel.h"
 
@@ -27,7 +27,7 @@ ssize_t __real_pwrite(int file, const void *bytes, size_t length, off_t at);
 int __real_fdatasync(int file);
 int __real_posix_fadvise(int file, off_t at, off_t length, int advice);
 
-/* Bytes that a write which isn't on the disk has put into the kernel's memory: a reader sees them until they are dropped. */
+/* The last write, whose bytes are in the kernel's memory, but not yet on the disk: a reader gets them until they are dropped. */
 static struct {
     off_t at;
     size_t length;
@@ -82,7 +82,7 @@ int __wrap_close(int file)
     return __real_close(file);
 }
 
-/* A name: the gadget joins, and the host sets its configuration. An empty one: it leaves. */
+/* Handles a controller's name, which connects the gadget, so that the host configures it. An empty name disconnects the gadget. */
 static ssize_t write_controller(struct endpoint *endpoint, const char *bytes, size_t length)
 {
     bool is_join = bytes[0] != '\n';
@@ -102,7 +102,7 @@ static ssize_t write_controller(struct endpoint *endpoint, const char *bytes, si
     return (ssize_t)length;
 }
 
-/* Descriptors of an interface and of DFU, for each of three speeds; then the strings. A kernel before 6.11 knows no such descriptor. */
+/* Accepts the interface and functional descriptors for three speeds, then the strings. Linux before 6.11 refuses functional descriptors. */
 static ssize_t write_descriptors(struct endpoint *endpoint, const uint8_t *bytes, size_t length)
 {
     static const uint8_t head[12] = {3, 0, 0, 0, 82, 0, 0, 0, 39, 0, 0, 0};
@@ -201,7 +201,7 @@ ssize_t __wrap_pwrite(int file, const void *bytes, size_t length, off_t at)
         errno = EIO;
         return -1;
     }
-    if (is_nth("GADGET_CUT", writes)) { /* the power goes in the middle of it */
+    if (is_nth("GADGET_CUT", writes)) { /* power is lost in the middle of the write */
         __real_pwrite(file, bytes, length / 2, at);
         _exit(96);
     }

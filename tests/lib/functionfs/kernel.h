@@ -1,5 +1,5 @@
-/* A stand-in for what Linux does for dfu-gadget: FunctionFS, a controller, and the clock. It is linked in with --wrap, in one process
-   and without a thread: where the program waits, the next line of a host's script is played. */
+/* A stand-in for the parts of Linux that dfu-gadget uses: FunctionFS, a controller, and the clock. It is linked with --wrap and runs in the
+ * program's process, without a thread: when the program waits, the next line of a host's script is played. */
 #ifndef TESTS_FUNCTIONFS_KERNEL_H
 #define TESTS_FUNCTIONFS_KERNEL_H
 
@@ -11,8 +11,8 @@
 
 struct endpoint {
     const char *gadget;
-    int file, signals; /* the program's endpoint 0, and its eventfd; -1 */
-    int written;       /* how many of descriptors and strings were taken */
+    int file, signals; /* files of the program: endpoint 0, and the eventfd; -1 if not open */
+    int written;       /* 0 at first, 1 after the descriptors, 2 after the strings */
     bool is_joined, is_enabled;
     uint8_t types[MOST_EVENTS];
     size_t count;
@@ -23,23 +23,23 @@ struct endpoint {
 extern struct endpoint endpoints[2];
 extern int64_t now_ms;
 extern bool is_state_written;
-extern int state_file; /* of the controller, as the program has it open; -1 */
+extern int state_file; /* the program's open file of the controller's state, or -1 */
 
-/* The endpoint of a file, NULL where it is none; the one that is on the bus, or NULL. */
+/* endpoint_of returns the endpoint of a file, or NULL; joined returns the endpoint that is on the bus, or NULL. */
 struct endpoint *endpoint_of(int file);
 struct endpoint *joined(void);
 
-/* An event comes, and drops those that it drops in FunctionFS (drivers/usb/gadget/function/f_fs.c, __ffs_event_add). */
+/* Adds an event, and drops those that FunctionFS drops for it (drivers/usb/gadget/function/f_fs.c, __ffs_event_add). */
 void event_add(struct endpoint *endpoint, uint8_t type);
 
-/* The data stage of the setup that stands there; -1 where the host sends none. */
+/* Copies the data stage of the current setup. Returns its length, or -1 if the host sends none. */
 int host_data(uint8_t *bytes, size_t room);
 
-/* Write the result of a transfer, and notes, to the log of the host. */
+/* host_said writes the result of a transfer to the host's log, and host_note writes a note. */
 void host_said(const struct endpoint *endpoint, const char *what, const uint8_t *bytes, size_t length);
 void host_note(const char *format, ...) __attribute__((format(printf, 1, 2)));
 
-/* Plays a line of the script. False where it waits for `*pause` ms. At the end of the script the program is sent SIGTERM. */
+/* Plays a line of the script. Returns false if the host waits `*pause` ms. At the end of the script the program gets SIGTERM. */
 bool host_play(int64_t *pause);
 
 #endif

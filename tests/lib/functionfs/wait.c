@@ -1,4 +1,4 @@
-/* While the program waits, the host goes on. */
+/* Plays the host while the program waits. */
 #include "kernel.h"
 
 #include <poll.h>
@@ -23,7 +23,7 @@ static int look(struct pollfd *waits, nfds_t count, int timeout)
     return ready;
 }
 
-/* Beside the pipe of a signal there is something else that is real. */
+/* Returns true if the program waits for another real file in addition to the pipe of its signals. */
 static bool has_child(const struct pollfd *waits, nfds_t count)
 {
     int real = 0;
@@ -32,7 +32,7 @@ static bool has_child(const struct pollfd *waits, nfds_t count)
     return real > 1;
 }
 
-/* Time passes only here, and while nothing else does. */
+/* Simulated time passes only here, if no event is ready. */
 int __wrap_poll(struct pollfd *waits, nfds_t count, int timeout)
 {
     static int64_t rest_ms;
@@ -43,7 +43,7 @@ int __wrap_poll(struct pollfd *waits, nfds_t count, int timeout)
             ready = look(waits, count, 0);
             continue;
         }
-        if (rest_ms < 0) { /* the child has its real time */
+        if (rest_ms < 0) { /* a child process runs in real time */
             rest_ms = 0;
             for (int turn = 0; ready == 0 && turn < 5000 && has_child(waits, count); turn++)
                 ready = look(waits, count, 1);

@@ -1,5 +1,5 @@
-/* Stand-ins for the calls of dfu_trial_core.h, dfu_install_core.h and dfu_home_core.h. Each checks that it comes now, and with what the program handed in;
- * then it answers anything. */
+/* Stand-ins for the calls of dfu_trial_core.h, dfu_install_core.h and dfu_home_core.h. Each checks that it is called at the right moment,
+ * with the program's arguments; then it returns one of the results of says.c. */
 #include <string.h>
 
 #include "monitor.h"
@@ -15,7 +15,7 @@ static void with_tries(const struct dfu_tries *tries)
           "another unit, sector or number of tries");
 }
 
-/* The operation that was handed out, with all its bytes. */
+/* Checks that this is the operation that was handed out, with all its bytes. */
 static void with_ask(const struct dfu_ask *ask)
 {
     holds(ask->kind == handed.kind && ask->at == handed.at && ask->length == handed.length
@@ -23,7 +23,7 @@ static void with_ask(const struct dfu_ask *ask)
           "another operation than the one handed out");
 }
 
-/* A call answers, and hands out an operation if one is due. */
+/* Returns a result of the call, and hands out an operation with DFU_WRITE_PENDING. */
 static int32_t say_or_ask(enum call call, struct dfu_ask *ask)
 {
     const int32_t n = say(call);
@@ -32,7 +32,7 @@ static int32_t say_or_ask(enum call call, struct dfu_ask *ask)
     return n;
 }
 
-/* The active image lies elsewhere at each look. */
+/* Each call returns another place for the active image. */
 int32_t dfu_core_trial_look(const struct dfu_tries *tries, const uint8_t *flash, size_t size, struct dfu_standing *standing)
 {
     comes(TRIAL_LOOK);
@@ -115,7 +115,7 @@ int32_t dfu_core_trial_upload(const struct dfu_tries *tries, const uint8_t *flas
     return say_or_ask(TRIAL_UPLOAD, ask);
 }
 
-/* The run area, and the image that is to be in it. */
+/* Checks the arguments for the run area, and for the image to copy. */
 static void with_area(const struct dfu_run_area *area, const uint8_t *image, size_t length, const uint8_t *run, size_t size)
 {
     holds(area == given.area && image == given.image && length == given.length, "another run area or image");
@@ -140,7 +140,7 @@ int32_t dfu_core_install_took(struct dfu_run_area *area, const uint8_t *image, s
     return say(INSTALL_TOOK);
 }
 
-/* The record of a copy: the first call of a path begins one, and each operation that was told counts. */
+/* Checks the record of a copy: the first call of a path begins one, and each reported operation is counted. */
 static void with_home(const struct dfu_home_record *record)
 {
     if (given.home == NULL) {

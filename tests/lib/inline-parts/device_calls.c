@@ -1,9 +1,10 @@
-/* Stand-ins for the calls of dfu_core.h. Each checks that it comes now, and with what the program handed in; then it answers anything. */
+/* Stand-ins for the calls of dfu_core.h. Each checks that it is called at the right moment, with the program's arguments; then it returns
+ * one of the results of says.c. */
 #include <string.h>
 
 #include "monitor.h"
 
-/* The configuration and the record: those of the device, or of one that the inline call makes. */
+/* Checks configuration and record: those of the program's device, or of the one that the inline call makes. */
 static void of(const struct dfu_config *config, const struct dfu_record *record)
 {
     if (given.record == NULL)
@@ -32,7 +33,8 @@ static void with_setup(const uint8_t *setup)
     holds(setup == given.setup, "another setup");
 }
 
-/* The caller's buffer; but the work, which is done before the request is handed in, has one of its own: the caller's may hold the body. */
+/* Checks the output buffer: it is the caller's, except for the work before a request, which needs a separate buffer because the caller's
+ * may hold the body. */
 static void with_out(uint8_t *out, size_t room)
 {
     if (stage_now() != ELAPSE)

@@ -1,4 +1,5 @@
-/* The inline calls that are a proved call with the fields of a struct: it is made once, with these, and its number is returned. */
+/* The inline calls that pass the fields of a struct to one proved call: they must make that call once, with these fields, and return its
+ * result. */
 #ifndef FORWARDS_H
 #define FORWARDS_H
 #include "handed_in.h"
@@ -58,7 +59,7 @@ static int32_t forward(enum call call)
     }
 }
 
-/* Checks that the values which the proved call writes for the program are in the program's own memory. */
+/* Checks that the proved call wrote its results to the program's memory. */
 static void is_written(enum call call, int32_t n)
 {
     const struct dfu_place *wanted = call == TRIAL_RUNS ? &given.otherwise : &given.run;
@@ -92,7 +93,7 @@ static void try_forwards(void)
     }
 }
 
-/* dfu_device_handle: the body is handed in with its length if the host sends, and asked about if it is too long. */
+/* dfu_device_handle passes the body with its length if the host sends, and calls too_long for a body that is too long. */
 static void try_lengths(void)
 {
     static const uint16_t transfers[] = {1, 64, 255, 256, 4096, 65535};

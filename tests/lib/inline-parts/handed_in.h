@@ -37,10 +37,10 @@ static void hand_in_trial(void)
     place.at = place.length = 77;
 }
 
-/* The most operations of a path. */
+/* Maximum number of operations of a path. */
 static unsigned most;
 
-/* All anew: a path leaves nothing to the next one. */
+/* Resets all arguments, so that no path depends on an earlier one. */
 static void hand_in(int has_driver)
 {
     operation_bound = most;
@@ -76,7 +76,7 @@ static void hand_in(int has_driver)
     hand_in_trial();
 }
 
-/* The length of the data stage that the host sends with the setup. */
+/* Returns the length of the data stage that the host sends with the setup. */
 static size_t sent(void)
 {
     return setup[0] == 0x21 ? setup[6] + 256u * setup[7] : 0;

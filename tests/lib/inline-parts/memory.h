@@ -1,12 +1,12 @@
-/* The driver of dfu_device_memory.h: it changes the bytes of its range, and no other, as the operation says. And the two calls that make
- * the first contents of a flash by it, in memory. */
+/* Tests the driver of dfu_device_memory.h, which must change exactly the bytes of its range, as the operation says; and the two calls that
+ * use it to build the first contents of a flash in memory. */
 #ifndef MEMORY_H
 #define MEMORY_H
 #include "plans.h"
 
 #define CELLS 7
 
-/* Each range of a few bytes, by an operation of the driver. */
+/* Tries each range of a few bytes with both operations of the driver. */
 static void try_driver(void)
 {
     while (next_path("driver of dfu_device_memory.h")) {
@@ -25,7 +25,7 @@ static void try_driver(void)
     }
 }
 
-/* Hands in the arguments of a program that has memory, and no device: the inline call makes one. Its block is not used by a format. */
+/* Sets the arguments of a program that has memory, but no device: the inline call makes one. A format doesn't use its block. */
 static void hand_in_memory(uint8_t *medium, size_t size)
 {
     hand_in(1);

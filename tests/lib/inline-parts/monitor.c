@@ -1,5 +1,6 @@
-/* The order of calls. Above all it is that of the laws over lists: an operation that was asked for is handed out, carried out once, as it
- * was handed out, and told with how it went, before any other call. Else a call is the next stage of the plan. A refusal ends both. */
+/* Checks the order of calls. As in the laws over lists, an operation that was requested is handed out, carried out once exactly as handed
+ * out, and reported with its result, before any other call. Apart from that, each call must be the next stage of the plan. After a refusal
+ * no more calls are expected. */
 #include "monitor.h"
 
 struct given given;
@@ -10,11 +11,12 @@ static const struct stage *stage;
 static struct stage one[2];
 static int carries, is_plain, is_over, failed;
 static int32_t ends;
-/* Call that has to come before any other call, and the call that asked for it. */
+/* Call that must be made before any other call, and the call that requested the operation. */
 static enum call owed, asking;
 
-/* The calls that hand out what a call asked for, and that learn how it went. Those of a trial hand it out themselves, and read it back
- * when they are made again; those of a run area and of two areas hand it out themselves. */
+/* For each call that requests an operation: the call that hands the operation out, and the one that receives its result. The calls of a
+ * trial, of a run area and of two areas hand it out themselves. No call receives the result of a trial's operation: the next call of the
+ * plan reads the flash back. */
 static const struct {
     enum call next, took;
 } loop[CALLS] = {[HANDLE] = {NEXT, TOOK},
@@ -49,7 +51,7 @@ static int may_come(enum when when, int32_t n)
     }
 }
 
-/* A stage is done, with its operations: the next one comes, or the end. */
+/* Ends a stage after its operations: continues with the next stage, or ends the plan. */
 static void go_on(int32_t n)
 {
     const enum end end = stage->end;
@@ -61,7 +63,7 @@ static void go_on(int32_t n)
                                                               : n);
 }
 
-/* Returns whether the setup begins a download or an upload. */
+/* Returns 1 if the setup begins a download or an upload. */
 static int begins(void)
 {
     const uint8_t *s = given.setup;
@@ -107,7 +109,7 @@ enum call stage_now(void)
     return stage->call;
 }
 
-/* A question changes nothing and may be asked at any time, where it is no stage. */
+/* Returns 1 for a call that changes nothing, and so may be made at any time, unless it is the next stage. */
 static int is_question(enum call call)
 {
     return (call == STATE || call == DUE) && (is_over || stage->call != call);
@@ -144,7 +146,7 @@ void carried(int has_failed)
         holds((++stage)->when == CARRIED, "an operation where none is meant");
 }
 
-/* A call asked for an operation. */
+/* Notes that a call requested an operation. */
 static void ask(enum call call)
 {
     asks++;

@@ -1,5 +1,5 @@
-/* The paths of the inline calls of include/, up to some operations, over stand-ins. It prints how many there were, or the first that goes
- * wrong. Its word is the most operations of a path. */
+/* Tries the paths of the inline calls of include/, up to some number of operations, over stand-ins. It prints the number of paths, or the
+ * first faulty one. Argument: the maximum number of operations of a path. */
 #include <limits.h>
 #include <stdlib.h>
 
@@ -8,7 +8,7 @@
 #include "plans.h"
 #include "runtime.h"
 
-/* Parts of a path beside its plan: a state and a time that is due, a setup, or a driver that is not asked. */
+/* Choices of a path in addition to its plan: a state and a pending time, a setup, or no driver. */
 enum { STATES = 1, SETUPS = 2, NO_DRIVER = 4 };
 
 static const struct inline_call {
@@ -29,8 +29,8 @@ static const struct inline_call {
                     {"dfu_trial_transfer", downloading, transfer, STATES | SETUPS},
                     {"dfu_trial_format", formatting_a_trial, format_trial, 0}};
 
-/* Picks a state, and a due time or an error in its place. Paths have full length only in dfuDNBUSY and dfuIDLE with a due time of 7 ms;
- * all others lead to the same calls, and get one operation. */
+/* Chooses a state, and a pending time or an error instead. Paths have full length only in dfuDNBUSY and dfuIDLE with a pending time of 7
+ * ms; the others lead to the same calls, and get one operation. */
 static void pick_state(void)
 {
     static const int32_t states[] = {DFU_STATE_DNBUSY,      DFU_STATE_IDLE,     DFU_STATE_APP_IDLE,    DFU_STATE_DNLOAD_SYNC,
@@ -57,7 +57,7 @@ static void pick_setup(void)
         operation_bound = 1;
 }
 
-/* The plan, as it is for this setup. */
+/* Returns the plan for the current setup. */
 static const struct stage *plan_of(const struct inline_call *it)
 {
     if (it->plan == serving && sent() > config.transfer)
@@ -67,7 +67,7 @@ static const struct stage *plan_of(const struct inline_call *it)
     return it->plan;
 }
 
-/* dfu_trial_boot and dfu_trial_boot_from: the place is the one of the start that came about. */
+/* After dfu_trial_boot and dfu_trial_boot_from, checks that the place is that of the image to start. */
 static void is_started(int32_t n)
 {
     const uint32_t wanted = n != 0 ? 77 : operations == 0 ? given.run.at : given.otherwise.at;
@@ -92,7 +92,7 @@ static void try_plan(const struct inline_call *it)
     }
 }
 
-/* dfu_device_settle: it carries out what is due, and gives any other number back. */
+/* Tries dfu_device_settle: it carries out pending operations, and returns any other number unchanged. */
 static void try_settle(void)
 {
     static const int32_t numbers[] = {DFU_WRITE_PENDING, 0, 6, DFU_STALL, DFU_BUSY, DFU_NO_DEVICE};
@@ -106,7 +106,8 @@ static void try_settle(void)
     }
 }
 
-/* dfu_install_settle: it ends with DFU_NOT_WRITTEN behind an erase and its pieces for each sector, and the pieces of one more. */
+/* Tries dfu_install_settle: it returns DFU_NOT_WRITTEN after an erase and its programs for each sector, and the programs of one more
+ * sector. */
 static void try_install(void)
 {
     static const struct {
@@ -125,8 +126,8 @@ static void try_install(void)
     }
 }
 
-/* dfu_home_settle: the place is that of the first slot's data, with the length in its header, whichever of 16 bytes, the unit and the
- * sector is the most. */
+/* Tries dfu_home_settle: the place is the first slot's data, with the length in its header. The gate is as long as the largest of 16 bytes,
+ * unit and sector, and each of the three is the largest once. */
 static void try_home(void)
 {
     static const struct {
@@ -154,7 +155,7 @@ static void try_home(void)
     }
 }
 
-/* dfu_home_transfer: the work comes first; then the question, if the setup begins a download. */
+/* Tries dfu_home_transfer: first the work, then may_download if the setup begins a download. */
 static void try_home_transfer(void)
 {
     while (next_path("dfu_home_transfer")) {

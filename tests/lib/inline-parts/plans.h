@@ -1,4 +1,4 @@
-/* The inline calls that make several of the proved calls, each with its plan: what its comment in the header says, as a list. */
+/* The inline calls that make several proved calls. The plan of each lists these calls, as its comment in the header describes them. */
 #ifndef PLANS_H
 #define PLANS_H
 #include "handed_in.h"
@@ -16,7 +16,7 @@ static const struct stage serving[] = {THE_WORK, {HANDLE, WELL, AS_ANSWERED}, NO
 static const struct stage serving_long[] = {THE_WORK, {TOO_LONG, WELL, AS_ANSWERED}, NO_MORE};
 static const struct stage resetting[] = {THE_WORK, {USB_RESET, WELL, AS_ANSWERED}, NO_MORE};
 static const struct stage formatting[] = {{FORMAT_START, ALWAYS, AS_ANSWERED}, NO_MORE};
-/* A byte that is misread once gives up no image: it takes two looks, and two more at what was never written. */
+/* A byte that is misread once destroys no image: a start makes two checks for an image, and two more for a blank part. */
 static const struct stage starting_up[] = {{POWER_ON, ALWAYS, AS_ANSWERED},
                                            {POWER_ON, IF_NO_MEDIUM, AS_ANSWERED},
                                            {IS_BLANK, IF_NO_MEDIUM, ALWAYS_NO_MEDIUM},

@@ -1,5 +1,5 @@
-/* The inline calls of dfu_runtime.h, which are made of no proved call: each list of a few steps, beside the rows of USB DFU 1.1, A.2.1 and
- * A.2.2. */
+/* Tests the inline calls of dfu_runtime.h, which make no proved call: each list of a few steps is compared with the rows of USB DFU 1.1,
+ * A.2.1 and A.2.2. */
 #ifndef RUNTIME_H
 #define RUNTIME_H
 #include "dfu_runtime.h"
@@ -7,7 +7,7 @@
 
 #define OWN 3
 
-/* A request, and in appIDLE and in appDETACH how many bytes answer it, or DFU_STALL, and the state that follows. */
+/* A request. For appIDLE and for appDETACH: the number of bytes of the answer, or DFU_STALL, and the next state. */
 struct row {
     uint8_t setup[8];
     int32_t number[2];
@@ -33,12 +33,12 @@ static const struct row rows[] = {
     {{0x41, DFU_DETACH, 3, 0, OWN, 0, 0, 0}, {DFU_STALL, DFU_STALL}, {0, 1}},
 };
 #define ROWS (sizeof rows / sizeof rows[0])
-/* wDetachTimeOut of the device, and the times that pass. */
+/* wDetachTimeOut of the device, and times that pass. */
 static const uint16_t timeouts[] = {2, 5};
 static const uint32_t times[] = {0, 1, 2, 3, 0xffffffff};
 
 static struct dfu_runtime runtime;
-/* State and time left that a row expects. */
+/* State and remaining time that a row expects. */
 static uint32_t state_wanted, left_wanted;
 
 static void request(const struct row *row)
@@ -81,7 +81,7 @@ static void step(void)
     holds(runtime.state == state_wanted, "another state");
 }
 
-/* Lists of so many steps. */
+/* Tries all lists of this many steps. */
 static void try_runtime(unsigned steps)
 {
     while (next_path("dfu_runtime.h")) {

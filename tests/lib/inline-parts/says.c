@@ -1,11 +1,12 @@
-/* Answers of stand-ins: in turn each number that the header has for the call, any operation, and any number of the driver. */
+/* Results of the stand-ins, each tried in turn: numbers that the header lists for a call, operations, and results of the driver. */
 #include <limits.h>
 #include <string.h>
 
 #include "dfu_device.h"
 #include "monitor.h"
 
-/* DFU_WRITE_PENDING stands last: a path that has its operations does without. */
+/* The results of each call's stand-in. DFU_WRITE_PENDING is the last one, so that a path with its maximum of operations can leave it
+ * out. */
 static const struct {
     unsigned count;
     int32_t numbers[6];
@@ -41,7 +42,8 @@ static const struct {
                     [HOME_NEXT] = {6, {0, DFU_NO_CONFIG, DFU_NO_MEDIUM, DFU_NO_SECTORS, DFU_NOT_WRITTEN, DFU_WRITE_PENDING}},
                     [HOME_TOOK] = {1, {0}},
                     [HOME_MAY_DOWNLOAD] = {4, {0, 1, DFU_NO_CONFIG, DFU_NO_MEDIUM}}};
-/* The driver: 0 is done, any other number is a failure. A path's first operation has all of them, the others the first three. */
+/* Results of the driver: 0 is success, any other number a failure. A path's first operation tries all of them, the others the first three.
+ */
 static const int driver_says[] = {0, 1, -1, 256, 65536, INT_MIN};
 
 uint8_t *memory;
@@ -70,7 +72,7 @@ void hand_out(struct dfu_ask *ask)
         memcpy(memory_before, memory, given.size);
 }
 
-/* An operation of the driver: it is the one that was handed out. */
+/* Checks that an operation of the driver is the one that was handed out. */
 static int operation(const void *own, uint32_t kind, uint32_t at, uint32_t length)
 {
     comes(OPERATION);

@@ -1,4 +1,4 @@
-/* All paths of an inline call: whatever its stand-ins answer is a choice on a tape, and each tape is played. */
+/* Plays all paths of an inline call. Each result of a stand-in is a choice on a tape, and each tape is played once. */
 #include <stdio.h>
 #include <stdlib.h>
 #include <string.h>

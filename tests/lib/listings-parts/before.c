@@ -1,4 +1,4 @@
-/* Before the page's code: its driver writes memory, and its image runs here. */
+/* Code that precedes the listing of the page: the driver writes the memory of the test, and an image runs in this program. */
 #include "listings.h"
 #define main listing_main
 static int flash_erase(void *own, uint32_t at, uint32_t length)

@@ -1,4 +1,4 @@
-/* Behind the page's code: what the play asks of it. */
+/* Code that follows the listing of the page: functions by which the test calls it. */
 #include "dfu_trial.h"
 void listing_asks(void)
 {

@@ -1,4 +1,5 @@
-/* The calls that the monitor stands around: the linker gives each its two names. */
+/* Declares the calls that the monitor wraps, with the prefixes of the linker's --wrap: __real_ for the library's call, and __wrap_ for the
+ * monitor's. */
 #ifndef CALLS_H
 #define CALLS_H
 #include "dfu_device.h"

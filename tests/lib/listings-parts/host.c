@@ -1,4 +1,4 @@
-/* A host of dfu_host.h, one action at a time, against whichever program answers the bus. */
+/* A host of dfu_host.h, which carries out one action at a time. The bootloader or the application answers its requests. */
 #include "dfu_host.h"
 #include "listings.h"
 #include <stdlib.h>

@@ -6,18 +6,19 @@
 
 enum { MOST_PAYLOAD = 8192 };
 
-/* host.c: a session that installs this image, and may verify it; and its next action. 0: it goes on; else its report. */
+/* host.c: begins a session that installs this image, and verifies it if `verifies`; and carries out the next action. Returns 0 if the
+ * session continues; else its report. */
 void host_begins(const uint8_t *image, size_t n, const uint8_t descriptor[9], int verifies);
 uint32_t host_acts(void);
 void host_hears_restart(void);
 int is_in_place(uint32_t report);
 
-/* play.c: the bus, as whichever program runs answers it. */
+/* play.c: a transfer on the bus, which the running program answers. */
 int32_t bus_carries(const uint8_t setup[8], const uint8_t *body, size_t length, uint8_t *answer);
 void bus_is_reset(void);
 void bus_waits(uint32_t ms);
 
-/* listing.c: what is asked of the page's code, behind it. */
+/* listing.c: functions around the code of the page. */
 int listing_main(void);
 void listing_asks(void);
 int32_t listing_transfers(const uint8_t setup[8]);
@@ -28,11 +29,11 @@ size_t listing_size(void);
 const uint8_t *listing_descriptor(void);
 void image_runs(void);
 
-/* play.c: the part loses its power within this operation: 1. */
+/* play.c: returns 1 if the part loses power during this operation. */
 int is_cut(void);
 void power_fails(void);
 
-/* monitor.c: the order of the laws. */
+/* monitor.c: checks the order of the calls by the laws. */
 void power_goes(void);
 void slots_are(uint8_t *flash, size_t size);
 void part_erases(uint8_t *own, uint32_t at, uint32_t length);

@@ -1,6 +1,7 @@
-/* The order of the laws over lists of calls, watched around the calls themselves: power or a format first; an operation that was asked for is
- * handed out, carried out as it was handed out, and told, before any other call that changes the device; record, block and flash are as
- * the last call left them; marks come between two calls, and after the end of a trial the device gets power or begins before anything else. */
+/* Checks the order of the laws over lists, by wrappers around the calls. The first call is a power-on or a format. An operation that was
+ * requested is handed out, carried out exactly as handed out, and reported, before any other call that changes the device. Record, block
+ * and flash are as the last call left them. Marks are written between two calls, and after the end of a trial the device calls power_on or
+ * begin before anything else. */
 #include "dfu_device.h"
 #include "dfu_trial.h"
 #include "calls.h"
@@ -41,7 +42,7 @@ static void flash_is_kept(void)
     holds(memcmp(slots_at, shadow, slots_size) == 0, "the flash changed by no operation");
 }
 
-/* A call on the device, with its record and the memory of the block. */
+/* Checks that a call of the device may be made now, and that record, block and flash are as the last call left them. */
 static void comes(const struct dfu_record *record, const uint8_t *block, size_t most)
 {
     steps++;
@@ -163,7 +164,7 @@ int32_t WRAP(dfu_core_format_took)(const struct dfu_config *c, struct dfu_record
     return n;
 }
 
-/* A call of a trial, which may ask for a mark or for the end. */
+/* Notes the operation that a call of a trial requests: a mark, or the erase that ends the trial. */
 static int32_t asks(int32_t n, const struct dfu_ask *ask)
 {
     flash_is_kept();
@@ -200,7 +201,7 @@ int32_t WRAP(dfu_core_trial_upload)(const struct dfu_tries *t, FLASH, struct dfu
     return asks(REAL(dfu_core_trial_upload)(t, flash, size, ask), ask);
 }
 
-/* The driver carries out an operation on the slots: the one that was handed out, or that a trial asked for. */
+/* Checks that the driver's operation on the slots is the one that was handed out, or that a trial requested. */
 static void is_meant(uint32_t kind, uint32_t at, const uint8_t *bytes, uint32_t length)
 {
     const struct dfu_ask *ask = is_asked ? &asked : &handed;

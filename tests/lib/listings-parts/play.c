@@ -1,5 +1,5 @@
-/* Sessions with a listing of docs/PORTING.md: a host of dfu_host.h, the bootloader, and an application of dfu_runtime.h beside it. The power
- * goes within each operation in turn. */
+/* Runs sessions with a listing of docs/PORTING.md: a host of dfu_host.h, the bootloader, and an application that uses dfu_runtime.h. Power
+ * is lost during each operation in turn. */
 #define _DEFAULT_SOURCE
 #include "dfu_runtime.h"
 #include "listings.h"
@@ -104,7 +104,7 @@ static void make(uint8_t *image, size_t n, uint8_t seed)
     memcpy(image, words, sizeof words);
 }
 
-/* Which image is at this place: 1, 2, or 0 for another one. */
+/* Returns the image at this address: 1, 2, or 0 for any other. */
 static int which(const uint8_t *at, size_t length)
 {
     if (length >= FIRST && memcmp(at, first, FIRST) == 0)
@@ -118,7 +118,7 @@ static int active(void)
     return listing_finds(&at, &length) == 0 ? which(slots + at, length) : -1;
 }
 
-/* The bootloader gets power, until an image runs, the session is over or the power goes. */
+/* Starts the bootloader, and runs until an image runs, the session is over, or power is lost. */
 static enum ending boots(int is_asked)
 {
     volatile int asks = is_asked;
@@ -133,7 +133,7 @@ static enum ending boots(int is_asked)
     return NONE;
 }
 
-/* The image that the bootloader started runs, and answers the bus: until it leaves, or the session is over. */
+/* Runs the image that the bootloader started. The image answers requests until it leaves or the session is over. */
 static void answers(void)
 {
     application = (struct dfu_runtime){1000, 0, 0, DFU_STATE_APP_IDLE, 0};
@@ -143,7 +143,7 @@ static void answers(void)
         report = host_acts();
 }
 
-/* A whole session, from an application or from a bootloader that was asked for. */
+/* Runs a whole session, which begins in an application, or in a bootloader that a user selected. */
 static void plays_session(int from_application)
 {
     int asks = !from_application;
@@ -167,7 +167,7 @@ static void plays_session(int from_application)
     holds(!is_in_place(report) || now == 2, "the payload is not in place");
 }
 
-/* Starts, as many as there are, and which image ran each time. */
+/* Starts the board `n` times, and notes the image that ran each time. With `confirms` image 2 confirms itself when it runs. */
 static void starts(int n, int confirms, int ran[])
 {
     for (int i = 0; i < n; i++) {
@@ -186,7 +186,8 @@ static void new_board(void)
     operations = 0;
 }
 
-/* One play: the first image is put in place, a session brings the second one, and then come starts. */
+/* Plays a listing, with a loss of power in operation `cut`, or with 0 none: the first image is formatted, a session installs the second,
+ * and several starts follow. */
 static void play(const char *listing, unsigned long cut)
 {
     int ran[3 * TRIES];

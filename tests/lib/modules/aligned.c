@@ -1,5 +1,5 @@
-/* Calls the export of aligned.ll with bytes at each place: the results are sums over the same places, made byte by byte. It ends in 1 and
- * names what is otherwise. */
+/* Calls the export of aligned.ll with bytes at each alignment. The results must equal sums over the same bytes, computed byte by byte. If a
+ * result differs, the program prints the name of the check and exits with status 1. */
 #include <stdio.h>
 #include <string.h>
 
@@ -12,7 +12,7 @@ static uint64_t at(const uint8_t *bytes, size_t place, int count) {
     return number;
 }
 
-/* The sum of what the functions of aligned.ll give, in their order. */
+/* Returns the sum of the results of aligned.ll's functions, in their order. */
 static uint64_t sum(const uint8_t *bytes, const struct dfu_aligned *record, size_t by) {
     uint64_t four = 2 * (at(bytes, 0, 8) + at(bytes, 8, 4) + at(bytes, 6, 4)) + at(bytes, 12, 8) + at(bytes, 20, 4) + at(bytes, 18, 4);
     uint64_t hands_on = at(bytes, 2, 4) + at(bytes, 2, 2) + at(bytes, 0, 8);

@@ -1,4 +1,5 @@
-/* Calls each export of arrays.ll, and compares with the same sums in 64 bits. It ends in 1 and names what is otherwise. */
+/* Calls each export of arrays.ll, and compares the results with the same sums in 64 bits. If a result differs, the program prints the name
+ * of the check and exits with status 1. */
 #include <stdio.h>
 #include <string.h>
 
@@ -13,7 +14,7 @@ static void check(const char *what, int64_t found, uint64_t wanted) {
     }
 }
 
-/* Fills the stack below the caller's frame with other bytes than zeros. */
+/* Fills the stack below the caller's frame with bytes other than zeros. */
 static int dirty(void) {
     volatile uint8_t room[1024];
     for (size_t k = 0; k < sizeof room; k++)

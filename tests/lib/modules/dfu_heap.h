@@ -1,4 +1,4 @@
-/* The exports of heap.ll, as heap.py leaves them. */
+/* The exports of heap.ll, as heap.py produces them. */
 #include <stddef.h>
 #include <stdint.h>
 

@@ -1,5 +1,5 @@
-/* Calls the export of fills.ll, over a stack that is no zeros: each result was worked out by hand. It ends in 1 and names what is
- * otherwise. */
+/* Calls the export of fills.ll, over a stack that is not zeros, and compares the results with values worked out by hand. If a result
+ * differs, the program prints the name of the check and exits with status 1. */
 #include <stdio.h>
 #include <string.h>
 
@@ -14,7 +14,7 @@ static void check(const char *what, long long found, long long wanted) {
     }
 }
 
-/* Fills the stack below the caller's frame with other bytes than zeros. */
+/* Fills the stack below the caller's frame with bytes other than zeros. */
 static int dirty(int number) {
     volatile uint8_t room[4096];
     for (size_t k = 0; k < sizeof room; k++)

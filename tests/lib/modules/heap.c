@@ -1,5 +1,5 @@
-/* heap.ll behind heap.py: where each block lies, by hand. The first three words are the heap's own; a block takes its bytes and one more,
- * up to a multiple of 8. */
+/* Checks the addresses of the blocks of heap.ll after heap.py has changed it, against values worked out by hand. The heap itself uses the
+ * first three words. A block uses its bytes plus one, rounded up to a multiple of 8. */
 #include <stdio.h>
 #include <stdlib.h>
 #include <string.h>
@@ -16,7 +16,8 @@ static void check(int holds, const char *what, size_t words)
     }
 }
 
-/* Tries it with so many words, the last length being such. at: where the five blocks are, in bytes from the front. */
+/* Allocates from `words` words; `last` determines the length of the fourth block. at: offset of each block; ends: offset after it, in
+ * bytes. */
 static void with_words(size_t words, size_t last)
 {
     static const size_t at[5] = {24, 32, 48, 48, 48};

@@ -1,4 +1,5 @@
-/* Calls the exports of originals.ll, and compares with the same sums here. It ends in 1 and names what is otherwise. */
+/* Calls the exports of originals.ll, and compares the results with the same sums computed here. If a result differs, the program prints the
+ * name of the check and exits with status 1. */
 #include <stdio.h>
 #include <string.h>
 
@@ -17,7 +18,7 @@ static uint64_t read_of(uint64_t byte, uint64_t word, uint64_t half) {
     return byte | word << 8 | half << 40;
 }
 
-/* As `originals::sum`. */
+/* Computes `originals::sum`, which adds each byte to twice the sum so far. */
 static uint64_t sum_of(const uint8_t *bytes, size_t count) {
     uint64_t sum = 0;
     for (size_t i = 0; i < count; i++)

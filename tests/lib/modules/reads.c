@@ -1,5 +1,5 @@
-/* Calls the export of reads.ll: for flash that is mapped, and with DFU_READ for flash that is not, where each byte is 7 times its place. It
- * ends in 1 if a byte is otherwise. */
+/* Calls the export of reads.ll for mapped flash, and with DFU_READ for flash that is not mapped, where each byte is 7 times its offset. If
+ * a byte differs, the exit status is 1. */
 #include <stdio.h>
 
 #include "dfu_reads.h"

@@ -1,5 +1,5 @@
-/* Calls each export of sizes.ll with numbers around 2 to the 16, 31, 32 and 63, and compares with the same sums in 64 bits. It ends in 1
- * and names what is otherwise. */
+/* Calls each export of sizes.ll with numbers around 2 to the 16, 31, 32 and 63, and compares the results with the same sums in 64 bits. If
+ * a result differs, the program prints the name of the check and exits with status 1. */
 #include <stdio.h>
 
 #include "dfu_sizes.h"

@@ -1,5 +1,5 @@
-// Requests of tests/lib/page/run.py: sessions of the page's modules over the stand-in, in its own time, and scripts. All comes and goes
-// as JSON: files and images as text of Latin 1, one character a byte.
+// Functions that tests/lib/page/run.py calls: sessions of the page's modules over the stand-in, in simulated time, and scripts. Arguments
+// and results are JSON: files and images are Latin-1 text, one character for each byte.
 import { Board } from '/board.js'
 import { functionalIn } from '/descriptors.js'
 import { DfuseHost } from '/dfuse_host.js'
@@ -38,7 +38,8 @@ export const dfuseWordsOf = (report, leaving) => {
 export const scripts = texts => texts.map(text => runScript(modules, linesOf(text)).join('\n'))
 export const functional = (bytes, number, alternate) => Array.from(functionalIn(Uint8Array.from(bytes), number, alternate))
 
-// Acts of a person who is asked. chooses: 'it', 'none', or 'bystander' once and then none; replugs: whether the plug is pulled.
+// A user who answers the page's questions. `chooses` is the device in the browser's dialog: 'it', 'none', or 'bystander' once and then
+// none. `replugs` is true if the user unplugs and replugs the device.
 class Person {
   constructor(usb, { chooses = 'none', replugs = false }) {
     Object.assign(this, { usb, chooses, replugs, asked: 0 })
@@ -60,7 +61,7 @@ class Person {
   end() {}
 }
 
-// A system by its name, as system.js asks for it.
+// Sets the name of the operating system, as system.js reads it.
 function beOn(platform) {
   Object.defineProperty(navigator, 'userAgentData', { value: { platform }, configurable: true })
 }
@@ -73,7 +74,7 @@ function answerOf(usb, { verdict, session, wire, trace, person }) {
     faults: usb.faults, state: usb.device.state(), started: usb.device.started, deviceText: verdict.deviceText }
 }
 
-// stopAt: the number of the action before which a person cancels.
+// Runs a session. stopAt: number of the action before which the user cancels.
 async function run({ file, settings = {}, wantsVerified = true, limits = null, place = {}, platform = 'Linux', stopAt = -1, ...rest }) {
   beOn(platform)
   const image = settings.image === undefined ? {} : { image: bytesOf(settings.image) }
@@ -96,7 +97,7 @@ async function run({ file, settings = {}, wantsVerified = true, limits = null, p
   return answerOf(usb, { verdict, session, wire, trace, person })
 }
 
-// Likewise as the page makes a session of any file, with a device of DfuSe too: `maps` in settings. words: those of DfuseSession.
+// Runs a session with any file, as the page does, also with a device of DfuSe: `maps` in settings. words: options of DfuseSession.
 async function runAny({ file, settings = {}, place = {}, platform = 'Linux', stopAt = -1, chooses, replugs, ...words }) {
   beOn(platform)
   const usb = new StandInUsb(modules.device, settings)

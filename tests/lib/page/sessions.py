@@ -81,8 +81,8 @@ class Flash:
         done = subprocess.run(command, env=env, capture_output=True, text=True, check=False)
         record = json.loads(done.stdout.splitlines()[-1])
         code = f" {record['code']}" if 'code' in record else ''
-        # (the last line says how and when the session ended, which the page shows beside its log)
-        trace = [line for line in log.read_text().splitlines() if not line.startswith('# end ')]
+        # (the last line says how and when the session ended, and lines before it name the board: the page shows both beside its log)
+        trace = [line for line in log.read_text().splitlines() if not line.startswith(('# end ', '# serial ', '# port ', '# stamp '))]
         return {'line': f"{record['report']}{code}: {record['words']}", 'status': record['status'], 'goal': record.get('goal'),
                 'image': text((self.at / 'saved').read_bytes()), 'trace': [strip(line) for line in trace],
                 **{name: record.get(name) for name in ('actions', 'transfers', 'restarts')}}

@@ -1,15 +1,20 @@
-// The proved device, or with `maps` a model of one of DfuSe, behind what a page sees of WebUSB: a stand-in for navigator.usb. The fates of
-// transfers are chosen by number, as in tests/lib/usb:
-//   lost-out   it never comes there            lost-back  it is handled, and nothing is heard
-//   late       it comes there behind the next one, unless the device was closed before
-//   twice      it is handled twice             short      of the answer come so many bytes
-//   stall      the device refuses it unseen    fails      it ends in an error of the system, unseen
-//   part       it ends with fewer bytes out than it has, unseen
-//   leave      the power goes, before it, and comes back     leave-after  the same, behind its answer
-//   cut        it is handled, and the power goes in place of its answer
-//   swap       another board comes in its place              deaf         this one and all behind it are lost on the way out
-//   mute       this one and all behind it are handled, and nothing is heard
-//   garble     this one and all behind it get answers that are made up, by chance; the device sees none of them
+// A stand-in for navigator.usb, over the proved device, or with `maps` over a model of a DfuSe device. The settings choose fates of
+// transfers by their number, as in tests/lib/usb:
+//   lost-out     the device never gets the transfer
+//   lost-back    the device handles the transfer, and the answer is lost
+//   late         the device gets the transfer just before the next one, unless the device was closed in between
+//   twice        the device handles the transfer twice
+//   short        the answer has only `bytes` bytes
+//   stall        the transfer stalls, and the device never gets it
+//   fails        the transfer ends in an error of the system, and the device never gets it
+//   part         the transfer sends fewer bytes than requested, and the device never gets it
+//   leave        the device loses power before the transfer, and returns
+//   leave-after  the device loses power after its answer, and returns
+//   cut          the device handles the transfer, and loses power instead of answering
+//   swap         another board replaces the device
+//   deaf         the device gets neither this transfer nor any later one
+//   mute         the device handles this transfer and all later ones, and all answers are lost
+//   garble       this transfer and all later ones get random answers; the device gets none of them
 import { Clock, LATE } from '/clock.js'
 import { Device } from '/device.js'
 import { REQUESTS, STATES, hexOf, partsOf } from '/names.js'
@@ -23,33 +28,33 @@ export const USUAL = {
     least: 1 },
   capacity: 100000,
   image: new TextEncoder().encode('the old image'),
-  dfuIds: null,           // { product, device } in DFU mode, where others than those of config
+  dfuIds: null,           // { product, device } in DFU mode, or null for the numbers of config
   serial: 'F1',
-  dfuSerial: null,        // in DFU mode, where another one than `serial`
+  dfuSerial: null,        // serial number in DFU mode, or null for `serial`
   interface: 0,
-  alternates: 1,          // settings in DFU mode, and the one in which requests are to be made
+  alternates: 1,          // number of alternate settings in DFU mode; requests must use `setting`
   setting: 0,
-  descriptor: 9,          // bytes of the functional descriptor; 0 for none
+  descriptor: 9,          // length of the functional descriptor; 0 for none
   version: 0x0110,        // bcdDFUVersion
-  appDescriptor: null,    // bytes of that of run-time mode, where others
+  appDescriptor: null,    // length of the functional descriptor in run-time mode, or null for `descriptor`
   startsInApp: false,
-  stallsSet: false,       // it stalls SET_INTERFACE
-  startsItself: false,    // it leaves behind dfuMANIFEST by itself, and starts its image, as small bootloaders do
-  stallsStatus: false,    // an application that stalls GETSTATUS
+  stallsSet: false,       // true: the device stalls SET_INTERFACE
+  startsItself: false,    // true: after dfuMANIFEST the device starts its image by itself, as small bootloaders do
+  stallsStatus: false,    // true: the application stalls GETSTATUS
   hasAppUsb: true,        // false: an application without USB
-  away: 0,                // ms away from the bus when it comes as another one
-  keepsPermission: true,  // false: as a device without a serial number in Chromium, which has to be chosen again
-  reset: 'rejects',       // what reset() does where the device comes back as another one: rejects, or resolves; or fails: always
-  tells: 0,               // ms until it is told that it left; meanwhile each transfer fails
-  closing: 'unheard',     // what it makes of being closed and opened: unheard, or resets: it is in its first state again
-  seed: 1,                // of `garble`
-  title: 'the proved device', // its name
-  others: 0,              // boards beside it, which the page may see, without a serial number
-  fates: [],              // { kind, number, bytes }
-  isReal: false,          // time passes by itself, and not by `clock`
+  away: 0,                // ms off the bus before the device returns as another one
+  keepsPermission: true,  // false: like a device without a serial number in Chromium, which the user must choose again
+  reset: 'rejects',       // result of reset() if the device returns as another one: rejects or resolves; or fails: it always rejects
+  tells: 0,               // ms until the event that the device left; each transfer fails until then
+  closing: 'unheard',     // effect of close and open: unheard for none; resets for a return to the first state
+  seed: 1,                // seed of `garble`
+  title: 'the proved device', // name of the device
+  others: 0,              // number of other boards that the page may use, without a serial number
+  fates: [],              // each is { kind, number, bytes }
+  isReal: false,          // true: real time passes, instead of the time of `clock`
 }
 
-// The clock of the stand-in: time passes where somebody waits.
+// The clock of the stand-in: time passes only when code waits.
 class StandInClock extends Clock {
   constructor(usb) {
     super()
@@ -115,7 +120,7 @@ export class StandInUsb extends EventTarget {
     if (!wasHere && this.isHere()) this.tell('connect', this.current)
   }
 
-  // The real time that passed.
+  // With `isReal`, lets as much time pass as has passed in reality since the last call.
   catchUp() {
     if (!this.settings.isReal) return
     const ms = Math.floor(performance.now() - this.lastTick)
@@ -127,7 +132,7 @@ export class StandInUsb extends EventTarget {
     this.dispatchEvent(Object.assign(new Event(what), { device }))
   }
 
-  // If its mode is another one it comes as another device.
+  // If the mode has changed, the device is enumerated as another one, unless another board has replaced it.
   look() {
     if (this.current.isApp !== this.isApp() && !this.current.isSwapped) this.enumerate()
   }
@@ -153,14 +158,14 @@ export class StandInUsb extends EventTarget {
     if (this.isHere()) this.tell('connect', this.current)
   }
 
-  // It loses its power, and comes back.
+  // The device loses power, and returns.
   leaves(what, isSwapped = false) {
     this.device.power()
     this.note({ what })
     this.enumerate(isSwapped)
   }
 
-  // A device in DFU mode that is in its first state again, and tells nobody.
+  // A device in DFU mode returns to its first state, without an event.
   loseState() {
     if (this.isApp()) return
     this.device.power()
@@ -195,7 +200,7 @@ export class StandInUsb extends EventTarget {
     if (this.current !== before && this.settings.reset === 'rejects') throw failure('NetworkError', 'Unable to reset the device.')
   }
 
-  // A person takes its plug out and puts it in again.
+  // A user unplugs the device and plugs it in again.
   replug() {
     this.leaves('replug')
   }
@@ -244,7 +249,7 @@ export class StandInUsb extends EventTarget {
     return answer
   }
 
-  // Any answer that WebUSB may give, and some that it may not.
+  // Makes up an answer: any that WebUSB allows, and some that it doesn't.
   madeUp(setup, body) {
     this.chance = (Math.imul(this.chance ?? this.settings.seed, 1664525) + 1013904223) >>> 0
     const below = count => Math.floor(this.chance / 4294967296 * count)

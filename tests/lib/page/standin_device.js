@@ -1,10 +1,10 @@
-// The stand-in of a USBDevice: a device as it was enumerated once, with what it says of itself, and the calls of WebUSB as far as DFU
-// needs them. Behind it is the bus of standin.js.
+// A stand-in for USBDevice: a device as it was enumerated, with its descriptors, and the calls of WebUSB that DFU needs. standin.js
+// implements its bus.
 
 const NAMES = ['Flash', 'EEPROM', 'RAM']
 const ENGLISH = [4, 3, 9, 4]
-const FIRST_NAME = 4 // the index of the name of the first setting, where the settings are the memories of a device of DfuSe
-const WORDS = 99     // and that of what such a device says of a refusal
+const FIRST_NAME = 4 // index of the string with the first setting's name, for the memories of a DfuSe device
+const WORDS = 99     // index of the string in which such a device explains a refusal
 
 export const failure = (name, text) => new DOMException(text, name)
 export const viewOf = bytes => new DataView(bytes.buffer, bytes.byteOffset, bytes.byteLength)
@@ -31,13 +31,13 @@ export class StandInDevice {
     this.bytes = this.describe(alternates)
   }
 
-  // Chromium need not tell the names of settings.
+  // Returns a setting's name. Chromium may leave out these names.
   nameOf(at) {
     const { maps, tellsNames } = this.usb.settings
     return maps === undefined ? NAMES[at] : tellsNames ? maps[at] : null
   }
 
-  // A string descriptor: its bytes, or those of the languages.
+  // Returns the bytes of a string descriptor, or of the list of languages.
   string(index) {
     const { maps, refusalText } = this.usb.settings
     if (maps === undefined) return { status: 'stall' }

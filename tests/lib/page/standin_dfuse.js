@@ -1,11 +1,11 @@
-// A device that speaks DfuSe, by the rules of tests/lib/usb (device_dfuse.c and dfuse_pages.c): by what is known of ST's bootloaders, and
-// no one's code.
+// A device of DfuSe, by the rules of tests/lib/usb (device_dfuse.c and dfuse_pages.c): it follows the known behaviour of ST's bootloaders,
+// without any of their code.
 //
-// DNLOAD of block 0 brings a command: 21h and an address set the pointer, 41h and an address erase the page that has it. That of block 2 or
-// more brings bytes for the pointer. GETSTATUS starts what was brought and answers dfuDNBUSY; once its time is over the next one tells what
-// came of it. ABORT drops what was not started. UPLOAD from dfuIDLE or dfuUPLOAD-IDLE gives the memory at the pointer, by the number of the
-// block. DNLOAD of no bytes leaves for the application, which GETSTATUS starts. If the power goes while something is written or erased,
-// every other byte of it stands.
+// DNLOAD of block 0 sends a command: 21h and an address set the pointer, 41h and an address erase the page at that address. DNLOAD of block
+// 2 or more sends bytes for the pointer's address. GETSTATUS starts the command or write and answers dfuDNBUSY; after its time the next
+// GETSTATUS returns its result. ABORT drops a command that was not started. UPLOAD from dfuIDLE or dfuUPLOAD-IDLE returns the memory at the
+// pointer plus the block's offset. DNLOAD of no bytes makes the device leave for its application, at the next GETSTATUS. A loss of power
+// during a write or an erase leaves every other byte changed.
 import { partsOf } from '/names.js'
 
 const [APP_IDLE, , IDLE, DOWNLOAD_SYNC, BUSY, DOWNLOAD_IDLE, MANIFEST_SYNC, MANIFEST, , UPLOAD_IDLE, ERROR] = Array(11).keys()
@@ -13,32 +13,32 @@ const [, DNLOAD, UPLOAD, GETSTATUS, CLRSTATUS, GETSTATE, ABORT] = Array(7).keys(
 const [OK, TARGET, WRITE, VENDOR, STALLED_PKT] = [0, 1, 3, 11, 15]
 const [SET_ADDRESS, ERASE_PAGE] = [0x21, 0x41]
 const [READABLE, ERASABLE, WRITABLE] = [1, 2, 4]
-const START = 0x08000000 // where the pointer stands at first
-const WORDS = 99         // the index of the string with its words
+const START = 0x08000000 // initial address of the pointer
+const WORDS = 99         // index of the string that explains a refusal
 const NONE = new Uint8Array(0)
 
 export const DFUSE_USUAL = {
   version: 0x011a,
   config: { transfer: 2048, attributes: 0x0b, detach_ms: 0, busy_ms: 0 },
-  pages: null,        // the map of the memory that there is, where it isn't the first of `maps`, the names of the settings
-  erase_ms: 0,        // how long an erase takes; a write takes busy_ms
-  tellsTimes: true,   // a status tells how long that takes
-  stallsEarly: false, // GETSTATUS is stalled while it is busy
-  cells: 'and',       // what a write does to a cell that isn't erased: and, fail, or any, which replaces it
-  fails: -1,          // the number of the command that fails, and its code
+  pages: null,        // map of the actual memory; null for the first of `maps`, the names of the settings
+  erase_ms: 0,        // time of an erase; a write takes busy_ms
+  tellsTimes: true,   // true: GETSTATUS returns these times
+  stallsEarly: false, // true: the device stalls GETSTATUS while it is busy
+  cells: 'and',       // effect of a write on a cell that isn't erased: and, fail, or any, which replaces it
+  fails: -1,          // number of the command that fails, and its status code
   failCode: WRITE,
-  erasesPointer: false, // an erase sets the pointer too
+  erasesPointer: false, // true: an erase sets the pointer too
   isProtected: false,
-  pending: 0,         // a page whose erase was brought by an earlier run, and not started
-  lies: 0,            // a byte that is never written
-  refusalText: '',    // what it says of a refusal
-  tellsNames: false,  // WebUSB tells the names of its settings
+  pending: 0,         // page whose erase an earlier run sent, but did not start; 0 for none
+  lies: 0,            // address of a byte that is never written; 0 for none
+  refusalText: '',    // string that explains a refusal
+  tellsNames: false,  // true: WebUSB returns the names of the alternate settings
 }
 
-// Bytes that stand in the memory at first.
+// Initial bytes of the memory.
 export const oldByte = at => (at * 31 + (at >> 8)) & 255
 
-// The ranges of a map, by plain rules, with no part of the page.
+// Returns the ranges of a map, by simple rules and without code of the page.
 function rangesOf(map) {
   const found = []
   let size = 0
@@ -64,7 +64,7 @@ class Pages {
     return this.ranges.find(one => address >= one.start && address < one.end)
   }
 
-  // The place of an address on a page with which this may be done; undefined if there is none.
+  // Returns the offset of an address on a page that allows this operation, or undefined.
   place(address, may) {
     const range = this.rangeOf(address)
     return range === undefined || (range.may & may) !== may ? undefined : range.at + address - range.start
@@ -89,7 +89,7 @@ class Pages {
     return true
   }
 
-  // Up to the first byte that can't be read.
+  // Reads up to the first byte that can't be read.
   read(address, length) {
     const found = []
     while (found.length < length) {
@@ -144,7 +144,7 @@ export class DfuseDevice {
     if (this.at === MANIFEST) this.settle()
   }
 
-  // The work of a command stands once its time is over.
+  // Ends a command, or the manifestation, once its time has passed.
   settle() {
     if (this.left > 0) return
     if (this.at === BUSY) {
@@ -182,7 +182,7 @@ export class DfuseDevice {
     return this.settings.isProtected ? VENDOR : this.pages.write(this.placeOf(this.block), this.brought) ? OK : WRITE
   }
 
-  // The GETSTATUS behind a DNLOAD. One that is to fail does nothing.
+  // Starts the command or write at the GETSTATUS after a DNLOAD. A command that must fail does nothing.
   run() {
     const fails = this.settings.fails === this.commands++
     this.pages.keep()
@@ -229,7 +229,7 @@ export class DfuseDevice {
     return NONE
   }
 
-  // The bytes of the answer, none where it is acknowledged; null for a stall.
+  // Handles a request. Returns the bytes of the answer, none for an acknowledgement; null for a stall.
   handle(setup, body = NONE) {
     const { request, value, length } = partsOf(setup)
     if (this.at <= 1) return null

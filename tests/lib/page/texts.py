@@ -117,7 +117,7 @@ def run(browser, page):
             check(f'the words of {name}', tuple(browser.run('return runs.wordsOf(arguments[0])', name)), wanted)
     others = dict(re.findall(r'\{IMAGE_(\w+), "NoSignature", ' + TEXT, (TOP / 'apps/flash/refusals.c').read_text()))
     # (the page takes the image out of the files of a format)
-    wanted = {name: words for name, words in others.items() if name not in ('FORMAT', 'DAMAGED')}
+    wanted = {name: words for name, words in others.items() if name not in ('FORMAT', 'DAMAGED', 'ELF')}
     check('the words for files that are no image', browser.run('return runs.WORDS'), wanted)
     # (dfu-flash reads DfuSe files, and so has no words for a refusal of them)
     refusals['DfuSe'] = 'the file is a DfuSe file, which is another format'

@@ -1,5 +1,5 @@
-/* The operations of each change of a part, in their order. Each function names the one of the crates that it models; the list of operations
- * that dist/dfu_device.c and dist/dfu_boot.c make is compared with these (library.c). */
+/* The operations of each change of a part, in their order. Each function names the function of the crates that it models. library.c
+ * compares the operations that dist/dfu_device.c and dist/dfu_boot.c make with these. */
 #ifndef CHANGES_H
 #define CHANGES_H
 #include "store.h"
@@ -9,13 +9,13 @@ static const Operation NOTHING_DUE = {Operation::NONE, 0, 0};
 inline Operation erase(int cell) { return {Operation::ERASE, cell, 0}; }
 inline Operation program(int cell, int value) { return {Operation::PROGRAM, cell, value}; }
 
-/* Returns whether a unit is the first of its slot's in its sector. */
+/* Returns true if a unit is the first of its slot in its sector. */
 inline bool begins_sector(const Placement &p, int slot, int number) {
     return number == 0 || p.unit[slot][number] != p.unit[slot][number - 1];
 }
 
-/* dfu_slots::sequence::put_op, a block after the other, with dfu_slots::erasing::erase_within: first each sector is erased whose first unit
- * is of the block, and then its units are programmed. A block has two steps for each unit. */
+/* Models dfu_slots::sequence::put_op, block by block, with dfu_slots::erasing::erase_within: first each sector is erased whose first unit
+ * is in the block, and then the block's units are programmed. A block has two steps for each unit. */
 inline Operation put_step(const Placement &p, int slot, const Image &image, int block, int step) {
     const int from = step / (2 * block) * block, count = std::min(block, image.length - from), number = step - 2 * from;
     if (number >= count)
@@ -23,7 +23,8 @@ inline Operation put_step(const Placement &p, int slot, const Image &image, int 
     return begins_sector(p, slot, from + number) ? erase(unit_of(slot, from + number)) : NOTHING_DUE;
 }
 
-/* dfu_slots::sequence::commit_op, each with the erase of its sector (dfu_slots::writes::write_some): the header, and then the gate. */
+/* Models dfu_slots::sequence::commit_op: programs the header and then the gate, each after an erase of its sector
+ * (dfu_slots::writes::write_some). */
 inline Operation commit_step(const Placement &p, Contents part, int slot, int generation, int length, int step) {
     switch (step) {
     case 0: return erase(header_of(slot));
@@ -33,10 +34,10 @@ inline Operation commit_step(const Placement &p, Contents part, int slot, int ge
     }
 }
 
-/* Returns the steps of a download: the gate is closed, then two for each unit, and four for header and gate. */
+/* Returns the number of steps of a download: one closes the gate, two follow for each unit, and four for header and gate. */
 inline int steps_of(const Image &image) { return 1 + 2 * image.length + 4; }
 
-/* dfu_asks: a download into the spare slot. dfu_slots::sequence::close_op comes only if the gate reads open. */
+/* Models dfu_asks for a download to the spare slot. dfu_slots::sequence::close_op is only needed if the gate reads open. */
 inline Operation download_step(const Placement &p, Contents part, int image, int step) {
     const int active = active_slot(p, part), spare = 1 - active, length = image_of(p, image).length;
     if (step == 0)
@@ -46,7 +47,7 @@ inline Operation download_step(const Placement &p, Contents part, int image, int
     return commit_step(p, part, spare, next_generation(p, part, active), length, step - 1 - 2 * length);
 }
 
-/* dfu_slots::format::write_image: both gates are closed, the second slot's first; the image goes into the first slot, as
+/* Models dfu_slots::format::write_image: both gates are closed, first that of the second slot; the image is written to the first slot as
  * one block. */
 inline Operation format_step(const Placement &p, Contents part, int image, int step) {
     const int length = image_of(p, image).length;
@@ -57,10 +58,11 @@ inline Operation format_step(const Placement &p, Contents part, int image, int s
     return commit_step(p, part, 0, 0, length, step - 2 - 2 * length);
 }
 
-/* The cell of the last operation of a copy, if it worked; none after each loss of power. */
+/* Value of `last` if there is no last operation that succeeded, as after each loss of power; else `last` is the cell of that operation. */
 enum { NOWHERE = CELLS };
 
-/* dfu_boot::install::compare::next_difference: the first unit that differs from one on, or else from the front. */
+/* Models dfu_boot::install::compare::next_difference: returns the first unit that differs, from number `from` on and then from the
+ * beginning. */
 inline int next_difference(Contents part, const Image &image, int from) {
     for (int i = 0; i < image.length; i++) {
         const int number = (from + i) % image.length;
@@ -70,7 +72,7 @@ inline int next_difference(Contents part, const Image &image, int from) {
     return image.length;
 }
 
-/* dfu_boot::install::next, by which dfu_home::copying::copy fills the data of slot 0. */
+/* Models dfu_boot::install::next, by which dfu_home::copying::copy fills the data of slot 0. */
 inline Operation fill_due(const Placement &p, Contents part, const Image &image, int last) {
     const bool is_in_data = last != NOWHERE && kind_of(last) == UNIT;
     const int from = is_in_data && number_of(last) < image.length ? number_of(last) : 0, number = next_difference(part, image, from);
@@ -85,12 +87,13 @@ inline Operation fill_due(const Placement &p, Contents part, const Image &image,
     return erase(unit_of(0, first));
 }
 
-/* dfu_home::copying::unit_due */
+/* Models dfu_home::copying::unit_due. */
 inline Operation head_unit_due(Contents part, int cell, int value, int last) {
     return last == cell && value_at(part, cell) == BLANK ? program(cell, value) : erase(cell);
 }
 
-/* dfu_home::deciding::next, and dfu_home::copying: copy, head. Slot 1 has the image; the gate of slot 0 is closed first and opened last. */
+/* Models dfu_home::deciding::next, and copy and head of dfu_home::copying. Slot 1 holds the image; the gate of slot 0 is closed first and
+ * opened last. */
 inline Operation copy_due(const Placement &p, Contents part, int last) {
     if (is_open(part, 0))
         return active_slot(p, part) == 0 ? NOTHING_DUE : erase(gate_of(0));
@@ -106,7 +109,7 @@ inline Operation copy_due(const Placement &p, Contents part, int last) {
     return head_unit_due(part, header_of(0), header, last);
 }
 
-/* dfu_boot::trial::starting: the mark of the next start, or without one left the end of the trial. */
+/* Models dfu_boot::trial::starting: the mark of the next start, or the end of the trial if no start is left. */
 inline Operation start_due(const Placement &p, Contents part) {
     const Standing standing = look(p, part);
     if (!standing.is_on_trial)
@@ -114,13 +117,13 @@ inline Operation start_due(const Placement &p, Contents part) {
     return standing.starts < TRIES ? program(mark_of(standing.slot, standing.starts + 1), SET) : erase(gate_of(standing.slot));
 }
 
-/* dfu_boot::trial::ending::end */
+/* Models dfu_boot::trial::ending::end. */
 inline Operation end_due(const Placement &p, Contents part) {
     const Standing standing = look(p, part);
     return standing.is_on_trial ? erase(gate_of(standing.slot)) : NOTHING_DUE;
 }
 
-/* dfu_boot::trial::confirming::confirm, of the image in this slot. */
+/* Models dfu_boot::trial::confirming::confirm for the image in this slot. */
 inline Operation confirm_due(const Placement &p, Contents part, int slot) {
     const Standing standing = look(p, part);
     return slot == standing.slot && !standing.is_confirmed ? program(mark_of(slot, 0), SET) : NOTHING_DUE;

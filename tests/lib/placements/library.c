@@ -1,5 +1,5 @@
-/* The other side of rows.cc: makes the part of each row in memory, has the library in C carry out the change, and prints the row with the
- * operations that it made. A unit of the model is one of 256 bytes, and each sector holds as many as the row says. */
+/* Compares the library with rows.cc: makes the part of each row in memory, carries out the change with the library in C, and prints the row
+ * with the operations that it made. A unit of the model is 256 bytes, and each sector holds as many units as the row says. */
 #include "dfu_home.h"
 #include "dfu_trial.h"
 #include <stdio.h>
@@ -14,7 +14,7 @@ static char said[1024];
 static struct dfu_config config = {.version = DFU_VERSION, .vendor = 1, .product = 1, .device = 1, .detach_ms = 1000,
                                    .attributes = DFU_CAN_DNLOAD | DFU_CAN_UPLOAD | DFU_MANIFESTATION_TOLERANT, .least = 1, .unit = UNIT};
 
-/* The bytes of an image, of which each digit is a unit. */
+/* Writes an image: each digit of `image` is the value of all bytes of one unit. Returns the number of bytes. */
 static uint32_t fill(const char *image, uint8_t *bytes) {
     for (size_t i = 0; i < strlen(image); i++)
         memset(bytes + i * UNIT, image[i] - '0', UNIT);
@@ -42,13 +42,15 @@ static void note(char letter, uint32_t at) {
         sprintf(end(), " %cd%u.%u", letter, slot, (place - 2 * sector) / UNIT);
 }
 
-/* The register over the first units of a slot's data, little-endian, as a format in other memory writes it. */
+/* Writes to `out` the CRC register of the first `length` bytes of a slot's data, as little-endian bytes. It is that in the header of a
+ * scratch flash that is formatted with these bytes. */
 static void register_of(uint32_t slot, uint32_t length, uint8_t out[4]) {
     if (dfu_memory_format(&config, scratch, size, flash + slot * (size / 2) + 2 * sector, length) != 0)
         fail("a format in memory");
     memcpy(out, scratch + sector + 8, 4);
 }
-/* Notes the value of a program: of a header, whose register has to be that of the data, the generation modulo 4, and the length. */
+/* Notes the value of a program. For a header these are the generation modulo 4 and the length, and its CRC register must be that of the
+ * data. */
 static void note_value(uint32_t at, const uint8_t *bytes) {
     const uint32_t slot = at / (size / 2), place = at % (size / 2), length = bytes[4] | (uint32_t)bytes[5] << 8;
     uint8_t crc[4];
@@ -138,7 +140,7 @@ static void download(const char *image) {
     if (request(0x21, DFU_DNLOAD, number, 0) != 0 || request(0xa1, DFU_GETSTATUS, 0, 6) != 6 || data[4] != DFU_STATE_IDLE)
         fail("the end of a download");
 }
-/* Carries a change out; `of` is the last word of its row. */
+/* Carries out a change; `of` is the last word of its row. */
 static void change(const char *name, const char *of) {
     const uint32_t number = (uint32_t)atoi(of);
     struct dfu_place place;
@@ -160,7 +162,7 @@ static void change(const char *name, const char *of) {
         fail(name);
 }
 
-/* Makes the part of a row, blank but for what it says. */
+/* Makes the part of a row: blank except for the cells that the row lists. */
 static void make_part(int of_sector, const int *gates, char heads[SLOTS][16], char digits[SLOTS][8], char set[SLOTS][8]) {
     sector = config.sector = trial.tries.sector = (uint32_t)of_sector * UNIT;
     size = DFU_MEDIUM_SIZE(UNIT, sector, ((uint32_t)units * UNIT + sector - 1) / sector * sector);

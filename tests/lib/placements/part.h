@@ -1,7 +1,7 @@
-/* A part of the model: its cells, the sector in which each lies, and the values that an operation may leave in it.
+/* A part of the model: its cells, the sector of each cell, and the values that an operation may leave in it.
  *
- * A cell is what is programmed at a time: the gate of a slot, its header, a mark of trials, or a unit of its data. Its value is not bytes,
- * but all that the code asks of them. The contents of a part are 34 bits: of each slot gate, header, data and marks. */
+ * A cell is programmed in one step: the gate of a slot, its header, a mark of trials, or a unit of its data. Its value stands for all
+ * properties that the code reads, instead of bytes. The contents of a part have 34 bits: gate, header, data and marks of each slot. */
 #ifndef PART_H
 #define PART_H
 #include <cstdint>
@@ -10,50 +10,50 @@
 enum { SLOTS = 2, MOST_UNITS = 3, MOST_MARKS = 3, CELLS_OF_SLOT = 2 + MOST_UNITS + MOST_MARKS, CELLS = SLOTS * CELLS_OF_SLOT };
 enum Kind { GATE, HEADER, UNIT, MARK };
 
-/* Values of a cell. An erase leaves BLANK in each kind. */
+/* Values of a cell. An erase sets every kind of cell to BLANK. */
 enum { BLANK = 0 };
 enum { OPEN = 1, SHUT = 2, GATE_VALUES = 3 };
-enum { OTHER = 3, UNIT_VALUES = 4 }; /* 1 and 2 are the units of images */
+enum { OTHER = 3, UNIT_VALUES = 4 }; /* units of images have the values 1 and 2 */
 enum { SET = 1, MARK_VALUES = 2 };
-enum { GENERATIONS = 4 }; /* in the store 256 */
+enum { GENERATIONS = 4 }; /* the store has 256 */
 
-/* What a placement and its programs promise in every state, and which of it a control breaks. */
+/* Promises of a placement and its programs in every state. A control breaks one of them. */
 enum Promise {
     ALL_HOLD,
     AN_IMAGE_IS_ACTIVE,
-    OLD_OR_NEW_IS_ACTIVE, /* whole */
+    OLD_OR_NEW_IS_ACTIVE, /* the image is whole */
     ACTIVE_SLOT_STAYS,    /* no operation of a download or a copy has a cell of the active slot in its range */
-    CODE_STAYS,           /* nor one of the data of slot 0 while its code runs */
-    UNITS_ARE_BLANK,      /* as they are programmed */
-    START_ENDS,           /* from each state without power: the copy ends within its bound, with the active image in slot 0 */
-    TRUSTED_RUNS          /* with trials: the image that was confirmed last, or the one on trial, at most so many times */
+    CODE_STAYS,           /* no operation has a cell of slot 0's data in its range while the code there runs */
+    UNITS_ARE_BLANK,      /* units are blank before a program */
+    START_ENDS,           /* after a loss of power in any state the copy ends within its bound, with the active image in slot 0 */
+    TRUSTED_RUNS          /* with trials: the image that runs is the last confirmed one, or the one on trial, which has starts left */
 };
 
-/* Rules of a placement's programs, beside those of the store. */
+/* Rules for the programs of a placement, in addition to those of the store. */
 enum Rules {
-    TWO_AREAS,     /* the program runs in the data of slot 0; the boot loader may take a download before the copy */
-    COPY_FIRST,    /* as TWO_AREAS, but the boot loader copies before it takes a download */
-    SECOND_TAKEN,  /* as TWO_AREAS, but the program takes a download while slot 1 is active: a control */
-    TRIALS         /* three areas: a program runs in neither slot, on trial */
+    TWO_AREAS,     /* the program runs in the data of slot 0; the boot loader may serve a download before the copy */
+    COPY_FIRST,    /* like TWO_AREAS, but the boot loader copies before it serves a download */
+    SECOND_TAKEN,  /* a control: like TWO_AREAS, but the program serves a download while slot 1 is active */
+    TRIALS         /* three areas: images run on trial, in neither of the two slots */
 };
 
-/* A placement: the sector of each thing, by number. */
+/* A placement: the number of the sector of each gate, header, mark and unit. */
 struct Placement {
     const char *name;
-    Promise broken;                  /* what its search has to find */
+    Promise broken;                  /* promise that its search must find broken, or ALL_HOLD */
     Rules rules;
-    int units;                       /* of data of a slot: 2 or 3 */
-    int registers;                   /* values of a header's register: 1, so that it says nothing; 2, so that half of all images share it */
-    int block;                       /* units of a block of a download: its sectors are erased before the first of them is programmed */
-    int marks;                       /* of a slot: with trials the confirmation and two starts, else 0 */
+    int units;                       /* data units of a slot: 2 or 3 */
+    int registers;                   /* values of a header's CRC register: 1 for no check; 2 if half of all images share each */
+    int block;                       /* units of a download's block, whose sectors are erased before its first unit is programmed */
+    int marks;                       /* marks of a slot: with trials the confirmation and two starts, else 0 */
     int gate[SLOTS], header[SLOTS], mark[SLOTS];
     int unit[SLOTS][MOST_UNITS];
-    bool is_touched;                 /* a control whose operations may touch the active slot, so that what comes of it is found */
+    bool is_touched;                 /* true for a control whose operations may touch the active slot, which the search must detect */
 };
 
 typedef uint64_t Contents;
 
-/* A header as it reads. */
+/* Fields of a header that was read. */
 struct Header {
     bool is_version_2;
     int generation, length, sum;
@@ -62,8 +62,8 @@ struct Header {
 /* An operation on the part. */
 struct Operation {
     enum { NONE, ERASE, PROGRAM } kind;
-    int cell;  /* the one that is programmed; of an erase one of the sector, by which the code names it */
-    int value; /* of a program */
+    int cell;  /* the programmed cell; for an erase the cell of the sector by which the code names it */
+    int value; /* value of a program */
 };
 
 inline int gate_of(int slot) { return slot * CELLS_OF_SLOT; }
@@ -91,7 +91,7 @@ inline Contents with(Contents part, int cell, int value) {
     return (part & ~(mask_of(cell) << bit_of(cell))) | (Contents)value << bit_of(cell);
 }
 
-/* Returns whether a placement has a cell. */
+/* Returns true if a placement has this cell. */
 inline bool has_cell(const Placement &p, int cell) {
     return kind_of(cell) == UNIT ? number_of(cell) < p.units : kind_of(cell) == MARK ? number_of(cell) < p.marks : true;
 }
@@ -105,7 +105,7 @@ inline int sector_of(const Placement &p, int cell) {
     }
 }
 
-/* Values of a header: BLANK, one of each generation that is of another version, and each of version 2. */
+/* Values of a header: BLANK, a header of another version for each generation, and each header of version 2. */
 inline int header_value(const Placement &p, int generation, int length, int sum) {
     return 1 + GENERATIONS + (generation * p.units + length - 1) * p.registers + sum;
 }
@@ -136,14 +136,15 @@ inline std::vector<int> range_of(const Placement &p, const Operation &operation)
     return cells;
 }
 
-/* Returns the part once an operation was done. */
+/* Returns the contents after an operation. */
 inline Contents done(const Placement &p, Contents part, const Operation &operation) {
     for (int cell : range_of(p, operation))
         part = with(part, cell, operation.kind == Operation::ERASE ? BLANK : operation.value);
     return part;
 }
 
-/* Returns each part that an operation may leave, if it is cut, fails or lies: every value in each cell of its range. */
+/* Returns all contents that an operation may leave if it is cut off, fails or reports a false success: every value in each cell of its
+ * range. */
 inline std::vector<Contents> torn(const Placement &p, Contents part, const Operation &operation) {
     std::vector<Contents> left{part};
     for (int cell : range_of(p, operation)) {

@@ -1,4 +1,5 @@
-/* The search: every state that a part and its programs come to, if each operation is done, cut, fails or lies, any number of times. */
+/* The search visits every state that a part and its programs can reach, if each operation may succeed, be cut off, fail or report a false
+ * success, any number of times. */
 #ifndef SEARCH_H
 #define SEARCH_H
 #include "changes.h"
@@ -13,14 +14,14 @@ public:
     explicit Search(const Placement &placement) : p(placement) {}
     Promise run(uint32_t most_states); /* returns the promise that is broken, or ALL_HOLD */
     std::vector<Contents> parts_without_power() const;
-    void print_last() const; /* the states that led to the last one */
+    void print_last() const; /* prints the states that led to the last one */
     long states() const { return (long)found.count(); }
     long operations = 0, tears = 0, starts = 0, most = 0;
 
 private:
     Placement p;
     States found;
-    uint32_t now = 0; /* the state that is looked at */
+    uint32_t now = 0; /* the current state */
 
     void add(const State &state) { found.add(state, now); }
     void expand(const State &s);

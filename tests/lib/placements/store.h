@@ -1,11 +1,12 @@
-/* The reading of a part: which slot counts, which image is active, and which is on trial. Each rule has the function that it models. */
+/* Reads the state of a part: which slot is valid, which image is active, and which is on trial. Each rule names the function that it
+ * models. */
 #ifndef STORE_H
 #define STORE_H
 #include "part.h"
 
 enum { IMAGES = 3, NO_SLOT = -1, NO_IMAGE = -1, TRIES = MOST_MARKS - 1 };
 
-/* An image: its units, each 1 or 2. The second one has the length of a slot of 2 units. */
+/* Length of an image, and the values of its units, each 1 or 2. The second of the three images has 2 units, and the third fills a slot. */
 struct Image {
     int length, units[MOST_UNITS];
 };
@@ -14,7 +15,7 @@ inline const Image &image_of(const Placement &p, int number) {
     return (p.units == 2 ? two : three)[number];
 }
 
-/* dfu_slots::register::register_of */
+/* Models dfu_slots::register::register_of. */
 inline int sum_of(const Placement &p, Contents part, int slot, int length) {
     int sum = 0;
     for (int k = 0; k < length; k++)
@@ -22,7 +23,7 @@ inline int sum_of(const Placement &p, Contents part, int slot, int length) {
     return sum % p.registers;
 }
 
-/* dfu_slots::read: is_open, is_intact, counts. A header of version 1 that is well formed is not modelled: none is written. */
+/* Models is_open, is_intact and counts of dfu_slots::read. Well-formed headers of version 1 are not modelled, because none is written. */
 inline bool is_open(Contents part, int slot) { return value_at(part, gate_of(slot)) == OPEN; }
 inline bool is_intact(const Placement &p, Contents part, int slot) {
     const Header header = header_at(p, part, slot);
@@ -32,7 +33,7 @@ inline bool counts(const Placement &p, Contents part, int slot) {
     return is_open(part, slot) && (!header_at(p, part, slot).is_version_2 || is_intact(p, part, slot));
 }
 
-/* dfu_slots::places: is_newest, check */
+/* Models is_newest and check of dfu_slots::places. */
 inline int next_generation(const Placement &p, Contents part, int slot) { return (header_at(p, part, slot).generation + 1) % GENERATIONS; }
 inline bool is_newest(const Placement &p, Contents part, int mine, int other) {
     return counts(p, part, mine) && (!counts(p, part, other) || header_at(p, part, mine).generation == next_generation(p, part, other));
@@ -44,7 +45,7 @@ inline int active_slot(const Placement &p, Contents part) {
     return NO_SLOT;
 }
 
-/* Returns the image that a slot holds whole, by its header's length. */
+/* Returns the number of the image that a slot contains whole, with the length in the slot's header; NO_IMAGE if there is none. */
 inline int image_in(const Placement &p, Contents part, int slot) {
     const int length = header_at(p, part, slot).length;
     for (int number = 0; number < IMAGES; number++) {
@@ -58,7 +59,7 @@ inline int image_in(const Placement &p, Contents part, int slot) {
     return NO_IMAGE;
 }
 
-/* The standing of the two images: dfu_boot::trial::looking::look */
+/* Models the standing of the two images: dfu_boot::trial::looking::look. */
 struct Standing {
     bool is_on_trial, is_confirmed;
     int slot, starts;

@@ -1,12 +1,12 @@
-/* Installs updates on parts with unequal sectors, by the library in C over the translation of dfu_places.h. The power is lost in each
- * operation, and in each of these lives in later ones again. Whatever came, the old or the new image is active, whole, and at the address
- * of its data; model.c holds each operation against the rules of a placement.
+/* Installs updates on parts with unequal sectors, by the library in C over the translation of dfu_places.h. Power is lost in each
+ * operation, and after each such loss in later operations again. In every case the old or the new image must be active, whole, and at the
+ * address of its data. model.c checks each operation against the rules of a placement.
  *
- *     lives STEP       every STEP-th second cut of a small update; a larger one of two virtual sectors, and one as large as the data,
- *                      are cut in fewer operations
+ *     lives STEP       tries every STEP-th second cut of a small update, and fewer cuts of an update of two virtual sectors, and of one as
+ *                      large as the data
  *
- * With DFU_READ the device reads the part by a call, and there is no copy: an image is active in either slot. Else a view of the virtual
- * flash is in memory, and dfu_home.h brings the image to the first slot. */
+ * With DFU_READ the device reads the part by a function, and there is no copy: an image may be active in either slot. Else a view of the
+ * virtual flash is in memory, and dfu_home.h copies the image to the first slot. */
 #include "model.h"
 #include <stdio.h>
 #include <stdlib.h>
@@ -41,7 +41,7 @@ static int32_t settle(struct dfu_place *place) {
 }
 #else
 static uint8_t view[VIRTUAL];
-/* What the library sees follows what the part holds. */
+/* Updates the library's view after the part changed. */
 static void see(uint32_t at, uint32_t length) {
     dfu_places_read(places.placement, at, view + at, length, model_read);
 }
@@ -71,7 +71,7 @@ static void find_active(void) {
     struct dfu_place place;
     model_active = dfu_device_image(&dfu, &place) != 0 ? -1 : place.at < half() ? 0 : 1;
 }
-/* Which image stands at the address of the data of its slot, by the table of the part alone. */
+/* Returns the image at the address of a slot's data, taken from the table of the part. */
 static int which(const struct dfu_place *place) {
     const struct dfu_span *there = &places.placement->things[place->at < half() ? DFU_FIRST_DATA : DFU_SECOND_DATA];
     for (int i = 0; i < IMAGES; i++)
@@ -96,7 +96,7 @@ static void download(int image) {
     model_expect("the close", request(0x21, DFU_DNLOAD, number, 0) == 0);
     model_expect("in place", request(0xa1, DFU_GETSTATUS, 0, 6) == 6 && data[4] == DFU_STATE_IDLE);
 }
-/* A start of the bootloader: the image that it starts. */
+/* Starts the bootloader. Returns the image that it starts. */
 static int start(void) {
     struct dfu_place before, place;
     int image;
@@ -110,7 +110,7 @@ static int start(void) {
     model_expect("the same image starts", which(&place) == image);
     return image;
 }
-/* Image 0 runs and takes image 1, with these cuts; then image 2 has to work. Returns how many operations there were. */
+/* Installs image 1 over image 0 with these cuts. After that one of the two must start, whole. Returns the number of operations. */
 static long life(long first, int first_tear, long second, int second_tear) {
     volatile int taken = 0;
     int image;
@@ -154,7 +154,7 @@ static void with_second_cuts(long step) {
 static void set_lengths(uint32_t old, uint32_t new, uint32_t later) {
     lengths[0] = old, lengths[1] = new, lengths[2] = later;
 }
-/* Some cuts of a larger update: so many of them, at equal distances. */
+/* Tries `count` cuts of a larger update, at equal distances. */
 static void with_cuts(long count) {
     const long all = life(0, 0, 0, 0);
     for (long i = 1; i <= count; i++)

@@ -1,11 +1,11 @@
-/* The model's bytes and its rules. Operations come by addresses of the part, below the translation, so a wrong translation breaks a rule:
+/* The model's bytes and its rules. Operations have addresses of the part, below the translation, so a wrong translation breaks a rule:
  *
- * - an erase is of whole sectors of one region, which all belong to one thing: all of a gate or a header, or as many as a virtual sector of
- *   data has;
- * - a program is of whole units within one thing, each erased since the power came and programmed once;
- * - neither touches the slot with the active image, the bootloader, or a sector that no thing has.
+ * - an erase covers whole sectors of one region, which all belong to one thing: those of a whole gate or header, or of a virtual sector of
+ *   data;
+ * - a program covers whole units within one thing, each erased since power-on and programmed once;
+ * - neither touches the slot of the active image, the bootloader, or a sector outside the six things.
  *
- * An operation in which the power is lost leaves its range as it was, in half done, with random bytes, done, or with all bytes A5h. */
+ * An operation that loses power leaves its range unchanged, half done, with random bytes, all done, or with all bytes A5h. */
 #include "model.h"
 #include <stdio.h>
 #include <string.h>
@@ -58,7 +58,7 @@ const uint8_t *model_at(uint32_t address) {
 void model_read(uint32_t address, uint8_t *to, size_t count) {
     memcpy(to, model_at(address), count);
 }
-/* The thing that has all of a range, or -1. */
+/* Returns the thing that contains the whole range, or -1. */
 static int thing_of(uint32_t at, uint32_t length) {
     for (int i = 0; i < 6; i++) {
         const struct dfu_span *it = &model_part->placement->things[i];
@@ -87,7 +87,7 @@ static int is_whole(uint32_t at, uint32_t length) {
     }
     return 0;
 }
-/* What the bytes of an operation become, and the loss of power if it is cut off. */
+/* Changes the bytes of an operation's range. If the operation is cut off, power is lost after that. */
 static void carry_out(uint32_t at, const uint8_t *bytes, uint32_t length) {
     uint8_t *to = model_bytes + (at - base());
     int tear = -1;

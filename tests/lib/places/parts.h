@@ -1,5 +1,5 @@
-/* Parts with unequal sectors, and a placement of two areas on each behind a bootloader of 32 KiB: the places that `plan` of dfu_places
- * finds. The parts' sectors are from memory. */
+/* Parts with unequal sectors, and on each a placement of two areas after a bootloader of 32 KiB: the addresses that `plan` of dfu_places
+ * finds. The sectors were not compared with the data sheets of the parts. */
 #ifndef PARTS_H
 #define PARTS_H
 
@@ -7,7 +7,7 @@
 
 enum { KIB = 1024, UNIT = 16, REGIONS = 3 };
 
-/* Name, virtual sector, data; and then as DFU_PLACEMENT: bootloader; first gate, header, data; second ones. */
+/* Name, virtual sector and data; then as in DFU_PLACEMENT: bootloader; gate, header and data of the first slot; those of the second. */
 DFU_PLACEMENT(f411, 131072, 131072, UNIT, 0x08000000, 32768,
               0x08008000, 16384, 0x0800c000, 16384, 0x08040000,
               0x08010000, 65536, 0x08020000, 131072, 0x08060000);
@@ -27,7 +27,7 @@ DFU_PLACEMENT(nrf52832, 4096, 237568, UNIT, 0x00000000, 32768,
               0x00008000, 4096, 0x00009000, 4096, 0x0000c000,
               0x0000a000, 4096, 0x0000b000, 4096, 0x00046000);
 
-/* Sectors of one size. */
+/* Consecutive sectors of one size. */
 struct region {
     uint32_t at, sector, count;
 };
@@ -36,7 +36,7 @@ struct part {
     const char *name;
     struct region regions[REGIONS];
     const struct dfu_placement *placement;
-    uint32_t kib; /* of the largest image */
+    uint32_t kib; /* size of the largest image */
 };
 
 static const struct part PARTS[] = {

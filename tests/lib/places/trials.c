@@ -1,11 +1,10 @@
 /* Runs updates on trial on parts with unequal or large sectors, with a run area, by the library in C over the translation of dfu_places.h.
- * The power is lost in each operation of the device, of the marks and ends of trials, and of the copy to the run area, and in each of these
- * lives in later ones again. The old or the new image runs, whole in the run area; at the end one of them is active, whole at the
- * address of its data. An image that confirms itself stays; one that never does starts at most TRIES times, and the old one comes back.
- * model.c holds each operation on the slots against the rules of a placement; the slot of the confirmed image may not be touched, but for
- * marks.
+ * Power is lost in each operation of the device, of the marks and ends of trials, and of the copy to the run area, and after each such loss
+ * in later operations again. The old or the new image must run, whole in the run area; at the end one of them must be active, whole at the
+ * address of its data. An image that confirms itself stays; one that never does starts at most TRIES times, and then the old one runs
+ * again. model.c checks each operation on the slots against the rules of a placement; only marks may touch the slot of the confirmed image.
  *
- *     trials STEP      every STEP-th second cut */
+ *     trials STEP tries every STEP-th second cut */
 #include "model.h"
 #include <stdio.h>
 #include <stdlib.h>
@@ -19,7 +18,7 @@ DFU_PLACEMENT(h743_three, 131072, 393216, UNIT, 0x08000000, 32768,
               0x08060000, 131072, 0x08080000, 131072, 0x08100000);
 static const struct trial_part {
     struct part part;
-    uint32_t run; /* the run area's address; it is as large as the data */
+    uint32_t run; /* address of the run area, which is as large as the data of a slot */
 } TRIALS[] = {
     {{"STM32F746", {{0x08000000, 32 * KIB, 4}, {0x08020000, 128 * KIB, 1}, {0x08040000, 256 * KIB, 3}}, &f746, 256}, 0x080c0000},
     {{"STM32H743", {{0x08000000, 128 * KIB, 16}, {0, 0, 0}, {0, 0, 0}}, &h743_three, 384}, 0x08160000},
@@ -29,9 +28,9 @@ static const uint32_t lengths[IMAGES] = {900, 700, 1000};
 static struct dfu_config config = {.version = DFU_VERSION, .vendor = 1, .product = 1, .device = 1, .detach_ms = 1000, .transfer = BLOCK,
                                    .attributes = DFU_CAN_DNLOAD | DFU_CAN_UPLOAD | DFU_MANIFESTATION_TOLERANT, .least = 8, .unit = UNIT};
 static unsigned long lives, olds, news;
-static long runs; /* of the new image in this life */
+static long runs; /* starts of the new image in this life */
 
-/* An operation that is no business of the placement: of the run area, or a mark. */
+/* Carries out an operation on the run area, or of a mark. The rules of the placement do not apply to these. */
 static void carry_out(uint8_t *to, const uint8_t *bytes, uint32_t length) {
     int tear = -1;
     model_operations++;
@@ -62,7 +61,7 @@ static int no_erase(void *own, uint32_t at, uint32_t length) {
 static const struct dfu_driver marks_part = {NULL, no_erase, mark_program};
 static struct dfu_places places = {NULL, &model}, marks = {NULL, &marks_part};
 
-/* The library's view follows what the part holds. */
+/* Updates the library's view after the part changed. */
 static void see(uint32_t at, uint32_t length) {
     dfu_places_read(places.placement, at, view + at, length, model_read);
 }
@@ -98,7 +97,7 @@ static struct dfu_install install = {.driver = &run_driver};
 static uint32_t half(void) {
     return (uint32_t)dfu.size / 2;
 }
-/* The image at the address of the data of a slot, by the table of the part alone; in the run area too, if it runs. */
+/* Returns the image at the address of a slot's data, taken from the table of the part. If the image runs, the run area must hold it too. */
 static int which(const struct dfu_place *place, int is_running) {
     const struct dfu_span *there = &places.placement->things[place->at < half() ? DFU_FIRST_DATA : DFU_SECOND_DATA];
     for (int i = 0; i < IMAGES; i++)
@@ -128,7 +127,7 @@ static void download(int image) {
 static int settles(const struct dfu_place *place) {
     return dfu_install_settle(&install, view + place->at, place->length) == 0;
 }
-/* A start of the bootloader, as the listing of docs/PORTING.md has it: the image that runs, and its place. */
+/* Starts the bootloader like the listing of docs/PORTING.md. Returns the image that runs, with its place. */
 static int start(struct dfu_place *place) {
     struct dfu_standing standing;
     int image;
@@ -147,7 +146,8 @@ static int start(struct dfu_place *place) {
     runs += image == 1;
     return image;
 }
-/* Image 0, confirmed, runs and takes image 1, which confirms itself or hangs, with these cuts. Returns how many operations there were. */
+/* Installs image 1 on trial over the confirmed image 0, with these cuts. Image 1 confirms itself, or hangs. Returns the number of
+ * operations. */
 static long life(int confirms, long first, int first_tear, long second, int second_tear) {
     struct dfu_place place;
     volatile int taken = 0;

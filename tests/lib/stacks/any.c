@@ -1,4 +1,4 @@
-/* A USB stack that hands in whatever stands in its memory, and a board's jumper. */
+/* Implements a USB stack whose requests are the contents of its memory, and the jumper of a board. */
 #include <stdint.h>
 
 int usb_dfu_has_body(const uint8_t setup[8]);

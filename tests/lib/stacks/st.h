@@ -1,4 +1,5 @@
-/* The types of ST's USB_DEVICE library that docs/PORTING.md's listing needs, written from memory: tests/c/porting compiles it first. */
+/* The types of ST's USB_DEVICE library that docs/PORTING.md's listing needs. They were written without the original headers.
+ * tests/c/porting compiles the listing after them. */
 #include <stdint.h>
 
 typedef enum { USBD_OK, USBD_BUSY, USBD_EMEM, USBD_FAIL } USBD_StatusTypeDef;

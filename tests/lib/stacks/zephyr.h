@@ -1,4 +1,5 @@
-/* The types of Zephyr that docs/PORTING.md's listing needs, written from memory: tests/c/porting compiles it before them. */
+/* The types of Zephyr that docs/PORTING.md's listing needs. They were written without the original headers. tests/c/porting compiles the
+ * listing after them. */
 #include <errno.h>
 #include <stddef.h>
 #include <stdint.h>

@@ -1,5 +1,5 @@
-/* Several boards on one bus. All that is seen of each is in memory that this process and those that it forks have in common; its device,
- * with its medium, is in the one process that works with it. */
+/* Several boards on one bus. The visible state of each is in memory that this process shares with those that it forks; the device of a
+ * board, with its flash, is only in the process that uses it. */
 #include "boards.h"
 #include "bus.h"
 #include "settings.h"
@@ -10,13 +10,13 @@
 #include <sys/mman.h>
 
 #define BOARDS 32
-#define WORDS 16 /* settings in a line */
+#define WORDS 16 /* maximum number of settings in a line */
 
 static int count, awake = -1, entered;
 static struct settings each[BOARDS];
-static struct seen *all_seen; /* of each; NULL where there is one board */
+static struct seen *all_seen; /* state of each board; NULL if there is only one */
 
-/* As a device by the settings is seen at the start. */
+/* Adds a board with the initial state of a device with these settings. */
 static void add_board(void)
 {
     bool is_app = settings.starts_in_app;
@@ -29,7 +29,8 @@ static void add_board(void)
     };
 }
 
-/* The settings of a line: those of the environment, and its own. The line stays where it is, since texts of it are kept. */
+/* Reads the settings of a line, which are added to those of the environment. The line must stay in memory, because the settings point into
+ * it. */
 static void read_board(char *line)
 {
     static char *before[WORDS];
@@ -98,7 +99,7 @@ void boards_enter(int board)
     seen = &all_seen[board];
 }
 
-/* Enters the board that was worked with, for the work at the end. */
+/* At the end of the process, selects the board that the process used, because the other exit handlers apply to the selected board. */
 static void enter_awake(void)
 {
     boards_enter(awake);
@@ -121,14 +122,15 @@ void boards_pass_time(void)
         bus_pass_time();
 }
 
-/* Returns whether a board was pulled out at least so many milliseconds ago. */
+/* Returns true if a board was unplugged at least `ms` milliseconds ago. */
 static bool is_pulled(int board, unsigned ms)
 {
     const struct settings *its = &each[board];
     return its->pulled_ms > 0 && all_seen[board].ended_ms > 0 && bus_ms() >= all_seen[board].ended_ms + its->pulled_ms + ms;
 }
 
-/* Of one board what the bus says. Of several also whether it was pulled out, or is to come in the place of another one. */
+/* Returns the answer of bus_lists. With several boards, a board is also missing if it was unplugged, or if the board that it replaces is
+ * still there. */
 bool boards_lists(void)
 {
     if (all_seen == NULL)

@@ -4,19 +4,19 @@
 
 #include <stdbool.h>
 
-/* Reads what there is, once. Returns how many boards there are. */
+/* Reads the boards, once. Returns their number. */
 int boards_start(void);
 
-/* The settings, and what is seen, are those of this board from here on. */
+/* Selects a board: settings and state are those of this board from now on. */
 void boards_enter(int board);
 
-/* This process works with the board: from here on it has the device. It has no other one. */
+/* Gives this process the device of a board. A process has at most one. */
 void boards_wake(int board);
 
-/* Time passes on the device, if this process has that of the board that was entered. */
+/* Passes the elapsed time to the selected board's device, if that device is in this process. */
 void boards_pass_time(void);
 
-/* One more list of devices is made: whether the board, which was entered, is in it. */
+/* Counts a new list of devices. Returns true if the selected board is in it. */
 bool boards_lists(void);
 
 #endif

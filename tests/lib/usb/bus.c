@@ -12,8 +12,8 @@
 #include <time.h>
 #include <unistd.h>
 
-#define BOUND 100000  /* transfers of a run: a program that sends more goes round in a circle */
-#define REST_MS 10000 /* pass on the device once the program has ended */
+#define BOUND 100000  /* maximum transfers of a run; more mean an endless loop */
+#define REST_MS 10000 /* time that passes on the device after the program's end */
 
 static const struct model *model;
 struct seen *seen = &(struct seen){0};
@@ -32,7 +32,7 @@ uint64_t bus_ms(void)
     return now_ns() / 1000000;
 }
 
-/* Who holds the device of before gets no answer any more, and it is away for as many lists as was set. */
+/* Enumerates the device anew: an old handle gets no more answers, and the device is missing in as many lists as USB_AWAY says. */
 static void enumerate(void)
 {
     seen->generation++;
@@ -40,7 +40,7 @@ static void enumerate(void)
     seen->away = settings.away;
 }
 
-/* An application without USB isn't seen on the bus. */
+/* Returns true if the device is on the bus. A device in an application without USB is not. */
 static bool is_there_now(void)
 {
     return model->is_there() && (settings.app_has_usb || !model->is_app());
@@ -107,7 +107,7 @@ void bus_pass_time(void)
         elapse(ms);
 }
 
-/* The program heard nothing for as long as it wanted to wait. */
+/* Lets the whole timeout pass, because there is no answer. */
 static int wait_in_vain(unsigned timeout)
 {
     if (timeout == 0)
@@ -125,7 +125,7 @@ static int leave(void)
     return settings.leaves_untold ? USB_ERROR_PIPE : USB_ERROR_NO_DEVICE;
 }
 
-/* The device handles it, once or twice: bytes of the last answer, or an error. */
+/* Lets the device handle the transfer, once or twice. Returns the number of bytes that were transferred, or an error. */
 static int handled(const uint8_t setup[8], uint8_t *data, uint16_t length, const struct fate *fate)
 {
     bool is_in = (setup[0] & 0x80) != 0;
@@ -164,7 +164,7 @@ static int meets(const struct fate *fate, const uint8_t setup[8], uint8_t *data,
     }
 }
 
-/* As libusb does it, no signal cuts it short. It is no time of the device. */
+/* Waits without passing the time to the device. As in libusb, a signal does not interrupt the wait. */
 static void pass_untold(unsigned ms)
 {
     struct timespec left = {ms / 1000, (long)(ms % 1000) * 1000000};
@@ -197,8 +197,7 @@ int bus_transfer(const uint8_t setup[8], uint8_t *data, uint16_t length, unsigne
     return answer;
 }
 
-/* A device that is the same behind the reset stands in setting 0: by libusb's manual the system does no more than try to put
- * it back into the one that it was in. */
+/* A device that is the same after the reset is in setting 0: by libusb's manual the system only tries to restore the previous setting. */
 bool bus_reset(void)
 {
     unsigned before = seen->generation;
@@ -222,7 +221,7 @@ void bus_set_interface(int setting)
     model->set_interface();
 }
 
-/* A person pulls the plug while nothing is asked of the device. */
+/* With USB_PULL a user unplugs the device, and plugs it in again, after this many lists of devices without a transfer between them. */
 bool bus_lists(void)
 {
     if (settings.pull != 0 && ++idle_lists == settings.pull) {

@@ -1,4 +1,4 @@
-/* libusb-1.0's calls over an open device: control transfers, resets, claims and settings of its interface. */
+/* Calls of libusb-1.0 for an open device: control transfers, resets, and claims and settings of its interface. */
 #include "abi.h"
 #include "boards.h"
 #include "bus.h"
@@ -50,7 +50,7 @@ libusb_device *libusb_get_device(libusb_device_handle *handle)
     return handle->device;
 }
 
-/* 0 where the handle is of the device as it is enumerated now. */
+/* Returns 0 if the handle is of the current enumeration of its device, or of the second device; else LIBUSB_ERROR_NO_DEVICE. */
 static int held(const libusb_device_handle *handle)
 {
     boards_enter(handle->device->board);
@@ -68,7 +68,7 @@ int libusb_claim_interface(libusb_device_handle *handle, int interface)
     return settings.claimed;
 }
 
-/* libusb answers LIBUSB_ERROR_NOT_FOUND; here it is shown. */
+/* libusb returns LIBUSB_ERROR_NOT_FOUND for an interface that was not claimed; here the test fails. */
 int libusb_release_interface(libusb_device_handle *handle, int interface)
 {
     if (!handle->is_claimed)
@@ -108,8 +108,8 @@ int libusb_reset_device(libusb_device_handle *handle)
     return bus_reset() ? 0 : USB_ERROR_NOT_FOUND;
 }
 
-/* Answers GET_DESCRIPTOR for strings at the control endpoint, as every device does. U-Boot's answers it for the functional descriptor too,
- * which no device has to. */
+/* Answers GET_STATUS, and GET_DESCRIPTOR for strings, as every device does. U-Boot's device also answers GET_DESCRIPTOR for the functional
+ * descriptor, which is optional. */
 static int standard(const libusb_device *device, uint8_t kind, uint8_t request, uint16_t value, uint8_t *data, uint16_t length)
 {
     uint8_t function[9];

@@ -1,6 +1,6 @@
-/* The descriptors of the devices on the bus: one configuration of one interface of class FEh, subclass 01h, protocol 1 in
- * run-time mode and 2 in DFU mode (USB DFU 1.1, sections 4.1 and 4.2), in DFU mode with one alternate setting or more, and
- * the functional descriptor behind the last. An application without DFU has an interface of another class. */
+/* The descriptors of the devices on the bus: one configuration with one interface of class FEh, subclass 01h, protocol 1 in run-time mode
+ * and 2 in DFU mode (USB DFU 1.1, sections 4.1 and 4.2). In DFU mode the interface has one alternate setting or more, and the functional
+ * descriptor follows the last. An application without DFU has an interface of another class. */
 #include "descriptors.h"
 #include "bus.h"
 #include "settings.h"
@@ -9,10 +9,10 @@
 #include <stdlib.h>
 #include <string.h>
 
-#define MOST_UNITS 126 /* of a string descriptor */
+#define MOST_UNITS 126 /* units of a string descriptor */
 #define MOST_EXTRA 512
 
-enum { NO_STRING, SERIAL_STRING, INTERFACE_STRING }; /* behind the last those of the settings, where there are several */
+enum { NO_STRING, SERIAL_STRING, INTERFACE_STRING }; /* with several settings their names follow the last one */
 
 void describe_device(bool is_app, struct libusb_device_descriptor *out)
 {
@@ -47,7 +47,7 @@ int describe_function(bool is_app, uint8_t out[9])
     return size;
 }
 
-/* The bytes of a setting that is hexadecimal: how many there are. */
+/* Reads the bytes of a hexadecimal setting. Returns their number. */
 static int raw_bytes(const char *hex, uint8_t *out, size_t room)
 {
     size_t count = strlen(hex) / 2;
@@ -62,7 +62,7 @@ static int raw_bytes(const char *hex, uint8_t *out, size_t room)
     return (int)count;
 }
 
-/* Memory of one configuration in one piece, which ends with the last byte of the functional descriptor. */
+/* Memory of one configuration in a single block, which ends with the last byte of the functional descriptor. */
 struct whole {
     struct libusb_config_descriptor configuration;
     struct libusb_interface interface;
@@ -111,7 +111,7 @@ void forget_configuration(struct libusb_config_descriptor *found)
     free(found);
 }
 
-/* The name of the setting of that number, by USB_MAPS. */
+/* Returns the name of the setting with that number, from USB_MAPS. */
 static const char *map_name(unsigned number)
 {
     static char name[6 * MOST_UNITS + 1];
@@ -127,7 +127,7 @@ static const char *map_name(unsigned number)
     return name;
 }
 
-/* The units of UTF-16: a character of ASCII each, or \uXXXX, which may be any. */
+/* Converts a text to UTF-16 code units: one for each ASCII character, or \uXXXX for any. */
 static unsigned units_of(const char *text, uint16_t units[MOST_UNITS])
 {
     unsigned count = 0;

@@ -1,4 +1,4 @@
-/* A device as a program holds it: what it was when the list was made. */
+/* A device in a program's list: its state when the list was made. */
 #ifndef USB_DEVICE_H
 #define USB_DEVICE_H
 
@@ -6,9 +6,9 @@
 
 struct libusb_device {
     unsigned holders, generation;
-    bool is_other; /* the second one, of which there are descriptors alone */
+    bool is_other; /* the second device, which has only descriptors */
     bool is_app;
-    int board; /* which of several, from 0 */
+    int board; /* number of the board, from 0 */
 };
 
 struct libusb_device_handle {

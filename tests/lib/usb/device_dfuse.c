@@ -1,10 +1,10 @@
-/* A device that speaks DfuSe, ST's variant of USB DFU: by what is known of ST's bootloaders, and no one's code.
+/* A device of DfuSe, ST's variant of USB DFU: it follows the known behaviour of ST's bootloaders, without any of their code.
  *
- * DNLOAD of block 0 brings a command: 21h and an address set the pointer, 41h and an address erase the page that has it. That of block 2
- * or more brings bytes for the pointer. GETSTATUS starts what was brought and answers dfuDNBUSY; once its time is over the next one tells
- * what came of it. ABORT drops what was not started. UPLOAD from dfuIDLE or dfuUPLOAD-IDLE gives the memory at the pointer, by the
- * number of the block. DNLOAD of no bytes leaves for the application, which GETSTATUS starts. The memory is that of USB_PAGES. If the power
- * goes while something is written or erased, every other byte of it stands. */
+ * DNLOAD of block 0 sends a command: 21h and an address set the pointer, 41h and an address erase the page at that address. DNLOAD of block
+ * 2 or more sends bytes for the pointer's address. GETSTATUS starts the command or write and answers dfuDNBUSY; after its time the next
+ * GETSTATUS returns its result. ABORT drops a command that was not started. UPLOAD from dfuIDLE or dfuUPLOAD-IDLE returns the memory at the
+ * pointer plus the block's offset. DNLOAD of no bytes makes the device leave for its application, at the next GETSTATUS. The memory is that
+ * of USB_PAGES. A loss of power during a write or an erase leaves every other byte changed. */
 #include "dfuse_pages.h"
 #include "log.h"
 #include "model.h"
@@ -17,14 +17,14 @@ enum { DETACH, DNLOAD, UPLOAD, GETSTATUS, CLRSTATUS, GETSTATE, ABORT };
 enum { OK, TARGET, WRITE = 3, ERASE, VENDOR = 11, STALLED_PKT = 15 };
 enum { SET_ADDRESS = 0x21, ERASE_PAGE = 0x41 };
 
-#define START 0x08000000u /* where the pointer stands at first */
+#define START 0x08000000u /* initial address of the pointer */
 
 static struct {
-    int state, code, next_code; /* the code that a command which runs ends with */
-    uint32_t pointer, left_ms;  /* until a command, or the manifestation, is over */
-    bool is_busy;               /* a command runs */
-    uint32_t commands;          /* so many were started */
-    uint16_t block, length;     /* of what was brought */
+    int state, code, next_code; /* next_code: status code at the end of the running command */
+    uint32_t pointer, left_ms;  /* left_ms: time until the end of the command or of the manifestation */
+    bool is_busy;               /* a command is running */
+    uint32_t commands;          /* number of commands that were started */
+    uint16_t block, length;     /* block and length of the last DNLOAD */
     uint8_t brought[65536];
 } dfuse;
 
@@ -54,12 +54,12 @@ static bool is_there(void)
     return true;
 }
 
-/* A reset of the bus changes nothing of what ST's bootloader is at. */
+/* A bus reset does not change the state of ST's bootloader. */
 static void usb_reset(void)
 {
 }
 
-/* The work of a command stands once its time is over. */
+/* Ends a command, or the manifestation, once its time has passed. */
 static void settle(void)
 {
     if (dfuse.left_ms > 0)
@@ -113,7 +113,7 @@ static int run_write(void)
     return settings.is_protected ? VENDOR : pages_write(address, dfuse.brought, dfuse.length) ? OK : WRITE;
 }
 
-/* The GETSTATUS behind a DNLOAD. One that is to fail does nothing. */
+/* Starts the command or write at the GETSTATUS after a DNLOAD. A command that must fail does nothing. */
 static void run(void)
 {
     bool fails = settings.fails == (int)dfuse.commands++;
@@ -222,7 +222,7 @@ static int handle(const uint8_t setup[8], const uint8_t *body, size_t length, ui
     }
 }
 
-/* A command of an earlier run may have been brought and not started. */
+/* Makes the device. An earlier run may have sent a command that was not started. */
 static void make(void)
 {
     pages_make();

@@ -1,4 +1,4 @@
-/* The proved device of crates/dfu_device_c, with its medium in memory. */
+/* The proved device of crates/dfu_device_c, with its flash in memory. */
 #include "bus.h"
 #include "model.h"
 #include "settings.h"
@@ -19,7 +19,7 @@ static void must(int32_t answer, const char *what)
         fail_loudly("the proved device: %s answers %d", what, (int)answer);
 }
 
-/* The board that stands there now may have another number of its interface. */
+/* Restores power. After a swap the interface may have another number. */
 static void power(void)
 {
     config.interface_number = bus_interface();

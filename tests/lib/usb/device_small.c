@@ -1,10 +1,10 @@
-/* A small bootloader, as many boards have one. Its rules are those that such bootloaders share, and no one's code:
+/* A small bootloader, like those of many boards. It follows rules that such bootloaders share, without any of their code:
  *
- * It has one slot and writes in place: block 0 erases what stood there. A block is kept as it comes; GETSTATUS answers dfuDNBUSY,
- * and once that answer is out the block is written, and the state is dfuDNLOAD-IDLE. Behind the close GETSTATUS answers
- * dfuMANIFEST, and then it resets itself, at once or after USB_MANIFEST ms, and starts the application: no host asks for that.
- * ABORT and CLRSTATUS lead to dfuIDLE; what it doesn't know it stalls, and stays as it is. If a download was broken off it stays
- * in DFU mode, also without power. */
+ * It has one slot and overwrites it: block 0 erases the old image. It stores a received block in memory; GETSTATUS answers dfuDNBUSY, and
+ * after that answer the block is written, and the state is dfuDNLOAD-IDLE. After the close GETSTATUS answers dfuMANIFEST; then the device
+ * resets itself, at once or after USB_MANIFEST ms, and starts the application without a request of the host. ABORT and CLRSTATUS lead to
+ * dfuIDLE; unknown requests are stalled, and change nothing. After a download that was broken off it stays in DFU mode, even after a loss
+ * of power. */
 #include "model.h"
 #include "settings.h"
 
@@ -14,13 +14,13 @@
 enum { APP_IDLE, APP_DETACH, IDLE, DOWNLOAD_SYNC, BUSY, DOWNLOAD_IDLE, MANIFEST_SYNC, MANIFEST, WAIT_RESET, UPLOAD_IDLE };
 enum { DETACH, DNLOAD, UPLOAD, GETSTATUS, CLRSTATUS, GETSTATE, ABORT };
 
-#define RESET_MS 5 /* it is off the bus while it resets itself */
+#define RESET_MS 5 /* time off the bus during its own reset */
 
 static struct {
     int state;
-    bool is_whole;                     /* the last download was closed */
-    uint32_t leaves_ms, away_ms, size; /* until it resets itself, until it is back, and bytes of the image */
-    uint16_t number, length;           /* of the block that is kept */
+    bool is_whole;                     /* true if the last download was closed */
+    uint32_t leaves_ms, away_ms, size; /* time until it resets itself, time until it returns, and bytes of the image */
+    uint16_t number, length;           /* number and length of the stored block */
     uint8_t block[4096];
 } small;
 static uint8_t *memory;
@@ -35,7 +35,7 @@ static bool is_there(void)
     return small.away_ms == 0;
 }
 
-/* Program that a reset, or power, starts. */
+/* Starts the program that a reset or power-on selects. */
 static void start(void)
 {
     small.leaves_ms = 0;
@@ -57,7 +57,8 @@ static void reset_itself(void)
         small.state = IDLE;
 }
 
-/* A reset of the bus leads to DFU mode behind DETACH, and out of it. */
+/* Handles a bus reset, which starts a program as power-on does. In appDETACH it leads to DFU mode instead, or has no effect if USB_LEAVES
+ * is set. */
 static void usb_reset(void)
 {
     if (small.state != APP_DETACH)
@@ -85,7 +86,7 @@ static int status(uint8_t *out, int state, uint32_t poll_ms)
     return sizeof answer;
 }
 
-/* Bytes that find no room are dropped: it doesn't look. */
+/* Writes the stored block. Drops bytes beyond the capacity without an error, as such bootloaders do. */
 static void write_block(void)
 {
     uint32_t at = (uint32_t)small.number * settings.transfer;

@@ -1,7 +1,7 @@
-/* A device by the rules of U-Boot 2023.01's DFU function (drivers/usb/gadget/f_dfu.c there), written anew for these
- * tests. It differs from appendix A of the standard in what it says of a block: dfuDNLOAD-IDLE at once, no dfuDNBUSY.
- * A wrong request leads to dfuERROR with the code OK; a block that can't be taken, to errUNKNOWN. The download is flushed after the answer
- * that says dfuMANIFEST; where that fails, U-Boot leaves, and the device is gone. */
+/* A device by the rules of U-Boot 2023.01's DFU function (drivers/usb/gadget/f_dfu.c there), written anew for these tests. It differs from
+ * appendix A of the standard: after a block it reports dfuDNLOAD-IDLE at once, without dfuDNBUSY. A wrong request leads to dfuERROR with
+ * the code OK, and a block that can't be stored leads to errUNKNOWN. The download is flushed after the answer with dfuMANIFEST; if that
+ * fails, U-Boot exits, and the device is gone. */
 #include "model.h"
 #include "settings.h"
 #include "uboot_store.h"
@@ -15,11 +15,11 @@ enum { DETACH, DNLOAD, UPLOAD, GETSTATUS, CLRSTATUS, GETSTATE, ABORT };
 
 static struct {
     int state, code;
-    bool is_app;  /* its descriptors are those of run-time mode */
+    bool is_app;  /* the device's descriptors are those of run-time mode */
     bool is_gone; /* U-Boot has left its DFU command */
 } uboot;
 
-/* The seven requests as they came, with wValue and wLength. */
+/* One of the seven requests, with wValue and wLength. */
 struct request {
     unsigned what;
     uint16_t value, length;
@@ -55,7 +55,8 @@ static int download(const struct request *request, const uint8_t *body)
     return 0;
 }
 
-/* An upload reads a whole buffer, whatever wLength is; a shorter one ends it. */
+/* Handles UPLOAD as U-Boot does: it reads up to a full transfer size, even if wLength is smaller. Fewer bytes than wLength end the upload.
+ */
 static int upload(const struct request *request, uint8_t *out, uint16_t number)
 {
     int count = store_read(out, settings.transfer, number);
@@ -87,7 +88,7 @@ static int in_idle(const struct request *request, const uint8_t *body, uint8_t *
     case ABORT: return 0;
     case GETSTATUS: return status(out, 0);
     case GETSTATE: return tell_state(out);
-    case DETACH: /* not the standard's: it goes back to run-time mode */
+    case DETACH: /* not as in the standard: the device returns to run-time mode */
         uboot.state = APP_IDLE;
         uboot.is_app = true;
         return 0;
@@ -95,7 +96,7 @@ static int in_idle(const struct request *request, const uint8_t *body, uint8_t *
     }
 }
 
-/* dfuDNLOAD-IDLE and dfuUPLOAD-IDLE: each goes on with its own request. */
+/* Handles requests in dfuDNLOAD-IDLE and dfuUPLOAD-IDLE, where the transfer continues. */
 static int in_transfer(const struct request *request, const uint8_t *body, uint8_t *out)
 {
     if (request->what == GETSTATUS)
@@ -112,7 +113,7 @@ static int in_transfer(const struct request *request, const uint8_t *body, uint8
     return 0;
 }
 
-/* The states that a GETSTATUS leads on from. */
+/* Handles requests in the states that GETSTATUS changes. */
 static int in_passing(const struct request *request, uint8_t *out)
 {
     static const int next[] = {[DOWNLOAD_SYNC] = DOWNLOAD_IDLE, [BUSY] = DOWNLOAD_IDLE, [MANIFEST_SYNC] = MANIFEST, [MANIFEST] = IDLE};
@@ -162,7 +163,7 @@ static int handle(const uint8_t setup[8], const uint8_t *body, size_t length, ui
     return count < 0 ? count : (int)told;
 }
 
-/* Effects of SET_INTERFACE, and a host's SET_CONFIGURATION after a reset. The part that is gathered of a download stays. */
+/* Handles SET_INTERFACE, and a host's SET_CONFIGURATION after a reset. The gathered part of a download stays. */
 static void set_interface(void)
 {
     uboot.state = IDLE;

@@ -1,4 +1,4 @@
-/* The memory of the DfuSe device. Its map is read here by plain rules, with no part of the program that is tried. */
+/* The memory of the DfuSe device. Its map is read here by simple rules, without code of the tested program. */
 #include "dfuse_pages.h"
 #include "settings.h"
 
@@ -10,7 +10,7 @@ enum { READABLE = 1, ERASABLE = 2, WRITABLE = 4 };
 
 struct range {
     uint32_t start, size, count;
-    size_t at; /* its place in the memory */
+    size_t at; /* offset of the range in the memory */
     unsigned may;
 };
 
@@ -31,7 +31,7 @@ static uint32_t number(const char **text, int base)
     return (uint32_t)found;
 }
 
-/* COUNT*SIZE, a unit and a letter. */
+/* Reads a range from `address` on: COUNT*SIZE, a unit and a letter. Sets `address` to its end. Returns the text that follows. */
 static const char *add_range(const char *at, uint32_t *address)
 {
     struct range *range = &store.ranges[store.count++];
@@ -85,7 +85,7 @@ static const struct range *range_of(uint32_t address)
     return NULL;
 }
 
-/* The cell of an address on a page with which this may be done; NULL if there is none. */
+/* Returns the byte at an address on a page that allows this operation, or NULL. */
 static uint8_t *cell(uint32_t address, unsigned may)
 {
     const struct range *range = range_of(address);

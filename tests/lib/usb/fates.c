@@ -1,4 +1,4 @@
-/* Fates of transfers: as USB_FATE names them, and that of each transfer. */
+/* Reads the fates of transfers from USB_FATE, and returns the fate of each transfer. */
 #include "fates.h"
 
 #include <stdio.h>

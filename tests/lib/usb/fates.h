@@ -7,7 +7,7 @@
 /* Reads the fates of USB_FATE into the settings. */
 void fates_read(const char *line);
 
-/* The fate of the transfer of that number. */
+/* Returns the fate of the transfer with that number. */
 const struct fate *fate_of(unsigned number);
 
 #endif

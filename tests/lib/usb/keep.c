@@ -1,5 +1,5 @@
-/* Files that a run reads and leaves: the old image, the image that stands at the end (USB_SAVE), and the device's parts, one
- * behind the other (USB_STATE). Such a file is for a run of the same settings. */
+/* Files that a run reads and writes: the old image, the active image at the end (USB_SAVE), and the device's parts, one after the other
+ * (USB_STATE). The latter file is for a run with the same settings. */
 #include "keep.h"
 #include "settings.h"
 

@@ -1,4 +1,4 @@
-/* Files that a run leaves: the image that stands, and the whole device for the next run. */
+/* Files that a run writes: the active image, and the whole device for the next run. */
 #ifndef USB_KEEP_H
 #define USB_KEEP_H
 
@@ -7,7 +7,7 @@
 void keep_image(const struct model *model);
 void keep_write(const struct model *model);
 
-/* The device as the run before left it, where there was one. */
+/* Restores the device from the file of an earlier run, if there is one. */
 void keep_read(const struct model *model);
 
 #endif

@@ -1,4 +1,4 @@
-/* Lines such as these, in the file that USB_LOG names:
+/* Writes lines such as these to the file that USB_LOG names:
  *
  *     0 GETSTATUS 0 6 -> 000000000200, dfuIDLE
  *     1 DNLOAD 0 8 lost-back -> timeout, dfuDNLOAD-SYNC
@@ -7,8 +7,8 @@
  *     started 08000000
  *     end 2 appIDLE OK
  *
- * After the number come the request, its wValue and its wLength, the fate where it is one, what the program heard, and
- * the state that the device is in behind it. The last line has the number of transfers, the state and the code. */
+ * The line of a transfer has the number, the request, its wValue and wLength, the fate if there is one, the result for the program, and the
+ * state of the device afterwards. The last line has the number of transfers, the state and the status code. */
 #include "log.h"
 #include "abi.h"
 
@@ -27,7 +27,7 @@ static const char *const fates[] = {"",      " lost-out", " lost-back", " twice"
 
 #define NAME(table, number) ((unsigned)(number) < sizeof(table) / sizeof *(table) ? (table)[number] : "?")
 
-/* The file to write to, open from the first line on; NULL where none is asked for. */
+/* Returns the file to write to, which is opened for the first line; NULL if no log was requested. */
 static FILE *sink(void)
 {
     static FILE *file;

@@ -20,7 +20,8 @@ void fail_loudly(const char *format, ...)
     abort();
 }
 
-/* A variable's text, which stays as it is if the variable is set anew: a C library may free the one of before. NULL if it isn't set. */
+/* Returns a copy of a variable's text, or NULL if it isn't set. A copy is needed because a C library may free the text when the variable is
+ * set again. */
 static const char *kept(const char *name)
 {
     const char *text = getenv(name);
@@ -48,7 +49,7 @@ static const char *text(const char *name, const char *otherwise)
     return found != NULL ? found : otherwise;
 }
 
-/* Returns whether the variable is the first of two words; it has to be one of them. */
+/* Returns true if the variable's value is `first`, and false if it is `second`. Any other value ends the program. */
 static bool is_first(const char *name, const char *first, const char *second, const char *otherwise)
 {
     const char *found = text(name, otherwise);
@@ -57,7 +58,7 @@ static bool is_first(const char *name, const char *first, const char *second, co
     return strcmp(found, first) == 0;
 }
 
-/* Which of up to four words the variable is, from 0; without it the first. */
+/* Returns the index of the variable's value in `words`; 0 without the variable. */
 static int which(const char *name, const char *const words[4])
 {
     const char *found = text(name, words[0]);
@@ -130,7 +131,7 @@ static void read_device(void)
     settings.version = (uint16_t)number("USB_VERSION", kind == 3 ? 0x011a : 0x0110, 16);
 }
 
-/* Up to the first | of the names of settings. */
+/* Returns a copy of the first of the settings' names, which are separated by |. */
 static const char *first_of(const char *names)
 {
     char *first = strdup(names);
@@ -156,7 +157,7 @@ static void read_dfuse(void)
     settings.lies = number("USB_LIES", 0, 16);
 }
 
-/* Each name of USB_MAPS is that of a setting. */
+/* Counts the settings of USB_MAPS, each of which has a name. */
 static unsigned count_maps(void)
 {
     unsigned count = settings.maps != NULL;

@@ -1,9 +1,9 @@
-/* The rules of U-Boot 2023.01's DFU back end (its dfu_write, dfu_read and dfu_flush), written anew for these tests: a
- * transaction begins with the first block after the last one ended, counts blocks from 0, gathers them in a buffer,
- * and ends at a fault or a flush. Nothing ends it when the host goes away.
+/* The rules of U-Boot 2023.01's DFU back end (its dfu_write, dfu_read and dfu_flush), written anew for these tests: a transaction begins
+ * with the first block after the end of the previous one, counts blocks from 0, gathers them in a buffer, and ends at a fault or a flush.
+ * It does not end when the host leaves.
  *
- * The medium is a file, which the flush replaces, or raw: a part of a disk, which each write changes in place, and whose
- * image is all of it, whatever was written. */
+ * The medium is a file, which the flush replaces, or raw: a part of a disk, which each write overwrites, and whose image is always the
+ * whole part. */
 #include "uboot_store.h"
 #include "settings.h"
 
@@ -12,11 +12,11 @@
 
 static struct {
     bool is_begun;
-    uint16_t next;        /* the number of the next block */
+    uint16_t next;        /* number of the next block */
     uint32_t gathered;    /* bytes in the buffer */
-    uint64_t offset;      /* where they will be written */
-    uint32_t left;        /* bytes that an upload has yet to read */
-    uint32_t writes;      /* how many writes there were */
+    uint64_t offset;      /* offset of the next write */
+    uint32_t left;        /* bytes that an upload has not read yet */
+    uint32_t writes;      /* number of writes so far */
     uint32_t length;      /* bytes of the image */
     uint32_t file_length; /* bytes of the file that is being written */
 } store;
@@ -51,7 +51,8 @@ void store_forget(void)
     store.offset = 0;
 }
 
-/* One write to the medium. One that fails leaves half of its bytes. */
+/* Writes bytes of the buffer: to the medium if USB_STORE is raw, else to the file. Returns 0, or -1 on a failure. The write that USB_FAILS
+ * selects stores half of its bytes. */
 static int write_medium(uint32_t count)
 {
     bool fails = (int)store.writes++ == settings.fails;

@@ -1,5 +1,5 @@
-/* libusb-1.0's calls, as far as the programs tried here make them: contexts, lists of devices, their descriptors and
- * handles. A call that is not here is not found by the linker, which ends the program. */
+/* The calls of libusb-1.0 that the tested programs make: contexts, lists of devices, descriptors and handles. Any other call is missing
+ * when the program is linked or loaded, which ends the test. */
 #include "abi.h"
 #include "boards.h"
 #include "bus.h"
@@ -90,13 +90,13 @@ uint8_t libusb_get_bus_number(libusb_device *device)
     return settings.bus;
 }
 
-/* A device that is enumerated anew has another address. */
+/* Each enumeration gives the device another address. */
 uint8_t libusb_get_device_address(libusb_device *device)
 {
     return device->is_other ? 120 : (uint8_t)(device->generation % 100 + 1);
 }
 
-/* The other device stands on the next port. */
+/* The other device is on the next port. */
 int libusb_get_port_numbers(libusb_device *device, uint8_t *ports, int room)
 {
     boards_enter(device->board);

@@ -1,9 +1,10 @@
-/* Bytes that a loss of power leaves, at each write of a medium: cuts START LOG END IMAGE..
+/* Tries losses of power at each write of a medium: cuts START LOG END IMAGE..
  *
- * START is the medium as it was, LOG a log of the kernel's dm-log-writes, END the medium as it is. A mark in the log, the last part of
- * an IMAGE's path, tells that its download begins; before the first one the first IMAGE is active. At each write these are tried: that
- * it got so many of its sectors, or one of them alone; and where others before it were not flushed, that any of them got lost. Each
- * time the active image has to be the one from before the download or its own, and at a mark the one from before. */
+ * START is the medium at the beginning, LOG a log of the kernel's dm-log-writes, and END the medium at the end. A mark in the log is the
+ * last part of an IMAGE's path, and precedes the download of that image; before the first mark the first IMAGE is active. At each write the
+ * program tries all states in which only its first sectors, or one single sector, were written, and any of the earlier unflushed writes
+ * were lost. In each state the active image must be the one before the download or the downloaded one. At a mark it must be the image of
+ * the download that ended there. */
 #define _GNU_SOURCE
 #include "dfu_core.h"
 
@@ -18,7 +19,7 @@
 #define MAGIC 0x6a736677736872
 #define SECTOR 512
 enum { FLUSH = 1, FUA = 2, DISCARD = 4, MARK = 8 };
-enum { MOST_PENDING = 6 }; /* writes that no flush came behind */
+enum { MOST_PENDING = 6 }; /* maximum number of writes without a flush after them */
 
 struct file {
     const char *name;
@@ -30,11 +31,11 @@ struct write {
     const uint8_t *bytes;
 };
 
-/* The medium is dfu-gadget's: written byte by byte, of a configuration only that counts here. */
+/* Layout of dfu-gadget's medium. Only these fields of the configuration matter; the medium is written byte by byte. */
 static const struct dfu_config layout = {.version = DFU_VERSION, .transfer = 1, .attributes = 4, .least = 1, .unit = 1};
 static struct file disk, *images;
 static uint8_t *trial;
-static int many, now; /* images; the one whose download is under way, 0 before the first */
+static int many, now; /* number of images; number of the current download's image, 0 before the first */
 static struct write pending[MOST_PENDING];
 static int unflushed;
 static unsigned writes, flushes, states, of_before, of_new, of_neither;
@@ -66,7 +67,7 @@ static bool is_active(const uint8_t *bytes, const struct dfu_place *place, int i
     return images[image].size == place->length && memcmp(bytes + place->at, images[image].bytes, place->length) == 0;
 }
 
-/* One state of the medium. */
+/* Checks one state of the medium. */
 static void look(const uint8_t *bytes)
 {
     struct dfu_place place;
@@ -87,7 +88,7 @@ static void put(uint8_t *bytes, const struct write *write, size_t from, size_t t
     memcpy(bytes + write->at + from * SECTOR, write->bytes + from * SECTOR, (to - from) * SECTOR);
 }
 
-/* Any of the writes that were not flushed got lost, and this one is broken off. */
+/* Tries all subsets of the writes that were not flushed, with this write broken off. */
 static void cut(const struct write *write)
 {
     size_t sectors = write->length / SECTOR;
@@ -119,7 +120,7 @@ static const char *last_part(const char *name)
     return slash == NULL ? name : slash + 1;
 }
 
-/* Before it, the image of the download before is active, and nothing else. */
+/* Handles a mark: flushes all writes, after which the image of the download that ended here must be active. */
 static void mark(const char *text)
 {
     unsigned before = of_before;
@@ -145,7 +146,7 @@ static void take(const struct write *write, uint64_t flags)
         flush();
 }
 
-/* One entry of the log: how many bytes it takes. */
+/* Applies an entry of the log. Returns its number of bytes. */
 static size_t take_entry(const struct file *log, size_t at)
 {
     uint64_t fields[4];

@@ -1,5 +1,5 @@
-/* Debian 12's fwupd finds no USB device with its libusb 1.0.26: that takes the socket of udev's events which fwupd binds itself. Loaded
- * before it (LD_PRELOAD), this has libusb take none. */
+/* Debian 12's fwupd finds no USB device with its libusb 1.0.26, because libusb binds the socket of udev events that fwupd needs. With
+ * LD_PRELOAD this library makes libusb not bind it. */
 #define _GNU_SOURCE
 #include <dlfcn.h>
 

@@ -1,6 +1,6 @@
-/* One control transfer to a device by the kernel's usbfs: transfer DEVICE SETUP [BODY], all in hexadecimal but the device, which is its
- * name in /sys/bus/usb/devices; BODY may be xN, N zeros. It prints the answer, `ok`, or `stall`, or the error. `transfer DEVICE reset`
- * resets the bus, and `transfer DEVICE alt N` sets the setting N of interface 0. */
+/* Makes one control transfer through the kernel's usbfs: `transfer DEVICE SETUP [BODY]`. DEVICE is a name in /sys/bus/usb/devices; the rest
+ * is hexadecimal. BODY may be xN, for N zeros. It prints the answer, `ok`, `stall`, or the error. `transfer DEVICE reset` resets the bus,
+ * and `transfer DEVICE alt N` selects setting N of interface 0. */
 #include <errno.h>
 #include <fcntl.h>
 #include <linux/usbdevice_fs.h>

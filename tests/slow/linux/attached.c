@@ -1,15 +1,15 @@
-/* The device of the stand-in (tests/lib/usb) as Linux has one on its bus: attached to vhci_hcd, the kernel's host controller for devices
- * that stand behind a socket, with the protocol USB/IP. So the kernel's USB and the real libusb stand between it and a program.
+/* Attaches the device of the stand-in (tests/lib/usb) to Linux's bus by vhci_hcd, the kernel's host controller for devices behind a socket,
+ * with the USB/IP protocol. Programs then use the device through the kernel's USB and the real libusb.
  *
- * The kernel tells such a device of no reset. What comes behind one tells it: 64 bytes of the device descriptor are asked for, and
- * at the end a configuration is set. So a reset is told where a configuration was set before, and once an enumeration. What the
- * device says of itself behind it may differ, and then the kernel enumerates it anew.
+ * The kernel reports no reset to such a device. The requests after a reset show it: the kernel reads 64 bytes of the device descriptor, and
+ * finally sets a configuration. A reset is therefore reported to the device if a configuration was set before, and once for each
+ * enumeration. The device's descriptors may differ after a reset, and then the kernel enumerates it again.
  *
- * A device that leaves, by itself or by its fate, closes its socket, and is attached again, unless its application has no USB. A
- * transfer that is lost is not answered, until the program's time for it is over.
+ * A device that leaves, by itself or by a fate, closes its socket, and is attached again, unless its application has no USB. A lost
+ * transfer gets no answer before the program's timeout.
  *
- * usage: attached [PORT]    (as root, until SIGTERM; at this port of the controller, 0 to 7, or 0. The settings are those of the stand-in,
- * in tests/lib/usb/settings.h) */
+ * usage: attached [PORT]    (as root, until SIGTERM; PORT is a port of the controller, 0 to 7, by default 0. The settings are those of the
+ * stand-in, in tests/lib/usb/settings.h) */
 #define _GNU_SOURCE
 #include "abi.h"
 #include "bus.h"
@@ -30,10 +30,10 @@
 enum { SUBMIT = 1, UNLINK = 2, SUBMITTED = 3, UNLINKED = 4 };
 
 #define ATTACH "/sys/devices/platform/vhci_hcd.0/attach"
-#define DEVICE 0x10001 /* a bus and a number, which nothing looks at */
+#define DEVICE 0x10001 /* bus and device number, which are not used */
 #define FULL_SPEED 2
 
-/* All numbers have their high byte first. */
+/* Header of a USB/IP packet; all numbers have their high byte first. */
 struct header {
     uint32_t command, number, device, direction, endpoint;
     uint32_t fields[5]; /* of SUBMIT: flags, length; of UNLINK: the number; of an answer: status, length */
@@ -141,10 +141,10 @@ static void tell_reset(void)
     is_configured = false;
     bus_reset();
     if (bus_is_there())
-        generation = bus_generation(); /* it is the same device to the bus, with other descriptors */
+        generation = bus_generation(); /* the device stays the same on the bus, even with other descriptors */
 }
 
-/* Bytes of the answer, or an error of libusb. */
+/* Answers a standard request. Returns the number of bytes, or an error of libusb. */
 static int standard(const uint8_t setup[8], uint8_t *out, int room)
 {
     static const uint8_t zeros[2];
@@ -173,7 +173,7 @@ static int handle(const uint8_t setup[8], uint8_t *data)
     return bus_transfer(setup, data, length, 1);
 }
 
-/* One transfer: false where the device left. */
+/* Handles one packet: a transfer, or the cancellation of one. Returns false if the device left, or if the connection ended. */
 static bool serve(void)
 {
     static uint8_t data[65536];
@@ -214,7 +214,7 @@ int main(int count, char **words)
             usleep(50000);
             continue;
         }
-        struct pollfd wait = { .fd = line, .events = POLLIN }; /* (a request comes at once; what comes by time may be 20 ms late) */
+        struct pollfd wait = { .fd = line, .events = POLLIN }; /* (a request is handled at once; an event of the clock may be 20 ms late) */
         bool is_ready = poll(&wait, 1, 20) > 0, is_there = true;
         bus_pass_time();
         if (is_ready && bus_generation() == generation)

@@ -1,10 +1,10 @@
-/* MicroPython's bootloader mboot as a device on the stand-in's bus: its own code of USB, of DfuSe, of the memory's bounds and of the layout
- * of an STM32F4's flash, as `run` takes it out of MicroPython's sources into mboot_flash.inc and mboot_usb.inc, with nothing changed. Below
- * are what that code calls: a flash of 1 MiB, whose bytes are at its own addresses, 08000000h and on, and a stack of USB.
+/* MicroPython's bootloader mboot as a device on the stand-in's bus. Its code for USB, DfuSe, memory bounds and the layout of an STM32F4's
+ * flash is unchanged: `run` extracts it from MicroPython's sources to mboot_flash.inc and mboot_usb.inc. This file defines what that code
+ * calls: a flash of 1 MiB, at its own addresses from 08000000h, and a USB stack.
  *
- * Of the settings of a DfuSe device (tests/lib/usb/settings.h) these count: USB_IMAGE, with as much of the flash as is saved, USB_CELLS,
- * USB_FAILS (an erase or a write of the flash), USB_LIES, and those of the bus. A cut tears what the transfer of before has changed: every
- * other byte of it. */
+ * It uses these settings of a DfuSe device (tests/lib/usb/settings.h): USB_IMAGE, whose length is also that of the saved flash, USB_CELLS,
+ * USB_FAILS (an erase or a write of the flash), USB_LIES, and those of the bus. A cut restores every other byte that the previous transfer
+ * changed. */
 #define _GNU_SOURCE
 #include "device.h"
 #include "../../lib/usb/log.h"
@@ -17,10 +17,10 @@
 enum { SIZE = 1024 * 1024, GETSTATUS = 3, APPLICATION = 0x08008000 };
 
 static struct {
-    int commands;       /* erases and writes of the flash so far */
-    uint32_t at, count; /* what the last transfer has changed, */
-    uint8_t before[131072]; /* and its bytes of before */
-    size_t size;        /* of what is saved */
+    int commands;       /* number of erases and writes so far */
+    uint32_t at, count; /* range that the last transfer changed */
+    uint8_t before[131072]; /* bytes of that range before the transfer */
+    size_t size;        /* bytes of flash to save */
 } flash;
 
 static uint8_t *cell(uint32_t address)
@@ -28,7 +28,7 @@ static uint8_t *cell(uint32_t address)
     return (uint8_t *)(uintptr_t)address;
 }
 
-/* Keeps the bytes that are about to be changed. */
+/* Keeps the bytes that will be changed next. Returns true if this operation must fail. */
 static bool changes(uint32_t at, uint32_t count)
 {
     flash.at = at;
@@ -46,7 +46,7 @@ int flash_erase(uint32_t at)
     return 0;
 }
 
-/* Words, as mboot rounds up what it writes: up to three bytes behind the last are its buffer's. */
+/* Writes words. mboot rounds the length up to whole words, so the last word may contain up to three other bytes of mboot's buffer. */
 int flash_write(uint32_t at, const uint32_t *words, uint32_t count)
 {
     const uint8_t *bytes = (const uint8_t *)words;
@@ -62,7 +62,8 @@ int flash_write(uint32_t at, const uint32_t *words, uint32_t count)
     return 0;
 }
 
-/* The stack of USB: what mboot sends, and whether it is to be brought bytes. */
+/* State of the USB stack: the bytes that mboot sends and their number, and whether mboot sent bytes, expects bytes, or refused the request.
+ */
 static struct {
     USBD_HandleTypeDef handle;
     const uint8_t *sent;
@@ -113,7 +114,7 @@ static void start(void)
     dfu_init();
 }
 
-/* mboot's own descriptors are those that the stand-in tells for it. */
+/* Checks that mboot's own descriptors equal those of the stand-in. */
 static void check(void)
 {
     uint16_t length;
@@ -187,7 +188,7 @@ static bool is_there(void)
     return true;
 }
 
-/* Lets time pass, after which the bytes that an erase or a write has changed are torn no more. */
+/* Lets time pass. After that a cut no longer tears the bytes of the last erase or write. */
 static void elapse(uint32_t ms)
 {
     flash.count = ms > 0 ? 0 : flash.count;
@@ -205,7 +206,7 @@ static struct part keeps(unsigned number)
     return parts[number];
 }
 
-/* The words of a refusal. */
+/* Returns the string that explains a refusal. */
 const uint8_t *mboot_string(unsigned number, unsigned *length)
 {
     uint16_t bytes = 0;

@@ -1,4 +1,4 @@
-/* Names that mboot's code takes from the headers of MicroPython and of ST: the little of it that is wanted here. */
+/* The few names that mboot's code needs from the headers of MicroPython and of ST. */
 #ifndef MBOOT_DEVICE_H
 #define MBOOT_DEVICE_H
 
@@ -7,7 +7,7 @@
 #include <stdint.h>
 #include <string.h>
 
-/* An STM32F405: 1 MiB of flash, the first 32 KiB of which are mboot's own. */
+/* An STM32F405: 1 MiB of flash, of which mboot uses the first 32 KiB itself. */
 #define STM32F4
 #define FLASH_SECTOR_8
 #define FLASH_BASE 0x08000000u
@@ -15,7 +15,7 @@
 #define _mboot_protected_flash_start (*(uint8_t *)0x08000000)
 #define _mboot_protected_flash_end_exclusive (*(uint8_t *)0x08008000)
 
-/* ST's stack of USB. */
+/* Definitions of ST's USB stack. */
 #define USBD_OK 0
 #define USB_LEN_DEV_DESC 18
 #define USB_LEN_LANGID_STR_DESC 4
@@ -53,13 +53,13 @@ void USBD_CtlPrepareRx(USBD_HandleTypeDef *, uint8_t *, int);
 void USBD_CtlError(USBD_HandleTypeDef *, USBD_SetupReqTypedef *);
 void USBD_GetString(uint8_t *, uint8_t *, uint16_t *);
 
-/* MicroPython's flash.h. */
+/* Declarations of MicroPython's flash.h. */
 bool flash_is_valid_addr(uint32_t addr);
 int32_t flash_get_sector_info(uint32_t addr, uint32_t *start_addr, uint32_t *size);
 int flash_erase(uint32_t flash_dest);
 int flash_write(uint32_t flash_dest, const uint32_t *src, uint32_t num_word32);
 
-#include "mboot.h" /* MicroPython's */
+#include "mboot.h" /* from MicroPython */
 #include "dfu.h"
 
 dfu_context_t dfu_context;

@@ -1,5 +1,5 @@
-/* An application with the run-time driver of examples/tinyusb at Linux's raw-gadget: application FLASH. It becomes the program BOOTLOADER,
- * or `board`, which begins in dfuIDLE, once a host has sent it there. */
+/* An application with the run-time driver of examples/tinyusb over Linux's raw-gadget: `application FLASH`. After a host has sent it to DFU
+ * mode, the program that BOOTLOADER in the environment names replaces it, or else `board`, which begins in dfuIDLE. */
 #define _GNU_SOURCE
 #include "board.h"
 #include "dfu_tinyusb_runtime.h"

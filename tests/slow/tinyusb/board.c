@@ -1,6 +1,6 @@
-/* A board with TinyUSB and examples/tinyusb at Linux's raw-gadget: board FLASH [format IMAGE | image]. FLASH is a file. Settings come from
- * the environment: those of board.h and raw_gadget.c, ERASE_MS, LOG (a file), DFU_MODE, to begin in dfuIDLE, and APPLICATION: the program
- * `application` is the application. Else this one is, as far as DFU shows. */
+/* A board with TinyUSB and examples/tinyusb over Linux's raw-gadget: `board FLASH [format IMAGE | image]`. FLASH is a file. The settings
+ * are environment variables: those of board.h and raw_gadget.c, ERASE_MS, LOG (a file), DFU_MODE, to begin in dfuIDLE, and APPLICATION,
+ * with which the program `application` is the application. Without it this program is its own application in run-time mode. */
 #define _GNU_SOURCE
 #include "board.h"
 #include "dfu_tinyusb.h"
@@ -16,7 +16,7 @@ uint8_t board_protocol(void)
     return dfu_tinyusb_protocol();
 }
 
-/* Returns how often the device is told of a reset: the program is linked with --wrap. */
+/* Logs the bus resets that the device gets, with the device's state before and after each: the program is linked with --wrap. */
 int32_t __real_dfu_core_usb_reset(const struct dfu_config *, struct dfu_record *, uint8_t *, size_t, const uint8_t *, size_t);
 int32_t __wrap_dfu_core_usb_reset(const struct dfu_config *, struct dfu_record *, uint8_t *, size_t, const uint8_t *, size_t);
 int32_t __wrap_dfu_core_usb_reset(const struct dfu_config *c, struct dfu_record *r, uint8_t *b, size_t most, const uint8_t *f, size_t size)
@@ -53,7 +53,7 @@ static int32_t power_on(void)
     return getenv("DFU_MODE") != NULL ? dfu_device_begin(&device) : dfu_device_power_on(&device);
 }
 
-/* One turn of the loop. */
+/* Runs the loop of the program once. */
 static void turn(const char *path)
 {
     static int32_t told;
@@ -82,7 +82,7 @@ int main(int count, char **words)
         return format(words[3]);
     if (count == 3 && strcmp(words[2], "image") == 0)
         return print_image();
-    /* A board with anything on it stays as it is. */
+    /* A flash that is not blank is never formatted. */
     if (power_on() == DFU_NO_MEDIUM && dfu_device_is_blank(&device) == 1)
         dfu_device_format(&device, flash, 0);
     if (power_on() != 0 || dfu_tinyusb_start(&device) != 0)

@@ -1,4 +1,4 @@
-/* Parts that the programs of this folder share: a flash, a device over it, its descriptors, and a log. */
+/* Parts that the programs of this folder share: a flash, a device on it, its descriptors, and a log. */
 #ifndef BOARD_H
 #define BOARD_H
 #include "dfu_device.h"
@@ -8,25 +8,25 @@ enum { SECTOR = 4096, UNIT = 256, CAPACITY = 65536, FLASH_SIZE = DFU_MEDIUM_SIZE
 
 extern uint8_t flash[FLASH_SIZE];
 extern const struct dfu_driver flash_driver;
-extern unsigned flash_erase_ms, flash_fails; /* flash_fails: one operation of so many fails halfway; 0: none */
+extern unsigned flash_erase_ms, flash_fails; /* flash_fails: one operation of this many fails halfway; 0: none */
 extern unsigned long flash_erases, flash_programs;
-/* flash_open: it is kept in this file or disk from here on; 0: none. */
+/* flash_open: opens the file or disk that holds the flash from now on. Returns false if that fails. */
 bool flash_open(const char *path);
-/* setting: a number of the environment, or another one. */
+/* setting: returns a number of the environment, or `otherwise` without it. */
 unsigned setting(const char *name, int base, unsigned otherwise);
-/* The device, set up by the environment: ATTRIBUTES (hexadecimal), TRANSFER, BUSY, MANIFEST, INTERFACE. */
+/* The device, with settings from the environment: ATTRIBUTES (hexadecimal), TRANSFER, BUSY, MANIFEST, INTERFACE. */
 extern struct dfu_config config;
 extern struct dfu_device device;
 void board_set_up(void);
-/* Which descriptors are given: bInterfaceProtocol. */
+/* Returns bInterfaceProtocol, which selects the descriptors. */
 uint8_t board_protocol(void);
-/* A line of the log, which is the file LOG. */
+/* Writes a line to the log, which is the file LOG. */
 void board_log(const char *format, ...) __attribute__((format(printf, 1, 2)));
 uint32_t now_ms(void);
-/* The loop of the programs at raw-gadget: board_wait waits for 2 ms, or until board_wake. board_begin begins TinyUSB. */
+/* The loop of the programs over raw-gadget: board_wait waits for 2 ms, or until a call of board_wake; board_begin starts TinyUSB. */
 void board_begin(void);
 void board_wait(void);
 void board_wake(void);
-/* board_become: another program takes this one's place, and has this flash. */
+/* board_become: replaces this program by another one, which has the same flash. */
 void board_become(const char *program, const char *path);
 #endif

@@ -15,7 +15,7 @@ static struct {
 static uint32_t clock_ms;
 bool bus_is_late;
 unsigned bus_packets;
-static bool is_owed; /* the end of a status stage to the host */
+static bool is_owed; /* the report that a status stage to the host has ended is pending */
 
 static void die(const char *why)
 {
@@ -32,7 +32,7 @@ static void post_setup(const uint8_t setup[8])
 {
     dcd_event_t event = {.event_id = DCD_EVENT_SETUP_RECEIVED};
     memcpy(&event.setup_received, setup, 8);
-    memset(ends, 0, sizeof ends); /* a setup ends what was armed, and a stall */
+    memset(ends, 0, sizeof ends); /* a setup ends pending transfers, and a stall */
     post(&event);
     if (is_owed)
         dcd_event_xfer_complete(0, 0x80, 0, XFER_RESULT_SUCCESS, true);
@@ -45,7 +45,7 @@ static void complete(uint8_t endpoint, unsigned length)
     tud_task();
 }
 
-/* Returns whether a packet goes this way now. If not, it is a stall, or nothing ever comes. */
+/* Returns 0 if the controller has a transfer in this direction, BUS_STALL if it stalls, or BUS_HANGS if it would never answer. */
 static int waits(int way)
 {
     return ends[way].is_stalled ? BUS_STALL : ends[way].is_armed ? 0 : BUS_HANGS;
@@ -68,7 +68,7 @@ static int status(int way, enum stop stop, int answer)
     return answer;
 }
 
-/* Returns whether the request breaks off in its data stage here, behind so many packets. */
+/* Returns true if the request breaks off in its data stage after this many packets: after bus_packets, or at random if bus_packets is 0. */
 static bool breaks_off(enum stop stop, unsigned packets)
 {
     return stop == WITHIN_DATA && (bus_packets == 0 ? rand() % 2 == 0 : packets == bus_packets);
@@ -161,7 +161,7 @@ void bus_time(unsigned ms)
     dfu_tinyusb_task(clock_ms);
 }
 
-/* Calls that TinyUSB wants of a controller. */
+/* Calls of a controller that TinyUSB needs. */
 bool dcd_edpt_xfer(uint8_t rhport, uint8_t endpoint, uint8_t *buffer, uint16_t length)
 {
     const int way = (endpoint & 0x80) != 0 ? IN : OUT;

@@ -1,4 +1,4 @@
-/* Calls that TinyUSB wants of a controller and neither of the two here has: another endpoint, waking the host, frames. */
+/* Calls of a controller that TinyUSB needs, but neither controller here supports: other endpoints, remote wakeup, start of frame. */
 #include "board.h"
 #include "device/dcd.h"
 

@@ -1,4 +1,4 @@
-/* The configuration of the device, and its descriptors, by those of examples/tinyusb. */
+/* The configuration of the device, and its descriptors, built with those of examples/tinyusb. */
 #include "board.h"
 #include "dfu_tinyusb_descriptors.h"
 #include <stdlib.h>
@@ -52,7 +52,7 @@ uint8_t const *tud_descriptor_device_qualifier_cb(void)
     return descriptor;
 }
 
-/* With INTERFACE above 0 there is another interface, 0, of a vendor's class and without endpoints. */
+/* With INTERFACE above 0 there is also an interface 0, of a vendor's class and without endpoints. */
 static uint8_t const *configuration(uint8_t type)
 {
     enum { HEAD = TUD_CONFIG_DESC_LEN, OTHER = 9, OURS = DFU_TINYUSB_INTERFACE_LENGTH };

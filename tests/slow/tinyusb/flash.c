@@ -1,5 +1,5 @@
-/* The device, and its flash. It is a NOR flash in memory, and in a file: it is erased by sectors, and only what is erased is programmed. A
- * program that does otherwise ends here. It goes out in parts, so that one that is killed leaves one. */
+/* The device, and its flash: a NOR flash in memory and in a file. It is erased by sectors, and a program needs erased bytes; else the test
+ * ends. The file is written in parts, so that a killed process leaves only some of them. */
 #define _GNU_SOURCE
 #include "board.h"
 #include <errno.h>
@@ -33,7 +33,7 @@ static void put(uint32_t at, const uint8_t *bytes, uint32_t length)
         die("write");
 }
 
-/* Returns the number of bytes of an operation that are done: all, or half of them where it fails. */
+/* Returns the number of bytes that an operation changes: all, or half if it fails. */
 static uint32_t part(uint32_t length)
 {
     return flash_fails > 0 && (unsigned)rand() % flash_fails == 0 ? length / 2 : length;

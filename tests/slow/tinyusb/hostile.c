@@ -1,8 +1,8 @@
-/* A random host before the driver, over the bus of bus.h: hostile SEED COUNT FAULTS [late]. It prints a log for `dfu judge`, and its last
- * line begins with `# ok`. One request of FAULTS breaks off in one of its stages; FAULTS 0: none. A reset of the bus comes in each stage.
- * Whenever a download without a fault has ended, its image has to stand, and no other one. With FAILS in the environment one operation of
- * the flash of so many fails; with INTERFACE above 0 there is another interface beside. With `late`, ends of status stages are told late
- * or not at all. */
+/* A random host for the driver, over the bus of bus.h: `hostile SEED COUNT FAULTS [late]`. It prints a log for `dfu judge`, whose last line
+ * begins with `# ok`. One of FAULTS requests breaks off in one of its stages; with FAULTS 0 none does. Bus resets happen at random, also
+ * after a request that broke off. After each download without a fault exactly its image must be active. With FAILS in the environment one
+ * of that many operations of the flash fails; with INTERFACE above 0 there is another interface. With `late`, ends of status stages are
+ * reported late or not at all. */
 #include "bus.h"
 #include "board.h"
 #include "dfu_tinyusb.h"
@@ -13,7 +13,7 @@
 enum { MOST = 65536 };
 static uint8_t body[MOST], in[MOST], sent[CAPACITY], stood[CAPACITY];
 static unsigned sent_length, stood_length, number, resets, breaks, images;
-static bool is_clean; /* the download that is under way, since its first block */
+static bool is_clean; /* true while the current download, from its first block on, has no fault */
 static int state;
 
 uint8_t board_protocol(void)
@@ -38,14 +38,14 @@ static void print_hex(const uint8_t *bytes, unsigned length)
         printf("%02x", bytes[at]);
 }
 
-/* The active image is the one that stood, or the one that was sent. */
+/* Returns true if the active image consists of these bytes. */
 static bool is_active(const uint8_t *bytes, unsigned length)
 {
     struct dfu_place place;
     return dfu_device_image(&device, &place) == 0 && place.length == length && memcmp(flash + place.at, bytes, length) == 0;
 }
 
-/* Which request comes: mostly what is next in a download, or the way out of an error; else anything. */
+/* Chooses a request: mostly the next one of a download, or the way out of an error; else a random one. */
 static unsigned choose(uint8_t setup[8])
 {
     static const uint8_t kinds[16] = {1, 1, 1, 1, 3, 3, 3, 3, 5, 2, 2, 4, 4, 6, 0, 7};
@@ -71,7 +71,7 @@ static unsigned choose(uint8_t setup[8])
     setup[2] = (uint8_t)value, setup[3] = (uint8_t)(value >> 8);
     setup[4] = config.interface_number, setup[5] = any(200) == 0;
     setup[6] = (uint8_t)length, setup[7] = (uint8_t)(length >> 8);
-    if (any(300) == 0) { /* any bytes at all */
+    if (any(300) == 0) { /* random bytes */
         for (unsigned at = 0; at < 8; at++)
             setup[at] = (uint8_t)rand();
         setup[7] &= 0x1f;
@@ -81,13 +81,13 @@ static unsigned choose(uint8_t setup[8])
     return setup[6] | (unsigned)setup[7] << 8;
 }
 
-/* Follows the state of the download that is under way, by the answer to a request. */
+/* Updates the state of the current download after the answer to a request. */
 static void follow(const uint8_t setup[8], unsigned length, int answer)
 {
     const bool was_closed = state == 6 || state == 7;
     if (answer == BUS_NOTHING) {
         is_clean = false;
-        state = 3; /* unknown: a GETSTATUS comes next */
+        state = 3; /* unknown: the next request is GETSTATUS */
     } else if (answer == BUS_STALL) {
         state = 10;
         is_clean = false;
@@ -122,19 +122,19 @@ static void follow(const uint8_t setup[8], unsigned length, int answer)
 static void restart(void)
 {
     if (state == 7 || state == 6 || !is_clean)
-        stood_length = 0; /* what stands is not followed on */
+        stood_length = 0; /* the active image is unknown from now on */
     is_clean = false;
     puts("reset");
     resets++;
     if (any(4) == 0)
-        bus_reset(true); /* unplugged: it counts, and the resets after it do not */
+        bus_reset(true); /* unplugging counts as a reset, and the resets after it do not */
     if (!bus_enumerate())
         die("it does not enumerate");
     state = state == 1 ? 2 : 0;
 }
 
-/* Sends requests that TinyUSB itself answers: SET_CONFIGURATION of 0 and 1, and SET_INTERFACE. Neither is a reset of the bus, so a download
- * goes on. */
+/* Sends requests that TinyUSB itself answers: SET_CONFIGURATION with 0 and 1, and SET_INTERFACE. They are no bus resets, so a download
+ * continues. */
 static void configure_anew(void)
 {
     const uint8_t setups[3][8] = {{0x00, 9, 0}, {0x00, 9, 1}, {0x01, 11, 0, 0, config.interface_number}};
@@ -175,7 +175,7 @@ static void one(unsigned faults)
         }
         follow(setup, length, answer);
     } else if (setup[0] == 0 && (setup[1] == 5 || setup[1] == 9)) {
-        restart(); /* it took away the configuration */
+        restart(); /* the request ended the configuration */
     }
     bus_time(any(3));
     if (any(100) == 0)
@@ -193,7 +193,7 @@ int main(int count, char **words)
     srand((unsigned)atoi(words[1]));
     bus_is_late = count > 4;
     board_set_up();
-    config.attributes &= 7; /* it leaves by a reset alone */
+    config.attributes &= 7; /* clears bitWillDetach, so the device leaves only by a bus reset */
     memset(flash, 0xff, sizeof flash);
     if (dfu_device_format(&device, old, sizeof old) != 0 || dfu_device_power_on(&device) != 0 || dfu_tinyusb_start(&device) != 0)
         die("no device");

@@ -1,5 +1,5 @@
-/* When a device with bitWillDetach leaves the bus, over the bus of bus.h: once its DETACH is acknowledged, and if that is not told 20 ms
- * later. The reset with which it comes back does not count. It ends in `N passed, M failed`. */
+/* Tests when a device with bitWillDetach leaves the bus, over the bus of bus.h: after its DETACH was acknowledged, or 20 ms later if the
+ * acknowledgement is not reported. The bus reset when it returns does not count. The output ends with `N passed, M failed`. */
 #include "bus.h"
 #include "board.h"
 #include "dfu_tinyusb.h"

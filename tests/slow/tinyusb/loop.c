@@ -1,4 +1,4 @@
-/* Parts that the programs at raw-gadget share: a clock, a log, waiting, and another program in this one's place. */
+/* Parts that the programs over raw-gadget share: a clock, a log, waits, and the switch to another program. */
 #define _GNU_SOURCE
 #include "board.h"
 #include <errno.h>

@@ -1,4 +1,4 @@
-/* Another class driver beside that of examples/tinyusb, as in a program that has these two callbacks already. */
+/* A second class driver beside that of examples/tinyusb, as in a program that already defines these two callbacks. */
 #include "dfu_tinyusb.h"
 
 void tud_event_hook_cb(uint8_t rhport, uint32_t event, bool in_isr)
@@ -28,7 +28,7 @@ static uint16_t other_open(uint8_t rhport, tusb_desc_interface_t const *interfac
     return interface->bInterfaceClass == TUSB_CLASS_VENDOR_SPECIFIC && most >= 9 ? 9 : 0;
 }
 
-/* It answers each request of a class that reads with one byte. */
+/* Answers each class request for data with one byte, 55h. */
 static bool other_control(uint8_t rhport, uint8_t stage, tusb_control_request_t const *request)
 {
     static uint8_t answer = 0x55;

@@ -1,8 +1,10 @@
-/* A controller of TinyUSB over Linux's raw-gadget, which tells resets from 6.11 on: endpoint 0 alone. A thread stands for the interrupt.
+/* A TinyUSB controller over Linux's raw-gadget, which reports resets from Linux 6.11 on. It has only endpoint 0. A thread replaces the
+ * interrupt.
  *
- * raw-gadget hands over a whole data stage at once, and completes the status stage by itself: TinyUSB's packets are gathered. Of what the
- * host sent the status stage is over once it was read, so that a stall has to come before. With NO_ACK in the environment the status stage
- * of what the host read is not told, as by controllers that lose it if the next setup is there already. With FULL=1 it has full speed. */
+ * raw-gadget transfers a whole data stage at once, and completes the status stage by itself, so TinyUSB's packets are gathered. If the host
+ * sends data, the status stage ends when the data is read, so a stall must come before that. With NO_ACK in the environment the end of the
+ * status stage is not reported after data that the host read, as on controllers that lose it if the next setup has already arrived. With
+ * FULL=1 it has full speed. */
 #define _GNU_SOURCE
 #include "board.h"
 #include "device/dcd.h"
@@ -19,13 +21,13 @@
 #include <sys/ioctl.h>
 #include <unistd.h>
 
-enum { RAW_SUSPEND = 3, RAW_RESUME = 4, RAW_RESET = 5, RAW_DISCONNECT = 6 }; /* newer than Debian 12's header */
+enum { RAW_SUSPEND = 3, RAW_RESUME = 4, RAW_RESET = 5, RAW_DISCONNECT = 6 }; /* not in the header of Debian 12 */
 
 static pthread_mutex_t interrupts = PTHREAD_MUTEX_INITIALIZER, ep0 = PTHREAD_MUTEX_INITIALIZER;
 static pthread_cond_t is_free = PTHREAD_COND_INITIALIZER;
 static bool is_off, is_read, is_leaving;
-static bool is_busy;    /* a request is under way: now */
-static bool is_aborted; /* by a reset, which TinyUSB has not taken yet: what it still does for the request reaches nobody */
+static bool is_busy;    /* the current request is not over */
+static bool is_aborted; /* a reset ended the request, but TinyUSB has not handled the reset: its calls for the request have no effect */
 static struct usb_ctrlrequest now;
 static uint32_t gathered;
 static struct {
@@ -68,7 +70,7 @@ static void end_reset(void *nothing)
     end_request();
 }
 
-/* A request that waits is stalled, though nobody hears: raw-gadget would stall all others as long as one waits. */
+/* Stalls a pending request, although the host no longer waits: raw-gadget would stall all others as long as one is pending. */
 static void begin_reset(bool is_unplugged)
 {
     board_log(is_unplugged ? "disconnect" : "reset");
@@ -83,8 +85,8 @@ static void begin_reset(bool is_unplugged)
     pthread_mutex_unlock(&interrupts);
 }
 
-/* The next request waits until the one before it is over here: its stages are calls of the other thread, which the kernel ends with an
- * error once the host has gone on. */
+/* Delays the next request until the other thread has ended the previous one. That thread makes a call for each stage, and the kernel ends
+ * the last call with an error only after the host has continued. */
 static void begin_request(const struct usb_ctrlrequest *setup)
 {
     pthread_mutex_lock(&ep0);
@@ -185,7 +187,7 @@ void dcd_edpt_stall(uint8_t rhport, uint8_t endpoint)
     end_request();
 }
 
-/* A packet to the host. With the last one all of them go out. */
+/* Handles a packet to the host. The last one sends all of them. */
 static int gather_in(const uint8_t *packet, uint16_t length)
 {
     int count = 0;
@@ -199,7 +201,7 @@ static int gather_in(const uint8_t *packet, uint16_t length)
     return count;
 }
 
-/* A packet of the host. With the first one all of them are read. */
+/* Passes the next packet of the host to TinyUSB. For the first packet it reads the whole data stage. */
 static int scatter_out(uint8_t *packet, uint16_t length)
 {
     int count = 0;
@@ -215,7 +217,8 @@ static int scatter_out(uint8_t *packet, uint16_t length)
     return count;
 }
 
-/* The status stage to the host. */
+/* Ends a request without a data stage by its status stage to the host. Before that it configures the gadget, if the host chose a
+ * configuration. After a data stage the kernel has sent the status stage already. */
 static int acknowledge(void)
 {
     int count;
@@ -254,7 +257,7 @@ bool dcd_edpt_xfer(uint8_t rhport, uint8_t endpoint, uint8_t *buffer, uint16_t l
     if (count >= 0)
         dcd_event_xfer_complete(0, endpoint, length, XFER_RESULT_SUCCESS, false);
     if (count < 0 || is_status)
-        end_request(); /* after the event, which the next setup must not overtake */
+        end_request(); /* must follow the event, so that the event precedes the next setup */
     return true;
 }
 
@@ -265,7 +268,7 @@ bool dcd_init(uint8_t rhport, const tusb_rhport_init_t *init)
     return true;
 }
 
-/* dummy_hcd answers it by itself. */
+/* dummy_hcd handles SET_ADDRESS itself. */
 void dcd_set_address(uint8_t rhport, uint8_t address)
 {
     (void)rhport;

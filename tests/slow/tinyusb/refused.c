@@ -1,13 +1,13 @@
-/* Tries the driver once the device refuses a call, because its record or the flash was changed behind it, over the bus of bus.h: the host
- * gets one stall, and never a dfuIDLE that its download did not lead to; the device begins again in its mode, once for each refusal, and
- * the next host downloads. It ends in `N passed, M failed`. The program is linked with --wrap. */
+/* Tests the driver after the device refused a call because its record or the flash was changed, over the bus of bus.h. The host gets one
+ * stall, and never a dfuIDLE that its download did not lead to. The device begins again in its mode, once for each refusal, and the next
+ * host can download. The output ends with `N passed, M failed`. The program is linked with --wrap. */
 #include "bus.h"
 #include "board.h"
 #include "dfu_tinyusb.h"
 #include <stdio.h>
 #include <string.h>
 
-enum { BLOCK = UNIT }; /* so that each block is written at once */
+enum { BLOCK = UNIT }; /* each block is written at once */
 static unsigned passed, failed, begins;
 static uint8_t old[100], other[70], new[BLOCK], in[BLOCK], kept[FLASH_SIZE];
 static const char *row;
@@ -72,7 +72,7 @@ static int ask(uint8_t number, unsigned value, unsigned length)
     return bus_request(setup, new, in, TO_THE_END);
 }
 
-/* The state that GETSTATUS tells; BUS_STALL. */
+/* Returns the state that GETSTATUS reports, or BUS_STALL. */
 static int status(void)
 {
     const int n = ask(DFU_GETSTATUS, 0, 6);
@@ -97,7 +97,7 @@ static void make(const char *name, bool is_upgrade)
     begins = 0;
 }
 
-/* It began again, once, for this refusal; the host was stalled for it, and does not find itself stalled any more. */
+/* Checks that the device began again once for this refusal, and that the host got one stall and no more. */
 static void check_again(int32_t refusal, int state)
 {
     check("the refusal is kept", dfu_tinyusb_refusal() == refusal);
@@ -112,7 +112,7 @@ static void download(void)
     check("the image is active", is_active(new, BLOCK));
 }
 
-/* Refused before the answer of a request. */
+/* Checks refusals before the answer to a request. */
 static void at_requests(void)
 {
     make("GETSTATUS in dfuIDLE", true);
@@ -123,7 +123,7 @@ static void at_requests(void)
 
     make("DNLOAD in dfuDNLOAD-IDLE", true);
     check("a block is taken", ask(DFU_DNLOAD, 0, BLOCK) == 0 && status() == DFU_STATE_DNBUSY && status() == DFU_STATE_DNLOAD_IDLE);
-    device.record.work = 1; /* as if operations were due; the state is there still */
+    device.record.work = 1; /* pretends that operations are pending; the state is unchanged */
     check("it is stalled, and nothing taken", ask(DFU_DNLOAD, 1, BLOCK) == BUS_STALL);
     check_again(DFU_BUSY, DFU_STATE_IDLE);
     download();
@@ -139,7 +139,7 @@ static void at_requests(void)
     download();
 }
 
-/* Refused in the work, whose answer is out already. */
+/* Checks refusals in the work, after the answer was sent. */
 static void at_work(void)
 {
     make("the work of a block", true);
@@ -179,7 +179,8 @@ static void at_resets(void)
     download();
 }
 
-/* Without an image it can't begin: each call tries it once at most, and time none. */
+/* Without an image the device can't begin: it tries once after DETACH, and at most once more for each request. It begins when its image is
+ * back. An operation of the flash that fails leads to dfuERROR, and is no refusal. */
 static void without_image(void)
 {
     make("time without an image", false);

@@ -1,5 +1,5 @@
-/* The loop at the top of examples/tinyusb/dfu_tinyusb.h, at Linux's raw-gadget, and what it leaves to the program: shown FLASH. Its image
- * is the program `application`; it is asked to stay by DFU_MODE. */
+/* Runs the loop at the top of examples/tinyusb/dfu_tinyusb.h over Linux's raw-gadget, with the functions that the loop leaves to the
+ * program: `shown FLASH`. Its image is the program `application`; with DFU_MODE it stays in the bootloader. */
 #define _GNU_SOURCE
 #include "board.h"
 #include "dfu_tinyusb.h"

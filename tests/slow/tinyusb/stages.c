@@ -1,7 +1,7 @@
-/* A host that breaks off, over the bus of bus.h: each request of a whole download, in each of its stages, before each of the things that
- * may come next. Each time the old image or the new one is active, and the new one only once the download was closed; of a block whose data
- * stage broke off nothing is taken; and the next host downloads a third image, which it reads back if it can. It ends in
- * `N passed, M failed`. ATTRIBUTES are those of the device. */
+/* A host that breaks off, over the bus of bus.h: it breaks off each request of a whole download in each of its stages, before each possible
+ * next event. After that the old or the new image must be active, and the new one only if the download was closed. No byte of a block may
+ * be stored whose data stage broke off. The next host downloads a third image, and reads it back if it can. The output ends with `N passed,
+ * M failed`. ATTRIBUTES in the environment sets the device's attributes, except bitWillDetach, which is 0. */
 #include "bus.h"
 #include "board.h"
 #include "dfu_tinyusb.h"
@@ -19,7 +19,7 @@ static struct request {
     uint8_t number;
     uint16_t value, length;
 } list[MOST];
-static int count, closes; /* closes: which of them ends the download */
+static int count, closes; /* closes: index of the request that closes the download */
 static uint8_t old[100], new[LENGTH], third[LENGTH], in[BLOCK];
 
 uint8_t board_protocol(void)
@@ -27,7 +27,7 @@ uint8_t board_protocol(void)
     return dfu_tinyusb_protocol();
 }
 
-/* die: a child ends; its parent says of what. */
+/* Ends a child process with the text of a fault, which its parent prints. */
 static void die(const char *why)
 {
     fprintf(stderr, "%s\n", why);
@@ -39,7 +39,7 @@ static void add(uint8_t number, unsigned value, unsigned length)
     list[count++] = (struct request){number, (uint16_t)value, (uint16_t)length};
 }
 
-/* A download, and an upload where the device says that it stays and has it. */
+/* Lists the requests of a download, and of an upload if the device supports uploads and is tolerant. */
 static void make_list(void)
 {
     for (unsigned at = 0, block = 0; at <= LENGTH; at += BLOCK, block++) {
@@ -72,7 +72,7 @@ static int ask(struct request request, const uint8_t *image, enum stop stop)
     return answer;
 }
 
-/* The state that GETSTATUS tells, or -1: a device that waits for a reset may stall it. */
+/* Returns the state that GETSTATUS reports, or -1: a device that waits for a reset may stall it. */
 static int status(void)
 {
     return ask((struct request){DFU_GETSTATUS, 0, 6}, NULL, TO_THE_END) == 6 ? in[4] : -1;
@@ -92,7 +92,7 @@ static void restart(bool is_unplugged)
         die("it does not enumerate");
 }
 
-/* Makes the next thing come. A reset leads to run-time mode, whatever was broken off. */
+/* Makes the next event happen. A reset leads to run-time mode, whichever request broke off. */
 static void go_on(enum next next)
 {
     static const uint8_t setups[2][8] = {{0, 9, 0}, {0, 9, 1}};
@@ -106,7 +106,7 @@ static void go_on(enum next next)
             die("it takes no configuration, or takes it for a reset");
 }
 
-/* To dfuIDLE, as a host does that begins anew. */
+/* Brings the device to dfuIDLE, as a new host does. */
 static void settle(void)
 {
     for (int turns = 0; turns < 10; turns++) {
@@ -126,7 +126,7 @@ static void settle(void)
     die("it does not come to dfuIDLE");
 }
 
-/* The next host: each answer is that of a device that nothing has happened to. */
+/* Downloads as the next host: each answer must be as if nothing had happened before. */
 static void download_third(void)
 {
     unsigned got = 0;
@@ -183,7 +183,7 @@ static bool passes(int broken, enum stop stop, enum next next)
     return ended == 0;
 }
 
-/* Returns how many places a request has to break off there: behind each packet, but for the last one of the host. */
+/* Returns the number of points at which a request can break off in this stage: after each packet, except the last one of the host. */
 static unsigned places(int at, enum stop stop)
 {
     const unsigned packets = (list[at].length + CFG_TUD_ENDPOINT0_SIZE - 1u) / CFG_TUD_ENDPOINT0_SIZE;
@@ -195,7 +195,7 @@ int main(void)
     const tusb_rhport_init_t init = {.role = TUSB_ROLE_DEVICE, .speed = TUSB_SPEED_HIGH};
     unsigned passed = 0, failed = 0;
     board_set_up();
-    config.attributes &= 7; /* it leaves by a reset alone */
+    config.attributes &= 7; /* clears bitWillDetach, so the device leaves only by a bus reset */
     make_list();
     for (unsigned at = 0; at < LENGTH; at++)
         new[at] = (uint8_t)(at * 7 + 1), third[at] = (uint8_t)(at * 5 + 3);

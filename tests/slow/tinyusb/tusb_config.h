@@ -1,4 +1,4 @@
-/* TinyUSB's settings for the programs here: one device with endpoint 0 alone, and no class of TinyUSB's own. */
+/* Settings of TinyUSB for the programs here: one device with only endpoint 0, and no class driver of TinyUSB. */
 #ifndef TUSB_CONFIG_H
 #define TUSB_CONFIG_H
 #ifndef CFG_TUSB_MCU

@@ -1,7 +1,9 @@
-/* Random requests of DFU to a device by the kernel's usbfs, and a log for `dfu judge` of what it answered:
+/* Sends random DFU requests to a device through the kernel's usbfs, and prints a log of its answers for `dfu judge`:
+ *
  *     walk DEVICE SEED COUNT TRANSFER [ABORTS]
- * With ABORTS, one request of so many is given up at a random moment, and one of as many is followed by a reset of the bus. After one that
- * was given up, raw-gadget stalls requests by itself until the device is done with that one: GETSTATE is asked until there is an answer. */
+ *
+ * With ABORTS, one of that many requests is given up at a random moment, and one of that many is followed by a bus reset. After a request
+ * that was given up raw-gadget itself stalls others until the device has finished it, so GETSTATE is repeated until there is an answer. */
 #include <errno.h>
 #include <fcntl.h>
 #include <linux/usbdevice_fs.h>
@@ -13,7 +15,7 @@
 #include <unistd.h>
 
 static const char *device;
-static int file = -1, state = 2, aborts, stalls; /* stalls: in a row. A device that is not tolerant waits for a reset with them */
+static int file = -1, state = 2, aborts, stalls; /* stalls: number of stalls in a row, which shows that the device waits for a reset */
 static unsigned transfer, block;
 static uint8_t packet[8 + 65536];
 #define setup packet
@@ -32,7 +34,7 @@ static int number(const char *attribute)
     return number;
 }
 
-/* The device is waited for: after a reset it may come back with another number, in its other mode. */
+/* Waits for the device: after a reset it may return with another number, in its other mode. */
 static void open_device(void)
 {
     char path[64];
@@ -54,7 +56,7 @@ static unsigned any(unsigned below)
     return (unsigned)rand() % below;
 }
 
-/* Mostly what comes next in a download, or the way out of an error; else anything. */
+/* Chooses mostly the next request of a download, or the way out of an error; else a random one. */
 static void choose(void)
 {
     static const uint8_t kinds[16] = {1, 1, 1, 1, 3, 3, 3, 3, 5, 2, 2, 4, 4, 6, 0, 7};
@@ -101,7 +103,8 @@ static void print_request(unsigned length)
     }
 }
 
-/* One request, given up after some microseconds: -1 if so, else how many bytes came, or an error below that. */
+/* Makes a request and gives it up after some microseconds. Returns -1 if it was given up; else the number of bytes, or an error below -1.
+ */
 static int give_up(unsigned length, unsigned microseconds)
 {
     struct usbdevfs_urb urb = {.type = USBDEVFS_URB_TYPE_CONTROL, .buffer = packet, .buffer_length = (int)(8 + length)}, *reaped;
@@ -125,7 +128,7 @@ static void follow(int got)
     else if (got >= 0 && setup[1] != 5)
         state = setup[1] == 1 ? 3 : setup[1] == 4 || setup[1] == 6 ? 2 : setup[1] == 2 ? 9 : state;
     else
-        state = 3; /* unknown: a GETSTATUS tells */
+        state = 3; /* unknown: the next GETSTATUS reports it */
 }
 
 static void print_answer(int got)

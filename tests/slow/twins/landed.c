@@ -1,4 +1,4 @@
-/* The calls of landed.h: configuration, record and setup are brought into the form of version 0.2.0, and the record back. */
+/* Implements landed.h: converts configuration, record and setup to the form of version 0.2.0, and the record back. */
 #include "landed/landed_asking.h"
 #include "landed.h"
 
@@ -6,7 +6,7 @@
 
 enum { OLD_VERSION = 200, WRONG_SECTOR = -13 };
 
-/* The sector was no part of the configuration: one that there isn't is a configuration that isn't allowed. */
+/* In 0.2.0 the sector was not part of the configuration: a sector that 0.2.0 does not allow becomes a wrong version. */
 static struct landed_config old_config(const struct dfu_config *c) {
     int is_one = c->version == DFU_VERSION && c->sector % 256 == 0 && c->sector <= 131072;
     return (struct landed_config){is_one ? OLD_VERSION : OLD_VERSION + 1, c->device, c->product, c->vendor, c->detach_ms, c->transfer,
@@ -33,7 +33,7 @@ static void bring_back(struct dfu_record *r, const struct landed_asking *old) {
     r->generation = old->generation, r->close = old->close;
 }
 
-/* wIndex was 0 for the device's interface, whatever its number. */
+/* In 0.2.0 wIndex was 0 for the device's interface, whatever its number. */
 static void old_setup(const struct dfu_config *c, const uint8_t setup[8], uint8_t old[8]) {
     memcpy(old, setup, 8);
     int is_own = setup[4] == c->interface_number && setup[5] == 0;
@@ -43,7 +43,8 @@ static void old_setup(const struct dfu_config *c, const uint8_t setup[8], uint8_
         old[5] = 1;
 }
 
-/* So many bytes of memory without these, up to a limit: the bytes held back stood in the record, and not behind the block. */
+/* Returns `most` - `without`, but at least 0 and at most `limit`. Version 0.2.0 kept the bytes held back in the record, instead of after
+ * the block. */
 static size_t left(size_t most, size_t without, size_t limit) {
     size_t rest = most < without ? 0 : most - without;
     return rest < limit ? rest : limit;
@@ -65,7 +66,7 @@ int32_t landed_power_on(const struct dfu_config *config, struct dfu_record *reco
     BACK(number(landed_asking_power_on(&c, &a, config->sector, flash, size)));
 }
 
-/* It was a power-on, a DETACH and a reset of the bus. */
+/* Version 0.2.0 has no such call: a power-on, a DETACH and a bus reset replace it. */
 int32_t landed_begin(const struct dfu_config *config, struct dfu_record *record, uint8_t *block, size_t most, const uint8_t *flash,
                      size_t size) {
     static const uint8_t detach[8] = {0x21, 0, 0xff, 0xff};
@@ -129,7 +130,7 @@ int32_t landed_too_long(const struct dfu_config *config, struct dfu_record *reco
     BACK(landed_asking_too_long(&c, &a, old));
 }
 
-/* It was a number of 64 bits, and of a record that was garbled it may be more than one of 32 has. */
+/* 0.2.0 returned a number of 64 bits, which for a garbled record may not fit in 32. */
 int32_t landed_due(const struct dfu_config *config, const struct dfu_record *record) {
     OLD(record);
     int64_t due = landed_device_due(&c, &a.device);

@@ -1,5 +1,6 @@
-/* The calls of dfu_core.h as the two libraries of version 0.2.0 have them: dfu_asking.c for all but the last three, and dfu_device.c for
- * what takes no flash, and for a device over plain memory. Each takes and leaves what the call of the same name in dfu_core.h does. */
+/* The calls of dfu_core.h, implemented by the two libraries of version 0.2.0. dfu_device.c implements the calls without a flash, and a
+ * device over plain memory; dfu_asking.c implements all others. Each call has the parameters and results of the call with the same name in
+ * dfu_core.h. */
 #ifndef LANDED_H
 #define LANDED_H
 #include "dfu_core.h"
@@ -31,7 +32,7 @@ int32_t landed_format_next(const struct dfu_config *config, const struct dfu_rec
 int32_t landed_format_took(const struct dfu_config *config, struct dfu_record *record, const uint8_t *flash, size_t size,
                            const uint8_t *image, size_t length, uint32_t failed);
 
-/* The device over plain memory, which writes it by itself. */
+/* The device over plain memory, which stores images without operations. */
 int32_t landed_memory_power_on(const struct dfu_config *config, struct dfu_record *record, uint8_t *medium, size_t size);
 int32_t landed_memory_handle(const struct dfu_config *config, struct dfu_record *record, uint8_t *block, size_t most, uint8_t *medium,
                              size_t size, const uint8_t setup[8], const uint8_t *body, size_t length, uint8_t *out, size_t room);

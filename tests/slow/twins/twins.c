@@ -1,7 +1,7 @@
-/* Calls by dice, each made of the library of version 0.2.0 and of this one: the same answers, bytes, records, flash, and operations of the
- * flash, of devices that are asked by a host that keeps to the protocol in most requests, that lose power, whose operations fail or leave
- * other bytes, and whose record, flash or configuration is garbled. In place the device over plain memory of 0.2.0 does the same too, as
- * long as nothing is garbled. It takes how many calls to make, and a seed. */
+/* Makes random calls with the library of version 0.2.0 and with this one, and compares answers, bytes, records, flash, and operations of
+ * the flash. The host mostly follows the protocol; the devices lose power, their operations fail or leave other bytes, and record, flash or
+ * configuration are garbled. For flash without sectors the device over plain memory of 0.2.0 must agree too, as long as nothing is garbled.
+ * Arguments: the number of calls, and a seed. */
 #include "../../lib/c/driver.h"
 #include "landed.h"
 
@@ -11,11 +11,11 @@ static uint8_t body[MOST_BLOCK], image[1500];
 static size_t image_length;
 static long calls, operations, installed, answered, refused, in_memory, alone;
 
-/* Whether record, flash or configuration of this board were garbled, by dice or by an operation that went wrong, and whether the last call
-   was made of this version alone. */
+/* is_torn: record, flash or configuration were garbled, at random or by a faulty operation. is_alone: 0.2.0 refused the last call, this
+ * version answered it, and both boards continue from the result of this version. */
 static int is_torn, is_alone;
 
-/* The device over plain memory of 0.2.0, if this session has it. */
+/* The device over plain memory of 0.2.0, if this session has one. */
 static struct board plain;
 static int is_plain;
 
@@ -27,8 +27,8 @@ static void stop(const char *what) {
 static int32_t same(const char *what, int32_t new_one, int32_t landed) {
     calls++;
     *(new_one >= -1 ? &answered : &refused) += 1;
-    /* 0.2.0 read at each request whether the sector behind the puts is erased, and refused a flash where it isn't. This version leaves that
-       to what reads a write back, and its call is made alone then. */
+    /* At each request 0.2.0 checked that the sector after the last block is erased, and refused a flash where it isn't. This version leaves
+     * that to the read-back of a write. So after such a refusal of 0.2.0 its board gets the state that this version's call left. */
     is_alone = is_torn && garbled.sector != 0 && landed == DFU_NO_DEVICE && new_one != landed;
     if (is_alone) {
         alone++;
@@ -46,7 +46,7 @@ static int32_t same(const char *what, int32_t new_one, int32_t landed) {
     return new_one;
 }
 
-/* A board anew, by dice. */
+/* Makes a new board with random settings. */
 static void begin(void) {
     static const uint32_t units[] = {1, 16, 64, 256}, sectors[] = {0, 0, 256, 512};
     uint32_t unit = units[roll(4)], sector = sectors[roll(4)], capacity = roll(2) ? 512 : 1024;
@@ -67,7 +67,7 @@ static void begin(void) {
         stop("nothing is made of the device over memory");
 }
 
-/* Carries out an operation, or what a failure, a lie or a loss of power makes of it: 0, 1 if it failed, 2 if the power is gone. */
+/* Carries out an operation, or fails, reports a false success, or loses power. Returns 0; 1 if it failed; 2 after a loss of power. */
 static uint32_t carry_out(const struct dfu_ask *ask) {
     uint32_t trouble = is_plain ? 4 : roll(60), length = ask->length;
     operations++;
@@ -90,7 +90,7 @@ static uint32_t carry_out(const struct dfu_ask *ask) {
 
 static void power_on_both(void);
 
-/* The operations that are due, on both. */
+/* Carries out the pending operations of both boards. */
 static int32_t settle_both(int32_t answer) {
     for (int i = 0; answer == DFU_WRITE_PENDING && i < 200; i++) {
         struct dfu_ask a = {7, 7, 7, {7}}, b = a;
@@ -126,7 +126,7 @@ static void power_on_both(void) {
         stop("power on of the device over memory");
 }
 
-/* A format, on both, which may be broken off. */
+/* Formats the flash with both libraries; the format may be broken off. */
 static void format_both(void) {
     size_t length = roll(8) ? roll(600) : roll(sizeof image);
     int32_t answer = same("format", dfu_core_format_start(&garbled, &one.record, one.flash, one.size, image, length),
@@ -148,7 +148,7 @@ static void format_both(void) {
     power_on_both();
 }
 
-/* Bytes by dice into the record, the flash or the configuration. */
+/* Writes random bytes into the record, the flash or the configuration. */
 static void garble(void) {
     uint32_t where = roll(3), at;
     for (uint32_t i = 0, all = 1 + roll(3); i < all; i++) {
@@ -161,13 +161,13 @@ static void garble(void) {
             /* (0.2.0 has no times for an erase and a program) */
             at = roll(offsetof(struct dfu_config, erase_ms)), ((uint8_t *)&garbled)[at] = byte;
     }
-    /* (a version that isn't this one is 0.2.0's next one, and stays one) */
+    /* (landed.c turns every wrong version of a record into the same wrong version of 0.2.0) */
     two.record = one.record;
     memcpy(two.flash, one.flash, sizeof two.flash);
     is_torn = 1;
 }
 
-/* Questions to both beside the calls: these take no flash, or read it alone. */
+/* Makes the calls that change nothing with both libraries, and compares their results. These calls take no flash, or only read it. */
 static void look(const uint8_t setup[8]) {
     struct dfu_place a = {7, 7}, b = a;
     uint8_t x[9] = {0}, y[9] = {0};
@@ -183,12 +183,12 @@ static void look(const uint8_t setup[8]) {
         stop("the place or the descriptor");
 }
 
-/* The device over plain memory did the same. */
+/* Checks that the device over plain memory did the same. */
 static void plain_is(int32_t answer, int32_t of_plain) {
     in_memory++;
     if (answer != of_plain || memcmp(one.flash, plain.flash, one.size) != 0 || memcmp(one.out, plain.out, sizeof one.out) != 0)
         stop("the device over memory");
-    /* (of what is carried out nothing is due; the bytes behind those held back, and behind the block, are nobody's) */
+    /* This device does its operations at once, so none is pending. Unused bytes after the held ones, and after the block, may differ. */
     const struct dfu_record *ours = &one.record, *its = &plain.record;
     const uint8_t *held = one.pending + config.transfer, *its_held = plain.pending + config.transfer;
     if (memcmp(ours, its, offsetof(struct dfu_record, work)) != 0 || ours->held_length != its->held_length

@@ -1,6 +1,6 @@
 /* SPDX-License-Identifier: MIT OR Apache-2.0 */
-/* A device in a flash of sectors takes a download in three blocks. valgrind looks at the second one: from its DNLOAD until it is in the
- * flash, and a GETSTATUS said so. */
+/* A device on flash with sectors receives a download in three blocks. valgrind measures the second one: from its DNLOAD until it is in the
+ * flash, and a GETSTATUS reported that. */
 #include <string.h>
 
 #include "dfu_device_memory.h"
@@ -29,7 +29,7 @@ static int32_t request(uint8_t kind, uint8_t number, uint16_t value, uint16_t le
     return dfu_device_serve(&device, setup, data, data, sizeof data);
 }
 
-/* A block, the poll that starts its time, the write once that answer is out, and the poll after it. */
+/* Sends a block and the poll that starts its time, writes the block after the answer, and sends the next poll. Returns 1 on success. */
 static int send(uint16_t number)
 {
     memcpy(data, image + number * BLOCK, BLOCK);
@@ -51,7 +51,7 @@ int main(void)
         return 1;
     if (!send(0) || !second_block() || !send(2))
         return 1;
-    /* The second block is in the spare slot. */
+    /* Checks that the second block is in the spare slot. */
     for (size_t at = 0; at + sizeof image <= sizeof flash; at += UNIT)
         if (memcmp(flash + at + BLOCK, image + BLOCK, 2 * BLOCK) == 0)
             return 0;

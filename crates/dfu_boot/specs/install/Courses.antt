@@ -1,4 +1,4 @@
--- Events of a run area, one after another.
+-- Sequences of events of a run area.
 use Rattle.std.specs.Prelude.{◌≡◌, ◌⊎◌, ℕ, ◌≤◌, Bool, List, [], ◌∷◌, length, slice_index, Option, None}
 use Rattle.dfu_boot.specs.declared.install.due.Due.{Due}
 use Rattle.dfu_boot.specs.declared.install.due.Due.TheVariants.{Refuse, Erase, Program, Start}
@@ -7,15 +7,16 @@ use Rattle.dfu_boot.specs.install.Next.{IsNextDue}
 use Rattle.dfu_boot.specs.install.OperationReport.{IsNoteOfDue}
 use Rattle.dfu_boot.specs.install.Operations.{operation_start, operation_end, OutsideUnchanged}
 
--- A moment: the image that is to be started, the run area, the place of the last operation, and the operations since the last power-on, the
--- last one first.
+-- State of a run area: the image to start, the bytes of the run area, the offset of the last operation, and the operations since the last
+-- power on, newest first.
 pub record InstallMoment : Type 0 where
   pub image : List ℕ
   pub run : List ℕ
   pub last : Option ℕ
   pub since : List Due
 
--- The due operation is carried out, and read back. It works, is cut off, fails or lies, and leaves any bytes in its range.
+-- The next operation is carried out and read back. It may succeed, be cut off, fail, or be reported wrongly, and leaves any bytes in its
+-- range.
 pub record OperationCarriedOut (sector : ℕ) (before after : InstallMoment) : Type 0 where
   pub due : Due
   pub does : IsNextDue before.image before.run sector before.last due
@@ -25,38 +26,38 @@ pub record OperationCarriedOut (sector : ℕ) (before after : InstallMoment) : T
   pub image : after.image ≡ before.image
   pub since : after.since ≡ due ∷ before.since
 
--- The power is lost, and with it the notes of operations. Another image may be the one to be started when it is back.
+-- After a loss of power, the offset of the last operation is not known, and another image may be the one to start.
 pub record PowerIsLost (before after : InstallMoment) : Type 0 where
   pub run : after.run ≡ before.run
   pub last : after.last ≡ None
   pub since : after.since ≡ []
 
--- Another image, or the same one, becomes the one to be started.
+-- Another image, or the same one, becomes the image to start.
 pub record ImageIsReplaced (before after : InstallMoment) : Type 0 where
   pub run : after.run ≡ before.run
   pub last : after.last ≡ before.last
   pub since : after.since ≡ before.since
 
--- One event of a run area: an operation, a loss of power, or another image.
+-- An event of a run area: an operation, a loss of power, or another image.
 abbrev pub IsInstallStep : ℕ → InstallMoment → InstallMoment → Type 0
 IsInstallStep sector before after = OperationCarriedOut sector before after ⊎ (PowerIsLost before after ⊎ ImageIsReplaced before after)
 
--- Moments one after another, each of which is a possible result of one event on the moment before.
+-- Each state in the list is a possible result of one event in the state before it.
 abbrev pub IsInstallTrace : ℕ → InstallMoment → List InstallMoment → Type 0
 IsInstallTrace sector m [] = Unit {0}
 IsInstallTrace sector m (next ∷ rest) = IsInstallStep sector m next × IsInstallTrace sector next rest
 
--- Moment after all events.
+-- State after all events.
 abbrev pub end_of_trace : InstallMoment → List InstallMoment → InstallMoment
 end_of_trace m [] = m
 end_of_trace m (next ∷ rest) = end_of_trace next rest
 
--- No image that is to be started, at first or after an event, reaches the sector of this place.
+-- None of the images to start, neither the first nor one after an event, reaches the sector that contains the offset `at`.
 abbrev pub NoImageReachesSector : ℕ → ℕ → InstallMoment → List InstallMoment → Type 0
 NoImageReachesSector sector at m [] = length m.image ≤ start_of sector at
 NoImageReachesSector sector at m (next ∷ rest) = (length m.image ≤ start_of sector at) × NoImageReachesSector sector at next rest
 
--- The operations, the last one first, erased the sector of a piece, and did not program the piece since.
+-- The operations, newest first, erased the sector of a piece, and did not program the piece after that erase.
 abbrev pub IsErasedSinceProgram : ℕ → ℕ → List Due → Type 0
 IsErasedSinceProgram sector piece [] = ⊥
 IsErasedSinceProgram sector piece (Erase at ∷ earlier) = (at ≡ start_of sector piece) ⊎ IsErasedSinceProgram sector piece earlier
@@ -70,14 +71,14 @@ StartsOnlyWhole =
     (sector : ℕ) (m : InstallMoment) (rest : List InstallMoment) → IsInstallTrace sector m rest → let e = end_of_trace m rest in
     IsNextDue e.image e.run sector e.last Start → AreaStores e.run e.image
 
--- After any events, the bytes of a sector that no image reaches are as they were.
+-- After any events, the bytes of a sector that no image reaches are unchanged.
 abbrev pub NeighboursUnchanged : Type 0
 NeighboursUnchanged =
     (sector at : ℕ) (m : InstallMoment) (rest : List InstallMoment) → IsInstallTrace sector m rest
     → NoImageReachesSector sector at m rest →
     slice_index (end_of_trace m rest).run at ≡ slice_index m.run at
 
--- After any events since a first power-on, a piece is programmed only if its sector was erased since the last power-on, and the piece was
+-- After any events since the first power on, a piece is programmed only if its sector was erased since the last power on, and the piece was
 -- not programmed since that erase.
 abbrev pub ProgramsOnlyFresh : Type 0
 ProgramsOnlyFresh = (sector at : ℕ) (m : InstallMoment) (rest : List InstallMoment) → m.last ≡ None → IsInstallTrace sector m rest →

@@ -16,20 +16,20 @@ use Rattle.dfu_boot.specs.declared.trial.starting.Starting.{Starting}
 use Rattle.dfu_boot.specs.declared.trial.confirming.Confirmation.{Confirmation}
 use Rattle.dfu_boot.specs.declared.trial.confirming.Confirmation.TheVariants as confirm
 
--- First cause for which a number of tries is refused.
+-- First reason for which this number of tries is refused.
 abbrev pub IsTriesFault : TriesFault → Grain → ℕ → Type 0
 IsTriesFault NoSectors grain tries = grain.sector ≡ 0
 IsTriesFault TooFew grain tries = (0 < grain.sector) × (tries < 2)
 IsTriesFault TooMany grain tries = (0 < grain.sector) × (2 ≤ tries) × (grain.sector < (tries + 2) * mark_size grain)
 
--- Nothing is on trial: the slot has the active image, and is confirmed or not.
+-- No image is on trial. `s` contains the slot of the active image, and a flag that is true if this image is confirmed.
 pub record IsSettledSlot (m : MediumState) (s : Settled) : Type 0 where
   pub has : HasImage m
   pub slot : s.slot ≡ active_at (gate_of m) m.bytes
   pub none : ¬ HasTrial m
   pub confirmed : s.is_confirmed ≡ is_mark_set m s.slot 0
 
--- Standing of the images of a medium, with this number of tries.
+-- The images of a medium have this standing, with this number of tries.
 abbrev pub IsStanding : MediumState → ℕ → Standing → Type 0
 IsStanding m tries (standing.Settled s) = IsSettledSlot m s
 IsStanding m tries (standing.OnTrial t) = IsOnTrial m t.slot t.base × (t.starts ≡ recorded_starts m tries t.slot)
@@ -38,8 +38,8 @@ IsStanding m tries (standing.OnTrial t) = IsOnTrial m t.slot t.base × (t.starts
 abbrev pub mark_op : Grain → ℕ → ℕ → Operation
 mark_op grain at i = Mark (mark_at grain at i) (mark_size grain)
 
--- Result of a start. If nothing is on trial the active image runs, without an operation. On trial the mark of the next start is set first,
--- and if it does not read set the confirmed image runs; without a start left the trial ends, and the confirmed image runs.
+-- Result of `start`. If no image is on trial, the active image runs, without an operation. On trial, the mark of the next start is set
+-- first, and if it does not read as set, the confirmed image runs. Without a try left, the trial ends, and the confirmed image runs.
 abbrev pub trial_start : Grain → ℕ → Standing → Starting
 trial_start grain tries (standing.Settled s) = record { operation = None; slot = s.slot; otherwise = s.slot }
 trial_start grain tries (standing.OnTrial t) =
@@ -53,12 +53,12 @@ runs_in m s (Some (Mark at len)) = if is_marked (slice_range m.bytes at (at + le
 runs_in m s (Some (Close at)) = s.slot
 runs_in m s None = s.slot
 
--- Place at which the image begins in the slot that begins at `slot`.
+-- Offset at which the image of a slot begins.
 abbrev pub image_place : Grain → ℕ → ℕ
 image_place grain slot = slot + 2 * gate_room grain
 
--- Confirmation of the image at a place. The active image is confirmed by its mark 0, or already if that mark is set; the image that a
--- trial would fall back to is confirmed already. Elsewhere no image may run.
+-- Result of `confirm` for the image that begins at an offset. If no image is on trial, the active image is confirmed already or by its mark
+-- 0. On trial, mark 0 confirms the image on trial, and the other image is confirmed already. No image runs at any other offset.
 abbrev pub trial_confirmation : Grain → Standing → ℕ → Confirmation
 trial_confirmation grain (standing.Settled s) at =
     if at == image_place grain s.slot
@@ -69,33 +69,33 @@ trial_confirmation grain (standing.OnTrial t) at =
     then confirm.By (mark_op grain t.slot 0)
     else (if at == image_place grain t.base then confirm.Confirmed else confirm.Elsewhere)
 
--- Operation that ends a trial: it closes the gate of the slot on trial. Without a trial there is none.
+-- Operation that ends a trial by closing the gate of the slot on trial. Without a trial there is none.
 abbrev pub end_of_trial : Standing → Option Operation
 end_of_trial (standing.Settled s) = None
 end_of_trial (standing.OnTrial t) = Some (Close t.slot)
 
--- Operation that an upload asks for first: without a start left it ends the trial, as the next start would. Else there is none.
+-- Operation that must come before an upload: if no try is left, the end of the trial, as at the next start. Otherwise there is none.
 abbrev pub upload_operation : ℕ → Standing → Option Operation
 upload_operation tries (standing.Settled s) = None
 upload_operation tries (standing.OnTrial t) = if nat_lt t.starts tries then None else Some (Close t.slot)
 
--- The slot of the active image, which an upload reads.
+-- Slot of the active image, which an upload reads.
 abbrev pub upload_slot : Standing → ℕ
 upload_slot (standing.Settled s) = s.slot
 upload_slot (standing.OnTrial t) = t.slot
 
--- A medium accepts an operation. The range of a mark lies in the medium, is whole in units, and is blank; an erase begins where a sector
--- does.
+-- A medium accepts an operation. The range of the operation lies in the medium. The range of a mark consists of whole write units, and is
+-- blank. An erase begins at a sector.
 abbrev pub MediumAccepts : MediumState → Operation → Type 0
 MediumAccepts m (Mark at len) = (at + len ≤ length m.bytes) × IsMultiple m.grain.unit at × IsMultiple m.grain.unit len × IsWritable m at len
 MediumAccepts m (Close at) = (at + m.grain.sector ≤ length m.bytes) × (at % m.grain.sector ≡ 0)
 
--- A mark lies within the medium, and has at most 256 bytes. For an erase there is no condition.
+-- The range of a mark lies within the medium, and has at most 256 bytes. An erase satisfies this without a condition.
 abbrev pub MarkIsWithin : MediumState → Operation → Type 0
 MarkIsWithin m (Mark at len) = (at + len ≤ length m.bytes) × (len ≤ 256)
 MarkIsWithin m (Close at) = Unit {0}
 
--- A medium accepts the operation that a confirmation asks for, if it asks for one.
+-- A medium accepts the operation of a confirmation, if there is one.
 abbrev pub ConfirmationAccepted : MediumState → Confirmation → Type 0
 ConfirmationAccepted m (confirm.By operation) = MediumAccepts m operation × MarkIsWithin m operation
 ConfirmationAccepted m confirm.Confirmed = Unit {0}

@@ -1,4 +1,4 @@
--- Events of a medium with sectors, one after another, once an image was confirmed; and the images that the medium has after them.
+-- Sequences of events on a medium with a confirmed image, and its images after each event.
 use Rattle.std.specs.Prelude.{◌≡◌, ◌⊎◌, ℕ, ◌+◌, ◌≤◌, ◌<◌, true, false, List, [], ◌∷◌, Option, Some, None}
 use Rattle.dfu_slots.specs.Medium.{MediumState, ChangedWithin}
 use Rattle.dfu_slots.specs.Layout.{slot_size, ArePlaces}
@@ -15,17 +15,17 @@ use Rattle.dfu_boot.specs.declared.trial.starting.Starting.{Starting}
 use Rattle.dfu_boot.specs.declared.trial.confirming.Confirmation.{Confirmation}
 use Rattle.dfu_boot.specs.declared.trial.confirming.Confirmation.TheVariants as confirm
 
--- Event of a medium. Its operation may work, fail, lie or be cut.
+-- Event on a medium. Its operation may succeed, fail, be cut off, or be reported wrongly.
 pub data TrialEvent : Type 0 where
-  -- A start, after which the image in the slot at `ran` runs; None if the power was lost before.
+  -- A start, after which the image in the slot at offset `ran` runs. None means that the power failed before.
   Starts : (ran : Option ℕ) → TrialEvent
-  -- An image confirms itself, by the place at which it begins.
+  -- The running image, which begins at offset `at`, confirms itself.
   Confirms : (at : ℕ) → TrialEvent
-  -- A trial ends.
+  -- The trial ends.
   Ends : TrialEvent
-  -- An upload begins, and gives this image; None if it is stalled, because the trial that was to end goes on.
+  -- An upload of this image. None means that the upload is stalled, because the trial that had to end continues.
   Uploads : (given : Option (List ℕ)) → TrialEvent
-  -- A download of this image, complete or broken off at any point.
+  -- A download of this image, complete or broken off at any time.
   Downloads : (image : List ℕ) → TrialEvent
 
 -- An event, and the medium after it.
@@ -33,7 +33,7 @@ pub record TrialStep : Type 0 where
   pub event : TrialEvent
   pub now : MediumState
 
--- A start runs this slot, by the medium after its operation; None if the power was lost.
+-- A start runs this slot, by the bytes of the medium after the start's operation. None means that the power failed.
 abbrev pub IsSlotRunBy : Starting → MediumState → Option ℕ → Type 0
 IsSlotRunBy s now None = Unit {0}
 IsSlotRunBy s now (Some slot) = slot ≡ runs_in now s s.operation
@@ -44,19 +44,19 @@ ConfirmationOutcome m (confirm.By operation) now = OperationOutcome m operation 
 ConfirmationOutcome m confirm.Confirmed now = now ≡ m
 ConfirmationOutcome m confirm.Elsewhere now = now ≡ m
 
--- An upload gives the image that the next start is to run; None if the upload is stalled.
+-- An upload returns the image that the next start runs. None means that the upload is stalled.
 abbrev pub UploadResult : MediumState → ℕ → Option (List ℕ) → Type 0
 UploadResult now tries None = Unit {0}
 UploadResult now tries (Some image) = RunsAtNextStart now tries image
 
--- Result of a download. Without its image in place, the confirmed one is the newest. Else the new one is the newest, and no mark of its
--- slot is set, because the sector of its header was erased before the header was written.
+-- Outcome of a download. If the new image is not in place, the confirmed one is still the newest. Otherwise the new one is the newest, and
+-- no mark of its slot is set, because the sector of its header was erased before the header was written.
 abbrev pub DownloadPlacesImageOrNot : MediumState → ℕ → (slot spare : ℕ) → List ℕ → Type 0
 DownloadPlacesImageOrNot now tries slot spare image = IsNewest (slot_of now slot) (slot_of now spare)
     ⊎ (IsNewest (slot_of now spare) (slot_of now slot) × IsFilledSlot (slot_of now spare) × (image_at now spare ≡ image)
     × ((i : ℕ) → i ≤ tries → is_mark_set now spare i ≡ false))
 
--- A download, while nothing is on trial: it changes the spare slot alone.
+-- A download while no image is on trial: it changes only the spare slot.
 pub record IsDownload (m : MediumState) (tries : ℕ) (image : List ℕ) (now : MediumState) : Type 0 where
   pub settled : Settled
   pub stands : IsSettledSlot m settled
@@ -66,7 +66,7 @@ pub record IsDownload (m : MediumState) (tries : ℕ) (image : List ℕ) (now : 
   pub grain : now.grain ≡ m.grain
   pub put : DownloadPlacesImageOrNot now tries settled.slot spare image
 
--- Result of an event on a medium with this number of tries, by the standing that `look` returned for the medium.
+-- Outcome of an event on a medium with this number of tries, by the standing that `look` returns for the medium.
 abbrev pub TrialStepResult : ℕ → MediumState → TrialEvent → MediumState → Type 0
 TrialStepResult tries m (Starts ran) now = (s : Standing) × IsStanding m tries s × AskedResult m (trial_start m.grain tries s).operation now
     × IsSlotRunBy (trial_start m.grain tries s) now ran
@@ -77,12 +77,12 @@ TrialStepResult tries m (Uploads given) now = (s : Standing) × IsStanding m tri
     × UploadResult now tries given
 TrialStepResult tries m (Downloads image) now = IsDownload m tries image now
 
--- Events one after another: the medium of each step is a possible result of its event on the medium before.
+-- The medium after each event is a possible outcome of the event on the medium before it.
 abbrev pub IsTrialTrace : ℕ → MediumState → List TrialStep → Type 0
 IsTrialTrace tries m [] = Unit {0}
 IsTrialTrace tries m (s ∷ rest) = TrialStepResult tries m s.event s.now × IsTrialTrace tries s.now rest
 
--- Trusted images: the one that was confirmed last, and maybe one on trial, with the number of its runs since it was put in place.
+-- Trusted images: the one that was confirmed last, and possibly one on trial, with its number of runs since it was put in place.
 pub data TrustedImages : Type 0 where
   Alone : (base : List ℕ) → TrustedImages
   Tried : (base image : List ℕ) (runs : ℕ) → TrustedImages
@@ -93,11 +93,11 @@ AreTrusted m tries (Alone base) = (s : Settled) × IsSettledSlot m s × (s.is_co
 AreTrusted m tries (Tried base image runs) = (t : Trial) × IsStanding m tries (OnTrial t) × (image_at m t.base ≡ base)
     × (image_at m t.slot ≡ image) × (runs ≤ t.starts) × (t.starts ≤ tries)
 
--- The trial goes on as it was, or it has ended and only the confirmed image is trusted.
+-- The trial continues unchanged, or it has ended and only the confirmed image is trusted.
 abbrev pub TrialContinuesOrIsOver : (base image : List ℕ) → ℕ → TrustedImages → Type 0
 TrialContinuesOrIsOver base image runs next = (next ≡ Tried base image runs) ⊎ (next ≡ Alone base)
 
--- Trusted images after a start. The image that runs is the confirmed one, or the one on trial, which ran fewer than `tries` times before.
+-- Trusted images after a start. The image that runs is the confirmed one, or the one on trial if that ran fewer than `tries` times before.
 abbrev pub TrustedImagesAfterStart : ℕ → TrustedImages → MediumState → Option ℕ → TrustedImages → Type 0
 TrustedImagesAfterStart tries (Alone base) now None next = next ≡ Alone base
 TrustedImagesAfterStart tries (Alone base) now (Some slot) next = (image_at now slot ≡ base) × (next ≡ Alone base)
@@ -106,15 +106,14 @@ TrustedImagesAfterStart tries (Tried base image runs) now (Some slot) next =
     ((image_at now slot ≡ image) × (runs < tries) × (next ≡ Tried base image (runs + 1)))
     ⊎ ((image_at now slot ≡ base) × TrialContinuesOrIsOver base image runs next)
 
--- Image that an upload gives: the confirmed one if nothing is on trial, and else the one on trial, which has a start left. None if the
--- upload is stalled.
+-- Image that an upload returns: the confirmed one, or if one is on trial, that one with a try left. None means that the upload is stalled.
 abbrev pub ImageOfUpload : ℕ → Option (List ℕ) → TrustedImages → Type 0
 ImageOfUpload tries None next = Unit {0}
 ImageOfUpload tries (Some image) (Alone base) = image ≡ base
 ImageOfUpload tries (Some image) (Tried base new runs) = (image ≡ new) × (runs < tries)
 
--- Trusted images after an event. Only a download brings an image on trial, with no run of it; an image whose trial ended runs no more
--- unless it is downloaded again.
+-- Trusted images after an event. Only a download puts an image on trial, with no runs. After a trial that ended without a confirmation, its
+-- image runs only if it is downloaded again.
 abbrev pub TrustedImagesAfterEvent : ℕ → TrustedImages → TrialEvent → MediumState → TrustedImages → Type 0
 TrustedImagesAfterEvent tries trust (Starts ran) now next = TrustedImagesAfterStart tries trust now ran next
 TrustedImagesAfterEvent tries (Alone base) (Confirms at) now next = next ≡ Alone base
@@ -127,7 +126,8 @@ TrustedImagesAfterEvent tries (Tried base image runs) (Uploads given) now next =
 TrustedImagesAfterEvent tries (Alone base) (Downloads new) now next = (next ≡ Alone base) ⊎ (next ≡ Tried base new 0)
 TrustedImagesAfterEvent tries (Tried base image runs) (Downloads new) now next = ⊥
 
--- The medium has trusted images at first and after each event, and those after an event may follow those before it.
+-- The images of the medium are trusted at first and after each event, and the trusted images change only as `TrustedImagesAfterEvent`
+-- allows.
 abbrev pub AllTrusted : ℕ → TrustedImages → MediumState → List TrialStep → Type 0
 AllTrusted tries trust m [] = AreTrusted m tries trust
 AllTrusted tries trust m (s ∷ rest) = AreTrusted m tries trust

@@ -1,10 +1,10 @@
-//! Sizes of a run area, and the test of its blank bytes.
+//! Allowed sizes of a run area, and the check for blank bytes.
 ghost use Rattle.std.specs.Prelude.{◌≡◌, ◌≤◌, length, IsTrue, ◌↔◌};
 ghost use Rattle.dfu_boot.specs.install.Area.{IsRunArea, RangeIsBlank};
 
 use dfu_slots::{MAX_SECTOR, PAGE, flash_byte_at};
 
-/// Bytes that are programmed at a time.
+/// Number of bytes that one program operation writes.
 pub(crate) const PROGRAM: u32 = 256;
 
 /// Returns true if a run area of `len` bytes may have sectors of `sector` bytes.
@@ -18,7 +18,7 @@ pub(crate) fn is_run_area(len: usize, sector: u32) -> bool
         && len % sector as usize == 0
 }
 
-/// Returns true if the bytes of `run` from `from` to before `to` are all FFh.
+/// Returns true if all bytes of `run` with offsets in `from..to` are FFh.
 pub fn are_blank(run: &[u8], from: u32, to: u32) -> bool
     requires order { from ≤ to }
     requires inside { to ≤ length run.now }

@@ -1,17 +1,18 @@
-//! Operation that is due next, by the place at which the run area differs.
+//! Choice of the next operation, by the first offset at which the run area differs from the image.
 ghost use Rattle.std.specs.Prelude.{◌≡◌, ◌+◌, ◌-◌, ◌%◌, ◌<◌, ◌≤◌, ◌^◌, length, min, IsTrue, ◌↔◌};
 ghost use Rattle.dfu_boot.specs.install.Area.{IsRunArea, start_of};
 ghost use Rattle.dfu_boot.specs.install.Next.{IsNextDue, IsNextDifference, IsNotRefused, MayProgram, search_start};
 
 use crate::install::area::{PROGRAM, are_blank, is_run_area};
 use crate::install::compare::next_difference;
-use crate::install::due::{Due, Refusal};
+use crate::install::due::{Due, InstallRefusal};
 
-// Returns the place at which the search for a difference begins: that of the last operation, at most the end of the image; 0 without one.
+// Returns the first offset of the search for a difference: the offset of the last operation, limited to the length of the image, or 0
+// without a last operation.
 fn look_from(image: &[u8], last: Option<u32>) -> u32
     requires { length image.now < 2 ^ 32 }
     ensures value { result ≡ search_start image.now last }
-    ensures most { result ≤ length image.now }
+    ensures inside_image { result ≤ length image.now }
 {
     match last {
         Some(at) => at.min(image.len() as u32),
@@ -19,8 +20,8 @@ fn look_from(image: &[u8], last: Option<u32>) -> u32
     }
 }
 
-// Returns whether the piece that begins at `piece` may be programmed: it is blank, and the last operation went to its sector, not behind
-// it.
+// Returns true if the piece at offset `piece` may be programmed: the piece is blank, and the last operation was in the sector of the piece,
+// and not after the piece.
 fn may_program(run: &[u8], sector: u32, last: Option<u32>, piece: u32) -> bool
     requires some { 0 < sector }
     requires inside { piece + 256 ≤ length run.now }
@@ -37,7 +38,7 @@ fn may_program(run: &[u8], sector: u32, last: Option<u32>, piece: u32) -> bool
     }
 }
 
-// Returns the next operation for the byte at `at`, which differs: a program of its piece, or else an erase of its sector.
+// Returns the next operation for the differing byte at `at`: a program of its piece if that is allowed, else an erase of its sector.
 fn mend(image: &[u8], run: &[u8], sector: u32, last: Option<u32>, at: u32) -> Due
     requires ready { IsNotRefused image.now run.now sector }
     requires next { IsNextDifference image.now run.now (search_start image.now last) at }
@@ -51,24 +52,24 @@ fn mend(image: &[u8], run: &[u8], sector: u32, last: Option<u32>, at: u32) -> Du
     }
 }
 
-/// Returns the next operation that brings the image to the run area.
+/// Returns the next operation that copies the image to the run area.
 ///
-/// `image` has the bytes of the image, `run` the present bytes of the run area, in sectors of `sector` bytes. `last` is what `took`
-/// returned for the last operation, and None after each loss of power. For any `last`, Start is returned only if the run area holds the
-/// whole image, and each operation lies within the sectors of the image.
+/// `image` is the image, and `run` the present bytes of the run area, in sectors of `sector` bytes. `last` is the result of `took` for the
+/// last operation, and None after each loss of power. For any `last`, Start is returned only if the run area holds the whole image, and
+/// each operation lies within the sectors of the image.
 ///
 /// Refused, in this order: `WrongSize`, `NoImage`, `TooLarge`.
 pub fn next(image: &[u8], run: &[u8], sector: u32, last: Option<u32>) -> Due
     ensures { IsNextDue image.now run.now sector last result }
 {
     if !is_run_area(run.len(), sector) {
-        return Due::Refuse(Refusal::WrongSize);
+        return Due::Refuse(InstallRefusal::WrongSize);
     }
     if image.is_empty() {
-        return Due::Refuse(Refusal::NoImage);
+        return Due::Refuse(InstallRefusal::NoImage);
     }
     if image.len() > run.len() {
-        return Due::Refuse(Refusal::TooLarge);
+        return Due::Refuse(InstallRefusal::TooLarge);
     }
     match next_difference(image, run, look_from(image, last)) {
         Some(at) => mend(image, run, sector, last, at),

@@ -1,4 +1,4 @@
-//! Finds the standing of an earlier look again, without reading the images.
+//! Derives the standing that an earlier `look` found, without reading the images.
 ghost use Rattle.std.specs.Prelude.{◌≡◌, IfSome, IsTrue};
 ghost use Rattle.dfu_slots.specs.Layout.{ArePlaces};
 ghost use Rattle.dfu_slots.specs.Image.{IsSizedMedium, slot_of, SlotCounts, IsNewest};
@@ -10,7 +10,8 @@ use crate::trial::marks::{is_set, starts};
 use crate::trial::{Settled, Standing, Trial};
 use dfu_slots::{Medium, Places, capacity_of, data_at, generation, is_open, is_sized};
 
-// Returns the places of the slots, with the slot whose data begins at `at` as the active one; None if no slot's data begins there.
+// Returns the offsets of both slots, with the slot whose data begins at `at` as the active one. None means that no slot's data begins
+// there.
 fn places_by_data<M: Medium>(medium: &M, at: u32) -> Option<Places>
     requires { IsSizedMedium (M.state medium.now) }
     ensures places { IfSome result (λ p. ArePlaces (M.state medium.now).bytes p.active p.spare) }
@@ -33,8 +34,8 @@ fn places_by_data<M: Medium>(medium: &M, at: u32) -> Option<Places>
     None
 }
 
-// Returns whether the slot at `places.active` is open, and the other slot is closed or one generation older. If so, and if the first slot
-// counts, it is the newest.
+// Returns true if the slot at `places.active` is open, and the other slot is closed or one generation older. If the slot at `places.active`
+// counts (`SlotCounts`), it is the newest then.
 fn is_ahead<M: Medium>(medium: &M, places: Places) -> bool
     requires sized { IsSizedMedium (M.state medium.now) }
     requires places { ArePlaces (M.state medium.now).bytes places.active places.spare }
@@ -48,13 +49,14 @@ fn is_ahead<M: Medium>(medium: &M, places: Places) -> bool
         || generation(medium, places.active) == generation(medium, places.spare).wrapping_add(1)
 }
 
-/// Finds the standing of an earlier `look` again: the image that begins at `at` was active and, if it was on trial, the image that begins
-/// at `base` was the one to come back. Reads gates, headers and marks, but no image: it relies on the look for these images being whole.
-/// None if another slot may have the active image by now, or if an image may be on trial that the look did not report: call `look` then.
+/// Derives the standing that an earlier `look` found. The image at offset `at` was active then, and if it was on trial, the image at offset
+/// `base` was the confirmed one. The call reads gates, headers and marks, and relies on the earlier `look` for the fact that both images
+/// are whole. None means that no slot's data begins at `at`, that the other slot may be active now, or that an image may be on trial that
+/// `look` did not report; call `look` then.
 pub fn look_again<M: Medium>(medium: &M, tries: u32, at: u32, base: Option<u32>) -> Option<Standing>
     requires tries { AreTries (M.state medium.now).grain tries }
     ensures stands { IfSome result (λ s. ImagesAreWhole (M.state medium.now) at base → IsStanding (M.state medium.now) tries s) }
-    ensures fits { IfSome result (λ s. MatchesMedium (M.state medium.now) tries s) }
+    ensures matches_medium { IfSome result (λ s. MatchesMedium (M.state medium.now) tries s) }
 {
     if !is_sized(medium) {
         return None;

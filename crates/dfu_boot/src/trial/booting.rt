@@ -1,4 +1,4 @@
-//! Carries out a start on a medium.
+//! Start of an image on a medium.
 ghost use Rattle.std.specs.Prelude.{◌≡◌, ◌<◌, OnOk, OnErr, IfOk, IfErr};
 ghost use Rattle.dfu_slots.specs.Medium.Fuse.{Whole};
 ghost use Rattle.dfu_slots.specs.Image.{HasImage};
@@ -12,13 +12,13 @@ ghost use Rattle.dfu_boot.specs.declared.trial.standing.Standing.TheVariants.{On
 use crate::trial::look;
 use dfu_slots::{Medium, OpenFault};
 
-/// Chooses the image to start, carries out the operation that must come first, and returns the place at which the slot that runs begins.
-/// Even if the operation fails, some image is active afterwards, and one of the two images runs. On a medium that works, the image on trial
-/// runs as long as a start is left.
+/// Chooses the image to start, carries out the operation that must come first, and returns the offset of the slot to run. Even if the
+/// operation fails, some image is active afterwards, and one of the two images runs. On a medium without failures, the image on trial runs
+/// as long as a try is left.
 ///
 /// # Errors
 ///
-/// Those of `check` of dfu_slots: the medium has no active image. The medium is unchanged then.
+/// The errors of `check` of dfu_slots: the medium has no active image. The medium is unchanged then.
 pub fn boot<M: Medium>(medium: &mut M, tries: u32) -> Result<u32, OpenFault>
     requires tries { AreTries (M.state medium.old).grain tries }
     ensures booted { IfOk result (λ slot. HasBooted (M.state medium.old) tries (M.state medium.new) slot) }
@@ -33,7 +33,7 @@ pub fn boot<M: Medium>(medium: &mut M, tries: u32) -> Result<u32, OpenFault>
     match starting.operation {
         None => Ok(starting.slot),
         Some(operation) => {
-            // The result is ignored, because the mark is read back.
+            // The result is ignored, because `runs` reads the mark.
             let _ = operation.carry_out(medium);
             Ok(starting.runs(medium))
         }

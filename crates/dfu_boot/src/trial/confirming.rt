@@ -8,18 +8,18 @@ use crate::trial::marks::{mark_at, mark_size};
 use crate::trial::{Operation, Standing};
 use dfu_slots::{Medium, data_at};
 
-/// Answer to a running image that asks to be confirmed.
+/// Result of `confirm` for the running image.
 #[derive(Clone, Copy, Drop)]
 pub enum Confirmation {
-    /// The caller must carry out this operation.
+    /// The image is confirmed once the caller has carried out this operation.
     By(Operation),
     /// The image is confirmed already.
     Confirmed,
-    /// No image that may run begins at the place given.
+    /// No image that may run begins at the given offset.
     Elsewhere,
 }
 
-// Returns the operation that sets the confirmation mark of the slot that begins at `slot`.
+// Returns the operation that sets the confirmation mark of the slot at offset `slot`.
 fn by_mark<M: Medium>(medium: &M, slot: u32) -> Confirmation
     requires { mark_at (M.state medium.now).grain slot 0 ≤ length (M.state medium.now).bytes }
     ensures { result ≡ By (mark_op (M.state medium.now).grain slot 0) }
@@ -28,8 +28,9 @@ fn by_mark<M: Medium>(medium: &M, slot: u32) -> Confirmation
 }
 
 impl Standing {
-    /// Returns the confirmation of the image that begins at `at`: the calling image's own place, as `image_at` of a store gives it. So an
-    /// old image that runs because the mark of a start failed does not confirm the new one.
+    /// Returns the `Confirmation` of the running image, which begins at the offset `at`, as `image_at` of a store returns it. If the
+    /// confirmed image runs because the mark of a start failed, its offset is not that of the image on trial, and the image on trial is not
+    /// confirmed.
     pub fn confirm<M: Medium>(self, medium: &M, tries: u32, at: u32) -> Confirmation
         requires tries { AreTries (M.state medium.now).grain tries }
         requires stands { IsStanding (M.state medium.now) tries self }

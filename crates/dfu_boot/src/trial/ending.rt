@@ -1,4 +1,4 @@
-//! End of a trial.
+//! End of a trial, on request or before an upload.
 ghost use Rattle.std.specs.Prelude.{◌≡◌, IfSome};
 ghost use Rattle.dfu_boot.specs.trial.Marks.{AreTries};
 ghost use Rattle.dfu_boot.specs.trial.Calls.{IsStanding, MediumAccepts, end_of_trial, upload_operation};
@@ -7,10 +7,11 @@ use crate::trial::{Operation, Standing};
 use dfu_slots::Medium;
 
 impl Standing {
-    /// Returns the operation that ends the trial: it closes the gate of the slot on trial. None if nothing is on trial. Reads nothing.
+    /// Returns the operation that ends the trial, by closing the gate of the slot on trial. None means that no image is on trial. Does not
+    /// read the medium.
     ///
-    /// A download must end the trial before its store is opened and `begin` is called: until then the store's spare is the slot of the
-    /// confirmed image, which `begin` would give up.
+    /// A download must end the trial before it opens the store and calls `begin`. Before the end, the store's spare slot is that of the
+    /// confirmed image, which `begin` would close.
     pub fn end<M: Medium>(self, _medium: &M, tries: u32) -> Option<Operation>
         requires tries { AreTries (M.state _medium.now).grain tries }
         requires stands { IsStanding (M.state _medium.now) tries self }
@@ -22,8 +23,9 @@ impl Standing {
             Standing::OnTrial(trial) => Some(Operation::Close(trial.slot)),
         }
     }
-    /// Returns the operation that must come before an upload: without a start left it ends the trial, as the next start would, so that a
-    /// host reads the image that the next start runs. None if nothing is on trial or a start is left. Reads nothing.
+    /// Returns the operation that must come before an upload. If no try is left, the operation ends the trial, as the next start would, so
+    /// that the host reads the image that the next start runs. None means that no image is on trial, or that a try is left. Does not read
+    /// the medium.
     pub fn upload<M: Medium>(self, _medium: &M, tries: u32) -> Option<Operation>
         requires tries { AreTries (M.state _medium.now).grain tries }
         requires stands { IsStanding (M.state _medium.now) tries self }

@@ -1,4 +1,4 @@
-//! Standing of a medium's images, which a look finds.
+//! Standing of the images on a medium, as `look` finds it.
 ghost use Rattle.std.specs.Prelude.{OnOk, IfOk, IfErr};
 ghost use Rattle.dfu_slots.specs.Image.{HasImage};
 ghost use Rattle.dfu_slots.specs.Changes.{FirstOpenFault};
@@ -9,11 +9,11 @@ use crate::trial::marks::{is_set, starts};
 use crate::trial::{Settled, Standing, Trial};
 use dfu_slots::{Medium, OpenFault, check_both};
 
-/// Finds the standing of a medium's images. It reads each image once, as `check` of dfu_slots does.
+/// Finds the standing of the images on a medium. Reads each image once, as `check` of dfu_slots does.
 ///
 /// # Errors
 ///
-/// Those of `check`: the medium has no active image.
+/// The errors of `check`: the medium has no active image.
 pub fn look<M: Medium>(medium: &M, tries: u32) -> Result<Standing, OpenFault>
     requires tries { AreTries (M.state medium.now).grain tries }
     ensures standing { IfOk result (λ s. IsStanding (M.state medium.now) tries s) }

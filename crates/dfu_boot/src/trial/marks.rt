@@ -1,4 +1,4 @@
-//! Marks of a slot, as they are read.
+//! Marks of a slot, as read from the medium.
 ghost use Rattle.std.specs.Prelude.{◌≡◌, ◌+◌, ◌*◌, ◌≤◌, ◌<◌, length, slice_range};
 ghost use Rattle.std.specs.List.{list_all};
 ghost use Rattle.dfu_slots.specs.Layout.{slot_size};
@@ -7,16 +7,16 @@ ghost use Rattle.dfu_boot.specs.trial.Marks.{mark_size, mark_at, is_erased, is_m
 
 use dfu_slots::{Medium, gate_of};
 
-/// Returns the number of bytes of a mark: a unit, and 16 at least.
+/// Returns the number of bytes of a mark: the write unit, but at least 16.
 pub(crate) fn mark_size<M: Medium>(medium: &M) -> u32
     ensures value { result ≡ mark_size (M.state medium.now).grain }
     ensures least { 16 ≤ result }
-    ensures most { result ≤ 256 }
+    ensures at_most_256 { result ≤ 256 }
 {
     medium.unit().size().max(16)
 }
 
-/// Returns the place of mark number `i` of the slot that begins at `at`.
+/// Returns the offset of mark number `i` in the slot at offset `at`.
 pub(crate) fn mark_at<M: Medium>(medium: &M, at: u32, i: u32) -> u32
     requires { mark_at (M.state medium.now).grain at i ≤ length (M.state medium.now).bytes }
     ensures { result ≡ mark_at (M.state medium.now).grain at i }
@@ -26,14 +26,13 @@ pub(crate) fn mark_at<M: Medium>(medium: &M, at: u32, i: u32) -> u32
     at + gate_of(medium) + size + i * size
 }
 
-// Returns whether all bytes are FFh.
 fn is_blank(bytes: &[u8]) -> bool
     ensures { result ≡ list_all is_erased bytes.now }
 {
     bytes.iter().all(|byte| *byte == 0xff)
 }
 
-/// Returns true if one of the `len` bytes from `at` on, at most 256, is not FFh.
+/// Returns true if one of the `len` bytes at offset `at` is not FFh. `len` is at most 256.
 pub(crate) fn is_marked<M: Medium>(medium: &M, at: u32, len: u32) -> bool
     requires within { at + len ≤ length (M.state medium.now).bytes }
     requires most { len ≤ 256 }
@@ -45,7 +44,7 @@ pub(crate) fn is_marked<M: Medium>(medium: &M, at: u32, len: u32) -> bool
     !is_blank(bytes)
 }
 
-/// Returns true if mark number `i` of the slot that begins at `at` is set.
+/// Returns true if mark number `i` of the slot at offset `at` is set.
 pub(crate) fn is_set<M: Medium>(medium: &M, at: u32, i: u32) -> bool
     requires { let m = M.state medium.now in mark_at m.grain at i + mark_size m.grain ≤ length m.bytes }
     ensures { result ≡ is_mark_set (M.state medium.now) at i }
@@ -53,13 +52,13 @@ pub(crate) fn is_set<M: Medium>(medium: &M, at: u32, i: u32) -> bool
     is_marked(medium, mark_at(medium, at, i), mark_size(medium))
 }
 
-/// Returns the number of recorded starts, at most `tries`, of the image in the slot that begins at `at`.
+/// Returns the number of recorded starts, at most `tries`, of the image in the slot at offset `at`.
 pub(crate) fn starts<M: Medium>(medium: &M, tries: u32, at: u32) -> u32
     requires sized { IsSizedMedium (M.state medium.now) }
     requires tries { AreTries (M.state medium.now).grain tries }
     requires within { at + slot_size (M.state medium.now).bytes ≤ length (M.state medium.now).bytes }
     ensures value { result ≡ recorded_starts (M.state medium.now) tries at }
-    ensures most { result ≤ tries }
+    ensures at_most_tries { result ≤ tries }
 {
     let mut done = 0;
     while done < tries {

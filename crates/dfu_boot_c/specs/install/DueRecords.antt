@@ -1,4 +1,4 @@
--- Due operations of a run area, as a program in C gets them.
+-- Operations of a run area, as records of a program in C.
 use Rattle.std.specs.Prelude.{◌≡◌, ℕ, ℤ, pos, List}
 use Rattle.dfu_boot.specs.declared.install.due.Due.{Due}
 use Rattle.dfu_boot.specs.declared.install.due.Due.TheVariants.{Refuse, Erase, Program, Start}
@@ -7,8 +7,8 @@ use Rattle.dfu_core.specs.declared.records.DfuAsk.{DfuAsk}
 use Rattle.dfu_core.specs.Numbers.{WRITE_PENDING_NUMBER}
 use Rattle.dfu_boot_c.specs.install.Calls.{install_refusal_number}
 
--- A due operation is written into `after`, and the call returns DFU_WRITE_PENDING. For the start the call returns 0, and for a refusal the
--- refusal's number; then `after` equals `before`.
+-- The next operation is written into `after`, and the call returns DFU_WRITE_PENDING. For the start, the call returns 0, and for a refusal
+-- its number; then `after` equals `before`.
 abbrev pub InstallDueInAsk : List ℕ → ℕ → Due → ℤ → DfuAsk → DfuAsk → Type 0
 InstallDueInAsk image sector (Refuse refusal) result before after = (result ≡ install_refusal_number refusal) × (after ≡ before)
 InstallDueInAsk image sector Start result before after = (result ≡ pos 0) × (after ≡ before)

@@ -1,4 +1,4 @@
--- Records in which a program in C gets the state of a trial.
+-- Records that describe a trial to a program in C.
 use Rattle.std.specs.Prelude.{◌≡◌, ℕ, ℤ, pos, ◌-◌, ◌+◌, ◌==◌, Bool, nat_le, ◌&&◌, List, length, replicate, slice_range, Option, Some, None, if◌then◌else◌}
 use Rattle.dfu_slots.specs.Medium.{MediumState}
 use Rattle.dfu_slots.specs.Layout.{header_length}
@@ -16,11 +16,11 @@ use Rattle.dfu_core.specs.Numbers.{WRITE_PENDING_NUMBER}
 use Rattle.dfu_boot_c.specs.declared.trial.told.DfuStanding.{DfuStanding}
 use Rattle.dfu_boot_c.specs.declared.trial.told.DfuStarting.{DfuStarting}
 
--- Place of the image in a slot, and its length from the slot's header.
+-- Offset of the image in a slot, and its length by the slot's header.
 abbrev pub image_in : MediumState → ℕ → DfuPlace
 image_in m slot = record { at = image_place m.grain slot; length = header_length (slot_of m slot) }
 
--- Record of a standing, as a program in C gets it. If no image is on trial, the base is the active image, and no starts are left.
+-- Record of a standing for a program in C. If no image is on trial, `base` is the active image, and `left` is 0.
 abbrev pub standing_told : MediumState → ℕ → Standing → DfuStanding
 standing_told m tries (Settled s) = record {
   active = image_in m s.slot;
@@ -37,12 +37,12 @@ standing_told m tries (OnTrial t) = record {
   is_confirmed = 0;
 }
 
--- Record of a start: the image to run, and the image to run instead if the mark of this start doesn't read back as set.
+-- Record of a start: the image to run, and the image to run instead if the mark of this start doesn't read as set.
 abbrev pub starting_told : MediumState → Starting → DfuStarting
 starting_told m s = record { run = image_in m s.slot; otherwise = image_in m s.otherwise }
 
--- A due operation is written into `after`, and the call returns DFU_WRITE_PENDING: zeros are programmed, or a sector of this size is
--- erased. If no operation is due the call returns 0, and `after` equals `before`.
+-- The operation is written into `after`, and the call returns DFU_WRITE_PENDING: zeros are programmed, or a sector of this size is erased.
+-- Without an operation the call returns 0, and `after` equals `before`.
 abbrev pub TrialOpInAsk : ℕ → Option Operation → ℤ → DfuAsk → DfuAsk → Type 0
 TrialOpInAsk sector None result before after = (result ≡ pos 0) × (after ≡ before)
 TrialOpInAsk sector (Some (Mark at len)) result before after =

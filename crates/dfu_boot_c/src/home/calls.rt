@@ -1,4 +1,4 @@
-//! Calls for two areas, as a program in C makes them. `include/dfu_home_core.h` describes them.
+//! Calls for the copy between two areas, which programs in C make. `include/dfu_home_core.h` describes them.
 ghost use Rattle.std.specs.Prelude.{◌≡◌, ◌⊎◌, ◌+◌, ◌-◌, ◌^◌, min, not, ◌==◌, pos, negsuc};
 ghost use Rattle.dfu_home.specs.OperationReport.{IsNoteOfHomeDue};
 ghost use Rattle.dfu_boot_c.specs.install.Calls.{last_of};
@@ -12,11 +12,11 @@ use crate::install::area::number_of as place_number;
 use dfu_core::{ASKS, DfuAsk, DfuConfig, ERASE, PROGRAM};
 use dfu_home::{Due, is_home, next, took};
 
-/// Returns the operation that is due next, as `next` of dfu_home: 0 if the active image is in the first slot; or -11, and `ask` has the
-/// operation.
+/// Writes the next operation of the copy into `ask`, as `next` of dfu_home returns it, and returns -11. Returns 0 if the active image is in
+/// the first slot.
 ///
-/// Refused, in this order: -2 if no unit or sectors have the configured sizes, -3 if the flash has 2^32 bytes or more, -16 without sectors,
-/// -3 without an active image, -8 after one operation for each 128 bytes of the flash.
+/// Refused, in this order: -2 if the configured unit or sector size is not allowed, -3 if the flash has 2^32 bytes or more, -16 without
+/// sectors, -3 without an active image, -8 after one operation for each 128 bytes of the flash.
 #[unsafe(no_mangle)]
 pub extern "C" fn dfu_core_home_next(
     config: &DfuConfig,
@@ -49,8 +49,8 @@ pub extern "C" fn dfu_core_home_next(
     }
 }
 
-/// Takes the report, as `took` of dfu_home, that the operation from `dfu_core_home_next` was carried out, or, if `failed` is not 0, that it
-/// failed. Returns 0, and `kept` has noted the report.
+/// Notes in `kept` that the operation from `dfu_core_home_next` was carried out, or that it failed if `failed` is not 0, and counts the
+/// operation. Checks the bytes of the flash as `took` of dfu_home does. Returns 0.
 #[unsafe(no_mangle)]
 pub extern "C" fn dfu_core_home_took(
     kept: &mut DfuHomeRecord,
@@ -76,11 +76,12 @@ pub extern "C" fn dfu_core_home_took(
     0
 }
 
-/// Returns whether a program that runs from the first slot may accept a download, as `is_home` of dfu_home: 1 if the active image is in the
-/// first slot, because the download then goes to the second; 0 if it is in the second slot, because the download would overwrite the
-/// program.
+/// Returns 1 if a program in the first slot may accept a download: the active image is in the first slot, and the download is written to
+/// the second. Returns 0 if the active image is in the second slot, because the download would overwrite the program. Decides as `is_home`
+/// of dfu_home.
 ///
-/// Refused, in this order: -2 if no unit or sectors have the configured sizes, -3 if the flash has no active image, or 2^32 bytes or more.
+/// Refused, in this order: -2 if the configured unit or sector size is not allowed, -3 if the flash has no active image, or 2^32 bytes or
+/// more.
 #[unsafe(no_mangle)]
 pub extern "C" fn dfu_core_home_may_download(config: &DfuConfig, flash: &[u8]) -> i32
     ensures outcome { DownloadAllowedResult (home_medium_state config.now flash.now) result

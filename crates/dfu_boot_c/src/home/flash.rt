@@ -1,14 +1,14 @@
-//! The flash of a device as a medium, from the device's configuration.
+//! The flash of a device as a medium, by the device's configuration.
 ghost use Rattle.std.specs.Prelude.{◌≡◌, IfOk, OnOk, IfErr};
 ghost use Rattle.dfu_asks.specs.Mapped.{grain_of as mapped_grain, mapped_medium};
 ghost use Rattle.dfu_boot_c.specs.trial.Tries.{trial_medium_state, HasTriesUnitAndSector};
 ghost use Rattle.dfu_boot_c.specs.home.Flash.{trial_config_of, IsFlashRefused};
 
-use crate::trial::flash::{DfuTries, Refusal, medium_of};
+use crate::trial::flash::{DfuTries, TrialRefusal, medium_of};
 use dfu_asks::Mapped;
 use dfu_core::DfuConfig;
 
-// Returns the configuration of the flash in the form of a trial's, without tries.
+// Returns the configuration of the flash as that of a trial with 0 tries.
 fn trial_config_of(config: &DfuConfig) -> DfuTries
     ensures { result ≡ trial_config_of config.now }
 {
@@ -19,12 +19,12 @@ fn trial_config_of(config: &DfuConfig) -> DfuTries
     }
 }
 
-/// Returns `flash` as a medium with the unit and the sectors of `config`.
+/// Returns `flash` as a medium with the write unit and the sectors of `config`.
 ///
 /// # Errors
 ///
-/// The first of `NoConfig`, if no unit or sectors have the configured sizes, and `NoMedium`, if the flash has 2^32 bytes or more.
-pub(crate) fn medium<'f>(config: &DfuConfig, flash: &'f [u8]) -> Result<Mapped<'f>, Refusal>
+/// The first of `NoConfig`, if the configured unit or sector size is not allowed, and `NoMedium`, if the flash has 2^32 bytes or more.
+pub(crate) fn medium<'f>(config: &DfuConfig, flash: &'f [u8]) -> Result<Mapped<'f>, TrialRefusal>
     ensures state { IfOk result (λ m. mapped_medium (mapped_grain m.unit m.sector) m.bytes.now ≡ trial_medium_state
         (trial_config_of config.now) flash.now) }
     ensures part { OnOk result (HasTriesUnitAndSector (trial_config_of config.now)) }
@@ -32,10 +32,10 @@ pub(crate) fn medium<'f>(config: &DfuConfig, flash: &'f [u8]) -> Result<Mapped<'
 {
     let part = trial_config_of(config);
     if medium_of(&part, &[]).is_none() {
-        return Err(Refusal::NoConfig);
+        return Err(TrialRefusal::NoConfig);
     }
     match medium_of(&part, flash) {
         Some(medium) => Ok(medium),
-        None => Err(Refusal::NoMedium),
+        None => Err(TrialRefusal::NoMedium),
     }
 }

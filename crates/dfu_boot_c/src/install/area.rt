@@ -6,13 +6,13 @@ ghost use Rattle.dfu_boot_c.specs.install.Calls.{last_of, number_of_place};
 #[repr(C)]
 #[derive(Drop)]
 pub struct DfuRunArea {
-    /// Number of bytes of a sector.
+    /// Number of bytes in a sector.
     pub sector: u32,
-    /// Place of the last operation, if it worked and the power has not been off since; else FFFFFFFFh.
+    /// Offset of the last operation if it succeeded after the last power on, else FFFFFFFFh.
     pub last: u32,
 }
 
-/// Returns the place with this number; None for FFFFFFFFh.
+/// Returns the offset that a number of the record encodes; None for FFFFFFFFh.
 pub(crate) fn last_of(number: u32) -> Option<u32>
     ensures { result ≡ last_of number }
 {
@@ -23,7 +23,7 @@ pub(crate) fn last_of(number: u32) -> Option<u32>
     }
 }
 
-/// Returns the number of a place; FFFFFFFFh for None.
+/// Returns the number that encodes an offset in the record; FFFFFFFFh for None.
 pub(crate) fn number_of(last: Option<u32>) -> u32
     ensures { result ≡ number_of_place last }
 {

@@ -1,4 +1,4 @@
-//! Calls for a run area, as a program in C makes them. `include/dfu_install_core.h` describes them.
+//! Calls for a run area, which programs in C make. `include/dfu_install_core.h` describes them.
 ghost use Rattle.std.specs.Prelude.{◌≡◌, not, ◌==◌, pos};
 ghost use Rattle.dfu_boot.specs.install.Next.{IsNextDue};
 ghost use Rattle.dfu_boot.specs.install.OperationReport.{IsNoteOfDue};
@@ -11,8 +11,7 @@ use crate::install::numbers::{due_of, number_of as refusal_number};
 use dfu_boot::install::{Due, next, piece, took};
 use dfu_core::{ASKS, DfuAsk, ERASE, PROGRAM};
 
-// Writes the operation that is due, if there is one, into `ask`. Returns -11 for an operation, 0 for the start, and the number of a
-// refusal.
+// Writes the next operation, if there is one, into `ask`. Returns -11 for an operation, 0 for the start, and the number of a refusal.
 fn write_ask(due: Due, image: &[u8], sector: u32, ask: &mut DfuAsk) -> i32
     ensures { InstallDueInAsk image.now sector due result ask.old ask.new }
 {
@@ -35,9 +34,11 @@ fn write_ask(due: Due, image: &[u8], sector: u32, ask: &mut DfuAsk) -> i32
     }
 }
 
-/// Returns the operation that is due next, as `next`: 0 if the run area holds the whole image; or -11, and `ask` has the operation.
+/// Writes the next operation into `ask`, as `install::next` of dfu_boot returns it, and returns -11. Returns 0 if the run area holds the
+/// whole image.
 ///
-/// Refused with -6 if the sizes are no run area's, -15 if the image has no bytes, -7 if the image is larger than the run area.
+/// Refused, in this order: -6 if the length or the sector size of the run area is not allowed, -15 if the image has no bytes, -7 if the
+/// image is larger than the run area.
 #[unsafe(no_mangle)]
 pub extern "C" fn dfu_core_install_next(
     area: &DfuRunArea,
@@ -52,8 +53,8 @@ pub extern "C" fn dfu_core_install_next(
     write_ask(due, image, area.sector, ask)
 }
 
-/// Takes the report, as `took`, that the operation from `dfu_core_install_next` was carried out, or, if `failed` is not 0, that it failed.
-/// Returns 0, and `area` has noted the report.
+/// Notes in `area` that the operation from `dfu_core_install_next` was carried out, or that it failed if `failed` is not 0. Checks the
+/// bytes of the run area as `install::took` of dfu_boot does. Returns 0.
 #[unsafe(no_mangle)]
 pub extern "C" fn dfu_core_install_took(
     area: &mut DfuRunArea,

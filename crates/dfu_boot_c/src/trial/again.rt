@@ -1,4 +1,4 @@
-//! Start of an image by the standing from an earlier look.
+//! Start of an image by the standing from an earlier `dfu_core_trial_look`.
 ghost use Rattle.std.specs.Prelude.{◌≡◌, ◌⊎◌, IfOk, OnOk, IfErr};
 ghost use Rattle.dfu_asks.specs.Mapped.{grain_of as mapped_grain, mapped_medium};
 ghost use Rattle.dfu_boot.specs.trial.Marks.{AreTries};
@@ -7,12 +7,12 @@ ghost use Rattle.dfu_boot_c.specs.trial.Tries.{grain_of_tries, trial_medium_stat
 ghost use Rattle.dfu_boot_c.specs.trial.Again.{base_of_trial};
 ghost use Rattle.dfu_boot_c.specs.trial.TrialCalls.{RefusesTrial, TrialStartResult};
 
-use crate::trial::flash::{DfuTries, Flash, Refusal, looked, prepared};
+use crate::trial::flash::{DfuTries, Flash, TrialRefusal, looked, prepared};
 use crate::trial::told::{DfuStanding, DfuStarting, starting_told, write_ask};
 use dfu_boot::trial::look_again;
 use dfu_core::DfuAsk;
 
-// Returns the place of the image that comes back if the trial fails; None if no image is on trial.
+// Returns the offset of the confirmed image, which becomes active again if the trial fails; None if no image is on trial.
 fn base_of_trial(standing: &DfuStanding) -> Option<u32>
     ensures { result ≡ base_of_trial standing.now }
 {
@@ -23,16 +23,16 @@ fn base_of_trial(standing: &DfuStanding) -> Option<u32>
     }
 }
 
-// Returns the standing of the flash's images: from an earlier look, if it still fits the flash, else from a new look.
+// Returns the standing of the flash's images: the earlier one if it still matches the flash, else the one that `look` finds now.
 fn standing_from_earlier_look<'f>(
     tries: &DfuTries,
     flash: &'f [u8],
     standing: &DfuStanding,
-) -> Result<Flash<'f>, Refusal>
+) -> Result<Flash<'f>, TrialRefusal>
     ensures state { IfOk result (λ l. mapped_medium (mapped_grain l.medium.unit l.medium.sector) l.medium.bytes.now
         ≡ trial_medium_state tries.now flash.now) }
     ensures tries { OnOk result (AreTries (grain_of_tries tries.now) tries.now.tries) }
-    ensures fits { IfOk result (λ l. MatchesMedium (trial_medium_state tries.now flash.now) tries.now.tries l.standing) }
+    ensures matches_medium { IfOk result (λ l. MatchesMedium (trial_medium_state tries.now flash.now) tries.now.tries l.standing) }
     ensures stands { IfOk result (λ l. ImagesAreWhole (trial_medium_state tries.now flash.now) standing.now.active.at (base_of_trial standing.now) →
         HasStanding tries.now flash.now l.standing) }
     ensures err { IfErr result (λ e. IsTrialRefused e tries.now flash.now) }
@@ -45,7 +45,8 @@ fn standing_from_earlier_look<'f>(
     }
 }
 
-// Returns the image that starts, by the standing from an earlier look.
+// Writes the image that starts into `told`, by an earlier standing, and the operation before the start into `ask`. Returns the same number
+// as `dfu_core_trial_start`.
 #[inline(never)]
 pub(crate) fn start_from(
     tries: &DfuTries,
@@ -68,9 +69,9 @@ pub(crate) fn start_from(
     }
 }
 
-/// Returns the image that starts, as `dfu_core_trial_start`, by a standing from `dfu_core_trial_look`. The call reads gates, headers and
-/// marks, but no image. It trusts the standing only in that the images which it names are whole; everything else about their slots is read
-/// from the flash. If the standing does not fit the flash, the call looks again.
+/// Writes the image that starts into `told`, as `dfu_core_trial_start` does, by a standing from `dfu_core_trial_look`. The call reads
+/// gates, headers and marks, but no image. It relies on the standing only for the fact that the images are whole, and reads everything else
+/// about the slots from the flash. If the standing does not match the flash, the call reads the images again.
 ///
 /// Refused like `dfu_core_trial_look`.
 #[unsafe(no_mangle)]

@@ -1,4 +1,4 @@
-//! Calls for a trial, as a program in C makes them. `include/dfu_trial_core.h` describes them.
+//! Calls for a trial, which programs in C make. `include/dfu_trial_core.h` describes them.
 ghost use Rattle.std.specs.Prelude.{◌≡◌, ◌⊎◌, pos};
 ghost use Rattle.std.specs.List.{list_all};
 ghost use Rattle.dfu_boot.specs.trial.Marks.{is_erased};
@@ -15,12 +15,12 @@ use dfu_boot::trial::Confirmation;
 use dfu_core::{DfuAsk, DfuPlace, PROGRAM};
 use dfu_slots::flash_byte_at;
 
-/// DFU_ELSEWHERE: no image that may run begins at the place.
+/// DFU_ELSEWHERE: no image that may run begins at the offset.
 const ELSEWHERE: i32 = -19;
 
-/// Returns the standing of the images of `flash`: 0, and `told` has the standing.
+/// Writes the standing of the images of `flash` into `told`, and returns 0.
 ///
-/// Refused, in this order: -2 if no unit or sectors have the given sizes; -16 without sectors, -17 with fewer than two tries, -18 if a
+/// Refused, in this order: -2 if the unit or sector size is not allowed; -16 without sectors, -17 with fewer than two tries, -18 if a
 /// sector has no room for so many tries; -3 if the flash has no active image, or 2^32 bytes or more.
 #[unsafe(no_mangle)]
 pub extern "C" fn dfu_core_trial_look(tries: &DfuTries, flash: &[u8], told: &mut DfuStanding) -> i32
@@ -37,8 +37,8 @@ pub extern "C" fn dfu_core_trial_look(tries: &DfuTries, flash: &[u8], told: &mut
     }
 }
 
-/// Returns the image that starts: 0, and `told.run` runs; or -11, and `ask` has the operation to do first. Then `dfu_core_trial_runs`
-/// returns the image that runs.
+/// Writes the image that starts into `told`. Returns 0 if `told.run` starts without an operation, or -11 with the operation in `ask` that
+/// must be carried out first. After that operation, `dfu_core_trial_runs` writes the image that runs.
 ///
 /// Refused like `dfu_core_trial_look`.
 #[unsafe(no_mangle)]
@@ -51,7 +51,7 @@ pub extern "C" fn dfu_core_trial_start(
     ensures outcome { TrialStartResult tries.now flash.now result ask.old ask.new told.new
         ⊎ (RefusesTrial tries.now flash.now result × (ask.new ≡ ask.old) × (told.new ≡ told.old)) }
 {
-    // No image begins at 0, so `start_from` looks at the whole flash.
+    // No image begins at offset 0. Therefore `start_from` can't use this standing, and reads the whole flash.
     let nowhere = DfuPlace { at: 0, length: 0 };
     let none = DfuStanding {
         active: nowhere,
@@ -63,7 +63,6 @@ pub extern "C" fn dfu_core_trial_start(
     start_from(tries, flash, &none, ask, told)
 }
 
-// Returns true exactly if all bytes of `flash` are FFh.
 fn is_blank(flash: &[u8]) -> bool
     ensures { result ≡ list_all is_erased flash.now }
 {
@@ -77,7 +76,7 @@ fn is_blank(flash: &[u8]) -> bool
     true
 }
 
-// Returns true exactly if the mark in `ask` reads as set: its range is within the flash, and one of its bytes is not FFh.
+// Returns true if the mark in `ask` reads as set: its range is within the flash, and one of its bytes is not FFh.
 fn mark_reads_as_set(flash: &[u8], ask: &DfuAsk) -> bool
     ensures { result ≡ mark_reads_as_set flash.now ask.now }
 {
@@ -86,8 +85,8 @@ fn mark_reads_as_set(flash: &[u8], ask: &DfuAsk) -> bool
     at + len <= flash.len() && !is_blank(&flash[at..at + len])
 }
 
-/// Returns the image that runs, after the operation from `dfu_core_trial_start` was carried out or failed: 0, and `place` has the image's
-/// place. A mark is read back.
+/// Writes into `place` the image that runs, after the operation from `dfu_core_trial_start` was carried out or failed, and returns 0. If
+/// the operation is a mark, the call reads its bytes.
 #[unsafe(no_mangle)]
 pub extern "C" fn dfu_core_trial_runs(
     flash: &[u8],
@@ -106,8 +105,8 @@ pub extern "C" fn dfu_core_trial_runs(
     0
 }
 
-/// Confirms the image whose first byte is `flash[at]`: 0 if it is confirmed; -11, and `ask` has the operation; or -19 if no image that may
-/// run begins there.
+/// Confirms the image whose first byte is `flash[at]`. Returns 0 if it is confirmed already, -11 with the operation in `ask` that confirms
+/// it, or -19 if no image that may run begins there.
 ///
 /// Refused like `dfu_core_trial_look`.
 #[unsafe(no_mangle)]
@@ -130,7 +129,7 @@ pub extern "C" fn dfu_core_trial_confirm(
     }
 }
 
-/// Ends a trial: 0 if nothing is on trial; or -11, and `ask` has the operation.
+/// Ends a trial. Returns 0 if no image is on trial, or -11 with the operation in `ask` that ends the trial.
 ///
 /// Refused like `dfu_core_trial_look`.
 #[unsafe(no_mangle)]
@@ -148,7 +147,8 @@ pub extern "C" fn dfu_core_trial_end(tries: &DfuTries, flash: &[u8], ask: &mut D
     }
 }
 
-/// Prepares an upload: 0 if it may begin; or -11 if the image on trial has no start left, and `ask` has the operation that ends the trial.
+/// Prepares an upload. Returns 0 if the upload may begin. If the image on trial has no try left, returns -11, with the operation in `ask`
+/// that ends the trial.
 ///
 /// Refused like `dfu_core_trial_look`.
 #[unsafe(no_mangle)]

@@ -1,4 +1,5 @@
-//! Look at a flash with the unit, the sectors and the number of tries from a program in C, and refusals of that look.
+//! Standing of the images of a flash, with the write unit, sectors and tries that a program in C configured; and refusals of a
+//! configuration or a flash.
 ghost use Rattle.std.specs.Prelude.{◌≡◌, ◌≤◌, ◌^◌, ℕ, List, IfSome, IfNone, IfOk, OnOk, IfErr, length};
 ghost use Rattle.dfu_asks.specs.Mapped.{grain_of as mapped_grain, mapped_medium};
 ghost use Rattle.dfu_boot.specs.trial.Marks.{AreTries};
@@ -14,17 +15,17 @@ use dfu_slots::laws::active_image_is_one;
 #[repr(C)]
 #[derive(Drop)]
 pub struct DfuTries {
-    /// Bytes that are programmed at a time: 1, 16, 64 or 256.
+    /// Number of bytes that are programmed at a time: 1, 16, 64 or 256.
     pub unit: u32,
-    /// Bytes that are erased at a time: a multiple of 256 up to 262,144, not 0.
+    /// Number of bytes that are erased at a time: a multiple of 256 up to 262,144, not 0.
     pub sector: u32,
-    /// Number of starts of a new image before the image before it comes back: 2 or more. A sector must have room for (tries + 2) units of
-    /// at least 16 bytes.
+    /// Number of starts of a new image before the confirmed image becomes active again: 2 or more. A sector must have room for (tries + 2)
+    /// units of at least 16 bytes.
     pub tries: u32,
 }
 
-/// Returns the largest unit of at most `size` bytes; one byte for 0. The comparisons use order, because from equality with powers of two
-/// LLVM makes a count of zero bits.
+/// Returns the largest write unit of at most `size` bytes; one byte for 0. The function uses `<`, because LLVM replaces tests for equality
+/// with powers of two by a count of zero bits.
 #[inline(never)]
 #[tactic(auto, unfolding(crate::specs::trial::Tries::unit_of_at_most))]
 pub(crate) fn unit_of_at_most(size: u32) -> Unit
@@ -43,8 +44,8 @@ pub(crate) fn unit_of_at_most(size: u32) -> Unit
 
 /// Reasons for which a call is refused. A refused call changes nothing.
 #[derive(Clone, Copy, Drop)]
-pub enum Refusal {
-    /// No unit or sectors have the given sizes.
+pub enum TrialRefusal {
+    /// The unit or sector size is not allowed.
     NoConfig,
     /// The number of tries is refused: there are no sectors, or the tries are too few or too many.
     Tries(TriesFault),
@@ -52,29 +53,29 @@ pub enum Refusal {
     NoMedium,
 }
 
-impl Refusal {
+impl TrialRefusal {
     /// Returns the number of the refusal, which is negative.
     pub(crate) fn number(self) -> i32
         ensures { result ≡ trial_refusal_number self }
     {
         match self {
-            Refusal::NoConfig => -2,
-            Refusal::Tries(TriesFault::NoSectors) => -16,
-            Refusal::Tries(TriesFault::TooFew) => -17,
-            Refusal::Tries(TriesFault::TooMany) => -18,
-            Refusal::NoMedium => -3,
+            TrialRefusal::NoConfig => -2,
+            TrialRefusal::Tries(TriesFault::NoSectors) => -16,
+            TrialRefusal::Tries(TriesFault::TooFew) => -17,
+            TrialRefusal::Tries(TriesFault::TooMany) => -18,
+            TrialRefusal::NoMedium => -3,
         }
     }
 }
 
-/// A flash, and the standing of its images.
+/// Medium of a flash, and standing of its images.
 #[derive(Drop)]
 pub(crate) struct Flash<'f> {
     pub(crate) medium: Mapped<'f>,
     pub(crate) standing: Standing,
 }
 
-/// Returns `flash` as a medium; None if no unit or sectors have the given sizes, or if the flash has 2^32 bytes or more.
+/// Returns `flash` as a medium, or None if the unit or sector size is not allowed, or if the flash has 2^32 bytes or more.
 pub(crate) fn medium_of<'f>(tries: &DfuTries, flash: &'f [u8]) -> Option<Mapped<'f>>
     ensures state { IfSome result (λ m. mapped_medium (mapped_grain m.unit m.sector) m.bytes.now ≡ trial_medium_state tries.now flash.now) }
     ensures part { IfSome result (λ m. HasTriesUnitAndSector tries.now) }
@@ -88,25 +89,25 @@ pub(crate) fn medium_of<'f>(tries: &DfuTries, flash: &'f [u8]) -> Option<Mapped<
 }
 
 // Returns the refusal of the configuration or of its number of tries; None if both are allowed.
-fn refused(tries: &DfuTries) -> Option<Refusal>
+fn refused(tries: &DfuTries) -> Option<TrialRefusal>
     ensures some { IfSome result (λ e. (flash : List ℕ) → IsTrialRefused e tries.now flash) }
     ensures none { IfNone result (HasTriesUnitAndSector tries.now × AreTries (grain_of_tries tries.now) tries.now.tries) }
 {
     let Some(sizes) = medium_of(tries, &[]) else {
-        return Some(Refusal::NoConfig);
+        return Some(TrialRefusal::NoConfig);
     };
     match check_tries(&sizes, tries.tries) {
         Ok(()) => None,
-        Err(fault) => Some(Refusal::Tries(fault)),
+        Err(fault) => Some(TrialRefusal::Tries(fault)),
     }
 }
 
-/// Returns `flash` as a medium that can have the given number of tries.
+/// Returns `flash` as a medium that allows the given number of tries.
 ///
 /// # Errors
 ///
-/// The first of the refusals that holds, in their order.
-pub(crate) fn prepared<'f>(tries: &DfuTries, flash: &'f [u8]) -> Result<Mapped<'f>, Refusal>
+/// The first refusal that applies, in the order of `TrialRefusal`.
+pub(crate) fn prepared<'f>(tries: &DfuTries, flash: &'f [u8]) -> Result<Mapped<'f>, TrialRefusal>
     ensures state { IfOk result (λ m. mapped_medium (mapped_grain m.unit m.sector) m.bytes.now ≡ trial_medium_state tries.now flash.now) }
     ensures part { OnOk result (HasTriesUnitAndSector tries.now) }
     ensures tries { OnOk result (AreTries (grain_of_tries tries.now) tries.now.tries) }
@@ -117,16 +118,16 @@ pub(crate) fn prepared<'f>(tries: &DfuTries, flash: &'f [u8]) -> Result<Mapped<'
     }
     match medium_of(tries, flash) {
         Some(medium) => Ok(medium),
-        None => Err(Refusal::NoMedium),
+        None => Err(TrialRefusal::NoMedium),
     }
 }
 
-/// Returns the standing of the images of `flash`.
+/// Returns the standing of the images of `flash`, which it reads as `look` does.
 ///
 /// # Errors
 ///
-/// The first of the refusals that holds, in their order.
-pub(crate) fn looked<'f>(tries: &DfuTries, flash: &'f [u8]) -> Result<Flash<'f>, Refusal>
+/// The first refusal that applies, in the order of `TrialRefusal`.
+pub(crate) fn looked<'f>(tries: &DfuTries, flash: &'f [u8]) -> Result<Flash<'f>, TrialRefusal>
     ensures state { IfOk result (λ l. mapped_medium (mapped_grain l.medium.unit l.medium.sector) l.medium.bytes.now
         ≡ trial_medium_state tries.now flash.now) }
     ensures ok { IfOk result (λ l. HasStanding tries.now flash.now l.standing) }
@@ -136,9 +137,9 @@ pub(crate) fn looked<'f>(tries: &DfuTries, flash: &'f [u8]) -> Result<Flash<'f>,
     match look(&medium, tries.tries) {
         Ok(standing) => Ok(Flash { medium, standing }),
         Err(_) => {
-            // Called for its clause `refused`: a medium that can't be opened has no active image.
+            // The proof uses the clause `refused` of this call: a medium that can't be opened has no active image.
             active_image_is_one();
-            Err(Refusal::NoMedium)
+            Err(TrialRefusal::NoMedium)
         }
     }
 }

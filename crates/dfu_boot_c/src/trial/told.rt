@@ -1,4 +1,4 @@
-//! Records in which a program in C gets the state of a trial: the standing of the images, the image that starts, and the operation to do.
+//! Records that describe a trial to a program in C: the standing of the images, the image that starts, and the operation to carry out.
 ghost use Rattle.std.specs.Prelude.{◌≡◌, ◌+◌, ◌≤◌, length};
 ghost use Rattle.dfu_slots.specs.Layout.{slot_size};
 ghost use Rattle.dfu_slots.specs.Image.{IsSizedMedium};
@@ -10,23 +10,23 @@ use dfu_boot::trial::{Operation, Standing, Starting};
 use dfu_core::{ASKS, DfuAsk, DfuPlace, ERASE, PROGRAM};
 use dfu_slots::{Medium, data_at, header_of, length_in};
 
-/// The standing of the images of a flash: `struct dfu_standing`.
+/// Standing of the images of a flash: `struct dfu_standing`.
 #[repr(C)]
 #[derive(Drop)]
 pub struct DfuStanding {
-    /// The active image: the image on trial, if there is one.
+    /// Active image, which is the image on trial if there is one.
     pub active: DfuPlace,
-    /// The confirmed image, which comes back if the image on trial is not confirmed; the active image if none is on trial.
+    /// Confirmed image, which becomes active again if the image on trial is not confirmed. Equal to `active` if no image is on trial.
     pub base: DfuPlace,
     /// 1 if the active image is on trial, else 0.
     pub on_trial: u32,
-    /// Number of starts left for the image on trial.
+    /// Number of tries left for the image on trial; 0 if none is on trial.
     pub left: u32,
     /// 1 if the active image is confirmed, else 0.
     pub is_confirmed: u32,
 }
 
-/// Returns the place of the image in the slot that begins at `slot`, and its length from the slot's header.
+/// Returns the offset of the image in the slot at `slot`, and its length by the slot's header.
 pub(crate) fn image_in<M: Medium>(medium: &M, slot: u32) -> DfuPlace
     requires sized { IsSizedMedium (M.state medium.now) }
     requires within { slot + slot_size (M.state medium.now).bytes ≤ length (M.state medium.now).bytes }
@@ -38,7 +38,7 @@ pub(crate) fn image_in<M: Medium>(medium: &M, slot: u32) -> DfuPlace
     }
 }
 
-/// Returns the record of `standing`, the standing of the images of `medium`.
+/// Returns the record of the standing of `medium`'s images.
 pub(crate) fn standing_told<M: Medium>(medium: &M, tries: u32, standing: Standing) -> DfuStanding
     requires tries { AreTries (M.state medium.now).grain tries }
     requires stands { IsStanding (M.state medium.now) tries standing }
@@ -65,17 +65,17 @@ pub(crate) fn standing_told<M: Medium>(medium: &M, tries: u32, standing: Standin
     }
 }
 
-/// Images for a start, after the operation before it was carried out or failed: `struct dfu_starting`.
+/// Images that may run at a start, once the operation of the start was carried out or failed: `struct dfu_starting`.
 #[repr(C)]
 #[derive(Drop)]
 pub struct DfuStarting {
-    /// Place of the image that runs.
+    /// Image that runs, unless the operation is a mark that does not read as set.
     pub run: DfuPlace,
     /// Image that runs if the operation is a mark that does not read as set.
     pub otherwise: DfuPlace,
 }
 
-/// Returns the record of `starting`: the image to run, and the image to run if its mark fails.
+/// Returns the record of `starting`: the image to run, and the image to run instead if the mark does not read as set.
 pub(crate) fn starting_told<M: Medium>(medium: &M, starting: Starting) -> DfuStarting
     requires sized { IsSizedMedium (M.state medium.now) }
     requires run { starting.slot + slot_size (M.state medium.now).bytes ≤ length (M.state medium.now).bytes }
@@ -88,7 +88,7 @@ pub(crate) fn starting_told<M: Medium>(medium: &M, starting: Starting) -> DfuSta
     }
 }
 
-/// Writes `operation` into `ask`, and returns -11; without an operation writes nothing, and returns 0.
+/// Writes `operation` into `ask`, and returns -11. Without an operation, writes nothing and returns 0.
 pub(crate) fn write_ask(operation: Option<Operation>, sector: u32, ask: &mut DfuAsk) -> i32
     ensures { TrialOpInAsk sector operation result ask.old ask.new }
 {

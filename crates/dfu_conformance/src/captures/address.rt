@@ -1,10 +1,10 @@
-//! Address of a device.
+//! The address of a device.
 
-/// Address of a device: the number of its bus, and its number on the bus, which changes at a reset.
+/// Address of a device: the number of its bus, and its number on this bus. A bus reset changes the second number.
 #[derive(Clone, Copy, PartialEq, Eq)]
 pub struct Address {
-    /// The number of the bus.
+    /// Number of the bus.
     pub bus: u16,
-    /// The number of the device, 0 to 127.
+    /// Number of the device on its bus, 0 to 127.
     pub device: u8,
 }

@@ -1,16 +1,16 @@
-//! The devices of a capture that get requests of DFU.
+//! The devices in a capture that receive DFU requests.
 
 use crate::captures::address::Address;
 use crate::captures::fault::CaptureFault;
 use std::alloc::Global;
 
-/// Largest number of addresses that are kept. A bus has 127.
+/// Largest number of addresses in a set. A bus has at most 127 devices.
 const MAX_DEVICES: usize = 4096;
 
-/// The addresses that get requests of DFU in a capture.
+/// The addresses in a capture that receive DFU requests.
 #[derive(Drop)]
 pub struct Devices {
-    // Each address once.
+    // The addresses, each listed once.
     all: Vec<Address>,
 }
 
@@ -36,7 +36,7 @@ impl Devices {
     ///
     /// # Errors
     ///
-    /// ManyDevices if the set has 4,096 other addresses; NoMemory if an allocation failed.
+    /// ManyDevices if the set contains 4,096 other addresses; NoMemory if an allocation failed.
     pub(crate) fn add(&mut self, address: Address) -> Result<(), CaptureFault> {
         if self.has(address) {
             return Ok(());

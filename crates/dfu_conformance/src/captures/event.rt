@@ -7,52 +7,52 @@ use crate::captures::address::Address;
 pub enum PacketKind {
     /// The packet submits the transfer.
     Submits,
-    /// The packet has the bytes of a transfer that was submitted without them.
+    /// The packet contains the host's bytes, for a transfer that was submitted without them.
     Carries,
-    /// The packet completes the transfer, and has the bytes of the device, if there are any.
+    /// The packet completes the transfer. It contains the bytes of the device, if there are any.
     Completes,
-    /// The packet has no bytes, and completes the transfer unless a packet with bytes of the device did so before.
+    /// The packet contains no bytes. It completes the transfer, unless a packet with bytes of the device already did.
     Ends,
     /// The packet has no role in a transfer.
     Other,
 }
 
-/// Result with which a transfer ended.
+/// Result of a transfer.
 #[derive(Clone, Copy)]
 pub enum Ending {
     /// The transfer succeeded.
     Done,
     /// The device stalled the transfer.
     Stalled,
-    /// The transfer failed in another way, or has not ended.
+    /// The transfer failed in another way, or is still pending.
     Failed,
 }
 
-/// An event of a control transfer to endpoint 0.
+/// A packet of a control transfer to endpoint 0.
 #[derive(Clone, Copy)]
 pub struct UsbEvent<'c> {
-    /// Role of the packet in the transfer.
+    /// Role of the packet in its transfer.
     pub kind: PacketKind,
-    /// Id of the transfer: pending transfers on a bus have different ids, and a later transfer of any device may reuse an id.
+    /// Id of the transfer. Pending transfers on a bus have different ids, but a later transfer of any device may reuse an id.
     pub id: [u8; 8],
     /// Address of the device.
     pub address: Address,
-    /// True if the transfer's data goes to the host; None if the packets don't say the direction.
+    /// True if the data of the transfer goes to the host. None if the packets don't show the direction.
     pub is_in: Option<bool>,
-    /// The eight bytes that begin the request, if the packet has them.
+    /// Setup packet of the request, if this packet contains it.
     pub setup: Option<[u8; 8]>,
-    /// Ending of the transfer; it counts only if the packet completes the transfer.
+    /// Result of the transfer. It is valid only if this packet completes the transfer.
     pub ending: Ending,
-    /// Number of bytes that the transfer moved, if the packet has it.
+    /// Number of bytes that the transfer moved, if the packet contains it.
     pub moved: Option<u32>,
-    /// The bytes of the transfer that were captured.
+    /// The captured bytes of the transfer.
     pub data: &'c [u8],
-    /// True if not all bytes of the transfer were captured.
+    /// True if some bytes of the transfer were not captured.
     pub is_cut: bool,
 }
 
 impl UsbEvent<'_> {
-    /// Returns the event with empty `data`.
+    /// Returns a copy of the event without its `data`.
     pub(crate) fn head(&self) -> UsbEvent<'static> {
         UsbEvent {
             kind: self.kind,

@@ -2,42 +2,42 @@
 
 use crate::captures::address::Address;
 
-/// The answer of a device, as the capture shows it.
+/// The answer of a device, as far as the capture contains it.
 #[derive(Clone, Copy)]
 pub(crate) enum Seen<'c> {
     /// The device stalled the request.
     Stall,
-    /// No answer was seen.
+    /// The capture contains no answer.
     Nothing,
-    /// The bytes of the answer; none for an acknowledgement.
+    /// Bytes of the answer. An acknowledgement has none.
     Bytes(&'c [u8]),
 }
 
-/// The bytes that the host sends with a request.
+/// The bytes that the host sends with a request, or only their number.
 #[derive(Clone, Copy)]
 pub(crate) enum Body<'c> {
     /// The bytes themselves.
     Bytes(&'c [u8]),
-    /// The number of bytes. The bytes themselves aren't kept, because a judge needs only their number.
+    /// Number of the bytes. The bytes themselves aren't kept, because a judge needs only their number.
     Count(usize),
 }
 
 /// A request and its answer.
 #[derive(Clone, Copy)]
 pub(crate) struct Exchange<'c> {
-    /// The number of the packet that completed the request, from 1 on.
+    /// Number of the packet that completed the request, from 1.
     pub packet: usize,
     /// Address of the device.
     pub address: Address,
-    /// The eight bytes that begin the request.
+    /// Setup packet of the request.
     pub setup: [u8; 8],
     /// The bytes that the host sent, or their number.
     pub body: Body<'c>,
-    /// The answer that was seen.
+    /// The answer, as far as the capture contains it.
     pub seen: Seen<'c>,
-    /// The address that the request gives to the device, if the request shows that the bus was reset.
+    /// Address of the device after a bus reset, if the request shows it; None for any other request.
     pub given: Option<Address>,
-    /// True if not all bytes of the request and its answer were captured.
+    /// True if some bytes of the request or its answer were not captured.
     pub is_cut: bool,
 }
 
@@ -48,7 +48,7 @@ impl Exchange<'_> {
         kind == 0x21 || kind == 0xa1
     }
 
-    /// Returns true if only a device with DFU at `interface` gets the request: DETACH, GETSTATUS of 6 bytes, or GETSTATE of 1 byte.
+    /// Returns true if the request shows that its device has DFU at `interface`: DETACH, GETSTATUS of 6 bytes, or GETSTATE of 1 byte.
     pub(crate) fn shows_dfu(&self, interface: u8) -> bool {
         let [kind, request, _, _, low, high, length, length_high] = self.setup;
         low == interface

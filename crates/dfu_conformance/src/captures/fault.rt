@@ -1,16 +1,16 @@
-//! Reasons why a capture gives no log.
+//! Reasons why a capture has no log.
 
-/// Reason why a capture gives no log.
+/// Reason why a capture has no log.
 #[derive(Clone, Copy)]
 pub enum CaptureFault {
-    /// The bytes are no capture, or a packet is neither of usbmon, link type 189 or 220, nor of USBPcap, link type 249.
+    /// The bytes are not a capture, or a packet is neither from usbmon (link type 189 or 220) nor from USBPcap (249).
     NotUsbmon,
-    /// A transfer of the device was not captured whole.
+    /// Some bytes of the device's transfers were not captured.
     CutPacket,
-    /// No device, or not the chosen one, got a request of DFU.
+    /// No device received a DFU request, or the chosen device received none.
     NoDevice,
-    /// More than one device got requests of DFU, and none was chosen; or more than 4,096 got some, in a capture that is read in pieces.
+    /// Several devices received DFU requests, and none was chosen. In a capture that is read in pieces, also more than 4,096 such devices.
     ManyDevices,
-    /// An allocation failed, or a record of a capture that is read in pieces is longer than the 1,048,576 bytes that are kept.
+    /// An allocation failed. In a capture that is read in pieces, also a record that is incomplete after 1,048,576 bytes.
     NoMemory,
 }

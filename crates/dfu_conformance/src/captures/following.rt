@@ -1,22 +1,22 @@
-//! The device whose requests are logged.
+//! The device whose requests the log contains.
 
 use crate::captures::address::Address;
 use crate::captures::exchange::Exchange;
 use crate::captures::fault::CaptureFault;
 
-/// Device whose requests are logged: the device at one address, or the only device that speaks DFU, whose address changes at a reset.
+/// Device whose requests the log contains: the one at the chosen address, or the only DFU device, whose address changes at a reset.
 #[derive(Drop)]
 pub(crate) struct Followed {
-    // The chosen address; None if the only device is followed.
+    // The chosen address, or None to follow the only device.
     only: Option<Address>,
-    // Address of the last request; kept only if no address was chosen.
+    // Address of the last request. It is kept only if no address was chosen.
     last: Option<Address>,
-    // Last address that was given to the followed device at a reset.
+    // Last address that a reset gave to the followed device.
     given: Option<Address>,
 }
 
 impl Followed {
-    /// Returns the device at `only`, or the only device if `only` is None, before the first exchange.
+    /// Follows the device at `only`, or the only device if `only` is None.
     pub(crate) fn new(only: Option<Address>) -> Followed {
         Followed {
             only,
@@ -25,7 +25,8 @@ impl Followed {
         }
     }
 
-    /// Takes `address`, which a device was given at a reset. Returns true if it belongs to the followed device, and notes it then.
+    /// Returns true if `address`, which a device received after a reset, may be the address of the followed device. In this case, keeps the
+    /// address.
     fn note_given_address(&mut self, address: Address) -> bool {
         let is_it = match self.only {
             Some(only) => only == address,
@@ -37,11 +38,11 @@ impl Followed {
         is_it
     }
 
-    /// Returns true if a request to `address` goes to the followed device.
+    /// Returns true if a request to `address` is for the followed device.
     ///
     /// # Errors
     ///
-    /// ManyDevices if no address was chosen, and the request goes to a second device.
+    /// ManyDevices if no address was chosen, and the request is for a second device.
     fn takes_request(&mut self, address: Address) -> Result<bool, CaptureFault> {
         if let Some(only) = self.only {
             return Ok(only == address);
@@ -61,7 +62,8 @@ impl Followed {
     ///
     /// # Errors
     ///
-    /// ManyDevices if the exchange is with a second device, CutPacket if not all of it was captured.
+    /// ManyDevices if no address was chosen, and the exchange is with a second device; CutPacket if some bytes of an exchange with the
+    /// followed device were not captured.
     pub(crate) fn shows(&mut self, exchange: &Exchange<'_>) -> Result<bool, CaptureFault> {
         if let Some(address) = exchange.given {
             return Ok(self.note_given_address(address));

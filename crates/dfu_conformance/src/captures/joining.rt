@@ -15,14 +15,14 @@ use crate::captures::usbmon::{self, packet_event};
 use crate::captures::usbpcap::recorded_event;
 use std::alloc::Global;
 
-/// The link type of USBPcap.
+/// Link type of USBPcap.
 const USBPCAP: u16 = 249;
 
-/// Returns the event that `packet` shows, by its link type; None if it shows none.
+/// Returns the event of a control transfer in `packet`, or None if the packet contains no such event.
 ///
 /// # Errors
 ///
-/// NotUsbmon if the link type is none of usbmon or USBPcap.
+/// NotUsbmon if the link type is neither usbmon's nor USBPcap's.
 pub(crate) fn event_of<'c>(packet: &Packet<'c>) -> Result<Option<UsbEvent<'c>>, CaptureFault> {
     if packet.link == USBPCAP {
         return Ok(recorded_event(packet.bytes));
@@ -33,9 +33,8 @@ pub(crate) fn event_of<'c>(packet: &Packet<'c>) -> Result<Option<UsbEvent<'c>>, 
     }
 }
 
-/// Returns the address that a request with `setup` gives to a device: SET_ADDRESS gives the one that it contains, on the bus of `address`.
-/// USBPcap (`link`) shows no SET_ADDRESS, so SET_CONFIGURATION counts as giving `address`, because Windows sends one after each reset. None
-/// for every other request.
+/// Returns the address that the device has after a reset, or None if the request with `setup` doesn't show it. SET_ADDRESS contains the
+/// address. USBPcap (`link`) doesn't capture SET_ADDRESS, so SET_CONFIGURATION is used instead, because Windows sends one after each reset.
 fn given_by(setup: &[u8; 8], address: Address, link: u16) -> Option<Address> {
     match *setup {
         [0, 5, device, ..] => Some(Address {
@@ -47,7 +46,7 @@ fn given_by(setup: &[u8; 8], address: Address, link: u16) -> Option<Address> {
     }
 }
 
-/// Returns the answer to a transfer with `setup` that `event`, its completion, shows.
+/// Returns the answer in `event`, which completes a request with `setup`.
 fn seen_of<'c>(setup: &[u8; 8], event: &UsbEvent<'c>) -> Seen<'c> {
     let [kind, _, _, _, _, _, low, high] = *setup;
     let wanted = u16::from_le_bytes([low, high]) as u32;
@@ -59,12 +58,12 @@ fn seen_of<'c>(setup: &[u8; 8], event: &UsbEvent<'c>) -> Seen<'c> {
     }
 }
 
-/// The request of the class that reads the image (DFU 1.1, 6.2). Its answer may have no bytes.
+/// The DFU request that reads the image (DFU 1.1, 6.2). Its answer may be empty.
 const UPLOAD: u8 = 2;
 
-/// Returns true if `event` may complete the request with `setup`, by its number of bytes. A completion that moved more than the setup asks
-/// for completes another request, whose submission is missing. If only a status packet ends a read that must have bytes, the packet with
-/// the bytes is missing.
+/// Returns true if `event` may complete the request with `setup`, by its number of bytes. A completion with more bytes than requested
+/// belongs to another request, whose submission is missing. If a successful read other than UPLOAD ends with only a status packet, the
+/// packet with its bytes is missing.
 fn fits(setup: &[u8; 8], event: &UsbEvent<'_>) -> bool {
     let [kind, request, _, _, _, _, low, high] = *setup;
     let wanted = u16::from_le_bytes([low, high]);
@@ -77,8 +76,8 @@ fn fits(setup: &[u8; 8], event: &UsbEvent<'_>) -> bool {
     }
 }
 
-/// Returns the exchange of transfer `began`, which `event` completes in packet number `packet`. None if the event completes another
-/// transfer, or if a log has no line for the transfer.
+/// Returns the exchange of the transfer `began`, which `event` completes in packet number `packet`. Returns None if the event completes
+/// another transfer, or if the log has no line for such a request.
 pub(crate) fn exchange_of<'c>(
     packet: usize,
     began: &Pending<'c>,
@@ -102,7 +101,7 @@ pub(crate) fn exchange_of<'c>(
     Some(exchange)
 }
 
-/// Returns the transfer that `event` submits with `setup`: with `body` if its data goes to the device, and else without bytes.
+/// Returns the transfer that `event` submits with `setup`. It contains `body` if the host sends data, and no bytes otherwise.
 pub(crate) fn new_pending<'c>(event: &UsbEvent<'c>, setup: [u8; 8], body: Body<'c>) -> Pending<'c> {
     let [kind, ..] = setup;
     Pending {
@@ -113,26 +112,27 @@ pub(crate) fn new_pending<'c>(event: &UsbEvent<'c>, setup: [u8; 8], body: Body<'
     }
 }
 
-/// The pending transfers of a capture, and the exchanges that were completed so far.
+/// The pending transfers of a capture, and the exchanges completed so far.
 #[derive(Drop)]
 struct Joining<'c> {
     // Number of packets so far.
     count: usize,
     // The pending transfers.
     pending: PendingTransfers<'c>,
-    // Exchanges that were completed so far.
+    // The exchanges completed so far.
     exchanges: Vec<Exchange<'c>>,
 }
 
 impl<'c> Joining<'c> {
-    /// Takes submission `event` with `setup`. An older transfer with the id is over, though its completion is missing.
+    /// Adds the transfer that `event` submits with `setup`. A pending transfer with the same id is removed, because it has ended, even if
+    /// its completion is missing.
     fn submit(&mut self, event: &UsbEvent<'c>, setup: [u8; 8]) -> Result<(), CaptureFault> {
         let _over = self.pending.take(event);
         self.pending
             .put(new_pending(event, setup, Body::Bytes(event.data)))
     }
 
-    /// Adds bytes of the host to a transfer that was submitted without them. A transfer that reads from the device has none, so it is
+    /// Adds the host's bytes to a transfer that was submitted without them. A transfer that reads from the device can't have any, so it is
     /// dropped.
     fn carry(&mut self, event: &UsbEvent<'c>) -> Result<(), CaptureFault> {
         let Some(mut began) = self.pending.take_same_transfer(event) else {
@@ -147,7 +147,7 @@ impl<'c> Joining<'c> {
         self.pending.put(began)
     }
 
-    /// Takes completion `event`, in a packet of link type `link`.
+    /// Completes the transfer of `event`, from a packet of link type `link`.
     fn complete(&mut self, event: &UsbEvent<'c>, link: u16) -> Result<(), CaptureFault> {
         let Some(began) = self.pending.take_same_transfer(event) else {
             return Ok(());
@@ -161,7 +161,7 @@ impl<'c> Joining<'c> {
         }
     }
 
-    /// Takes `event`, in a packet of link type `link`.
+    /// Processes `event`, from a packet of link type `link`.
     fn come(&mut self, event: &UsbEvent<'c>, link: u16) -> Result<(), CaptureFault> {
         match (event.kind, event.setup) {
             (PacketKind::Submits, Some(setup)) => self.submit(event, setup),
@@ -172,16 +172,16 @@ impl<'c> Joining<'c> {
     }
 }
 
-/// Returns the requests of the class and the requests that show a reset, with their answers, in the order of the completions in `capture`.
-/// A completion without its submission is skipped, for example at the start of a capture or after missing packets, and so is a submission
-/// without a completion.
+/// Returns the class requests to interfaces, and the requests that show the address of a device after a reset, each with its answer, in the
+/// order of their completions. A completion without a submission is skipped, for example at the start of a capture or after missing
+/// packets. A submission without a completion is skipped too.
 ///
 /// # Errors
 ///
-/// NotUsbmon if the bytes are no capture, or a packet has another link type; NoMemory if an allocation failed.
+/// NotUsbmon if the bytes are not a capture, or a packet has another link type; NoMemory if an allocation failed.
 pub(crate) fn exchanges_of(alloc: Global, capture: &[u8]) -> Result<Vec<Exchange<'_>>, CaptureFault>
     ensures none { is_capture_front capture.now ≡ false → result ≡ Err CaptureFault.NotUsbmon }
-    ensures some { OnOk result (is_capture_front capture.now ≡ true) }
+    ensures capture_front { OnOk result (is_capture_front capture.now ≡ true) }
 {
     let Some(mut form) = form_of(capture) else {
         return Err(CaptureFault::NotUsbmon);

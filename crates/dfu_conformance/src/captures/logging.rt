@@ -13,14 +13,14 @@ use crate::captures::records::form_of;
 use crate::captures::text::Log;
 use std::alloc::Global;
 
-/// Returns true if `bytes` begin a capture: pcap in either byte order, or pcapng. The first four bytes decide.
+/// Returns true if `bytes` begin like a capture: pcap in either byte order, or pcapng. Only the first four bytes are tested.
 pub fn is_capture(bytes: &[u8]) -> bool
     ensures { result ≡ is_capture_front bytes.now }
 {
     form_of(bytes).is_some()
 }
 
-/// Returns true if one of `exchanges` is a request of DFU to `address`, at `interface`.
+/// Returns true if one of `exchanges` is a DFU request to `interface` of the device at `address`.
 fn is_dfu(exchanges: &[Exchange<'_>], interface: u8, address: Address) -> bool {
     for exchange in exchanges {
         if exchange.address == address && exchange.shows_dfu(interface) {
@@ -42,7 +42,7 @@ fn log_exchange(
     log.is_whole()
 }
 
-/// Adds to `log` the lines of the followed device, from those of `exchanges` whose device gets requests of DFU at `interface`.
+/// Adds the lines of the followed device to `log`. Exchanges with a device that receives no DFU request at `interface` are skipped.
 fn log_exchanges(
     log: &mut Log,
     exchanges: &[Exchange<'_>],
@@ -58,7 +58,7 @@ fn log_exchanges(
     Ok(())
 }
 
-/// Returns the log of the device at `only`, or of the only device with DFU at `interface` if `only` is None, from `exchanges`.
+/// Returns the log of `exchanges`, for the device at `only`, or for the only device with DFU at `interface` if `only` is None.
 ///
 /// # Errors
 ///
@@ -77,14 +77,14 @@ fn text_of(
     }
 }
 
-/// Returns the log of `capture`. Line N is for packet N, counted from 1 as other programs do: a request of the class to the device, if the
-/// packet completes one; `reset`, if the packet shows that the bus was reset; and else an empty line. The device is the one at `only`, or
-/// if `only` is None the one that gets requests of DFU at `interface`.
+/// Returns the log of `capture`. Line N is for packet N, counted from 1 as in other programs. It contains a class request and its answer if
+/// the packet completes one to the device, `reset` if the packet shows that the bus was reset, and nothing otherwise. The device is the one
+/// at `only`, or the only one that receives DFU requests at `interface` if `only` is None.
 ///
 /// # Errors
 ///
-/// NotUsbmon if the bytes are no capture of usbmon or USBPcap; ManyDevices at the first request to a second device, and CutPacket at the
-/// first that wasn't captured whole; NoDevice if no device is found; NoMemory if an allocation failed.
+/// NotUsbmon if the bytes are not a capture of usbmon or USBPcap; ManyDevices at the first request to a second device, and CutPacket at the
+/// first request with bytes that were not captured; NoDevice if no device is found; NoMemory if an allocation failed.
 pub fn log_of(
     alloc: Global,
     capture: &[u8],
@@ -92,7 +92,7 @@ pub fn log_of(
     only: Option<Address>,
 ) -> Result<Vec<u8>, CaptureFault>
     ensures none { is_capture_front capture.now ≡ false → result ≡ Err CaptureFault.NotUsbmon }
-    ensures some { OnOk result (is_capture_front capture.now ≡ true) }
+    ensures capture_front { OnOk result (is_capture_front capture.now ≡ true) }
 {
     match exchanges_of(alloc, capture) {
         Ok(exchanges) => text_of(alloc, &exchanges, interface, only),

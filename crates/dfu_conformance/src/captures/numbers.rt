@@ -3,7 +3,7 @@
 ghost use Rattle.std.specs.Prelude.{◌≡◌, drop, take, slice_index_or};
 ghost use Rattle.dfu_conformance.specs.captures.Packets.{two_byte_number, four_byte_number, first_eight_bytes};
 
-/// Returns the byte of `bytes` at index `at`, or 0 after the end.
+/// Returns the byte at index `at`, or 0 beyond the end.
 pub(crate) fn byte_at(bytes: &[u8], at: usize) -> u8
     ensures { result ≡ slice_index_or bytes.now at 0 }
 {
@@ -13,7 +13,7 @@ pub(crate) fn byte_at(bytes: &[u8], at: usize) -> u8
     }
 }
 
-/// Returns the bytes of `bytes` from index `at` on; none if `at` is after the end.
+/// Returns the bytes from index `at` on, or none beyond the end.
 pub(crate) fn from(bytes: &[u8], at: usize) -> &[u8]
     ensures { result.now ≡ drop at bytes.now }
 {
@@ -23,7 +23,7 @@ pub(crate) fn from(bytes: &[u8], at: usize) -> &[u8]
     }
 }
 
-/// Returns the number in the first two bytes, the high byte first if `is_big`. A byte after the end counts as 0.
+/// Returns the number in the first two bytes, the high byte first if `is_big`. Bytes beyond the end count as 0.
 pub(crate) fn two(bytes: &[u8], is_big: bool) -> u16
     ensures { result ≡ two_byte_number is_big bytes.now }
 {
@@ -36,7 +36,7 @@ pub(crate) fn two(bytes: &[u8], is_big: bool) -> u16
     }
 }
 
-/// Returns the number in the first four bytes, the high byte first if `is_big`. A byte after the end counts as 0.
+/// Returns the number in the first four bytes, the high byte first if `is_big`. Bytes beyond the end count as 0.
 pub(crate) fn four(bytes: &[u8], is_big: bool) -> u32
     ensures { result ≡ four_byte_number is_big bytes.now }
 {
@@ -51,7 +51,7 @@ pub(crate) fn four(bytes: &[u8], is_big: bool) -> u32
     }
 }
 
-/// Returns the eight bytes of `bytes` from index `at` on, with 0 for each byte after the end.
+/// Returns the eight bytes from index `at` on. Bytes beyond the end count as 0.
 pub(crate) fn eight(bytes: &[u8], at: usize) -> [u8; 8]
     ensures { result ≡ first_eight_bytes (drop at bytes.now) }
 {
@@ -68,7 +68,7 @@ pub(crate) fn eight(bytes: &[u8], at: usize) -> [u8; 8]
     ]
 }
 
-/// Returns the first `count` bytes of `bytes`; all bytes if there are fewer.
+/// Returns the first `count` bytes, or all bytes if there are fewer.
 pub(crate) fn front(bytes: &[u8], count: usize) -> &[u8]
     ensures { result.now ≡ take count bytes.now }
 {

@@ -1,30 +1,30 @@
-//! The records of a capture: pcap, and pcapng as Wireshark writes it.
+//! The records of a capture: pcap, or pcapng as Wireshark writes it.
 
 ghost use Rattle.std.specs.Prelude.{◌≡◌, ◌<◌, ◌≤◌, ◌+◌, drop, take, is_some, true, IfSome, IsNone, length};
 ghost use Rattle.dfu_conformance.specs.captures.Packets.{is_capture_front, captured_byte_count};
 
 use crate::captures::numbers::{byte_at, four, from, two};
 
-/// Largest number of interfaces of a capture whose link types are kept.
+/// Number of interfaces of a pcapng section whose link types are kept.
 const LINKS: usize = 16;
 
-/// Form of a capture: pcap or pcapng, the order of its bytes, and the link type of each interface, of at most 16.
+/// Form of a capture: pcap or pcapng, its byte order, and the link types of its interfaces, at most 16.
 #[derive(Clone, Copy)]
 pub(crate) struct Form {
     // True for pcapng.
     is_ng: bool,
     // True if numbers have the high byte first.
     is_big: bool,
-    // Link types of the interfaces, by their numbers.
+    // Link types of the interfaces, by interface number.
     links: [u16; LINKS],
-    // Number of interfaces so far, in the section.
+    // Number of interfaces of the current section so far.
     count: usize,
 }
 
-/// A packet: its link type, the order of the bytes of its numbers, and its bytes.
+/// A packet: its link type, the byte order of its numbers, and its bytes.
 #[derive(Clone, Copy)]
 pub(crate) struct Packet<'c> {
-    /// The link type.
+    /// Link type of the packet.
     pub link: u16,
     /// True if numbers in the packet have the high byte first.
     pub is_big: bool,
@@ -32,18 +32,18 @@ pub(crate) struct Packet<'c> {
     pub bytes: &'c [u8],
 }
 
-/// A record of a capture, with the packet in it, if any.
+/// A record of a capture, and the packet that it contains, if any.
 #[derive(Clone, Copy)]
 pub(crate) struct Record<'c> {
     /// True if other programs count the record as a packet.
     pub is_counted: bool,
-    /// The packet, if the record has one that is whole.
+    /// The packet, if the record contains a complete one.
     pub packet: Option<Packet<'c>>,
-    /// Number of bytes of the record.
+    /// Number of bytes in the record.
     pub size: usize,
 }
 
-/// Returns the form of a capture that begins with `bytes`; None if `bytes` begin no capture.
+/// Returns the form of a capture that begins with `bytes`, or None if they don't begin like a capture.
 pub(crate) fn form_of(bytes: &[u8]) -> Option<Form>
     ensures { is_some result ≡ is_capture_front bytes.now }
 {
@@ -66,12 +66,12 @@ pub(crate) fn form_of(bytes: &[u8]) -> Option<Form>
     Some(form)
 }
 
-/// Returns the number of bytes that precede the first record of a capture of `form`.
+/// Returns the number of bytes before the first record of a capture of `form`.
 pub(crate) fn head_of(form: &Form) -> usize {
     if form.is_ng { 0 } else { 24 }
 }
 
-/// Returns the `count` bytes of `bytes` from index `at` on; None if there are fewer.
+/// Returns the `count` bytes from index `at` on, or None if there are fewer.
 fn part(bytes: &[u8], at: usize, count: usize) -> Option<&[u8]>
     ensures some { IfSome result (λ p. (p.now ≡ take count (drop at bytes.now)) × (at + count ≤ length bytes.now)) }
     ensures none { IsNone result → length bytes.now < at + count }
@@ -81,7 +81,7 @@ fn part(bytes: &[u8], at: usize, count: usize) -> Option<&[u8]>
 }
 
 impl Form {
-    /// Returns the link type of interface number `interface`; 0 if the number is over 15, or no interface had it so far.
+    /// Returns the link type that is kept for interface number `interface`, or 0 if none is kept.
     fn link(&self, interface: u32) -> u16 {
         match self.links.get(interface as usize) {
             Some(link) => *link,
@@ -89,7 +89,7 @@ impl Form {
         }
     }
 
-    /// Returns the record of pcap at the front of `bytes`; None if the record isn't whole.
+    /// Returns the pcap record at the front of `bytes`, or None if the record is incomplete.
     fn plain_record<'c>(&self, bytes: &'c [u8]) -> Option<Record<'c>>
         ensures size { IfSome result (λ r. (r.size ≡ 16 + captured_byte_count self.now.is_big bytes.now) × (r.size ≤ length bytes.now)) }
         ensures packet { IfSome result (λ r. IfSome r.packet (λ p. (p.is_big ≡ self.now.is_big)
@@ -110,7 +110,7 @@ impl Form {
         })
     }
 
-    /// Returns the packet of the enhanced packet block `block`; None if the block ends before the packet does.
+    /// Returns the packet in the enhanced packet block `block`, or None if the block is too short for it.
     fn block_packet<'c>(&self, block: &'c [u8]) -> Option<Packet<'c>> {
         let count = four(from(block, 20), self.is_big) as usize;
         Some(Packet {
@@ -120,7 +120,7 @@ impl Form {
         })
     }
 
-    /// Adds `link`, the link type of the next interface, unless there are 16 already.
+    /// Adds `link`, the link type of the next interface, unless there are already 16.
     fn add_link(&mut self, link: u16) {
         if let Some(slot) = self.links.get_mut(self.count) {
             *slot = link;
@@ -128,8 +128,8 @@ impl Form {
         }
     }
 
-    /// Reads the block of pcapng at the front of `bytes`; None if the block isn't whole, or its size is below 12. A section header sets the
-    /// byte order, and its interfaces are counted anew, from 0.
+    /// Reads the pcapng block at the front of `bytes`. Returns None if it is incomplete, or if its size is less than 12. A section header
+    /// sets the byte order, and the interfaces after it are numbered from 0 again.
     fn block<'c>(&mut self, bytes: &'c [u8]) -> Option<Record<'c>>
         ensures { IfSome result (λ r. 0 < r.size) }
     {
@@ -159,7 +159,7 @@ impl Form {
         })
     }
 
-    /// Reads the record at the front of `bytes`; None if there are no bytes, or the record isn't whole, or its size is below 12.
+    /// Reads the record at the front of `bytes`. Returns None if it is incomplete, or if it is a block with a size of less than 12.
     pub(crate) fn record<'c>(&mut self, bytes: &'c [u8]) -> Option<Record<'c>>
         ensures { IfSome result (λ r. 0 < r.size) }
     {

@@ -1,5 +1,5 @@
-//! A capture that is read in pieces. A caller reads the capture three times: for the devices in it, for a fault, and for the log. Memory
-//! holds only one record, one line, the pending transfers and the addresses of the devices.
+//! A capture that is read in pieces. The caller reads it three times: to find its devices, to find a fault, and to make the log. Memory
+//! contains only a window of the capture, one line of the log, the pending transfers and the addresses of the devices.
 
 use crate::captures::address::Address;
 use crate::captures::devices::Devices;
@@ -13,21 +13,21 @@ use crate::captures::window::Window;
 use std::alloc::Global;
 use std::io::{self, ErrorKind, Read};
 
-/// Number of bytes at the front of a capture that show its form.
+/// Number of bytes that are read to determine the form of a capture.
 const HEAD: usize = 24;
 
-/// Largest number of bytes of a record.
+/// Number of bytes after which a record that is still incomplete is refused.
 const MAX_RECORD: usize = 1_048_576;
 
-/// Largest number of records of a capture.
+/// Largest number of records that one call processes.
 const MAX_RECORDS: u64 = 1_099_511_627_776;
 
-/// A capture that is read in pieces. Reading the stream returns the log of a device.
+/// A capture that is read in pieces. Reading from the stream returns the log of a device.
 #[derive(Drop)]
 pub struct CaptureStream<R> {
-    // The reader, and bytes that were read and not yet taken.
+    // The reader, and a buffer of its bytes that were not processed yet.
     window: Window<R>,
-    // Form of the capture; None before its head was read.
+    // Form of the capture, or None until its header has been read.
     form: Option<Form>,
     // Number of packets so far.
     packets: usize,
@@ -35,12 +35,12 @@ pub struct CaptureStream<R> {
     transfers: Transfers,
     // Results from the exchanges so far.
     telling: CaptureResults,
-    // Number of bytes of the text that `read` returned.
+    // Number of bytes of the current text that `read` has already returned.
     given: usize,
 }
 
 impl<R> CaptureStream<R> {
-    /// Returns the stream of a capture before the first byte is read from `reader`.
+    /// Returns the stream of a capture. It has not read from `reader` yet.
     fn new(alloc: Global, reader: R, telling: CaptureResults) -> CaptureStream<R> {
         CaptureStream {
             window: Window::new(alloc, reader),
@@ -52,7 +52,7 @@ impl<R> CaptureStream<R> {
         }
     }
 
-    /// Processes the record at the front of the window, if it is whole.
+    /// Processes the record at the front of the window, if it is complete.
     fn come(&mut self) -> Result<(), CaptureFault> {
         let Some(form) = &mut self.form else {
             return Err(CaptureFault::NotUsbmon);
@@ -77,7 +77,7 @@ impl<R> CaptureStream<R> {
 }
 
 impl<R: Read> CaptureStream<R> {
-    /// Reads the head. Returns true if it begins a pcap or pcapng capture.
+    /// Reads the header. Returns true if the capture is pcap or pcapng.
     fn begin(&mut self) -> io::Result<bool> {
         if self.form.is_some() {
             return Ok(true);
@@ -97,8 +97,8 @@ impl<R: Read> CaptureStream<R> {
         }
     }
 
-    /// Reads on until the window begins with a whole record, and returns its size; 0 at the end of the capture. NoMemory if the record is
-    /// too long.
+    /// Reads until the window begins with a complete record, and returns its size. Returns 0 if the capture ends first. The fault is
+    /// NoMemory if the record is too long.
     fn size(&mut self) -> io::Result<Result<usize, CaptureFault>> {
         for _piece in 0..MAX_RECORD {
             let Some(mut form) = self.form else {
@@ -117,11 +117,11 @@ impl<R: Read> CaptureStream<R> {
         Ok(Ok(0))
     }
 
-    /// Clears the text, and processes the next record of the capture. Returns false if no record was left.
+    /// Clears the text, and processes the next record of the capture. Returns false if there was none left.
     ///
     /// # Errors
     ///
-    /// The error of the reader; or, inside Ok, the fault of the capture.
+    /// The error of the reader. A fault of the capture is returned inside Ok.
     fn go_on(&mut self) -> io::Result<Result<bool, CaptureFault>> {
         self.telling.forget_text();
         self.given = 0;
@@ -149,7 +149,7 @@ impl<R: Read> CaptureStream<R> {
     ///
     /// # Errors
     ///
-    /// The error of the reader, and InvalidData for a fault of the capture.
+    /// The error of the reader, or InvalidData for a fault of the capture.
     fn reach_text(&mut self) -> io::Result<bool> {
         for _record in 0..MAX_RECORDS {
             if !from(self.telling.text(), self.given).is_empty() {
@@ -164,11 +164,11 @@ impl<R: Read> CaptureStream<R> {
         Ok(false)
     }
 
-    /// Processes all records up to the end of the capture.
+    /// Processes all records of the capture.
     ///
     /// # Errors
     ///
-    /// The error of the reader; or, inside Ok, the fault of the capture.
+    /// The error of the reader. A fault of the capture is returned inside Ok.
     fn finish(&mut self) -> io::Result<Result<(), CaptureFault>> {
         for _record in 0..MAX_RECORDS {
             match self.go_on()? {
@@ -182,8 +182,7 @@ impl<R: Read> CaptureStream<R> {
 }
 
 impl<R: Read + Drop> CaptureStream<R> {
-    /// Returns a stream of the log of one of `devices`, before the first byte is read from `reader`: of the device at `only`, if `only` is
-    /// given.
+    /// Returns a stream of the log of one of `devices`, the one at `only` if `only` is given. It has not read from `reader` yet.
     pub fn of_log(
         alloc: Global,
         reader: R,
@@ -195,7 +194,7 @@ impl<R: Read + Drop> CaptureStream<R> {
 }
 
 impl<R: Read> Read for CaptureStream<R> {
-    /// Reads the log into `buf`. Fails at a fault of the capture, which `checked` finds beforehand in the same bytes.
+    /// Reads the log into `buf`. Fails at a fault of the capture, which `checked` would have found in the same bytes.
     fn read(&mut self, buf: &mut [u8]) -> io::Result<usize> {
         if !self.reach_text()? {
             return Ok(0);
@@ -208,7 +207,7 @@ impl<R: Read> Read for CaptureStream<R> {
     }
 }
 
-/// Reads `stream` to its end and returns the devices that were found, or the fault of the capture.
+/// Reads `stream` to its end. Returns the devices that were found, or the fault of the capture.
 fn devices_of<R: Read + Drop>(
     mut stream: CaptureStream<R>,
 ) -> io::Result<Result<Devices, CaptureFault>> {
@@ -221,7 +220,7 @@ fn devices_of<R: Read + Drop>(
     }
 }
 
-/// Returns the devices that get requests of DFU at `interface`, in the capture read from `reader`, or the fault of the capture.
+/// Returns the devices that receive DFU requests at `interface` in the capture read from `reader`, or the fault of the capture.
 pub fn devices_in<R: Read + Drop>(
     alloc: Global,
     reader: R,
@@ -231,7 +230,7 @@ pub fn devices_in<R: Read + Drop>(
     devices_of(CaptureStream::new(alloc, reader, telling))
 }
 
-/// Checks that the capture read from `reader` has a log of one of `devices`, of the one at `only` if `only` is given. Returns `devices`, or
+/// Checks that the capture read from `reader` has a log for one of `devices`, the one at `only` if `only` is given. Returns `devices`, or
 /// the fault of the capture.
 pub fn checked<R: Read + Drop>(
     alloc: Global,

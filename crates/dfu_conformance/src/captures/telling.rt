@@ -1,4 +1,4 @@
-//! Results from the exchanges of a capture that is read in pieces: its devices with requests of DFU, or the log of one.
+//! Results from a capture that is read in pieces: the devices that receive DFU requests, or the log of one device.
 
 use crate::captures::address::Address;
 use crate::captures::devices::Devices;
@@ -11,20 +11,20 @@ use std::alloc::Global;
 /// The devices, or the log of one device, from the exchanges so far.
 #[derive(Drop)]
 pub(crate) struct CaptureResults {
-    // Interface at which requests of DFU are searched for; None for a log.
+    // Interface for which DFU devices are searched, or None if a log is made.
     interface: Option<u8>,
-    // Devices that were found so far; for a log, those that may have lines in it.
+    // Devices found so far. For a log, the devices whose exchanges the log may contain.
     devices: Devices,
-    // Device of the log.
+    // The device whose requests the log contains.
     followed: Followed,
     // Lines since the last call of `forget_text`.
     log: Log,
-    // True if a line of the device was logged.
+    // True if the log has a line of the device.
     has_line: bool,
 }
 
 impl CaptureResults {
-    /// Returns an empty result, for the devices that get requests of DFU at `interface`.
+    /// Returns an empty result, for a search for the devices that receive DFU requests at `interface`.
     pub(crate) fn of_devices(alloc: Global, interface: u8) -> CaptureResults {
         CaptureResults {
             interface: Some(interface),
@@ -35,7 +35,7 @@ impl CaptureResults {
         }
     }
 
-    /// Returns an empty result, for the log of one of `devices`, of the one at `only` if `only` is given.
+    /// Returns an empty result, for the log of one of `devices`, the one at `only` if `only` is given.
     pub(crate) fn of_log(alloc: Global, devices: Devices, only: Option<Address>) -> CaptureResults {
         CaptureResults {
             interface: None,
@@ -46,14 +46,14 @@ impl CaptureResults {
         }
     }
 
-    /// Returns the devices that were found.
+    /// Returns the devices found so far.
     pub(crate) fn devices(self) -> Devices {
         let CaptureResults { devices, .. } = self;
         devices
     }
 
-    /// Returns true if `exchange` has a line in the log. In a search for devices, adds the address of a request of DFU to the set, and
-    /// returns false.
+    /// Returns true if `exchange` has a line in the log. In a search for devices, adds the device of a DFU request to the set, and returns
+    /// false.
     fn shows(&mut self, exchange: &Exchange<'_>) -> Result<bool, CaptureFault> {
         if let Some(interface) = self.interface {
             if exchange.shows_dfu(interface) {
@@ -67,7 +67,7 @@ impl CaptureResults {
         self.followed.shows(exchange)
     }
 
-    /// Takes the next packet, with the exchange that it completes, if any.
+    /// Adds the line of the next packet, which may complete an exchange.
     pub(crate) fn come(&mut self, exchange: &Option<Exchange<'_>>) -> Result<(), CaptureFault> {
         match exchange {
             Some(exchange) if self.shows(exchange)? => {
@@ -89,7 +89,7 @@ impl CaptureResults {
         self.log.clear();
     }
 
-    /// Checks the result at the end of the capture. NoDevice if a log has no line of a device.
+    /// Checks the result at the end of the capture. The fault is NoDevice if a log has no line of a device.
     pub(crate) fn end(&self) -> Result<(), CaptureFault> {
         if self.interface.is_none() && !self.has_line {
             Err(CaptureFault::NoDevice)

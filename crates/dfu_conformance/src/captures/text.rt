@@ -4,7 +4,7 @@ use crate::captures::exchange::{Body, Exchange, Seen};
 use crate::captures::fault::CaptureFault;
 use std::alloc::Global;
 
-/// Returns the lower-case hexadecimal digit of `value`, which is below 16.
+/// Returns the lower-case hexadecimal digit of `value`, which must be below 16.
 fn digit(value: u8) -> u8 {
     if value < 10 {
         b'0' + value
@@ -13,14 +13,14 @@ fn digit(value: u8) -> u8 {
     }
 }
 
-/// The text of a log, with a line for each packet so far.
+/// The text of a log, with one line for each packet so far.
 #[derive(Drop)]
 pub(crate) struct Log {
     // The text so far.
     text: Vec<u8>,
-    // Number of the packet of the last line that `push` added.
+    // Number of the packet for which `push` added the last line.
     lines: usize,
-    // An allocation for a part of the text failed.
+    // True if an allocation for the text failed.
     is_torn: bool,
 }
 
@@ -34,21 +34,22 @@ impl Log {
         }
     }
 
-    /// Adds `bytes` to the text.
+    /// Appends `bytes` to the text.
     fn put(&mut self, bytes: &[u8]) {
         if self.text.extend_from_slice(bytes).is_err() {
             self.is_torn = true;
         }
     }
 
-    /// Adds `bytes` to the text as hexadecimal digits.
+    /// Appends `bytes` to the text as hexadecimal digits.
     fn put_hex(&mut self, bytes: &[u8]) {
         for byte in bytes {
             self.put(&[digit(*byte / 16), digit(*byte % 16)]);
         }
     }
 
-    /// Adds the field of `body`, the bytes that the host sent: `00` for each byte of which only the count is known, and `-` for no bytes.
+    /// Appends the field of `body`, the bytes that the host sent. It is `00` for each byte if only their number is known, and `-` for no
+    /// bytes.
     fn put_body(&mut self, body: Body<'_>) {
         match body {
             Body::Bytes([]) | Body::Count(0) => self.put(b"-"),
@@ -61,7 +62,7 @@ impl Log {
         }
     }
 
-    /// Adds the field of the answer `seen`.
+    /// Appends the field of the answer `seen`.
     fn put_answer(&mut self, seen: Seen<'_>) {
         match seen {
             Seen::Stall => self.put(b"stall"),
@@ -71,7 +72,7 @@ impl Log {
         }
     }
 
-    /// Adds the line of `exchange`, a request and its answer.
+    /// Appends the line of `exchange`, a request and its answer.
     fn put_exchange(&mut self, exchange: &Exchange<'_>) {
         self.put_hex(&exchange.setup);
         self.put(b" ");
@@ -81,7 +82,7 @@ impl Log {
         self.put(b"\n");
     }
 
-    /// Adds the line of a packet that completes `exchange`.
+    /// Appends the line of a packet that completes `exchange`.
     pub(crate) fn push_line(&mut self, exchange: &Exchange<'_>) {
         if exchange.given.is_some() {
             self.put(b"reset\n");
@@ -90,12 +91,12 @@ impl Log {
         }
     }
 
-    /// Adds an empty line, for a packet that completes no exchange.
+    /// Appends an empty line, for a packet that completes no request to the followed device.
     pub(crate) fn push_empty(&mut self) {
         self.put(b"\n");
     }
 
-    /// Adds the line of `exchange` after empty lines for the packets before it.
+    /// Appends empty lines for the packets before `exchange`, and then its line.
     pub(crate) fn push(&mut self, exchange: &Exchange<'_>) {
         for _line in self.lines.saturating_add(1)..exchange.packet {
             self.push_empty();
@@ -114,7 +115,7 @@ impl Log {
         self.text.clear();
     }
 
-    /// Checks that no part of the text is missing.
+    /// Checks that the text is complete.
     ///
     /// # Errors
     ///
@@ -127,11 +128,11 @@ impl Log {
         }
     }
 
-    /// Returns the text.
+    /// Returns the whole text.
     ///
     /// # Errors
     ///
-    /// NoMemory if an allocation for the text failed; else NoDevice if the text is empty.
+    /// NoMemory if an allocation for the text failed; otherwise NoDevice if the text is empty.
     pub(crate) fn whole(self) -> Result<Vec<u8>, CaptureFault> {
         let Log { text, is_torn, .. } = self;
         if is_torn {

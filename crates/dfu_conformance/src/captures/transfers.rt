@@ -1,4 +1,4 @@
-//! Joins submissions with their completions, and keeps only the number of bytes of a transfer between them.
+//! Joins submissions with their completions. Only the number of the host's bytes is kept in between.
 
 use crate::captures::event::{PacketKind, UsbEvent};
 use crate::captures::exchange::{Body, Exchange};
@@ -7,26 +7,26 @@ use crate::captures::joining::{exchange_of, new_pending};
 use crate::captures::pending::{Pending, PendingTransfers};
 use std::alloc::Global;
 
-/// Largest number of transfers pending at once. Endpoint 0 of a device has one at a time, so more are pending only if completions are
-/// missing; then the first of the list is dropped.
+/// Largest number of transfers that are pending at once. Endpoint 0 of a device has one at a time, so there are more only if completions
+/// are missing. In that case the first transfer in the list is dropped.
 const MAX_PENDING: usize = 1024;
 
-/// The pending transfers of a capture, each with only the number of its bytes.
+/// The pending transfers of a capture. Each contains only the number of bytes that the host sends.
 #[derive(Drop)]
 pub(crate) struct Transfers {
-    // The transfers, with the numbers of their bytes.
+    // The transfers, with the number of bytes that the host sends.
     pending: PendingTransfers<'static>,
 }
 
 impl Transfers {
-    /// Returns a value without pending transfers.
+    /// Returns an empty list of pending transfers.
     pub(crate) fn new(alloc: Global) -> Transfers {
         Transfers {
             pending: PendingTransfers::new(alloc),
         }
     }
 
-    /// Adds the transfer `new`, and drops the first one if there are `MAX_PENDING`.
+    /// Adds the transfer `new`, and drops the first one if there are already `MAX_PENDING`.
     fn put(&mut self, new: Pending<'static>) -> Result<(), CaptureFault> {
         if self.pending.count() >= MAX_PENDING {
             self.pending.forget_first();
@@ -34,7 +34,8 @@ impl Transfers {
         self.pending.put(new)
     }
 
-    /// Takes submission `head` with `setup` and `count` bytes. An older transfer with the id is over, though its completion is missing.
+    /// Adds the transfer that `head` submits with `setup` and `count` bytes. A pending transfer with the same id is removed, because it has
+    /// ended, even if its completion is missing.
     fn submit(
         &mut self,
         head: &UsbEvent<'static>,
@@ -45,8 +46,8 @@ impl Transfers {
         self.put(new_pending(head, setup, Body::Count(count)))
     }
 
-    /// Takes `count`, the number of bytes of the host for a transfer that was submitted without them. A transfer that reads from the device
-    /// has none, so it is dropped.
+    /// Adds `count`, the number of the host's bytes, to a transfer that was submitted without them. A transfer that reads from the device
+    /// can't have any, so it is dropped.
     fn carry(&mut self, head: &UsbEvent<'static>, count: usize) -> Result<(), CaptureFault> {
         let Some(mut began) = self.pending.take_same_transfer(head) else {
             return Ok(());
@@ -60,8 +61,7 @@ impl Transfers {
         self.put(began)
     }
 
-    /// Takes `event`, in packet number `packet` of link type `link`, and returns the exchange if the event completes a transfer; else
-    /// None.
+    /// Processes `event`, in packet number `packet` of link type `link`. Returns the exchange if the event completes one, or None.
     pub(crate) fn come<'e>(
         &mut self,
         packet: usize,

@@ -1,4 +1,4 @@
-//! The packets of usbmon (link types 189 and 220).
+//! Packets of Linux's usbmon (link types 189 and 220).
 
 ghost use Rattle.std.specs.Prelude.{◌≡◌, drop, take, length, nat_le, nat_lt, not, is_none, Some, IfSome};
 ghost use Rattle.dfu_conformance.specs.captures.Packets.{byte_or_zero, two_byte_number, four_byte_number, first_eight_bytes, header_length_of, is_control, packet_kind_of, setup_in_packet, transfer_ending_of};
@@ -7,7 +7,7 @@ use crate::captures::address::Address;
 use crate::captures::event::{Ending, PacketKind, UsbEvent};
 use crate::captures::numbers::{byte_at, eight, four, from, front, two};
 
-/// Returns the ending of the transfer of packet `bytes`, by the status in bytes 28 to 31: 0 for success, or -32 for a stall.
+/// Returns the result of the packet's transfer, from the status in bytes 28 to 31: 0 for success, -32 for a stall.
 fn ending_of(bytes: &[u8], is_big: bool) -> Ending
     ensures { result ≡ transfer_ending_of is_big bytes.now }
 {
@@ -18,7 +18,7 @@ fn ending_of(bytes: &[u8], is_big: bool) -> Ending
     }
 }
 
-/// Returns the number of bytes that precede the data, by the link type; `None` if `link` is no link type of usbmon.
+/// Returns the number of bytes before the data, or None if `link` is not a link type of usbmon.
 pub(crate) fn head_of(link: u16) -> Option<usize>
     ensures { result ≡ header_length_of link }
 {
@@ -29,7 +29,7 @@ pub(crate) fn head_of(link: u16) -> Option<usize>
     }
 }
 
-/// Returns the kind of packet `bytes`: byte 8 is 'S' for a submission and 'C' for a completion.
+/// Returns the kind of a packet, from byte 8: 'S' for a submission and 'C' for a completion.
 fn kind_of(bytes: &[u8]) -> PacketKind
     ensures { result ≡ packet_kind_of bytes.now }
 {
@@ -40,7 +40,7 @@ fn kind_of(bytes: &[u8]) -> PacketKind
     }
 }
 
-/// Returns the setup of the packet `bytes`; None if the packet says that it has none.
+/// Returns the setup of a packet, or None if byte 14 shows that it has none.
 fn setup_of(bytes: &[u8]) -> Option<[u8; 8]>
     ensures { result ≡ setup_in_packet bytes.now }
 {
@@ -51,9 +51,9 @@ fn setup_of(bytes: &[u8]) -> Option<[u8; 8]>
     }
 }
 
-/// Returns the content of a packet whose data begin behind `head` bytes; `None` if it is no control transfer to endpoint 0, or its head
-/// isn't whole. The bytes of each number are in the given order: bytes 0 to 7 are the id, bit 7 of byte 10 the direction, byte 11 the
-/// device, 12 and 13 the bus, 28 to 31 the status, 32 to 35 the length, and 36 to 39 the number of bytes of data behind the head.
+/// Returns the event of a packet whose data begins after `head` bytes, or None if it isn't a control transfer to endpoint 0, or its header
+/// is incomplete. Numbers have the high byte first if `is_big`. Bytes 0 to 7 are the id, bit 7 of byte 10 the direction, byte 11 the
+/// device, 12 and 13 the bus, 28 to 31 the status, 32 to 35 the length, and 36 to 39 the number of data bytes after the header.
 pub fn packet_event(bytes: &[u8], head: usize, is_big: bool) -> Option<UsbEvent<'_>>
     ensures none { is_none result ≡ not (is_control head bytes.now) }
     ensures kind { IfSome result (λ e. e.kind ≡ packet_kind_of bytes.now) }

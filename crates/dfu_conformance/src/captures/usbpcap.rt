@@ -1,4 +1,4 @@
-//! The packets of USBPcap, which records on Windows (link type 249). Its numbers have the low byte first.
+//! Packets of USBPcap, the capture driver for Windows (link type 249). Its numbers have the low byte first.
 
 ghost use Rattle.std.specs.Prelude.{◌≡◌, drop, take, length, nat_lt, not, is_none, Some, None, IfSome};
 ghost use Rattle.dfu_conformance.specs.captures.Packets.{byte_or_zero, two_byte_number, four_byte_number, first_eight_bytes};
@@ -9,10 +9,10 @@ use crate::captures::address::Address;
 use crate::captures::event::{Ending, PacketKind, UsbEvent};
 use crate::captures::numbers::{byte_at, eight, four, from, front, two};
 
-/// Smallest size of the head of a control transfer, in bytes.
+/// Smallest number of bytes in the header of a control transfer.
 const HEAD: usize = 28;
 
-/// Returns the kind of packet `bytes`, by its stage (byte 27) and its direction (bit 0 of byte 16).
+/// Returns the kind of a packet, from its stage (byte 27) and its direction (bit 0 of byte 16).
 fn kind_of(bytes: &[u8]) -> PacketKind
     ensures { result ≡ recorded_packet_kind bytes.now }
 {
@@ -27,7 +27,7 @@ fn kind_of(bytes: &[u8]) -> PacketKind
     }
 }
 
-/// Returns the ending of the transfer of packet `bytes`, by the status in bytes 10 to 13: 0 for success, or C0000004h for a stall.
+/// Returns the result of the packet's transfer, from the status in bytes 10 to 13: 0 for success, C0000004h for a stall.
 fn ending_of(bytes: &[u8]) -> Ending
     ensures { result ≡ recorded_ending bytes.now }
 {
@@ -38,7 +38,7 @@ fn ending_of(bytes: &[u8]) -> Ending
     }
 }
 
-/// Returns the setup of the packet `bytes`, if it is a submission: the first eight bytes after its `head` bytes.
+/// Returns the setup of a submission, which is the first eight bytes after the header of `head` bytes. Returns None for any other packet.
 fn setup_of(bytes: &[u8], head: usize) -> Option<[u8; 8]>
     ensures { result ≡ recorded_setup head bytes.now }
 {
@@ -49,12 +49,12 @@ fn setup_of(bytes: &[u8], head: usize) -> Option<[u8; 8]>
     }
 }
 
-/// Returns the content of a packet; `None` if it is no control transfer to endpoint 0, its head isn't whole or has fewer than 28 bytes, or
-/// the number of its device is over 255.
+/// Returns the event of a packet. Returns None if it isn't a control transfer to endpoint 0, if its header is incomplete or has fewer than
+/// 28 bytes, or if the number of its device is above 255.
 ///
-/// Bytes 0 and 1 are the length of the head, at least 28; 2 to 9 are the id, 10 to 13 the status, 16 the direction, 17 and 18 the bus, 19
-/// and 20 the device, 21 the endpoint, 22 the kind of transfer, 23 to 26 the number of bytes behind the head, and 27 the stage. The first
-/// eight of the bytes behind the head of a submission are the setup.
+/// Bytes 0 and 1 are the length of the header, at least 28; 2 to 9 are the id, 10 to 13 the status, 16 the direction, 17 and 18 the bus, 19
+/// and 20 the device, 21 the endpoint, 22 the kind of transfer, 23 to 26 the number of bytes after the header, and 27 the stage. In a
+/// submission, the first eight bytes after the header are the setup.
 pub fn recorded_event(bytes: &[u8]) -> Option<UsbEvent<'_>>
     ensures none { is_none result ≡ not (is_recorded_control bytes.now) }
     ensures kind { IfSome result (λ e. e.kind ≡ recorded_packet_kind bytes.now) }

@@ -1,25 +1,25 @@
-//! A buffer of the bytes of a capture that were read and not yet taken.
+//! A buffer for the bytes of a capture that were read but not processed yet.
 
 use crate::captures::numbers::from;
 use std::alloc::Global;
 use std::io::{self, ErrorKind, Read};
 
-/// Largest number of bytes of a capture that are read at a time.
+/// Largest number of bytes that one read returns.
 const CAPTURE_READ_BYTES: usize = 65_536;
 
-/// A reader, and the bytes that were read from it and not yet taken.
+/// A reader, and a buffer of its bytes that were not processed yet.
 #[derive(Drop)]
 pub(crate) struct Window<R> {
     // The reader of the capture.
     reader: R,
-    // Bytes that were read and not yet removed.
+    // Bytes that were read and are still in the buffer.
     bytes: Vec<u8>,
-    // The bytes before this index were taken.
+    // Number of bytes at the front of the buffer that were taken.
     taken: usize,
 }
 
 impl<R> Window<R> {
-    /// Returns a window before the first byte is read from `reader`.
+    /// Returns an empty window over `reader`.
     pub(crate) fn new(alloc: Global, reader: R) -> Window<R> {
         Window {
             reader,
@@ -28,12 +28,12 @@ impl<R> Window<R> {
         }
     }
 
-    /// Returns the bytes that were read and not taken.
+    /// Returns the bytes that were read but not taken.
     pub(crate) fn rest(&self) -> &[u8] {
         from(&self.bytes, self.taken)
     }
 
-    /// Marks the first `count` bytes as taken.
+    /// Marks the next `count` bytes as taken.
     pub(crate) fn take(&mut self, count: usize) {
         self.taken = self.taken.saturating_add(count);
     }
@@ -52,7 +52,7 @@ impl<R> Window<R> {
 }
 
 impl<R: Read> Window<R> {
-    /// Reads more bytes. Returns false if the reader has no more.
+    /// Reads more bytes into the window. Returns false at the end of the capture.
     pub(crate) fn read_on(&mut self) -> io::Result<bool> {
         self.forget_taken();
         let mut piece = [0u8; CAPTURE_READ_BYTES];

@@ -1,4 +1,4 @@
-//! Rows that apply to a DfuSe device, and events at which it may stay at its place.
+//! Rows that apply to a DfuSe device, and events at which it may stay in its state.
 
 ghost use Rattle.std.specs.Prelude.{◌≡◌, ◌==◌};
 ghost use Rattle.std.specs.Int.{bit_at};
@@ -7,7 +7,7 @@ ghost use Rattle.dfu_conformance.specs.dfuse.Runs.{dfuse_habits, must_be_answere
 
 use crate::{EventKind, LogEvent, Reading, Response, When};
 
-/// Returns true if a DfuSe device may have the habit `reading`: bit n of 0Fh is habit n.
+/// Returns true if a DfuSe device may have the habit `reading`. The set of these habits is 0Fh.
 fn is_habit(reading: Reading) -> bool
     ensures { result ≡ (bit_at dfuse_habits (reading_bit reading) == 1) }
 {
@@ -21,8 +21,8 @@ fn is_habit(reading: Reading) -> bool
     }
 }
 
-/// Returns true if a row or a move with `when` applies to a DfuSe device: one that can download and upload, isn't tolerant and detaches by
-/// itself (bmAttributes 0Bh), with the habits bootloader, runtime-mute, self-reset and detach-at-once.
+/// Returns true if a row or move with `when` applies to a DfuSe device. Such a device can download and upload, isn't manifestation tolerant
+/// and detaches by itself (bmAttributes 0Bh), and may have the habits Bootloader, RuntimeMute, SelfReset and DetachAtOnce.
 pub fn is_of_dfuse(when: When) -> bool
     ensures { result ≡ of_dfuse when }
 {
@@ -37,8 +37,8 @@ pub fn is_of_dfuse(when: When) -> bool
     }
 }
 
-/// Returns true if a device must answer the request of `event`: GETSTATUS or GETSTATE, well-formed by section 3 of USB DFU 1.1. It may
-/// stall any other request, and stay.
+/// Returns true if a device must answer the request of `event`: a GETSTATUS or GETSTATE that is well-formed by section 3 of USB DFU 1.1. A
+/// device may stall any other request, and stay in its state.
 pub fn is_told(event: &LogEvent) -> bool
     ensures { result ≡ must_be_answered event.now }
 {
@@ -49,7 +49,8 @@ pub fn is_told(event: &LogEvent) -> bool
     }
 }
 
-/// Returns true if a device may stay at its place at `event`: no answer was seen, or it stalled a request that it need not answer.
+/// Returns true if a device may stay in its state at `event`: if the log has no answer, or if the device stalled a request that it need not
+/// answer.
 pub(crate) fn may_dfuse_stay(event: &LogEvent) -> bool
     ensures { result ≡ dfuse_may_stay_at_event event.now }
 {

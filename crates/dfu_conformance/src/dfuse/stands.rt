@@ -1,4 +1,4 @@
-//! Places at which a DfuSe device may be.
+//! The states in which a DfuSe device may be.
 
 ghost use Rattle.std.specs.Prelude.{◌≡◌, ◌||◌, ◌&&◌, ◌==◌};
 ghost use Rattle.std.specs.List.{list_any};
@@ -13,10 +13,10 @@ use crate::{
     DRIFTS, Drift, HABITS, LogEvent, MARKS, Row, STANDARD, StandardState, When, row_fits_event,
 };
 
-/// For each place, by its number, true if a DfuSe device may be there.
+/// For each state, by its index, true if a DfuSe device may be in it.
 pub(crate) type Places = [bool; 12];
 
-/// Adds place `to` to `after`, if `before` has place `from`, and a row or a move with `when` applies to a DfuSe device.
+/// Adds state `to` to `after`, if `before` contains state `from`, and a row or move with `when` applies to a DfuSe device.
 fn lead(before: &Places, from: StandardState, when: When, after: &mut Places, to: StandardState)
     ensures { (n : StandardState) → has_place after.new n
         ≡ (has_place after.old n || ((place_number to == place_number n) && (has_place before.now from && of_dfuse when))) }
@@ -25,7 +25,7 @@ fn lead(before: &Places, from: StandardState, when: When, after: &mut Places, to
     after[to] = after[to] || before[from.number()] && is_of_dfuse(when);
 }
 
-/// Adds to `after` the place to which `row` leads at `event` from a place of `before`.
+/// Adds to `after` the state to which `row` leads at `event` from a state of `before`.
 fn go(row: &Row, before: &Places, event: &LogEvent, after: &mut Places)
     ensures { (n : StandardState) → has_place after.new n ≡ (has_place after.old n || row_leads_to before.now event.now n row.now) }
 {
@@ -34,7 +34,7 @@ fn go(row: &Row, before: &Places, event: &LogEvent, after: &mut Places)
     }
 }
 
-/// Adds to `after` the places to which `rows` lead at `event` from the places of `before`.
+/// Adds to `after` the states to which `rows` lead at `event` from the states of `before`.
 fn pass(rows: &[Row], before: &Places, event: &LogEvent, after: &mut Places)
     ensures { (n : StandardState) → has_place after.new n ≡
         (has_place after.old n || list_any (row_leads_to before.now event.now n) rows.now) }
@@ -44,7 +44,7 @@ fn pass(rows: &[Row], before: &Places, event: &LogEvent, after: &mut Places)
     }
 }
 
-/// Returns the places of `before`, and those to which `moves` lead from them.
+/// Returns the states of `before`, and those to which `moves` lead from them.
 fn drift(moves: &[Drift], before: &Places) -> Places
     ensures { (n : StandardState) → has_place result n ≡
         (has_place before.now n || list_any (drift_leads_to before.now n) moves.now) }
@@ -56,7 +56,7 @@ fn drift(moves: &[Drift], before: &Places) -> Places
     after
 }
 
-/// Returns the places of `before` where a DfuSe device may have stayed at `event`: all of them, or none.
+/// Returns the states of `before` in which a DfuSe device may have stayed at `event`: all of them, or none.
 fn rest(before: &Places, event: &LogEvent) -> Places
     ensures { (n : StandardState) → has_place result n ≡ (dfuse_may_stay_at_event event.now && has_place before.now n) }
 {
@@ -67,7 +67,7 @@ fn rest(before: &Places, event: &LogEvent) -> Places
     }
 }
 
-/// Returns the places where a DfuSe device may be after `event`, if those of `before` are its places before it.
+/// Returns the states in which a DfuSe device may be after `event`, if it may be in those of `before` before it.
 pub(crate) fn step(before: &Places, event: &LogEvent) -> Places
     ensures { (n : StandardState) → has_place result n ≡ may_be_at_after_event before.now event.now n }
 {
@@ -79,7 +79,7 @@ pub(crate) fn step(before: &Places, event: &LogEvent) -> Places
     drift(&DRIFTS, &after)
 }
 
-/// Returns true if `at` has any place.
+/// Returns true if `at` contains at least one state.
 pub(crate) fn is_anywhere(at: &Places) -> bool
     ensures { result ≡ has_any_place at.now }
 {

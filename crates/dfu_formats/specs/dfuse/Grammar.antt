@@ -1,4 +1,4 @@
--- The grammar of a DfuSe file (UM0391), built from the front.
+-- The grammar of a DfuSe file (UM0391): the encoding of its parts.
 use Rattle.std.specs.Prelude.{◌≡◌, ◌⊎◌, ℕ, ◌+◌, ◌<◌, ◌≤◌, ◌^◌, List, [], ◌∷◌, ◌++◌, length, Err}
 use Rattle.std.specs.Int.{w32, to_le_bytes}
 use Rattle.dfu_formats.specs.images.Elements.{Piece}
@@ -7,22 +7,22 @@ use Rattle.dfu_suffix.specs.Grammar.{before_crc}
 use Rattle.dfu_formats.specs.declared.dfuse.fault.FileFault.{FileFault}
 use Rattle.dfu_formats.specs.dfuse.Reading.{Target, PayloadAndIds, DfuseContent, file_at}
 
--- A 32-bit number as four bytes, the low byte first.
+-- Encodes a 32-bit number as four bytes, the low byte first.
 abbrev pub four_bytes_of : ℕ → List ℕ
 four_bytes_of n = to_le_bytes w32 n
 
--- Elements as bytes: for each its address, its size, and its bytes.
+-- Encodes elements: each as its address, its size and its bytes.
 unfoldable pub spelled_elements : List Piece → List ℕ
 spelled_elements [] = []
 spelled_elements (e ∷ es) = four_bytes_of e.address ++ (four_bytes_of (length e.bytes) ++ (e.bytes ++ spelled_elements es))
 
--- An element has at least one byte, its size fits 32 bits, and its last byte has an address of 32 bits.
+-- An element has at least one byte, its size fits in 32 bits, and its last byte has a 32-bit address.
 pub record ElementInRange (e : Piece) : Type 0 where
   pub some : 1 ≤ length e.bytes
   pub size_fits : length e.bytes < 2 ^ 32
   pub within : e.address + length e.bytes ≤ 2 ^ 32
 
--- Each element is in range.
+-- Every element of the list satisfies ElementInRange.
 unfoldable pub ElementsInRange : List Piece → Type 0
 ElementsInRange [] = Unit {0}
 ElementsInRange (e ∷ es) = ElementInRange e × ElementsInRange es
@@ -31,7 +31,7 @@ ElementsInRange (e ∷ es) = ElementInRange e × ElementsInRange es
 abbrev pub target_letters : List ℕ
 target_letters = 84 ∷ 97 ∷ 114 ∷ 103 ∷ 101 ∷ 116 ∷ []
 
--- Targets as bytes: for each the letters Target, its setting, the field that says if it is named, its name, the size of its elements, their
+-- Encodes targets: each as the letters Target, its setting, a field that is 0 if it has no name, the name, the size of its elements, their
 -- number, and the elements.
 unfoldable pub spelled_targets : List Target → List ℕ
 spelled_targets [] = []
@@ -40,7 +40,7 @@ spelled_targets (t ∷ ts) =
     (t.name ++ (four_bytes_of (length (spelled_elements t.elements)) ++ (four_bytes_of (length t.elements)
     ++ (spelled_elements t.elements ++ spelled_targets ts))))))
 
--- Each field of a target fits the bytes that the format gives it.
+-- Each field of a target fits in the number of bytes that the format reserves for it.
 pub record TargetInRange (t : Target) : Type 0 where
   pub setting_fits : t.setting < 256
   pub named_fits : t.named < 2 ^ 32
@@ -49,17 +49,17 @@ pub record TargetInRange (t : Target) : Type 0 where
   pub count_fits : length t.elements < 2 ^ 32
   pub elements_fit : ElementsInRange t.elements
 
--- Each field of each target fits the bytes that the format gives it.
+-- Every target of the list satisfies TargetInRange.
 unfoldable pub TargetsInRange : List Target → Type 0
 TargetsInRange [] = Unit {0}
 TargetsInRange (t ∷ ts) = TargetInRange t × TargetsInRange ts
 
--- The letters DfuSe, and version 1.
+-- The letters DfuSe and the version 1, with which each file begins.
 abbrev pub dfuse_opening : List ℕ
 dfuse_opening = 68 ∷ 102 ∷ 117 ∷ 83 ∷ 101 ∷ 1 ∷ []
 
--- `bytes` is the body, all but the suffix, of a file of `whole` bytes: the opening, the size with or without the suffix, the number of
--- targets, and one to 255 targets, each in range.
+-- `bytes` are those before the suffix in a file of `whole` bytes: the opening, the size with or without the suffix, the number of targets,
+-- and one to 255 targets, each in range.
 pub record IsBody (targets : List Target) (whole : ℕ) (bytes : List ℕ) : Type 0 where
   pub size : ℕ
   pub spelled : bytes ≡ dfuse_opening ++ (four_bytes_of size ++ (length targets ∷ spelled_targets targets))
@@ -69,8 +69,8 @@ pub record IsBody (targets : List Target) (whole : ℕ) (bytes : List ℕ) : Typ
   pub few : length targets < 256
   pub fit : TargetsInRange targets
 
--- `bytes`, 16,777,216 at most, is the payload of `s`, and a suffix with the identifiers of `s`, bcdDFU 011Ah, at most 239 extra bytes, and
--- the register over all bytes before it (USB DFU 1.1, appendix B).
+-- `bytes`, at most 16,777,216, is the payload of `s` followed by a suffix. The suffix has the identifiers of `s`, bcdDFU 011Ah, at most 239
+-- extra bytes, and the CRC register over all bytes before it (USB DFU 1.1, appendix B).
 pub record SuffixedFile (bytes : List ℕ) (s : PayloadAndIds) : Type 0 where
   pub extra : List ℕ
   pub spelled : bytes ≡ before_crc s.payload s.ids 0x011A extra ++ four_bytes_of (register (before_crc s.payload s.ids 0x011A extra))
@@ -80,12 +80,12 @@ pub record SuffixedFile (bytes : List ℕ) (s : PayloadAndIds) : Type 0 where
   pub vendor_fits : s.ids.vendor < 2 ^ 16
   pub small : length bytes ≤ 16777216
 
--- The bytes are a DfuSe file: a body, and a suffix with the file's identifiers.
+-- The bytes are a DfuSe file: a body, followed by a suffix with the identifiers of `f`.
 pub record IsDfuSe (f : DfuseContent) (bytes : List ℕ) : Type 0 where
   pub payload : List ℕ
   pub suffix : SuffixedFile bytes (record { payload = payload; ids = f.ids })
   pub body : IsBody f.targets (length bytes) payload
 
--- `fault` is the first fault of the bytes, read as a DfuSe file.
+-- `fault` is the first fault found when the bytes are read as a DfuSe file.
 abbrev pub FirstFileFault : FileFault → List ℕ → Type 0
 FirstFileFault fault bytes = file_at bytes ≡ Err fault

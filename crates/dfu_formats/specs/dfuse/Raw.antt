@@ -1,4 +1,4 @@
--- A file without addresses, as one element.
+-- Converts a file without addresses to one element.
 use Rattle.std.specs.Prelude.{ℕ, ◌+◌, ◌-◌, ◌^◌, ◌==◌, ◌&&◌, nat_lt, nat_le, Bool, if◌then◌else◌, List, length, take, slice_index, find, Option, Some, None, Result, Ok, Err}
 use Rattle.dfu_formats.specs.images.Elements.{Piece}
 use Rattle.dfu_suffix.specs.Grammar.{tail_of, has_fault, fault_order}
@@ -8,7 +8,7 @@ use Rattle.dfu_formats.specs.declared.dfuse.raw.RawFault.{RawFault}
 use Rattle.dfu_formats.specs.declared.dfuse.raw.RawFault.TheVariants.{TooLarge, BadLength, BadCrc, HasAddresses, Empty, AddressPastTheEnd}
 use Rattle.dfu_formats.specs.dfuse.Reading.{begins_with_dfuse}
 
--- Refusal of a raw file in which dfu_suffix finds this fault; None if the file is not refused for it.
+-- Refusal of a raw file in which dfu_suffix finds this fault, or None if the fault causes no refusal.
 abbrev pub raw_refusal : SuffixFault → Option RawFault
 raw_refusal suffix.TooLarge = Some TooLarge
 raw_refusal suffix.BadLength = Some BadLength
@@ -21,17 +21,18 @@ abbrev pub whole_file_or : List ℕ → Option RawFault → Result (List ℕ) Ra
 whole_file_or bytes None = Ok bytes
 whole_file_or bytes (Some fault) = Err fault
 
--- Bytes before a suffix, by the first fault of dfu_suffix. A file without a suffix, because it is too short for one or isn't signed, is
--- taken whole; a file with another fault is refused.
+-- The payload of a raw file, which depends on the first fault that dfu_suffix finds. Without a fault, it is the bytes before the suffix. A
+-- file that has no suffix, because it is too short for one or has no signature, is its own payload. A file with any other fault is refused.
 unfoldable pub payload_by_fault : Option SuffixFault → List ℕ → Result (List ℕ) RawFault
 payload_by_fault None bytes = Ok (take (length bytes - slice_index (tail_of bytes) 11) bytes)
 payload_by_fault (Some fault) bytes = whole_file_or bytes (raw_refusal fault)
 
--- The bytes, five or more, begin with the letters DfuSe.
+-- There are at least five bytes, and they begin with the letters DfuSe.
 abbrev pub has_prefix : List ℕ → Bool
 has_prefix bytes = nat_le 5 (length bytes) && begins_with_dfuse bytes
 
--- Element of bytes at an address, or the first fault: bytes that begin with DfuSe, no bytes, or an end past the last address of 32 bits.
+-- The bytes as an element at an address, or the first fault: the bytes begin with DfuSe, there are no bytes, or the bytes end beyond
+-- address FFFFFFFFh.
 unfoldable pub placed_at : (address : ℕ) → List ℕ → Result Piece RawFault
 placed_at address bytes =
     if has_prefix bytes then Err HasAddresses
@@ -39,11 +40,11 @@ placed_at address bytes =
     else if nat_lt (2 ^ 32) (address + length bytes) then Err AddressPastTheEnd
     else Ok (record { address = address; bytes = bytes })
 
--- Element of a payload at an address, or the fault for which there is no payload.
+-- The payload as an element at an address, or the fault of the payload.
 abbrev pub raw_element_of_payload : (address : ℕ) → Result (List ℕ) RawFault → Result Piece RawFault
 raw_element_of_payload address (Err fault) = Err fault
 raw_element_of_payload address (Ok bytes) = placed_at address bytes
 
--- Element of a raw file at an address, or the first fault of the file.
+-- A raw file as an element at an address, or its first fault.
 abbrev pub raw_element_at : (address : ℕ) → List ℕ → Result Piece RawFault
 raw_element_at address bytes = raw_element_of_payload address (payload_by_fault (find (has_fault bytes) fault_order) bytes)

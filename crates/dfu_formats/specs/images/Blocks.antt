@@ -1,24 +1,24 @@
--- Reading of a file of UF2 blocks, block by block, with the fault of each. Blocks are counted from 0.
+-- Reads a UF2 file block by block, up to the first fault. The first block has number 0.
 use Rattle.std.specs.Prelude.{ℕ, ◌+◌, ◌/◌, ◌%◌, ◌^◌, ◌==◌, ◌&&◌, ◌||◌, not, nat_lt, Bool, if◌then◌else◌, List, length, take, drop, Result, Ok, Err}
 use Rattle.dfu_formats.specs.declared.images.fault.ImageFault.{ImageFault}
 use Rattle.dfu_formats.specs.declared.images.fault.ImageFault.TheVariants.{BadSize, BadMagic, BadBlock, BadNumber, FileContainer, OtherFamily, PastTheEnd}
 use Rattle.dfu_formats.specs.images.Numbers.{le32}
 use Rattle.dfu_formats.specs.images.Elements.{Piece, Gathering, bytes_added, elements_by_part}
 
--- The block has the three marks of UF2.
+-- The block has the three magic numbers of UF2.
 abbrev pub is_uf2_block : List ℕ → Bool
 is_uf2_block block = (le32 block 0 == 0x0A324655) && ((le32 block 4 == 0x9E5D5157) && (le32 block 508 == 0x0AB16F30))
 
--- The block has flag `flag`, which is the value of one bit.
+-- The block has the flag `flag`, a number with a single bit set.
 abbrev pub has_flag : List ℕ → ℕ → Bool
 has_flag block flag = le32 block 8 / flag % 2 == 1
 
--- The family of boards that a block is for, or 0 if it names none.
+-- Family of boards that a block is for, or 0 if the block contains no family.
 abbrev pub family_of : List ℕ → ℕ
 family_of block = if has_flag block 0x2000 then le32 block 28 else 0
 
--- Adds the data of a block at its address. A block that isn't for the main flash is skipped; one for a file of the device, for another
--- family, or with data past the last address is a fault.
+-- Adds the data of a block at its address, and skips a block that isn't for the main flash. A block for the main flash has a fault if it
+-- belongs to a file container, is for another family, or has data beyond address FFFFFFFFh.
 unfoldable pub block_gathered : (family index : ℕ) → Gathering → List ℕ → Result Gathering ImageFault
 block_gathered family index g block =
     if has_flag block 1 then Ok g
@@ -27,7 +27,7 @@ block_gathered family index g block =
     else if nat_lt (2 ^ 32) (le32 block 12 + le32 block 16) then Err (PastTheEnd index)
     else bytes_added index g (record { address = le32 block 12; bytes = take (le32 block 16) (drop 32 block) })
 
--- Reads a block, which must have the marks, up to 476 bytes of data, its own number, and the count of all blocks.
+-- Reads a block. It must have the magic numbers, at most 476 bytes of data, its index as its number, and the count of all blocks.
 unfoldable pub block_read : (total family index : ℕ) → Gathering → List ℕ → Result Gathering ImageFault
 block_read total family index g block =
     if not (is_uf2_block block) then Err (BadMagic index)
@@ -35,7 +35,8 @@ block_read total family index g block =
     else if not ((le32 block 20 == index) && (le32 block 24 == total)) then Err (BadNumber index)
     else block_gathered family index g block
 
--- The elements of a UF2 file, or its first fault. The file has one or more blocks of 512 bytes, for the family of the first.
+-- The elements of a UF2 file, or its first fault. The file is one or more blocks of 512 bytes. Each block for the main flash must be for
+-- the family of the first block.
 unfoldable pub uf2_elements_of : List ℕ → Result (List Piece) ImageFault
 uf2_elements_of file =
     if (length file == 0) || not (length file % 512 == 0) then Err BadSize

@@ -1,18 +1,18 @@
--- Reading of an ELF file of 32 bits, little endian, segment by segment, with the fault of each. Segments are counted from 0.
+-- Reads a 32-bit little-endian ELF file segment by segment, up to the first fault. The first segment has number 0.
 use Rattle.std.specs.Prelude.{ℕ, ◌+◌, ◌*◌, ◌^◌, ◌==◌, ◌&&◌, ◌||◌, not, nat_lt, Bool, if◌then◌else◌, List, length, take, drop, slice_index, Result, Ok, Err}
 use Rattle.dfu_formats.specs.declared.images.fault.ImageFault.{ImageFault}
 use Rattle.dfu_formats.specs.declared.images.fault.ImageFault.TheVariants.{NotElf, CutHeader, CutSegment, PastTheEnd}
 use Rattle.dfu_formats.specs.images.Numbers.{le16, le32}
 use Rattle.dfu_formats.specs.images.Elements.{Piece, Gathering, empty_gathering, bytes_added, gathered_elements, elements_by_part}
 
--- The file has a header of 52 bytes, with the mark of ELF, and 1 each for 32 bits, little endian and the version.
+-- The file has an ELF header of 52 bytes. Its class (32 bits), its byte order (little endian) and its version are 1.
 abbrev pub is_elf : List ℕ → Bool
 is_elf file =
     not (nat_lt (length file) 52) && ((le32 file 0 == 0x464C457F)
     && ((slice_index file 4 == 1) && ((slice_index file 5 == 1) && (slice_index file 6 == 1))))
 
--- Adds the bytes of a segment at its physical address. They must lie in the file, and end within the addresses of 32 bits. A segment that
--- isn't loaded, or has no bytes in the file, is skipped.
+-- Adds the bytes of a segment at its physical address. The file must contain all of them, and none may lie beyond address FFFFFFFFh. A
+-- segment that isn't loaded, or has no bytes in the file, is skipped.
 unfoldable pub segment_read : (file : List ℕ) → (index : ℕ) → Gathering → (header : List ℕ) → Result Gathering ImageFault
 segment_read file index g header =
     if not (le32 header 0 == 1) || (le32 header 16 == 0) then Ok g
@@ -20,7 +20,7 @@ segment_read file index g header =
     else if nat_lt (2 ^ 32) (le32 header 12 + le32 header 16) then Err (PastTheEnd index)
     else bytes_added index g (record { address = le32 header 12; bytes = take (le32 header 16) (drop (le32 header 4) file) })
 
--- The program headers have 32 bytes each, and the file has all of them.
+-- The program headers have 32 bytes each, and the file contains all of them.
 abbrev pub has_program_headers : List ℕ → Bool
 has_program_headers file = (le16 file 42 == 32) && not (nat_lt (length file) (le32 file 28 + 32 * le16 file 44))
 

@@ -1,15 +1,15 @@
--- Formats by the ending of a file's name.
+-- The format of a file according to the ending of its name.
 use Rattle.std.specs.Prelude.{ℕ, ◌-◌, ◌||◌, Bool, if◌then◌else◌, List, length, drop, codes, Option, Some, None}
 use Rattle.std.specs.Str.{str_eq_ignore_ascii_case}
 use Rattle.dfu_formats.specs.declared.images.format.Format.TheVariants.{IntelHex, SRecord, Uf2, Elf}
 use Rattle.dfu_formats.specs.declared.images.endings.Ending.{Ending}
 use Rattle.dfu_formats.specs.declared.images.endings.Ending.TheVariants.{Of, Dfu}
 
--- The name ends in `ending`, in letters of either case. The name may be the ending alone.
+-- The name ends in `ending`, in upper or lower case. The name may consist of the ending alone.
 unfoldable pub name_ends_in : (ending name : List ℕ) → Bool
 name_ends_in ending name = str_eq_ignore_ascii_case (drop (length name - length ending) name) ending
 
--- Format by the ending of a name: a format that builds produce, or DFU; None for any other ending.
+-- The kind of file for the ending of a name, or None if no kind has this ending.
 abbrev pub name_ending : List ℕ → Option Ending
 name_ending name =
     if name_ends_in (codes ".dfu") name then Some Dfu

@@ -7,12 +7,12 @@ use Rattle.dfu_formats.specs.images.Reading.{◌>>=◌}
 use Rattle.dfu_formats.specs.images.Text.{is_blank_byte, without_leading_blanks, without_order_mark}
 use Rattle.dfu_formats.specs.images.Elements.{Piece, Gathering, empty_gathering, gathered_elements}
 
--- Puts a byte at the front of the first line, or in a line of its own if there is none.
+-- Puts a byte at the front of the first line, or makes it the only line if there are none.
 abbrev pub byte_before_lines : ℕ → List (List ℕ) → List (List ℕ)
 byte_before_lines b [] = (b ∷ []) ∷ []
 byte_before_lines b (line ∷ lines) = (b ∷ line) ∷ lines
 
--- Lines of a text, without their line feeds. A line may be empty.
+-- The lines of a text, without their line feeds. A line may be empty.
 unfoldable pub lines : List ℕ → List (List ℕ)
 lines [] = [] ∷ []
 lines (b ∷ bs) = if b == 10 then [] ∷ lines bs else byte_before_lines b (lines bs)
@@ -21,16 +21,16 @@ lines (b ∷ bs) = if b == 10 then [] ∷ lines bs else byte_before_lines b (lin
 abbrev pub is_line_feed : ℕ → Bool
 is_line_feed b = b == 10
 
--- Bytes without the blanks at their end.
+-- The bytes without the blanks at their end.
 abbrev pub without_trailing_blanks : List ℕ → List ℕ
 without_trailing_blanks bytes = take (length bytes - suffix_len is_blank_byte bytes) bytes
 
--- A line without the blanks at its ends.
+-- The line without the blanks at its ends.
 unfoldable pub bare_line : List ℕ → List ℕ
 bare_line line = without_trailing_blanks (without_leading_blanks line)
 
--- State of reading a text up to a line: the elements, the base of Intel HEX, whether the base is that of a segment of 65,536 bytes, the
--- number of S-records of data, whether the text may end here, and whether an end record was read.
+-- State of reading a text: the elements, the base of Intel HEX, true if this base is a segment of 65,536 bytes, the number of S-records
+-- with data, true if the text may end here, and true after an end record.
 pub record State : Type 0 where
   pub gathering : Gathering
   pub base : ℕ
@@ -50,7 +50,7 @@ state_before_first_line = record {
   is_ended = false;
 }
 
--- Reads a line: a record, blanks alone, or nothing. A record after the end record is a fault.
+-- Reads a line, which is a record or blank. After the end record, a line that isn't blank is a fault.
 unfoldable pub line_read : (record_read : ℕ → State → List ℕ → Result State ImageFault) → (at : ℕ) → State → List ℕ →
     Result State ImageFault
 line_read record_read at s line =
@@ -58,13 +58,13 @@ line_read record_read at s line =
     else if s.is_ended then Err (Trailing at)
     else record_read at s line
 
--- Reads lines one after the other, the first of which has number `at`. The text must be whole after the last line.
+-- Reads lines one after the other, beginning with line number `at`. It is a fault if `is_whole` is false after the last line.
 unfoldable pub lines_read : (read : ℕ → State → List ℕ → Result State ImageFault) → (at : ℕ) → State → List (List ℕ) →
     Result State ImageFault
 lines_read read at s [] = if s.is_whole then Ok s else Err NoEnd
 lines_read read at s (line ∷ more) = read at s (bare_line line) >>= λ t. lines_read read (at + 1) t more
 
--- The elements of a text, without its byte order mark, or its first fault.
+-- The elements of a text, or its first fault. A byte order mark at its front is skipped.
 abbrev pub elements_by_line : (record_read : ℕ → State → List ℕ → Result State ImageFault) → List ℕ → Result (List Piece) ImageFault
 elements_by_line record_read text =
     lines_read (line_read record_read) 1 state_before_first_line (lines (without_order_mark text)) >>= λ s. gathered_elements s.gathering

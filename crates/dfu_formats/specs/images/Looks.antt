@@ -1,4 +1,4 @@
--- Look of a file without a DFU suffix: its apparent format, by its bytes and its name.
+-- The apparent format of a file without a DFU suffix, according to its bytes and its name.
 use Rattle.std.specs.Prelude.{ℕ, ◌==◌, ◌&&◌, ◌||◌, nat_le, nat_lt, nat_eq, Bool, false, if◌then◌else◌, List, [], ◌∷◌, codes, Option, Some, None}
 use Rattle.std.specs.List.{starts_with}
 use Rattle.dfu_formats.specs.images.Digits.{hex_value}
@@ -22,22 +22,24 @@ abbrev pub has_digits : List ℕ → Bool
 has_digits (a ∷ b ∷ bs) = nat_lt (hex_value a) 16 && nat_lt (hex_value b) 16
 has_digits bs = false
 
--- The text of a file begins as Intel HEX: with `:` and two digits, or with `:` alone if all of the file is text.
+-- The text begins like Intel HEX: with `:` and two digits, or with `:` alone if the whole file is text.
 abbrev pub begins_ihex : (file text : List ℕ) → Bool
 begins_ihex file (a ∷ bs) = (a == 58) && (has_digits bs || is_text file)
 begins_ihex file [] = false
 
--- The text begins as an S-record: `S`, its type, and two digits.
+-- The text begins like an S-record: with `S`, the digit of its type, and two hexadecimal digits.
 abbrev pub begins_srec : List ℕ → Bool
 begins_srec (a ∷ b ∷ bs) = (a == 83) && ((nat_le 48 b && nat_le b 57) && has_digits bs)
 begins_srec bs = false
 
--- Look of a file whose bytes fit no format: by the ending of its name, or else a raw image.
+-- Apparent kind of a file whose bytes have no known format. It is `Named` if the name of the file has the ending of a known kind, and a raw
+-- image otherwise.
 abbrev pub looks_by_name : Option Ending → Looks
 looks_by_name None = looks.Raw
 looks_by_name (Some ending) = looks.Other (Named ending)
 
--- Look of a file: the first kind of file whose mark its bytes have, or text, if they are text alone, or else the look by its name.
+-- Apparent kind of a file: the first kind with its mark at the front of the file; otherwise text, if the whole file is text; otherwise the
+-- kind for its name.
 abbrev pub looks_of : (file : List ℕ) → (ending : Option Ending) → Looks
 looks_of file ending =
     if file_begins (codes "DfuSe") file then looks.Other DfuSe
@@ -50,12 +52,12 @@ looks_of file ending =
     else if is_text file then looks.Other Text
     else looks_by_name ending
 
--- Place of the first byte that no record may have there, in a file that looks like Intel HEX or S-records.
+-- Line and column of the first byte that can't belong to a record, if the file looks like Intel HEX or S-records.
 abbrev pub bad_place_of_look : Looks → (file : List ℕ) → Option Place
 bad_place_of_look (looks.Of format) file = bad_place format file
 bad_place_of_look other file = None
 
--- Look at a file: its apparent format, the format by its name, and the place of the first byte that no record may have there.
+-- The apparent kind of a file, the kind for its name, and the line and column of the first byte that can't belong to a record.
 abbrev pub look_at_file : (file name : List ℕ) → Look
 look_at_file file name = record {
   looks = looks_of file (name_ending name);

@@ -1,4 +1,4 @@
--- Search of a text for the first byte that no record may have at its place.
+-- Searches a text for the first byte that can't belong to a record.
 use Rattle.std.specs.Prelude.{ℕ, ◌+◌, ◌==◌, nat_lt, if◌then◌else◌, List, [], ◌∷◌, Option, Some, None}
 use Rattle.dfu_formats.specs.images.Digits.{hex_value}
 use Rattle.dfu_formats.specs.images.Text.{is_blank_byte, without_order_mark}
@@ -8,18 +8,19 @@ use Rattle.dfu_formats.specs.declared.images.places.Part.{Part}
 use Rattle.dfu_formats.specs.declared.images.places.Part.TheVariants.{Front, Digits, Back}
 use Rattle.dfu_formats.specs.declared.images.places.Place.{Place}
 
--- Part of a line after a byte; None if no record may have the byte in this part. A line is blanks, the mark, digits, and blanks.
+-- The part of a line to which a byte belongs, given the part before it, or None if no record allows the byte. A line consists of blanks,
+-- the mark, digits, and blanks.
 abbrev pub part_after_byte : (mark : ℕ) → Part → ℕ → Option Part
 part_after_byte mark Front b = if is_blank_byte b then Some Front else if b == mark then Some Digits else None
 part_after_byte mark Digits b = if nat_lt (hex_value b) 16 then Some Digits else if is_blank_byte b then Some Back else None
 part_after_byte mark Back b = if is_blank_byte b then Some Back else None
 
--- The place of a byte that no record may have there; after any other byte the search continues with the next part.
+-- Returns `place` if the byte there can't belong to a record, and otherwise continues the search in part `part`.
 abbrev pub place_or_search : Place → (part : Option Part) → (more : Part → Option Place) → Option Place
 place_or_search place None more = Some place
 place_or_search place (Some part) more = more part
 
--- Place of the first byte that no record may have there, in bytes that begin at this line and column, in part `part` of a line.
+-- Line and column of the first byte that can't belong to a record. The bytes begin at this line and column, in part `part` of a line.
 unfoldable pub bad_from : (mark : ℕ) → Part → (line column : ℕ) → List ℕ → Option Place
 bad_from mark part line column [] = None
 bad_from mark part line column (b ∷ bs) =
@@ -27,8 +28,7 @@ bad_from mark part line column (b ∷ bs) =
     else place_or_search (record { line = line; column = column }) (part_after_byte mark part b)
     (λ next. bad_from mark next line (column + 1) bs)
 
--- Place of the first byte that no record may have there, in a file of a text format. Lines and columns count from 1, after a byte order
--- mark.
+-- Line and column of the first byte of a text file that can't belong to a record. Both count from 1, and a byte order mark isn't counted.
 abbrev pub bad_place : Format → List ℕ → Option Place
 bad_place IntelHex file = bad_from 58 Front 1 1 (without_order_mark file)
 bad_place SRecord file = bad_from 83 Front 1 1 (without_order_mark file)

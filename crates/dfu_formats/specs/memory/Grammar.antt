@@ -1,4 +1,4 @@
--- The grammar of a memory map, built from the front: `@NAME/ADDRESS/COUNT*SIZE LETTER`, with more ranges after `,` or after `/ADDRESS/`.
+-- The grammar of a memory map: `@NAME/ADDRESS/COUNT*SIZE LETTER`. More ranges follow after `,` or after `/ADDRESS/`.
 use Rattle.std.specs.Prelude.{◌≡◌, ◌≢◌, ℕ, ◌*◌, ◌<◌, ◌≤◌, true, ◌⊎◌, List, [], ◌∷◌, ◌++◌, length, replicate}
 use Rattle.dfu_formats.specs.declared.memory.pages.Pages.{Pages}
 use Rattle.dfu_formats.specs.declared.memory.fault.MapFault.{MapFault}
@@ -11,21 +11,21 @@ unfoldable pub AreDigits : (base : ℕ) → List ℕ → Type 0
 AreDigits base [] = Unit {0}
 AreDigits base (b ∷ bs) = (digit_value b < base) × AreDigits base bs
 
--- `digits` spell `n` in base `base`: at least one digit, and at most `most`.
+-- `digits` is the number `n` in base `base`, with one to `most` digits.
 pub record IsNumber (base most n : ℕ) (digits : List ℕ) : Type 0 where
   pub are_digits : AreDigits base digits
   pub some : 1 ≤ length digits
   pub few : length digits ≤ most
   pub digits_make_number : n ≡ digits_number base 0 digits
 
--- `times` is the number of bytes of a unit: 1,024 for K, 1,048,576 for M, and 1 for B, a space or no unit.
+-- `times` is the number of bytes of the unit: 1,024 for K, 1,048,576 for M, and 1 for B, for a space or for no unit.
 abbrev pub IsUnit : (times : ℕ) → List ℕ → Type 0
 IsUnit times [] = times ≡ 1
 IsUnit times (b ∷ []) = (times ≡ unit_bytes b) × (unit_bytes b ≢ 0)
 IsUnit times (a ∷ b ∷ bs) = ⊥
 
--- A group of pages that begins at `start`, and ends within the addresses of 32 bits: a count, `*`, a page size and its unit, and the letter
--- for the access. Count and size aren't 0.
+-- A group of pages that begins at `start` and has only 32-bit addresses. Its text is a count, `*`, a page size with its unit, and the
+-- letter for the access. Neither count nor size is 0.
 pub record IsGroup (start : ℕ) (p : Pages) (text : List ℕ) : Type 0 where
   pub count_digits : List ℕ
   pub size_digits : List ℕ
@@ -44,14 +44,14 @@ pub record IsGroup (start : ℕ) (p : Pages) (text : List ℕ) : Type 0 where
   pub starts : p.start ≡ start
   pub sound : IsRange p
 
--- Prefix that may precede an address: `0x`, `0X` or nothing.
+-- The text is a prefix that may precede an address: `0x`, `0X` or nothing.
 abbrev pub IsPrefix : List ℕ → Type 0
 IsPrefix [] = Unit {0}
 IsPrefix (a ∷ []) = ⊥
 IsPrefix (a ∷ b ∷ []) = (a ≡ 48) × ((b ≡ 120) ⊎ (b ≡ 88))
 IsPrefix (a ∷ b ∷ c ∷ cs) = ⊥
 
--- An address in one to eight hexadecimal digits, with or without a prefix.
+-- The text is an address in one to eight hexadecimal digits, with or without a prefix.
 pub record IsAddress (address : ℕ) (text : List ℕ) : Type 0 where
   pub prefix : List ℕ
   pub digits : List ℕ
@@ -59,8 +59,8 @@ pub record IsAddress (address : ℕ) (text : List ℕ) : Type 0 where
   pub prefix_is : IsPrefix prefix
   pub number_is : IsNumber 16 8 address digits
 
--- Text of ranges, the first of which begins at `start`. After `,` a range begins at the end of the range in front of it; after `/` come its
--- address and `/`.
+-- The text encodes ranges, the first of which begins at `start`. A range after `,` begins at the end of the range before it. A range after
+-- `/ADDRESS/` begins at this address.
 pub data AreRanges : (start : ℕ) → List Pages → List ℕ → Type 0 where
   last : {start : ℕ} {p : Pages} {text : List ℕ} → IsGroup start p text → AreRanges start (p ∷ []) text
   following : {start : ℕ} {p : Pages} {ps : List Pages} {group more : List ℕ} →
@@ -74,14 +74,14 @@ unfoldable pub HasNoSlash : List ℕ → Type 0
 HasNoSlash [] = Unit {0}
 HasNoSlash (b ∷ bs) = (b ≢ 47) × HasNoSlash bs
 
--- The bytes are empty, or their last is not a space.
+-- The bytes are empty, or don't end in a space.
 unfoldable pub HasNoTrailingSpace : List ℕ → Type 0
 HasNoTrailingSpace [] = Unit {0}
 HasNoTrailingSpace (b ∷ []) = b ≢ 32
 HasNoTrailingSpace (a ∷ b ∷ bs) = HasNoTrailingSpace (b ∷ bs)
 
--- `text` is a map: `@`, a name without `/` and without a space at its end, spaces, an address between two `/`, and up to 32 ranges, the
--- first at that address, that share no address.
+-- `text` is a map: `@`, a name without `/` and without spaces at its end, spaces, an address between two `/`, and up to 32 ranges that
+-- share no address. The first range begins at the address.
 pub record IsMap (m : MapContent) (text : List ℕ) : Type 0 where
   pub spaces : ℕ
   pub place : ℕ
@@ -95,6 +95,6 @@ pub record IsMap (m : MapContent) (text : List ℕ) : Type 0 where
   pub few : length m.ranges ≤ 32
   pub apart : are_apart m.ranges ≡ true
 
--- `fault` is the first fault of the string, read as a map.
+-- `fault` is the first fault found when the string is read as a map.
 abbrev pub FirstMapFault : MapFault → List ℕ → Type 0
 FirstMapFault fault text = map_at text ≡ Err fault

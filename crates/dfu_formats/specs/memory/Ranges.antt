@@ -1,4 +1,4 @@
--- Ranges of pages, and the addresses that they have.
+-- Ranges of pages, and the addresses that they contain.
 use Rattle.std.specs.Prelude.{ℕ, ◌+◌, ◌*◌, ◌^◌, ◌≤◌, ◌&&◌, ◌||◌, nat_le, Bool, true, List, [], ◌∷◌}
 use Rattle.dfu_formats.specs.declared.memory.pages.Pages.{Pages}
 
@@ -6,7 +6,7 @@ use Rattle.dfu_formats.specs.declared.memory.pages.Pages.{Pages}
 abbrev pub end_of_range : Pages → ℕ
 end_of_range p = p.start + p.count * p.size
 
--- The range has at least one page, each page has at least one byte, and the last byte has an address of 32 bits.
+-- The range has at least one page, each page has at least one byte, and the last byte has a 32-bit address.
 pub record IsRange (p : Pages) : Type 0 where
   pub some_pages : 1 ≤ p.count
   pub some_bytes : 1 ≤ p.size

@@ -1,4 +1,4 @@
-//! Elements of a target, one after the other.
+//! The elements of a target.
 
 ghost use Rattle.std.specs.Prelude.{◌≡◌, ◌==◌, if◌then◌else◌, [], ◌∷◌, length, MatchOption, Ok, Err};
 ghost use Rattle.dfu_formats.specs.dfuse.Reading.{front_element, elements_at};
@@ -9,7 +9,7 @@ use crate::dfuse::fault::FileFault;
 use crate::dfuse::numbers::number_at;
 use std::marker::Model;
 
-/// An element, and the bytes after it.
+/// An element and the bytes after it.
 #[derive(Drop)]
 struct ElementAndRest<'f> {
     element: Element<'f>,
@@ -25,7 +25,7 @@ impl<'f> Model for ElementAndRest<'f> {
     ghost view = { λ s. record { element = piece_of s.element; rest = s.rest.now } };
 }
 
-/// Takes an element off the front of `bytes`. Returns the element and the bytes after it, or its fault.
+/// Splits an element off the front of `bytes`, or returns the fault of this element.
 #[tactic(auto, using(std::proofs::lemmas::Bool::Decides::nat_tests), unfolding(crate::specs::dfuse::Reading::front_element))]
 fn take_element(bytes: &[u8]) -> Result<ElementAndRest<'_>, FileFault>
     ensures { result ≡ front_element bytes.now }
@@ -55,18 +55,18 @@ fn take_element(bytes: &[u8]) -> Result<ElementAndRest<'_>, FileFault>
     })
 }
 
-/// Checks that `rest` has no bytes.
+/// Checks that `rest` is empty.
 ///
 /// # Errors
 ///
-/// `fault` if it has some.
+/// `fault` if `rest` has a byte.
 pub(crate) fn check_end(rest: &[u8], fault: FileFault) -> Result<(), FileFault>
     ensures { result ≡ (if length rest.now == 0 then Ok tt else Err fault) }
 {
     if rest.is_empty() { Ok(()) } else { Err(fault) }
 }
 
-/// Checks that `bytes` are `count` elements, and nothing else.
+/// Checks that `bytes` are the encoding of `count` elements, and nothing more.
 pub(crate) fn check_elements(count: u32, bytes: &[u8]) -> Result<(), FileFault>
     ensures { result ≡ fault_of_result (elements_at count bytes.now) }
 {
@@ -80,7 +80,7 @@ pub(crate) fn check_elements(count: u32, bytes: &[u8]) -> Result<(), FileFault>
     check_end(rest, FileFault::BadTargetSize)
 }
 
-/// The elements of a target, in the order of the file.
+/// Iterator over the elements of a target, in the order of the file.
 #[derive(Drop)]
 pub struct Elements<'f> {
     left: u32,
@@ -103,7 +103,7 @@ impl<'f> Model for Elements<'f> {
 impl<'f> Elements<'f> {
     ghost use Rattle.dfu_formats.specs.dfuse.Found.{list_or_empty};
 
-    /// Returns the `left` elements at the front of `rest`, which must have been checked.
+    /// Returns an iterator over the next `left` elements of `rest`, which `check_elements` must have accepted.
     pub(crate) fn new(left: u32, rest: &'f [u8]) -> Elements<'f>
         requires { elements_at left rest.now ≡ Ok (list_or_empty (elements_at left rest.now)) }
         ensures { result ≡ list_or_empty (elements_at left rest.now) }
@@ -118,7 +118,7 @@ impl<'f> Elements<'f> {
         self.left
     }
 
-    /// Takes the first element off, and returns it. If no element is left, nothing changes, and None is returned.
+    /// Removes and returns the first element. Returns None if no element is left.
     pub fn next_element(&mut self) -> Option<Element<'f>>
         ensures { MatchOption result ((self.old ≡ []) × (self.new ≡ [])) (λ e. self.old ≡ piece_of e ∷ self.new) }
     {

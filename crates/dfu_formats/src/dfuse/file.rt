@@ -14,7 +14,7 @@ use crate::dfuse::targets::{Targets, check_targets};
 use dfu_wire::Ids;
 use std::marker::Model;
 
-/// A DfuSe file: the device that it is for, and one to 255 targets, as slices of the bytes that were read. Only `read` makes one.
+/// A DfuSe file: the identifiers of its device, and one to 255 targets, as slices of the bytes that were read. Only `read` creates one.
 #[derive(Drop)]
 pub struct File<'f> {
     ids: Ids,
@@ -34,11 +34,11 @@ impl<'f> Model for File<'f> {
     ghost invariant = { λ f. targets_at f.count f.targets.now ≡ Ok (list_or_empty (targets_at f.count f.targets.now)) };
 }
 
-/// Reads the file of `whole` bytes with body `bytes`, and with `ids` in its suffix.
+/// Reads `bytes`, the part of a file before its suffix. The file has `whole` bytes, and its suffix contains `ids`.
 ///
 /// # Errors
 ///
-/// The first fault of the body, in the order of [`FileFault`].
+/// The first fault that is found in `bytes`, from the front.
 #[tactic(auto, using(std::proofs::lemmas::Bool::Decides::nat_tests), unfolding(crate::specs::dfuse::Reading::body_at))]
 fn read_body(ids: Ids, whole: usize, bytes: &[u8]) -> Result<File<'_>, FileFault>
     ensures { result ≡ file_of_targets ids (body_at whole bytes.now) }
@@ -71,11 +71,11 @@ fn read_body(ids: Ids, whole: usize, bytes: &[u8]) -> Result<File<'_>, FileFault
     }
 }
 
-/// Reads the DfuSe file `bytes`.
+/// Reads the suffix of `bytes`, and then the bytes before it.
 ///
 /// # Errors
 ///
-/// The first fault, in the order of [`FileFault`].
+/// The first fault of the suffix, or else the first fault of the bytes before the suffix.
 #[tactic(auto, unfolding(crate::specs::dfuse::Reading::file_at))]
 fn read_file(bytes: &[u8]) -> Result<File<'_>, FileFault>
     ensures { result ≡ file_at bytes.now }
@@ -86,18 +86,18 @@ fn read_file(bytes: &[u8]) -> Result<File<'_>, FileFault>
     }
 }
 
-/// Reads a DfuSe file. The size in its prefix may include the suffix, as dfu-util's tools write it, or not, as ST's do. A file with a wrong
-/// dwCRC is refused for the CRC, whatever is wrong in the bytes before its suffix.
+/// Reads a DfuSe file. The size in its prefix may include the suffix, as dfu-util's tools write it, or not, as ST's tools do. If the dwCRC
+/// is wrong, no fault in the bytes before the suffix is reported.
 ///
 /// # Errors
 ///
-/// The first fault, in the order of [`FileFault`].
+/// The first fault that is found, in the order that [`FileFault`] describes.
 pub fn read(bytes: &[u8]) -> Result<File<'_>, FileFault>
-    // The result is a file of the grammar.
+    // By the grammar, the bytes are an encoding of the returned file.
     ensures found { IfOk result (λ f. IsDfuSe f bytes.now) }
-    // Each file of the grammar is read.
+    // Every file that follows the grammar is read.
     ensures only { (f : DfuseContent) → IsDfuSe f bytes.now → result ≡ Ok f }
-    // Any other bytes have a first fault, which is returned.
+    // For any other bytes, the result is their first fault.
     ensures fault { (fault : FileFault) → (result ≡ Err fault) ↔ FirstFileFault fault bytes.now }
 {
     read_file(bytes)
@@ -118,7 +118,7 @@ impl<'f> File<'f> {
         Targets::new(self.count, self.targets)
     }
 
-    /// Returns the alternate setting that all targets are for; None if they are for different ones, or there are none.
+    /// Returns the alternate setting of all targets, or None if they have different ones.
     pub fn setting(&self) -> Option<u8>
         ensures { result ≡ one_setting self.now.targets }
     {

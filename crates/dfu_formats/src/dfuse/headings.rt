@@ -8,7 +8,7 @@ use crate::dfuse::marks::is_target;
 use crate::dfuse::numbers::number_at;
 use std::marker::Model;
 
-/// Fields of a target before its elements, the bytes of the elements, and the bytes after the target.
+/// Fields of a target before its elements, the encoded elements, and the bytes after the target.
 #[derive(Drop)]
 pub(crate) struct Heading<'f> {
     pub setting: u8,
@@ -34,7 +34,7 @@ impl<'f> Model for Heading<'f> {
     } };
 }
 
-/// Takes the first target off `bytes`: its 274 bytes of fields, and the bytes of its elements. Returns it, or its fault.
+/// Splits the first target off `bytes`: 274 bytes of fields, and then its encoded elements. The fault is NoTarget or BadTargetSize.
 #[tactic(auto, using(std::proofs::lemmas::Bool::Decides::nat_tests), unfolding(crate::specs::dfuse::Reading::heading_at))]
 pub(crate) fn take_heading(bytes: &[u8]) -> Result<Heading<'_>, FileFault>
     ensures { result ≡ heading_at bytes.now }

@@ -1,4 +1,4 @@
-//! The elements of a file for an alternate setting.
+//! The elements of a file for one alternate setting.
 
 ghost use Rattle.std.specs.Prelude.{◌≡◌, ◌≤◌, length, take, true, IfOk, MatchResult, None, Some};
 ghost use Rattle.std.specs.List.Sorted.{IsPermutation};
@@ -10,12 +10,12 @@ use crate::dfuse::listing::put;
 use std::fmt;
 use thiserror::Error;
 
-/// A fault for which a file has no image for an alternate setting: the first of these that holds.
+/// Fault of a request for the elements of an alternate setting: the first one in this order that applies.
 #[derive(Clone, Copy, Debug, Error)]
 pub enum ImageFault {
     /// No target is for this alternate setting.
     NoSuchSetting,
-    /// There are more elements than there is room for.
+    /// There are more elements than slots in `room`.
     TooManyElements,
 }
 
@@ -34,7 +34,7 @@ impl fmt::Display for ImageFault {
 /// Sorts `elements` by their addresses.
 fn sort_all(elements: &mut [Element<'_>])
     ensures size { length elements.new ≡ length elements.old }
-    ensures same { IsPermutation elements.old elements.new }
+    ensures permutation { IsPermutation elements.old elements.new }
     ensures sorted { ascends_from 0 elements.new ≡ true }
 {
     elements.sort_unstable_by_key(|element| element.address);
@@ -44,19 +44,19 @@ fn sort_all(elements: &mut [Element<'_>])
 fn sort(count: usize, room: &mut [Element<'_>])
     requires { count ≤ length room.old }
     ensures size { length room.new ≡ length room.old }
-    ensures same { IsPermutation (take count room.old) (take count room.new) }
+    ensures permutation { IsPermutation (take count room.old) (take count room.new) }
     ensures sorted { ascends_from 0 (take count room.new) ≡ true }
 {
     sort_all(&mut room[..count]);
 }
 
 impl<'f> File<'f> {
-    /// Writes the elements of all targets of an alternate setting to the front of `room`, in the order of the file. Returns their number. A
-    /// session needs them sorted by address, as `image` writes them.
+    /// Writes the elements of all targets for an alternate setting to the front of `room`, in the order of the file. Returns their number.
+    /// A session needs them sorted by address, as `image` writes them.
     ///
     /// # Errors
     ///
-    /// NoSuchSetting, or TooManyElements if `room` has fewer places than there are elements. Then `room` may have changed.
+    /// NoSuchSetting, or TooManyElements if `room` has fewer slots than there are elements. After TooManyElements, `room` may have changed.
     pub fn listed(&self, setting: u8, room: &mut [Element<'f>]) -> Result<usize, ImageFault>
         ensures size { length room.new ≡ length room.old }
         ensures listed { IfOk result (λ n. ElementsListedBehind 0 (elements_for setting self.now.targets) room.old (Some n) room.new) }
@@ -81,12 +81,12 @@ impl<'f> File<'f> {
         Ok(count)
     }
 
-    /// Writes the elements of alternate setting `setting` to the front of `room`, sorted by address. Returns their number. Elements that
-    /// overlap are listed too, because a session refuses them.
+    /// Writes the elements of alternate setting `setting` to the front of `room`, sorted by address. Returns their number. Overlapping
+    /// elements are listed too, because the session refuses them.
     ///
     /// # Errors
     ///
-    /// NoSuchSetting, or TooManyElements if `room` has fewer places than there are elements.
+    /// NoSuchSetting, or TooManyElements if `room` has fewer slots than there are elements.
     pub fn image(&self, setting: u8, room: &mut [Element<'f>]) -> Result<usize, ImageFault>
         ensures size { length room.new ≡ length room.old }
         ensures image { IfOk result (λ n. IsImage (elements_for setting self.now.targets) n room.new) }

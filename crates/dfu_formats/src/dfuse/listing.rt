@@ -1,4 +1,4 @@
-//! Lists of elements for a session, from the elements of files.
+//! Lists of elements for a session.
 
 ghost use Rattle.std.specs.Prelude.{◌≡◌, ◌+◌, ◌<◌, ◌≤◌, ◌++◌, length, take, map, MatchOption};
 ghost use Rattle.dfu_formats.specs.dfuse.Found.{piece_of};
@@ -7,7 +7,8 @@ ghost use Rattle.dfu_formats.specs.dfuse.Images.{ElementsListedBehind};
 use crate::dfuse::element::Element;
 use crate::dfuse::elements::Elements;
 
-/// Writes elements to `room` after its first `from`. Returns the number of elements that `room` then has, or None if they don't fit.
+/// Writes elements to `room`, after the first `from` slots. Returns the number of slots in use after that, or None if the elements don't
+/// fit.
 pub(crate) fn put<'f>(
     elements: Elements<'f>,
     from: usize,
@@ -29,8 +30,8 @@ pub(crate) fn put<'f>(
     Some(count)
 }
 
-/// Writes elements that a reader of `dfu_formats::images` returned to the front of `room`, in their order. Returns their number, or None if
-/// they don't fit. Elements of one file are sorted by address, as a session needs them.
+/// Writes elements that `dfu_formats::images` has read to the front of `room`, in their order. Returns their number, or None if they don't
+/// fit. The elements of one file are sorted by address, as a session needs them.
 pub fn list<'p>(pieces: &'p [crate::images::Element], room: &mut [Element<'p>]) -> Option<usize>
     ensures size { length room.new ≡ length room.old }
     ensures listed { ElementsListedBehind 0 pieces.now room.old result room.new }

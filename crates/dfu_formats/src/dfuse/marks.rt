@@ -1,9 +1,9 @@
-//! The letters that mark the parts of a file.
+//! The letters at the front of a file and of each target.
 
 ghost use Rattle.std.specs.Prelude.{◌≡◌, ◌≤◌, length};
 ghost use Rattle.dfu_formats.specs.dfuse.Reading.{is_target, begins_with_dfuse};
 
-/// Returns true if the first six of `bytes` are the letters Target.
+/// Returns true if the first six bytes are the letters Target.
 pub(crate) fn is_target(bytes: &[u8]) -> bool
     requires { 6 ≤ length bytes.now }
     ensures { result ≡ is_target bytes.now }
@@ -16,7 +16,7 @@ pub(crate) fn is_target(bytes: &[u8]) -> bool
         && bytes[5] == b't'
 }
 
-/// Returns true if the first five of `bytes` are the letters DfuSe.
+/// Returns true if the first five bytes are the letters DfuSe.
 pub(crate) fn begins_with_dfuse(bytes: &[u8]) -> bool
     requires { 5 ≤ length bytes.now }
     ensures { result ≡ begins_with_dfuse bytes.now }

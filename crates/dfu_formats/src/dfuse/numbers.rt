@@ -1,9 +1,9 @@
-//! Numbers in bytes, the low byte first.
+//! Little-endian numbers in a file.
 
 ghost use Rattle.std.specs.Prelude.{◌≡◌, ◌+◌, ◌≤◌, ◌<◌, ◌^◌, length};
 ghost use Rattle.dfu_formats.specs.dfuse.Reading.{number_at};
 
-/// Returns the number in the four bytes of `bytes` from index `place` on, the low byte first.
+/// Returns the number in the four bytes from index `place` on, the low byte first.
 pub(crate) fn number_at(place: usize, bytes: &[u8]) -> u32
     requires { place + 4 ≤ length bytes.now }
     ensures { result ≡ number_at place bytes.now }

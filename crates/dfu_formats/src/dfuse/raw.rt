@@ -1,4 +1,4 @@
-//! A file without addresses, as one element.
+//! Converts a file without addresses to one element.
 
 ghost use Rattle.std.specs.Prelude.{◌≡◌, MatchResult, Ok, Err, find};
 ghost use Rattle.dfu_suffix.specs.Grammar.{has_fault, fault_order};
@@ -11,20 +11,20 @@ use dfu_suffix::SuffixFault;
 use std::fmt;
 use thiserror::Error;
 
-/// A fault for which a file can't be written to an address: the first of these that holds.
+/// Fault of a file that can't become an element at an address: the first one in this order that applies.
 #[derive(Clone, Copy, Debug, Error)]
 pub enum RawFault {
-    /// The file has over 16,777,216 bytes.
+    /// The file is longer than 16,777,216 bytes.
     TooLarge,
-    /// The file has a signature, and bLength is under 16 or over the file's length.
+    /// The file has a signature, and bLength is less than 16 or more than the length of the file.
     BadLength,
-    /// The file has a signature, bcdDFU isn't 011Ah, and dwCRC isn't the register over the bytes before it.
+    /// The file has a signature, bcdDFU isn't 011Ah, and dwCRC isn't the CRC register over the bytes before it.
     BadCrc,
-    /// bcdDFU is 011Ah, or the file begins with the letters DfuSe.
+    /// The file has a signature and bcdDFU 011Ah, or begins with the letters DfuSe.
     HasAddresses,
-    /// The file is empty, or empty before its suffix.
+    /// The file has no bytes, or none before its suffix.
     Empty,
-    /// The last byte would have an address past FFFFFFFFh.
+    /// The last byte would have an address beyond FFFFFFFFh.
     AddressPastTheEnd,
 }
 
@@ -44,7 +44,7 @@ impl fmt::Display for RawFault {
     }
 }
 
-/// Returns the refusal of a file in which dfu_suffix finds `fault`; None if the file is not refused for it.
+/// Returns the refusal of a file in which dfu_suffix finds `fault`, or None if the fault causes no refusal.
 fn refusal(fault: SuffixFault) -> Option<RawFault>
     ensures { result ≡ raw_refusal fault }
 {
@@ -57,7 +57,7 @@ fn refusal(fault: SuffixFault) -> Option<RawFault>
     }
 }
 
-/// Returns the bytes of a file before a suffix, all of `bytes` if the file has none, or the refusal of the file.
+/// Returns the bytes before the suffix, or all bytes of a file without a suffix, or the refusal of the file.
 fn payload_of(bytes: &[u8]) -> Result<&[u8], RawFault>
     ensures { MatchResult result (λ payload. payload_by_fault (find (has_fault bytes.now) fault_order) bytes.now ≡ Ok payload.now)
         (λ fault. payload_by_fault (find (has_fault bytes.now) fault_order) bytes.now ≡ Err fault) }
@@ -79,7 +79,7 @@ fn has_prefix(bytes: &[u8]) -> bool
     bytes.len() >= 5 && begins_with_dfuse(bytes)
 }
 
-/// Returns the element of `bytes` at `address`, or its first fault.
+/// Returns `bytes` as an element at `address`, or the first fault.
 #[tactic(auto, using(std::proofs::lemmas::Bool::Decides::nat_tests), unfolding(crate::specs::dfuse::Raw::placed_at))]
 fn placed_at(address: u32, bytes: &[u8]) -> Result<Element<'_>, RawFault>
     ensures { MatchResult result (λ e. placed_at address bytes.now ≡ Ok (piece_of e)) (λ fault. placed_at address bytes.now ≡ Err fault) }
@@ -96,8 +96,8 @@ fn placed_at(address: u32, bytes: &[u8]) -> Result<Element<'_>, RawFault>
     Ok(Element { address, bytes })
 }
 
-/// Reads a file without addresses as an element at `address`. Its suffix (USB DFU 1.1, appendix B), if it has one, is left out. A file with
-/// a damaged suffix, or that begins as a DfuSe file, is refused, because its suffix or its prefix would be written too.
+/// Reads a file without addresses as an element at `address`. A suffix (USB DFU 1.1, appendix B) is removed. A file with a damaged suffix
+/// is refused, and so is one that begins like a DfuSe file, because the suffix or the prefix would be written too.
 ///
 /// # Errors
 ///

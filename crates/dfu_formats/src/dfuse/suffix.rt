@@ -1,4 +1,4 @@
-//! The suffix of a file, with bcdDFU 011Ah.
+//! The suffix with bcdDFU 011Ah, which ends a DfuSe file.
 
 ghost use Rattle.std.specs.Prelude.{◌≡◌, ◌+◌, ◌≤◌, length, drop};
 ghost use Rattle.dfu_suffix.specs.Grammar.{tail_of, has_fault};
@@ -12,7 +12,7 @@ use dfu_suffix::{Crc, SuffixFault};
 use dfu_wire::Ids;
 use std::marker::Model;
 
-/// The bytes before the suffix, and the identifiers in it.
+/// The bytes before the suffix and the identifiers in the suffix.
 #[derive(Drop)]
 pub(crate) struct PayloadAndIds<'f> {
     pub payload: &'f [u8],
@@ -37,7 +37,7 @@ fn tail(bytes: &[u8]) -> &[u8]
     tail
 }
 
-/// Returns the number in the two bytes of `tail` from index `place` on, the low byte first.
+/// Returns the number in the two bytes from index `place` of `tail` on, the low byte first.
 fn field(place: usize, tail: &[u8]) -> u16
     requires { place + 2 ≤ length tail.now }
     ensures { result ≡ little_number 2 (drop place tail.now) }
@@ -46,7 +46,7 @@ fn field(place: usize, tail: &[u8]) -> u16
     LittleEndian::read_u16(field)
 }
 
-/// Returns true if the dwCRC of `bytes` isn't the register over the bytes before it.
+/// Returns true if dwCRC isn't the CRC register over the bytes before it.
 fn has_bad_crc(bytes: &[u8]) -> bool
     requires { 16 ≤ length bytes.now }
     ensures { result ≡ has_fault bytes.now suffix.BadCrc }
@@ -58,7 +58,7 @@ fn has_bad_crc(bytes: &[u8]) -> bool
     LittleEndian::read_u32(crc) != over.value()
 }
 
-/// Returns the payload and the identifiers, by the fields of the last 16 bytes.
+/// Returns the payload and the identifiers, which are taken from the last 16 bytes.
 fn payload_and_ids_of(bytes: &[u8]) -> PayloadAndIds<'_>
     requires long { 16 ≤ length bytes.now }
     ensures { result ≡ payload_and_ids_of bytes.now }
@@ -75,7 +75,7 @@ fn payload_and_ids_of(bytes: &[u8]) -> PayloadAndIds<'_>
     }
 }
 
-/// Returns true if `fault` is `DfuSe`, which dfu_suffix finds in a DfuSe file.
+/// Returns true for the fault `DfuSe`, which dfu_suffix reports for every DfuSe file.
 fn is_dfuse(fault: SuffixFault) -> bool
     ensures { result ≡ is_dfuse fault }
 {
@@ -110,8 +110,8 @@ fn read_signed(bytes: &[u8]) -> Result<PayloadAndIds<'_>, FileFault>
     }
 }
 
-/// Reads the suffix, or returns its first fault. Its CRC is checked with the small table, because a file is read once, and a library for C
-/// has no large tables.
+/// Reads the suffix, or returns its first fault. The CRC is computed with the small table, because a file is read only once, and the large
+/// tables would enlarge the library for C.
 pub(crate) fn read_suffix(bytes: &[u8]) -> Result<PayloadAndIds<'_>, FileFault>
     ensures { result ≡ suffix_at bytes.now }
 {

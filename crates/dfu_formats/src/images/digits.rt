@@ -1,4 +1,4 @@
-//! Bytes that are spelled in two hexadecimal digits each.
+//! Bytes as pairs of hexadecimal digits.
 
 ghost use Rattle.std.specs.Prelude.{◌≡◌, ◌*◌, ◌≤◌, length, sum, MatchOption, MatchResult, None, Some, Ok, Err};
 ghost use Rattle.dfu_formats.specs.images.Digits.{hex_value, bytes_of_pairs, bytes_at};
@@ -7,7 +7,7 @@ use crate::images::fault::ImageFault;
 use crate::images::limits::MAX_RECORD;
 use arrayvec::ArrayVec;
 
-/// Returns the value of hexadecimal digit `byte`, of either case, 0 to 15, or 16 if `byte` is not one.
+/// Returns the value, 0 to 15, of hexadecimal digit `byte`, of either case. Returns 16 for any other byte.
 pub fn hex_digit(byte: u8) -> u8
     ensures value { result ≡ hex_value byte }
     ensures small { result ≤ 16 }
@@ -20,7 +20,7 @@ pub fn hex_digit(byte: u8) -> u8
     }
 }
 
-/// Returns the bytes that the hexadecimal `digits` spell, two digits for each; None if `digits` aren't pairs of digits.
+/// Returns the bytes of the hexadecimal `digits`, two digits for each. Returns None if a byte is no digit or one digit remains.
 fn pairs(digits: &[u8]) -> Option<ArrayVec<u8, MAX_RECORD>>
     requires { length digits.now ≤ 520 }
     ensures { MatchOption result (bytes_of_pairs digits.now ≡ None) (λ bytes. bytes_of_pairs digits.now ≡ Some bytes.items) }
@@ -42,7 +42,7 @@ fn pairs(digits: &[u8]) -> Option<ArrayVec<u8, MAX_RECORD>>
     Some(bytes)
 }
 
-/// Returns the bytes of the record in line `at`, from its `digits`.
+/// Decodes the `digits` of the record on line `at`.
 #[tactic(auto, using(std::proofs::lemmas::Bool::Decides::nat_tests), unfolding(crate::specs::images::Digits::bytes_at))]
 pub(crate) fn bytes_at(at: usize, digits: &[u8]) -> Result<ArrayVec<u8, MAX_RECORD>, ImageFault>
     ensures { MatchResult result (λ bytes. bytes_at at digits.now ≡ Ok bytes.items) (λ fault. bytes_at at digits.now ≡ Err fault) }
@@ -56,7 +56,7 @@ pub(crate) fn bytes_at(at: usize, digits: &[u8]) -> Result<ArrayVec<u8, MAX_RECO
     }
 }
 
-/// Returns the sum of `bytes`, the bytes of a record.
+/// Returns the sum of the bytes of a record, for its checksum.
 pub(crate) fn sum_of(bytes: &[u8]) -> u32
     requires { length bytes.now ≤ 260 }
     ensures { result ≡ sum bytes.now }

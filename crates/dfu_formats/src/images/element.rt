@@ -5,7 +5,7 @@ ghost use Rattle.dfu_formats.specs.images.Elements.{end_of_piece};
 
 use std::marker::Model;
 
-/// Consecutive bytes, and the address of the first. There is at least one byte, and the last has an address of 32 bits.
+/// Consecutive bytes, and the address of the first one. There is at least one byte, and the last one has a 32-bit address.
 #[derive(Drop)]
 pub struct Element {
     address: u32,
@@ -24,7 +24,7 @@ impl Model for Element {
 }
 
 impl Element {
-    /// Returns the element of `bytes`, 1 or more, at `address`. The element must end at 2^32 or before.
+    /// Returns the element of `bytes` at `address`. There must be at least one byte, and the element must end at or before 2^32.
     pub(crate) fn new(address: u64, bytes: Vec<u8>) -> Element
         requires some { 1 ≤ length bytes.items }
         requires ends { address + length bytes.items ≤ 2 ^ 32 }
@@ -50,10 +50,10 @@ impl Element {
         &self.bytes
     }
 
-    /// Returns the address after the last byte, up to 2^32.
+    /// Returns the address after the last byte, at most 2^32.
     pub fn end(&self) -> u64
         ensures value { result ≡ end_of_piece self.now }
-        ensures fits { result ≤ 2 ^ 32 }
+        ensures at_most_4_gib { result ≤ 2 ^ 32 }
     {
         self.address as u64 + self.bytes.len() as u64
     }

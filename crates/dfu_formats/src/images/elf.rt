@@ -1,4 +1,4 @@
-//! ELF files of 32 bits, little endian: the bytes that their segments load.
+//! 32-bit little-endian ELF files: the bytes that their segments load.
 
 ghost use Rattle.std.specs.Prelude.{◌≡◌, ◌+◌, ◌*◌, ◌≤◌, ◌<◌, length, IfOk, true, Ok, Err};
 ghost use Rattle.dfu_formats.specs.images.Reading.{IsReadResult, IsReadFault};
@@ -12,7 +12,7 @@ use crate::images::numbers::{le16, le32};
 use crate::images::parts::{ByPart, elements_by_part};
 use std::alloc::Global;
 
-/// Returns true if `file` has the header of an ELF file of 32 bits, little endian.
+/// Returns true if `file` has the header of a 32-bit little-endian ELF file.
 #[tactic(auto, using(std::proofs::lemmas::Bool::Decides::nat_tests))]
 fn is_elf(file: &[u8]) -> bool
     ensures value { result ≡ is_elf file.now }
@@ -46,7 +46,7 @@ impl ByPart for Segments<'_> {
         }
         let from = le32(header, 4) as usize;
         let address = le32(header, 12) as u64;
-        // A sum of 64 bits, because two numbers of a header may wrap a usize of 32.
+        // The sum needs 64 bits, because two header fields can together exceed a 32-bit usize.
         if from as u64 + count as u64 > self.file.len() as u64 {
             return Err(ImageFault::CutSegment(index));
         }
@@ -62,7 +62,7 @@ impl ByPart for Segments<'_> {
 /// Reads the elements of ELF file `file`.
 #[tactic(auto, using(std::proofs::lemmas::Bool::Decides::nat_tests), unfolding(crate::specs::images::Elf::elf_elements_of))]
 pub fn read(alloc: Global, file: &[u8]) -> Result<Vec<Element>, ImageFault>
-    // The result is the list of the file's elements, or its first fault.
+    // The result is the elements of the file, or its first fault.
     ensures value { IsElementResult result (elf_elements_of file.now) }
     // The elements are sorted by address, and no two share an address.
     ensures apart { IfOk result (λ v. AreApart 0 v.items) }

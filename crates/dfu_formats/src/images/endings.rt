@@ -1,20 +1,20 @@
-//! Formats by the ending of a file's name.
+//! The format of a file according to the ending of its name.
 
 ghost use Rattle.std.specs.Prelude.{◌≡◌};
 ghost use Rattle.dfu_formats.specs.images.Endings.{name_ending, name_ends_in};
 
 use crate::images::format::Format;
 
-/// Format by the ending of a file's name.
+/// Kind of file, according to the ending of its name.
 #[derive(Clone, Copy)]
 pub enum Ending {
-    /// A file of a format that builds produce.
+    /// The ending is that of a format that builds produce.
     Of(Format),
-    /// A DFU file.
+    /// The ending is that of a DFU file.
     Dfu,
 }
 
-/// Returns true if `name` ends in `ending`, in letters of either case.
+/// Returns true if `name` ends in `ending`, in upper or lower case.
 #[tactic(auto, unfolding(crate::specs::images::Endings::name_ends_in))]
 fn name_ends_in(ending: &[u8], name: &[u8]) -> bool
     ensures { result ≡ name_ends_in ending.now name.now }
@@ -26,7 +26,7 @@ fn name_ends_in(ending: &[u8], name: &[u8]) -> bool
     last.eq_ignore_ascii_case(ending)
 }
 
-/// Returns the format by the ending of `name`; None for an ending of no format.
+/// Returns the kind of file for the ending of `name`, or None if no kind has this ending.
 pub(crate) fn name_ending(name: &[u8]) -> Option<Ending>
     ensures { result ≡ name_ending name.now }
 {

@@ -1,4 +1,4 @@
-//! Elements that grow and are completed as records are read.
+//! Elements that are gathered from the records of a file.
 
 ghost use Rattle.std.specs.Prelude.{◌≡◌, ◌+◌, ◌≤◌, ◌<◌, ◌^◌, length, IfOk, Ok, Err};
 ghost use Rattle.dfu_formats.specs.images.Reading.{IsReadResult};
@@ -10,7 +10,7 @@ use crate::images::limits::{MAX_ELEMENTS, MAX_IMAGE};
 use std::alloc::Global;
 use std::marker::Model;
 
-/// Complete elements, sorted by address, and the element that still grows.
+/// Complete elements, sorted by address, and the element to which records still append.
 #[derive(Drop)]
 pub(crate) struct Gathering {
     complete: Vec<Element>,
@@ -34,7 +34,7 @@ impl Model for Gathering {
     ghost invariant = { λ g. (g.total ≤ 16777216) × (g.address + length g.bytes.items ≤ 2 ^ 32) };
 }
 
-/// Returns the number of `elements`, from the front, that begin at `address` or before it.
+/// Returns the number of leading `elements` that begin at or before `address`.
 fn place_of(address: u32, elements: &[Element]) -> usize
     ensures value { result ≡ element_place address elements.now }
     ensures within { result ≤ length elements.now }
@@ -49,7 +49,7 @@ fn place_of(address: u32, elements: &[Element]) -> usize
     count
 }
 
-/// Inserts `element` into `elements` by its address, after those with the same one.
+/// Inserts `element` into `elements`, after those with the same or a lower address.
 fn insert_element(mut elements: Vec<Element>, element: Element) -> Result<Vec<Element>, ImageFault>
     ensures { IsElementResult result (Ok (elements_with_inserted element elements.items)) }
 {
@@ -60,7 +60,7 @@ fn insert_element(mut elements: Vec<Element>, element: Element) -> Result<Vec<El
     }
 }
 
-/// Returns `elements` with the element of `bytes` at `address` inserted, unless `bytes` is empty.
+/// Inserts the element of `bytes` at `address` into `elements`, unless `bytes` is empty.
 #[tactic(auto, using(std::proofs::lemmas::Bool::Decides::nat_tests), unfolding(crate::specs::images::Elements::completed_elements))]
 fn insert_grown(
     elements: Vec<Element>,
@@ -76,7 +76,7 @@ fn insert_grown(
     insert_element(elements, Element::new(address, bytes))
 }
 
-/// Begins an element with `bytes` at `address` beside the `complete` elements, unless these are at least 1,024.
+/// Begins an element with `bytes` at `address`, unless 1,024 elements or more are `complete`.
 #[tactic(auto, using(std::proofs::lemmas::Bool::Decides::nat_tests), unfolding(crate::specs::images::Elements::element_begun))]
 fn begin_element(
     alloc: Global,
@@ -104,7 +104,7 @@ fn begin_element(
     }
 }
 
-/// Returns the first address at which an element begins before the element in front of it ends; None if there is none.
+/// Returns the address of the first element that begins before the end of its predecessor, or None if there is none.
 #[tactic(auto, unfolding(crate::specs::images::Elements::shared_address))]
 fn shared(elements: &[Element]) -> Option<u32>
     ensures { result ≡ shared_address 0 elements.now }
@@ -132,7 +132,7 @@ impl Gathering {
         }
     }
 
-    /// Adds `bytes` at `address`: to the growing element if they begin at its end, and otherwise as a new element.
+    /// Appends `bytes` to the growing element if they begin at its end. Otherwise completes it and begins another at `address`.
     #[tactic(auto, using(std::proofs::lemmas::Bool::Decides::nat_tests), unfolding(crate::specs::images::Elements::element_grown))]
     fn grow(
         self,
@@ -169,7 +169,8 @@ impl Gathering {
         }
     }
 
-    /// Adds `bytes`, if there are any, at `address`; they are of line, block or segment number `at`, which a fault names.
+    /// Adds `bytes`, if there are any, at `address`. TooLarge and TooManyElements contain `at`, the number of the line, block or segment
+    /// with the bytes.
     #[tactic(auto, using(std::proofs::lemmas::Bool::Decides::nat_tests), unfolding(crate::specs::images::Elements::bytes_added))]
     pub(crate) fn add(
         self,
@@ -194,7 +195,8 @@ impl Gathering {
     ///
     /// # Errors
     ///
-    /// Overlaps with the first address at which an element begins before the end of the one in front of it.
+    /// Overlaps, with the address of the first element that begins before the end of its predecessor; NoMemory if an allocation was
+    /// refused.
     #[tactic(auto, using(std::proofs::lemmas::Bool::Decides::nat_tests), unfolding(crate::specs::images::Elements::gathered_elements))]
     pub(crate) fn finish(self) -> Result<Vec<Element>, ImageFault>
         ensures value { IsElementResult result (gathered_elements self) }

@@ -1,9 +1,9 @@
 //! Intel HEX, records 00 to 05.
 //!
-//! A line ends with a line feed, and the last one needs none. A byte order mark, blank lines and the blanks at either end of a line, such
-//! as a carriage return, are ignored. Digits have either case. There is one end record, and only blank lines follow it. The data of a
-//! record may continue past the 65,536 bytes of a linear base (type 04, or none), but not past those of a segment (type 02). The start
-//! address of a program is ignored.
+//! Each line ends with a line feed, which is optional after the last one. A byte order mark and empty lines are ignored, and so are spaces,
+//! tabs and carriage returns at either end of a line. Digits may be of either case. Only blank lines may follow the end record. The data of
+//! a record may continue beyond the 65,536 bytes of a linear base (type 04, or none), but not beyond those of a segment (type 02). The
+//! start address of a program is ignored.
 
 ghost use Rattle.std.specs.Prelude.{◌≡◌, ◌+◌, ◌≤◌, ◌<◌, ◌^◌, length, IfOk, MatchResult, Ok, Err};
 ghost use Rattle.dfu_formats.specs.images.Reading.{IsReadResult, IsReadFault};
@@ -19,7 +19,7 @@ use arrayvec::ArrayVec;
 use std::alloc::Global;
 use std::marker::Model;
 
-/// Returns the bytes of the record in `line`, which has number `at`: the bytes that the digits after `:` spell.
+/// Returns the bytes of the record in `line`, which has number `at`, from the digits after `:`.
 #[tactic(auto, using(std::proofs::lemmas::Bool::Decides::nat_tests), unfolding(crate::specs::images::IntelHex::hex_bytes_of_line))]
 fn spelled(at: usize, line: &[u8]) -> Result<ArrayVec<u8, MAX_RECORD>, ImageFault>
     ensures { MatchResult result (λ bytes. hex_bytes_of_line at line.now ≡ Ok bytes.items)
@@ -47,7 +47,7 @@ impl<'t> Model for Record<'t> {
     ghost view = { λ r. record { offset = r.offset; kind = r.kind; content = r.content.now } };
 }
 
-/// Splits `bytes`, the record in line number `at`, into its fields, or returns its fault of length or checksum.
+/// Splits `bytes`, the record on line `at`, into its fields, or returns the fault of its length or checksum.
 #[tactic(auto, using(std::proofs::lemmas::Bool::Decides::nat_tests), unfolding(crate::specs::images::IntelHex::hex_record_of_bytes))]
 fn split_record(at: usize, bytes: &[u8]) -> Result<Record<'_>, ImageFault>
     requires { length bytes.now ≤ 260 }
@@ -73,7 +73,7 @@ fn split_record(at: usize, bytes: &[u8]) -> Result<Record<'_>, ImageFault>
     })
 }
 
-/// Returns true if the base of `state` is a segment, and the data of record `said` goes past its end.
+/// Returns true if the base of `state` is a segment, and the data of record `said` ends beyond this segment.
 fn leaves_segment(state: &State, said: &Record<'_>) -> bool
     requires { said.now.offset < 65536 }
     ensures { result ≡ leaves_segment state.now said.now }
@@ -81,7 +81,7 @@ fn leaves_segment(state: &State, said: &Record<'_>) -> bool
     state.is_segment && said.offset as usize + said.content.len() > 65_536
 }
 
-/// Adds the data of record `said`, in line number `at`, at its offset from the base of `state`.
+/// Adds the data of record `said`, on line `at`, at its offset from the base of `state`.
 #[tactic(auto, using(std::proofs::lemmas::Bool::Decides::nat_tests), unfolding(crate::specs::images::IntelHex::hex_data_at))]
 fn add_data(alloc: Global, at: usize, state: State, said: &Record<'_>) -> Result<State, ImageFault>
     requires { said.now.offset < 65536 }
@@ -98,7 +98,7 @@ fn add_data(alloc: Global, at: usize, state: State, said: &Record<'_>) -> Result
     }
 }
 
-/// Sets the base to the two bytes of record `said`, in units of `unit` addresses. Other than two bytes are BadLength.
+/// Sets the base to the two bytes of record `said`, in units of `unit` addresses. Any other number of bytes is BadLength.
 #[tactic(auto, using(std::proofs::lemmas::Bool::Decides::nat_tests), unfolding(crate::specs::images::IntelHex::state_with_base))]
 fn with_base(at: usize, unit: u64, state: State, said: &Record<'_>) -> Result<State, ImageFault>
     requires { unit ≤ 65536 }
@@ -115,7 +115,7 @@ fn with_base(at: usize, unit: u64, state: State, said: &Record<'_>) -> Result<St
     }
 }
 
-/// Carries out record `said`, in line number `at`, by its type. Returns the state after it, or its fault.
+/// Applies record `said`, on line `at`, by its type. Returns the new state, or the fault.
 #[tactic(auto, using(std::proofs::lemmas::Bool::Decides::nat_tests), unfolding(crate::specs::images::IntelHex::hex_record_applied))]
 fn do_record(alloc: Global, at: usize, state: State, said: &Record<'_>) -> Result<State, ImageFault>
     requires { said.now.offset < 65536 }
@@ -137,7 +137,7 @@ fn do_record(alloc: Global, at: usize, state: State, said: &Record<'_>) -> Resul
     }
 }
 
-/// Intel HEX, as a format that is read line by line.
+/// Intel HEX as a text format.
 struct IntelHex;
 
 impl TextFormat for IntelHex {
@@ -160,7 +160,7 @@ impl TextFormat for IntelHex {
 /// Reads the elements of Intel HEX file `text`.
 #[tactic(auto, using(std::proofs::lemmas::Bool::Decides::nat_tests), unfolding(crate::specs::images::IntelHex::hex_elements_of))]
 pub fn read(alloc: Global, text: &[u8]) -> Result<Vec<Element>, ImageFault>
-    // The result is the list of the file's elements, or its first fault.
+    // The result is the elements of the file, or its first fault.
     ensures value { IsElementResult result (hex_elements_of text.now) }
     // The elements are sorted by address, and no two share an address.
     ensures apart { IfOk result (λ v. AreApart 0 v.items) }

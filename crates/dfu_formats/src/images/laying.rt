@@ -1,4 +1,4 @@
-//! An image as one piece, from the lowest address of its elements on.
+//! Joins the elements of an image into one piece, which begins at their lowest address.
 
 ghost use Rattle.std.specs.Prelude.{◌≡◌, ◌+◌, ◌-◌, ◌≤◌, ◌<◌, ◌++◌, length, IfOk, Ok, Err};
 ghost use Rattle.dfu_formats.specs.images.Elements.{AreApart};
@@ -10,14 +10,14 @@ use std::alloc::Global;
 use std::fmt;
 use thiserror::Error;
 
-/// A fault of elements that don't make one piece.
+/// A fault of elements that can't be joined to one piece.
 #[derive(Clone, Copy, Debug, Error)]
 pub enum LayFault {
     /// An allocation was refused.
     NoMemory,
-    /// No element has the addresses from the first up to before the second, and no filling is given.
+    /// No element contains the addresses from the first value up to before the second one, and no fill byte is given.
     Gap(u64, u32),
-    /// With the filling of the gaps, the image has over 16,777,216 bytes.
+    /// With the gaps filled, the image has over 16,777,216 bytes.
     TooLarge,
 }
 
@@ -36,7 +36,7 @@ impl fmt::Display for LayFault {
     }
 }
 
-/// Appends an element to bytes that end at address `end`, after those that fill the gap; or returns the fault.
+/// Appends an element to bytes that end at address `end`, after the fill bytes between them. Returns the fault if there is one.
 #[tactic(auto, using(std::proofs::lemmas::Bool::Decides::nat_tests), unfolding(crate::specs::images::Laying::filled_part))]
 fn with_part(
     mut bytes: Vec<u8>,
@@ -47,7 +47,7 @@ fn with_part(
     requires ahead { end ≤ element.now.address }
     requires few { length bytes.items ≤ 16777216 }
     ensures value { IsLaidResult result (bytes_in_front bytes.items (filled_part fill (length bytes.items) end element.now)) }
-    ensures few { IfOk result (λ v. length v.items ≤ 16777216) }
+    ensures at_most_16_mib { IfOk result (λ v. length v.items ≤ 16777216) }
 {
     let gap = (element.address() as u64 - end) as usize;
     if fill.is_none() && gap != 0 {
@@ -66,7 +66,7 @@ fn with_part(
     }
 }
 
-/// Returns the lowest address of `elements`, which are sorted by address; 0 if there are none.
+/// Returns the lowest address of `elements`, which are sorted by address, or 0 if there are none.
 pub fn lowest(elements: &[Element]) -> u32
     ensures { result ≡ lowest_address elements.now }
 {
@@ -76,15 +76,15 @@ pub fn lowest(elements: &[Element]) -> u32
     }
 }
 
-/// Returns the bytes of `elements` from the lowest address on, with gaps filled by the byte `fill`, if it is given.
+/// Returns the bytes of `elements` from the lowest address on. Gaps are filled with the byte `fill`, if it is given.
 ///
 /// # Errors
 ///
-/// The first fault from the front: Gap if no filling is given, or TooLarge. NoMemory if an allocation was refused.
+/// The first fault from the front: Gap if `fill` is None, or TooLarge. NoMemory if an allocation was refused.
 pub fn lay(alloc: Global, elements: &[Element], fill: Option<u8>) -> Result<Vec<u8>, LayFault>
     requires { AreApart 0 elements.now }
     ensures value { IsLaidResult result (laid_bytes fill 0 (lowest_address elements.now) elements.now) }
-    ensures few { IfOk result (λ v. length v.items ≤ 16777216) }
+    ensures at_most_16_mib { IfOk result (λ v. length v.items ≤ 16777216) }
 {
     let mut bytes = Vec::new(alloc);
     let mut end = lowest(elements) as u64;

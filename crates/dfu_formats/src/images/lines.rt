@@ -15,7 +15,7 @@ use crate::images::text::{is_blank_byte, unblanked, unmarked};
 use std::alloc::Global;
 use std::marker::Model;
 
-/// Returns the index of the first line feed of `text`; None if it has none.
+/// Returns the index of the first line feed of `text`, or None if it has none.
 fn feed_in(text: &[u8]) -> Option<usize>
     ensures value { result ≡ position is_line_feed text.now }
     ensures within { IfSome result (λ at. at < length text.now) }
@@ -23,7 +23,7 @@ fn feed_in(text: &[u8]) -> Option<usize>
     text.iter().position(|byte| *byte == b'\n')
 }
 
-/// Returns the first line of `text`, and the text after its line feed, if it has one.
+/// Returns the first line of `text`, and the text after its line feed. This text is None if there is no line feed.
 fn take_line(text: &[u8]) -> (&[u8], Option<&[u8]>)
     ensures value { MatchOption result.1 (lines text.now ≡ result.0.now ∷ []) (λ rest. lines text.now ≡ result.0.now ∷ lines rest.now) }
     ensures shorter { IfSome result.1 (λ rest. length rest.now < length text.now) }
@@ -51,8 +51,8 @@ fn bare(line: &[u8]) -> &[u8]
     kept
 }
 
-/// State of the reading of a text up to a line: the elements, the base of Intel HEX, whether the base is that of a segment of 65,536 bytes,
-/// the number of S-records of data, whether the text may end here, and whether only blank lines may follow.
+/// State of reading a text: the elements, the base of Intel HEX, true if this base is a segment of 65,536 bytes, the number of S-records
+/// with data, true if the text may end here, and true if only blank lines may follow.
 #[derive(Drop)]
 pub(crate) struct State {
     pub gathering: Gathering,
@@ -81,11 +81,11 @@ impl Model for State {
     ghost invariant = { λ s. s.base ≤ 4294901760 };
 }
 
-/// A format that is read line by line.
+/// A text format with one record on each line.
 pub(crate) trait TextFormat {
     ghost use Rattle.dfu_formats.specs.images.Lines as lines;
 
-    /// Result of reading the record on line number `at`.
+    /// Result of reading the record on line `at`.
     ghost step: { (at : ℕ) → lines.State → List ℕ → Result lines.State declared.ImageFault };
 
     fn step(alloc: Global, at: usize, state: State, line: &[u8]) -> Result<State, ImageFault>
@@ -94,14 +94,14 @@ pub(crate) trait TextFormat {
         ensures counted { IfOk result (λ s. s.count ≤ state.count + 1) };
 }
 
-/// Returns true if `line` is empty or has only blanks.
+/// Returns true if `line` is empty or consists of blanks.
 fn is_blank_line(line: &[u8]) -> bool
     ensures { result ≡ list_all is_blank_byte line.now }
 {
     line.iter().all(|byte| is_blank_byte(*byte))
 }
 
-/// Reads `line`, which has number `at`: a record, or blanks alone, or nothing. Returns the state after it.
+/// Reads `line`, which has number `at` and is a record or blank. Returns the new state, or the fault.
 #[tactic(auto, using(std::proofs::lemmas::Bool::Decides::nat_tests), unfolding(crate::specs::images::Lines::line_read))]
 fn line_read<F: TextFormat>(
     alloc: Global,
@@ -122,7 +122,7 @@ fn line_read<F: TextFormat>(
     F::step(alloc, at, state, line)
 }
 
-/// Reads all lines of `text`. Returns the state after them, or the first fault; NoEnd is one.
+/// Reads all lines of `text`. Returns the last state or the first fault. The fault is NoEnd if the text may not end after its last line.
 fn lines_read<F: TextFormat>(alloc: Global, text: &[u8]) -> Result<State, ImageFault>
     ensures { IsReadResult result (lines_read (line_read F.step) 1 state_before_first_line (lines text.now)) }
 {
@@ -151,12 +151,12 @@ fn lines_read<F: TextFormat>(alloc: Global, text: &[u8]) -> Result<State, ImageF
     }
 }
 
-/// Reads the elements of `text` line by line, without its byte order mark.
+/// Reads the elements of `text`, line by line. A byte order mark at its front is skipped.
 pub(crate) fn elements_by_line<F: TextFormat>(
     alloc: Global,
     text: &[u8],
 ) -> Result<Vec<Element>, ImageFault>
-    // The result is the list of the text's elements, or its first fault.
+    // The result is the elements of the text, or its first fault.
     ensures value { IsElementResult result (elements_by_line F.step text.now) }
     // The elements are sorted by address, and no two share an address.
     ensures apart { IfOk result (λ v. AreApart 0 v.items) }

@@ -13,7 +13,7 @@ use std::alloc::Global;
 use std::fmt;
 use thiserror::Error;
 
-/// The bytes from the lowest address of a file to its highest one.
+/// The image of a file as one piece, from its lowest address to its highest one.
 #[derive(Drop)]
 pub struct Image {
     /// The address of the first byte.
@@ -22,14 +22,14 @@ pub struct Image {
     pub bytes: Vec<u8>,
 }
 
-/// A fault for which a file has no image.
+/// A fault of a file from which no image can be made.
 #[derive(Clone, Copy, Debug, Error)]
 pub enum ImageFileFault {
-    /// The file can't be read.
+    /// The elements of the file can't be read.
     Unread(ImageFault),
-    /// The file has no byte for any address.
+    /// The file has no data, and so no address.
     NoData,
-    /// The elements of the file don't make one piece.
+    /// The elements of the file can't be joined to one piece.
     Unlaid(LayFault),
 }
 
@@ -43,7 +43,7 @@ impl fmt::Display for ImageFileFault {
     }
 }
 
-/// Reads the elements of `file`, a file of `format`.
+/// Reads the elements of `file`, which is in `format`.
 fn elements_in(alloc: Global, format: Format, file: &[u8]) -> Result<Vec<Element>, ImageFault>
     ensures value { IsElementResult result (elements_in format file.now) }
     ensures apart { IfOk result (λ v. AreApart 0 v.items) }
@@ -56,11 +56,12 @@ fn elements_in(alloc: Global, format: Format, file: &[u8]) -> Result<Vec<Element
     }
 }
 
-/// Returns the image of `file`, a file of `format`, with gaps filled by the byte `fill`, if it is given.
+/// Returns the image of `file`, which is in `format`. Gaps are filled with the byte `fill`, if it is given.
 ///
 /// # Errors
 ///
-/// Unread with the first fault of the file; NoData if it has no bytes; Unlaid, with the reason, if its elements don't make one piece.
+/// Unread, with the first fault of the file; NoData if the file has no data; Unlaid, with the reason, if its elements can't be joined to
+/// one piece.
 pub fn image_of(
     alloc: Global,
     format: Format,
@@ -68,7 +69,7 @@ pub fn image_of(
     file: &[u8],
 ) -> Result<Image, ImageFileFault>
     ensures value { MakeImageResult fill (elements_in format file.now) result }
-    ensures few { IfOk result (λ i. length i.bytes.items ≤ 16777216) }
+    ensures at_most_16_mib { IfOk result (λ i. length i.bytes.items ≤ 16777216) }
 {
     let elements = match elements_in(alloc, format, file) {
         Ok(elements) => elements,

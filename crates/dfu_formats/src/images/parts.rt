@@ -1,4 +1,4 @@
-//! Formats that are read part by part, each part of one size.
+//! Formats whose files consist of parts of equal size.
 
 ghost use Rattle.std.specs.Prelude.{◌≡◌, ◌+◌, ◌*◌, ◌≤◌, ℕ, List, Result, length, IfOk};
 ghost use Rattle.dfu_formats.specs.declared.images.fault.ImageFault as declared;
@@ -11,12 +11,12 @@ use crate::images::fault::ImageFault;
 use crate::images::gathering::Gathering;
 use std::alloc::Global;
 
-/// A file of a format that is read part by part, with the facts of the whole file that each part needs.
+/// A file that consists of parts of equal size. The value contains the facts about the whole file that are needed to read a part.
 pub(crate) trait ByPart {
-    /// Number of bytes of a part.
+    /// Number of bytes in each part.
     ghost size: { Self → ℕ };
 
-    /// Result of reading a part, by its index.
+    /// Result of reading the part with this index.
     ghost part_read: { Self → (index : ℕ) → elements.Gathering → List ℕ → Result elements.Gathering declared.ImageFault };
 
     fn part_read(
@@ -30,7 +30,7 @@ pub(crate) trait ByPart {
         ensures { IsReadResult result (part_read self.now index gathering part.now) };
 }
 
-/// Reads the first `total` parts, each of `size` bytes. Returns the gathering after them, or the first fault.
+/// Reads the first `total` parts, each of `size` bytes. Returns the elements gathered from them, or the first fault.
 fn parts_read<F: ByPart>(
     alloc: Global,
     file: &F,
@@ -57,7 +57,7 @@ fn parts_read<F: ByPart>(
     Ok(gathering)
 }
 
-/// Reads the elements of the first `total` parts of `parts`, each of `size` bytes.
+/// Reads the elements from the first `total` parts, each of `size` bytes.
 pub(crate) fn elements_by_part<F: ByPart>(
     alloc: Global,
     file: &F,
@@ -67,7 +67,7 @@ pub(crate) fn elements_by_part<F: ByPart>(
 ) -> Result<Vec<Element>, ImageFault>
     requires sized { size ≡ F.size file.now }
     requires whole { total * size ≤ length parts.now }
-    // The result is the list of the parts' elements, or the first fault.
+    // The result is the elements of the parts, or the first fault.
     ensures value { IsElementResult result (elements_by_part size (F.part_read file.now) total parts.now) }
     // The elements are sorted by address, and no two share an address.
     ensures apart { IfOk result (λ v. AreApart 0 v.items) }

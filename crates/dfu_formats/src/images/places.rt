@@ -1,4 +1,4 @@
-//! Search of a text for the first byte that no record may have at its place.
+//! Searches a text for the first byte that can't belong to a record.
 
 ghost use Rattle.std.specs.Prelude.{◌≡◌};
 ghost use Rattle.dfu_formats.specs.images.Places.{bad_from, bad_place, part_after_byte};
@@ -7,16 +7,16 @@ use crate::images::digits::hex_digit;
 use crate::images::format::Format;
 use crate::images::text::{is_blank_byte, unmarked};
 
-/// A place in a text. Both numbers count from 1, and columns count bytes.
+/// A position in a text. Lines and columns count from 1, and columns count bytes.
 #[derive(Clone, Copy)]
 pub struct Place {
-    /// Number of the line.
+    /// Number of the line, from 1.
     pub line: u64,
-    /// Number of the byte within the line.
+    /// Number of the byte within the line, from 1.
     pub column: u64,
 }
 
-/// A part of a line: before the mark of a record, from the mark to the last digit, or after the digits.
+/// Part of a line: before the mark of a record, from the mark to the last digit, or after the digits.
 #[derive(Clone, Copy)]
 enum Part {
     Front,
@@ -24,7 +24,7 @@ enum Part {
     Back,
 }
 
-/// Returns the part of a line after `byte` in `part`; None if no record with `mark` may have the byte in `part`.
+/// Returns the part of a line to which `byte` belongs if it follows `part`, or None if no record with `mark` allows this byte there.
 #[tactic(auto, using(std::proofs::lemmas::Bool::Decides::nat_tests))]
 fn next_line_part(mark: u8, part: Part, byte: u8) -> Option<Part>
     ensures { result ≡ part_after_byte mark part byte }
@@ -38,8 +38,8 @@ fn next_line_part(mark: u8, part: Part, byte: u8) -> Option<Part>
     }
 }
 
-/// Returns the place of the first byte of `text`, a text without its byte order mark, that no record with `mark` may have there; None if
-/// there is no such byte.
+/// Returns the line and column of the first byte of `text` that can't belong to a record with `mark`, or None if there is no such byte.
+/// `text` has no byte order mark.
 #[tactic(auto, using(std::proofs::lemmas::Bool::Decides::nat_tests), unfolding(crate::specs::images::Places::bad_from))]
 fn bad_from(mark: u8, text: &[u8]) -> Option<Place>
     ensures { result ≡ bad_from mark Part.Front 1 1 text.now }
@@ -63,10 +63,10 @@ fn bad_from(mark: u8, text: &[u8]) -> Option<Place>
     None
 }
 
-/// Returns the place of the first byte of `file` that no record may have there, if `format` is a text format. None if there is no such
-/// byte, and for a binary format.
+/// Returns the line and column of the first byte of `file` that can't belong to a record, or None if there is no such byte. For a binary
+/// format the result is None.
 ///
-/// A line is blanks, the mark of a record, hexadecimal digits, and blanks. Lines are counted after a byte order mark.
+/// A line consists of blanks, the mark of a record, hexadecimal digits, and blanks. A byte order mark is not counted.
 pub fn bad_place(format: Format, file: &[u8]) -> Option<Place>
     ensures { result ≡ bad_place format file.now }
 {

@@ -1,7 +1,7 @@
 //! S-records, types 0 to 3 and 5 to 9.
 //!
-//! Lines and digits are as in Intel HEX. After all data comes an end record, of any of its types, or a count, because some tools write no
-//! end record. A count must equal the number of data records before it. Titles are ignored.
+//! Lines and digits follow the rules of Intel HEX. After the last data record, the file must have an end record of any type or a count,
+//! because some tools write no end record. A count must equal the number of data records before it. Titles (type 0) are ignored.
 
 ghost use Rattle.std.specs.Prelude.{◌≡◌, ◌+◌, ◌≤◌, ◌<◌, ◌^◌, length, IfOk, MatchResult, Ok, Err};
 ghost use Rattle.dfu_formats.specs.images.Reading.{IsReadResult, IsReadFault};
@@ -14,7 +14,7 @@ use crate::images::lines::{State, TextFormat, elements_by_line};
 use crate::images::srec_line::{Record, spelled, split_record};
 use std::alloc::Global;
 
-/// Adds the data of record `said`, in line number `at`, at its address.
+/// Adds the data of record `said`, on line `at`, at its address.
 #[tactic(auto, using(std::proofs::lemmas::Bool::Decides::nat_tests), unfolding(crate::specs::images::SRecord::srec_data_at))]
 fn add_data(alloc: Global, at: usize, state: State, said: &Record<'_>) -> Result<State, ImageFault>
     requires { state.count < at }
@@ -35,7 +35,7 @@ fn add_data(alloc: Global, at: usize, state: State, said: &Record<'_>) -> Result
     }
 }
 
-/// Reads a count, which must be that of the data records so far, or an end record. Neither may have data.
+/// Applies a count, which must be the number of data records so far, or an end record. Neither may have data.
 #[tactic(auto, using(std::proofs::lemmas::Bool::Decides::nat_tests), unfolding(crate::specs::images::SRecord::srec_count_or_end))]
 fn count_or_end(at: usize, state: State, said: &Record<'_>) -> Result<State, ImageFault>
     ensures value { result ≡ srec_count_or_end at state said.now }
@@ -60,7 +60,7 @@ fn count_or_end(at: usize, state: State, said: &Record<'_>) -> Result<State, Ima
     })
 }
 
-/// S-records, as a format that is read line by line.
+/// S-records as a text format.
 struct SRecord;
 
 impl TextFormat for SRecord {
@@ -88,7 +88,7 @@ impl TextFormat for SRecord {
 /// Reads the elements of `text`, a file of S-records.
 #[tactic(auto, using(std::proofs::lemmas::Bool::Decides::nat_tests), unfolding(crate::specs::images::SRecord::srec_elements_of))]
 pub fn read(alloc: Global, text: &[u8]) -> Result<Vec<Element>, ImageFault>
-    // The result is the list of the file's elements, or its first fault.
+    // The result is the elements of the file, or its first fault.
     ensures value { IsElementResult result (srec_elements_of text.now) }
     // The elements are sorted by address, and no two share an address.
     ensures apart { IfOk result (λ v. AreApart 0 v.items) }

@@ -1,4 +1,4 @@
-//! One S-record: its type, its address and its data, from the text of its line.
+//! One S-record: its type, its address and its data.
 
 ghost use Rattle.std.specs.Prelude.{◌≡◌, ◌+◌, ◌≤◌, ◌<◌, ◌^◌, length, Ok, Err};
 ghost use Rattle.dfu_formats.specs.images.SRecord.{srec_bytes_of_line, address_width, number_of_bytes, srec_record_of_bytes};
@@ -44,10 +44,10 @@ pub(crate) fn spelled(at: usize, line: &[u8]) -> Result<TypedRecord, ImageFault>
     }
 }
 
-/// Returns the number of bytes of the address of a record of type `kind`.
+/// Returns the number of address bytes in a record of type `kind`.
 fn width(kind: u8) -> usize
     ensures value { result ≡ address_width kind }
-    ensures few { result ≤ 4 }
+    ensures at_most_4 { result ≤ 4 }
 {
     match kind {
         3 | 7 => 4,
@@ -56,7 +56,7 @@ fn width(kind: u8) -> usize
     }
 }
 
-/// Returns the number in `bytes`, at most four, the high byte first.
+/// Returns the number in these bytes, at most four, the high byte first.
 fn number(bytes: &[u8]) -> u64
     requires { length bytes.now ≤ 4 }
     ensures value { result ≡ number_of_bytes bytes.now }
@@ -88,7 +88,7 @@ impl<'t> Model for Record<'t> {
     ghost invariant = { λ r. r.address < 2 ^ 32 };
 }
 
-/// Splits `typed`, the type and bytes of the record in line number `at`, into its fields.
+/// Splits `typed`, the type and bytes of the record on line `at`, into its fields, or returns the fault of its length or checksum.
 #[tactic(auto, using(std::proofs::lemmas::Bool::Decides::nat_tests), unfolding(crate::specs::images::SRecord::srec_record_of_bytes))]
 pub(crate) fn split_record(at: usize, typed: &TypedRecord) -> Result<Record<'_>, ImageFault>
     ensures { result ≡ srec_record_of_bytes at typed.now }

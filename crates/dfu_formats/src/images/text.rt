@@ -1,9 +1,9 @@
-//! The text of a file: its byte order mark, its blanks, and whether it is text alone.
+//! The byte order mark and the blanks of a text, and the test that a file is text.
 
 ghost use Rattle.std.specs.Prelude.{◌≡◌};
 ghost use Rattle.dfu_formats.specs.images.Text.{awaited_after_byte, awaited_after_first_byte, is_blank_byte, is_text_byte, is_text, nothing_awaited, is_text_from, without_leading_blanks, without_order_mark};
 
-/// Returns `text` without the byte order mark of UTF-8, if it begins with one.
+/// Returns `text` without its UTF-8 byte order mark, if it begins with one.
 pub(crate) fn unmarked(text: &[u8]) -> &[u8]
     ensures { result.now ≡ without_order_mark text.now }
 {
@@ -20,7 +20,7 @@ pub(crate) fn is_blank_byte(byte: u8) -> bool
     byte == b' ' || byte == b'\t' || byte == b'\r'
 }
 
-/// Returns `text` without the blanks and line feeds before its first other byte.
+/// Returns `text` without the blanks and line feeds at its front.
 #[tactic(auto, using(std::proofs::lemmas::Bool::Decides::nat_tests), unfolding(crate::specs::images::Text::without_leading_blanks))]
 pub(crate) fn unblanked(text: &[u8]) -> &[u8]
     ensures { result.now ≡ without_leading_blanks text.now }
@@ -35,7 +35,7 @@ pub(crate) fn unblanked(text: &[u8]) -> &[u8]
     rest
 }
 
-/// Returns true if `byte` is a tab, line feed, form feed or carriage return, or no ASCII control character.
+/// Returns true if `byte` is tab, line feed, form feed, carriage return, or not an ASCII control character.
 #[tactic(auto, using(std::proofs::lemmas::Bool::Decides::nat_tests))]
 fn is_text_byte(byte: u8) -> bool
     ensures { result ≡ is_text_byte byte }
@@ -46,7 +46,7 @@ fn is_text_byte(byte: u8) -> bool
     }
 }
 
-/// Bytes of a character of UTF-8 that are awaited: their number, and the bounds of the next one.
+/// Continuation bytes of a UTF-8 character that are pending: their number, and the bounds of the next one.
 #[derive(Clone, Copy)]
 struct Awaited {
     left: u8,
@@ -54,14 +54,15 @@ struct Awaited {
     high: u8,
 }
 
-/// State between two characters: no byte is awaited.
+/// State between two characters, where no continuation byte is pending.
 const NOTHING: Awaited = Awaited {
     left: 0,
     low: 0x80,
     high: 0xbf,
 };
 
-/// Returns the bytes awaited after `byte`, the first of a character; None if no character of text begins with it.
+/// Returns the continuation bytes that are pending after `byte`, the first of a character. Returns None if no character of text begins with
+/// it.
 #[tactic(auto, using(std::proofs::lemmas::Bool::Decides::nat_tests))]
 fn awaited_after_first_byte(byte: u8) -> Option<Awaited>
     ensures { result ≡ awaited_after_first_byte byte }
@@ -84,7 +85,7 @@ fn awaited_after_first_byte(byte: u8) -> Option<Awaited>
     Some(Awaited { left, low, high })
 }
 
-/// Returns the bytes awaited after `byte`; None if it is not allowed here.
+/// Returns the continuation bytes that are pending after `byte`, or None if it is not allowed here.
 #[tactic(auto, using(std::proofs::lemmas::Bool::Decides::nat_tests))]
 fn awaited_after_byte(awaited: Awaited, byte: u8) -> Option<Awaited>
     ensures { result ≡ awaited_after_byte awaited byte }
@@ -101,7 +102,7 @@ fn awaited_after_byte(awaited: Awaited, byte: u8) -> Option<Awaited>
     None
 }
 
-/// Returns true if `bytes` are UTF-8, without ASCII control characters but tab, line feed, form feed and carriage return.
+/// Returns true if `bytes` are UTF-8 without ASCII control characters other than tab, line feed, form feed and carriage return.
 #[tactic(auto, using(std::proofs::lemmas::Bool::Decides::nat_tests), unfolding(crate::specs::images::Text::is_text_from))]
 fn are_characters(bytes: &[u8]) -> bool
     ensures { result ≡ is_text_from nothing_awaited bytes.now }
@@ -116,7 +117,7 @@ fn are_characters(bytes: &[u8]) -> bool
     awaited.left == 0
 }
 
-/// Returns true if `file` is text alone: not empty, UTF-8, and without ASCII control characters but tab, line feed, form feed and carriage
+/// Returns true if `file` is not empty, is UTF-8, and has no ASCII control characters other than tab, line feed, form feed and carriage
 /// return.
 #[tactic(auto, using(std::proofs::lemmas::Bool::Decides::nat_tests))]
 pub(crate) fn is_text(file: &[u8]) -> bool

@@ -1,4 +1,4 @@
-//! UF2 files.
+//! UF2 files, which consist of blocks of 512 bytes.
 
 ghost use Rattle.std.specs.Prelude.{◌≡◌, ◌+◌, ◌*◌, ◌≤◌, ◌<◌, length, IfOk, Ok, Err};
 ghost use Rattle.dfu_formats.specs.images.Reading.{IsReadResult, IsReadFault};
@@ -13,7 +13,7 @@ use crate::images::numbers::le32;
 use crate::images::parts::{ByPart, elements_by_part};
 use std::alloc::Global;
 
-/// Returns true if `block` has its three marks.
+/// Returns true if `block` has the three magic numbers of UF2.
 fn has_block_marks(block: &[u8]) -> bool
     requires { length block.now ≡ 512 }
     ensures { result ≡ is_uf2_block block.now }
@@ -23,7 +23,7 @@ fn has_block_marks(block: &[u8]) -> bool
         && le32(block, 508) == 0x0ab1_6f30
 }
 
-/// Returns true if `block` has the flag `flag`.
+/// Returns true if `block` has the flag `flag`, a number with a single bit set.
 fn has_flag(block: &[u8], flag: u32) -> bool
     requires size { length block.now ≡ 512 }
     requires flag { 1 ≤ flag }
@@ -32,7 +32,7 @@ fn has_flag(block: &[u8], flag: u32) -> bool
     le32(block, 8) / flag % 2 == 1
 }
 
-/// Returns the family of boards that `block` is for, or 0 if it names none.
+/// Returns the family of boards that `block` is for, or 0 if the block contains no family.
 fn family_of(block: &[u8]) -> u32
     requires { length block.now ≡ 512 }
     ensures { result ≡ family_of block.now }
@@ -44,8 +44,8 @@ fn family_of(block: &[u8]) -> u32
     }
 }
 
-/// Adds the data of `block` to the elements, if it is for the main flash. It must not be for a file or another family, or end past the last
-/// address.
+/// Adds the data of `block` to the elements, or skips the block if it isn't for the main flash. A block for the main flash has a fault if
+/// it belongs to a file container, is for another family, or has data beyond address FFFFFFFFh.
 #[tactic(auto, using(std::proofs::lemmas::Bool::Decides::nat_tests), unfolding(crate::specs::images::Blocks::block_gathered))]
 fn add_block(
     alloc: Global,
@@ -77,7 +77,7 @@ fn add_block(
     gathering.add(alloc, index, address, content)
 }
 
-/// A UF2 file, read block by block: the number of its blocks, and the family of the first.
+/// A UF2 file, read block by block: the number of its blocks, and the family of its first block.
 #[derive(Drop)]
 struct Blocks {
     total: usize,
@@ -113,7 +113,7 @@ impl ByPart for Blocks {
 /// Reads the elements of UF2 file `file`.
 #[tactic(auto, using(std::proofs::lemmas::Bool::Decides::nat_tests), unfolding(crate::specs::images::Blocks::uf2_elements_of))]
 pub fn read(alloc: Global, file: &[u8]) -> Result<Vec<Element>, ImageFault>
-    // The result is the list of the file's elements, or its first fault.
+    // The result is the elements of the file, or its first fault.
     ensures value { IsElementResult result (uf2_elements_of file.now) }
     // The elements are sorted by address, and no two share an address.
     ensures apart { IfOk result (λ v. AreApart 0 v.items) }

@@ -1,4 +1,4 @@
-//! Test that ranges share no address.
+//! Test for ranges that share no address.
 
 ghost use Rattle.std.specs.Prelude.{◌≡◌};
 ghost use Rattle.std.specs.List.{All};

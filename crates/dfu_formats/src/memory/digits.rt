@@ -1,11 +1,11 @@
-//! Numbers that are spelled in digits.
+//! Numbers in decimal or hexadecimal digits.
 
 ghost use Rattle.std.specs.Prelude.{◌≡◌, ◌^◌, ◌≤◌, ◌<◌, length, IfSome};
 ghost use Rattle.dfu_formats.specs.memory.Reading.{digit_value, digits_in, digits_number, map_number_at};
 
 use crate::memory::text::Number;
 
-/// Returns the value of hexadecimal digit `byte`, of either case, or 16 if `byte` is not one.
+/// Returns the value of hexadecimal digit `byte`, of either case. Returns 16 for any other byte.
 fn digit_value(byte: u8) -> u64
     ensures value { result ≡ digit_value byte }
     ensures small { result ≤ 16 }
@@ -18,7 +18,7 @@ fn digit_value(byte: u8) -> u64
     }
 }
 
-/// Returns the number of digits of base `base` at the front of `text`.
+/// Returns the number of leading digits of base `base` in `text`.
 fn digits_in(base: u64, text: &[u8]) -> usize
     ensures value { result ≡ digits_in base text.now }
     ensures within { result ≤ length text.now }
@@ -33,7 +33,7 @@ fn digits_in(base: u64, text: &[u8]) -> usize
     count
 }
 
-/// Returns the number that `digits`, at most eight, make in base `base`.
+/// Returns the value of `digits`, at most eight, in base `base`.
 fn said(base: u64, digits: &[u8]) -> u64
     requires base { base ≤ 16 }
     requires few { length digits.now ≤ 8 }
@@ -47,7 +47,7 @@ fn said(base: u64, digits: &[u8]) -> u64
     value
 }
 
-/// Takes the number in base `base` off the front of `text`; all digits there belong to it. None without a digit, or with over `most`.
+/// Splits a number in base `base` off the front of `text`, with all leading digits. Returns None if there is no digit, or more than `most`.
 #[tactic(auto, unfolding(crate::specs::memory::Reading::map_number_at))]
 pub(crate) fn take_number(base: u64, most: usize, text: &[u8]) -> Option<Number<'_>>
     requires base { base ≤ 16 }

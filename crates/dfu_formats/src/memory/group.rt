@@ -1,4 +1,4 @@
-//! A range, as the string spells it: a count, a size with its unit, and a letter.
+//! A range in the string of a map: a count, a size with its unit, and a letter.
 
 ghost use Rattle.std.specs.Prelude.{◌≡◌, ◌*◌, ◌≤◌, ◌<◌, ◌^◌, IfOk};
 ghost use Rattle.dfu_formats.specs.memory.Ranges.{IsRange};
@@ -27,7 +27,7 @@ impl<'t> Model for AccessAndRest<'t> {
     ghost view = { λ a. record { access = a.access; rest = a.rest.now } };
 }
 
-/// A range, and the text after it.
+/// A range and the text after it.
 #[derive(Drop)]
 pub(crate) struct Group<'t> {
     pub pages: Pages,
@@ -43,7 +43,7 @@ impl<'t> Model for Group<'t> {
     ghost view = { λ g. record { pages = g.pages; rest = g.rest.now } };
 }
 
-/// Returns the number of bytes of unit `byte`, or 0 if it is no unit.
+/// Returns the number of bytes of unit `byte`, or 0 for any byte that is no unit.
 fn unit_of(byte: u8) -> u64
     ensures value { result ≡ unit_bytes byte }
     ensures small { result ≤ 2 ^ 20 }
@@ -56,13 +56,13 @@ fn unit_of(byte: u8) -> u64
     }
 }
 
-/// Takes the unit at the front of `text`. Returns `value` in that unit as a number of bytes; `value` itself if there is no unit.
+/// Splits the unit off the front of `text`. Returns `value` times the number of bytes of the unit, or `value` itself if there is no unit.
 #[tactic(auto, using(std::proofs::lemmas::Bool::Decides::nat_tests), unfolding(crate::specs::memory::Reading::unit_at))]
 fn take_unit(value: u64, text: &[u8]) -> Number<'_>
     requires some { 1 ≤ value }
     requires small { value < 17 ^ 5 }
     ensures value { result ≡ unit_at value text.now }
-    ensures some { 1 ≤ result.value }
+    ensures at_least_1 { 1 ≤ result.value }
     ensures small { result.value < 2 ^ 41 }
 {
     match front(text) {
@@ -74,7 +74,7 @@ fn take_unit(value: u64, text: &[u8]) -> Number<'_>
     }
 }
 
-/// Takes a count of pages, and `*`.
+/// Splits a count of pages, and the `*` after it, off the front of `text`.
 #[tactic(auto, using(std::proofs::lemmas::Bool::Decides::nat_tests), unfolding(crate::specs::memory::Reading::count_at))]
 fn take_count(text: &[u8]) -> Result<Number<'_>, MapFault>
     ensures value { result ≡ count_at text.now }
@@ -92,7 +92,7 @@ fn take_count(text: &[u8]) -> Result<Number<'_>, MapFault>
     }
 }
 
-/// Takes the size of a page, with its unit.
+/// Splits the size of a page, with its unit, off the front of `text`.
 #[tactic(auto, using(std::proofs::lemmas::Bool::Decides::nat_tests), unfolding(crate::specs::memory::Reading::size_at))]
 fn take_size(text: &[u8]) -> Result<Number<'_>, MapFault>
     ensures value { result ≡ size_at text.now }
@@ -104,7 +104,7 @@ fn take_size(text: &[u8]) -> Result<Number<'_>, MapFault>
     }
 }
 
-/// Returns the access by the bits of a letter: `a` is 1, and bit 0 means readable, bit 1 erasable, bit 2 writable.
+/// Returns the access for a letter, `a` to `g` as 1 to 7. Bit 0 means readable, bit 1 erasable, and bit 2 writable.
 fn access_of(letter: u8) -> Access
     requires { 97 ≤ letter }
     ensures { result ≡ access_of letter }
@@ -117,7 +117,7 @@ fn access_of(letter: u8) -> Access
     }
 }
 
-/// Takes the letter for the access to the pages.
+/// Splits the letter for the access to the pages off the front of `text`.
 #[tactic(auto, using(std::proofs::lemmas::Bool::Decides::nat_tests), unfolding(crate::specs::memory::Reading::access_at))]
 fn take_access(text: &[u8]) -> Result<AccessAndRest<'_>, MapFault>
     ensures { result ≡ access_at text.now }
@@ -131,7 +131,7 @@ fn take_access(text: &[u8]) -> Result<AccessAndRest<'_>, MapFault>
     }
 }
 
-/// Takes a range that begins at `start`, or returns its first fault.
+/// Splits a range that begins at `start` off the front of `text`, or returns its first fault.
 #[tactic(auto, using(std::proofs::lemmas::Bool::Decides::nat_tests), unfolding(crate::specs::memory::Reading::group_at))]
 pub(crate) fn take_group(start: u64, text: &[u8]) -> Result<Group<'_>, MapFault>
     requires { start < 2 ^ 33 }

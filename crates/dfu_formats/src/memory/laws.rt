@@ -1,8 +1,8 @@
-//! Laws of memory maps. Each is the contract of a function with an empty body, which is proved and not to be called.
+//! Laws of memory maps, stated as proved contracts of empty functions.
 
 ghost use Rattle.dfu_formats.specs.memory.Lookups.{AddressOnOnePage};
 
-/// In sound ranges that share no address, `page_at` returns the same page for all addresses of a page that it returns.
+/// If sound ranges share no address and `page_at` returns a page, it returns the same page for each address of this page.
 pub fn one_page()
     ensures { AddressOnOnePage }
 {}

@@ -8,7 +8,7 @@ ghost use Rattle.dfu_formats.specs.memory.Lookups.{range_has, range_at, page_at,
 use crate::memory::pages::{Access, Page, Pages};
 use crate::memory::ranges::end_of;
 
-/// Returns true if range `pages` has `address`.
+/// Returns true if range `pages` contains `address`.
 fn has(address: u64, pages: &Pages) -> bool
     requires { IsRange pages.now }
     ensures { result ≡ range_has address pages.now }
@@ -16,7 +16,7 @@ fn has(address: u64, pages: &Pages) -> bool
     pages.start as u64 <= address && address < end_of(pages)
 }
 
-/// Returns the range of `ranges` that has `address`; None if none has.
+/// Returns the range that contains `address`, or None if none contains it.
 #[tactic(auto, unfolding(crate::specs::memory::Lookups::range_at))]
 pub(crate) fn range_at(address: u64, ranges: &[Pages]) -> Option<Pages>
     requires { All IsRange ranges.now }
@@ -31,7 +31,7 @@ pub(crate) fn range_at(address: u64, ranges: &[Pages]) -> Option<Pages>
     None
 }
 
-/// Returns the page of range `pages` that has `address`. The range must have the address.
+/// Returns the page of range `pages` that contains `address`. The range must contain the address.
 fn page_in(address: u64, pages: &Pages) -> Page
     requires range { IsRange pages.now }
     requires from { pages.now.start ≤ address }
@@ -50,7 +50,7 @@ fn page_in(address: u64, pages: &Pages) -> Page
     }
 }
 
-/// Returns the page of `ranges` that has `address`; None if none has.
+/// Returns the page that contains `address`, or None if no range contains it.
 pub(crate) fn page_at(address: u64, ranges: &[Pages]) -> Option<Page>
     requires { All IsRange ranges.now }
     ensures value { result ≡ page_at address ranges.now }
@@ -62,7 +62,7 @@ pub(crate) fn page_at(address: u64, ranges: &[Pages]) -> Option<Page>
     }
 }
 
-/// Returns true if each address from `start` to before `end` is in one of `ranges` that grants `wanted`.
+/// Returns true if each address from `start` to before `end` is in a range that grants `wanted`.
 pub(crate) fn all_granted(wanted: Access, start: u64, end: u64, ranges: &[Pages]) -> bool
     requires sound { All IsRange ranges.now }
     requires apart { are_apart ranges.now ≡ true }

@@ -19,7 +19,7 @@ use crate::memory::ranges::take_ranges;
 use arrayvec::ArrayVec;
 use std::marker::Model;
 
-/// A memory map: the name of a memory, and its ranges of pages, no two of which share an address.
+/// A memory map: the name of a memory, and its ranges of pages, which share no address.
 #[derive(Drop)]
 pub struct Map<'t> {
     name: &'t [u8],
@@ -39,7 +39,7 @@ impl<'t> Model for Map<'t> {
     ghost invariant = { λ m. All IsRange m.ranges.items × (are_apart m.ranges.items ≡ true) };
 }
 
-/// Reads the map of string `text`.
+/// Reads a map from `text`.
 ///
 /// # Errors
 ///
@@ -70,17 +70,17 @@ fn read_map(text: &[u8]) -> Result<Map<'_>, MapFault>
 }
 
 impl<'t> Map<'t> {
-    /// Reads `text`, the string of an alternate setting.
+    /// Reads the map in `text`, the string of an alternate setting.
     ///
     /// # Errors
     ///
-    /// The fault of the first place at which the string is not a map, or Overlaps.
+    /// The first fault of the string, read from its front, or Overlaps if two ranges share an address.
     pub fn read(text: &'t [u8]) -> Result<Map<'t>, MapFault>
-        // The result is a map that `text` spells.
+        // By the grammar, the string is a text of the returned map.
         ensures found { IfOk result (λ m. IsMap m text.now) }
-        // Each map that `text` spells is read.
+        // Every map that follows the grammar is read.
         ensures only { (m : MapContent) → IsMap m text.now → result ≡ Ok m }
-        // Any other string has a first fault, which is returned.
+        // For any other string, the result is its first fault.
         ensures fault { (fault : MapFault) → (result ≡ Err fault) ↔ FirstMapFault fault text.now }
     {
         read_map(text)
@@ -98,19 +98,19 @@ impl<'t> Map<'t> {
         ensures value { result.now ≡ self.now.ranges }
         ensures sound { All IsRange result.now }
         ensures apart { are_apart result.now ≡ true }
-        ensures few { length result.now ≤ 32 }
+        ensures at_most_32 { length result.now ≤ 32 }
     {
         &self.ranges
     }
 
-    /// Returns the range that has `address`; None if none has.
+    /// Returns the range that contains `address`, or None if no range contains it.
     pub fn range_at(&self, address: u32) -> Option<Pages>
         ensures { result ≡ range_at address self.now.ranges }
     {
         lookups::range_at(address as u64, &self.ranges)
     }
 
-    /// Returns the page that has `address`; None if none has.
+    /// Returns the page that contains `address`, or None if no range contains it.
     pub fn page_at(&self, address: u32) -> Option<Page>
         ensures value { result ≡ page_at address self.now.ranges }
         ensures has { IfSome result (λ p. (p.start ≤ address) × (address < end_of_page p) × (end_of_page p ≤ 2 ^ 32)) }
@@ -118,7 +118,7 @@ impl<'t> Map<'t> {
         lookups::page_at(address as u64, &self.ranges)
     }
 
-    /// Returns true if each address from `start` to before `end` lies in a range that grants `wanted`.
+    /// Returns true if each address from `start` to before `end` is in a range that grants `wanted`.
     pub fn grants(&self, wanted: Access, start: u64, end: u64) -> bool
         ensures { IsTrue result ↔ AllGranted wanted start end self.now.ranges }
     {

@@ -1,4 +1,4 @@
-//! The name of a memory, at the front of its map.
+//! The name of a memory, at the front of its map's string.
 
 ghost use Rattle.std.specs.Prelude.{◌≡◌, ◌<◌, length, IfSome};
 ghost use Rattle.std.specs.List.{position};
@@ -8,7 +8,7 @@ use crate::memory::fault::MapFault;
 use crate::memory::text::behind;
 use std::marker::Model;
 
-/// A name, and the text after it.
+/// A name and the text after it.
 #[derive(Drop)]
 pub(crate) struct Named<'t> {
     pub name: &'t [u8],
@@ -39,7 +39,7 @@ fn trimmed(bytes: &[u8]) -> &[u8]
     kept
 }
 
-/// Returns the index of the first `/` of `text`; None if there is none.
+/// Returns the index of the first `/` in `text`, or None.
 fn slash_in(text: &[u8]) -> Option<usize>
     ensures value { result ≡ position is_slash text.now }
     ensures within { IfSome result (λ at. at < length text.now) }
@@ -47,7 +47,7 @@ fn slash_in(text: &[u8]) -> Option<usize>
     text.iter().position(|byte| *byte == b'/')
 }
 
-/// Takes the name between `@` and the first `/`, without the spaces at its end.
+/// Splits the name between `@` and the first `/` off the front of `text`. Spaces at the end of the name are removed.
 #[tactic(auto, using(std::proofs::lemmas::Bool::Decides::nat_tests), unfolding(crate::specs::memory::Reading::map_name_at))]
 pub(crate) fn take_name(text: &[u8]) -> Result<Named<'_>, MapFault>
     ensures { result ≡ map_name_at text.now }

@@ -1,4 +1,4 @@
-//! Starts of ranges: at an address of their own, or where the range before ends.
+//! Start addresses of ranges. A range begins at an address of its own, or at the end of the range before it.
 
 ghost use Rattle.std.specs.Prelude.{◌≡◌, ◌<◌, ◌^◌, IfOk, IfSome};
 ghost use Rattle.dfu_formats.specs.memory.Reading.{text_after_prefix, address_at, next_range_place};
@@ -21,7 +21,7 @@ fn text_after_prefix(text: &[u8]) -> &[u8]
     }
 }
 
-/// Takes an address, and the `/` after it.
+/// Splits an address, and the `/` after it, off the front of `text`.
 #[tactic(auto, using(std::proofs::lemmas::Bool::Decides::nat_tests), unfolding(crate::specs::memory::Reading::address_at))]
 pub(crate) fn take_address(text: &[u8]) -> Result<Number<'_>, MapFault>
     ensures value { result ≡ address_at text.now }
@@ -39,7 +39,7 @@ pub(crate) fn take_address(text: &[u8]) -> Result<Number<'_>, MapFault>
     }
 }
 
-/// Takes the start of the next range, after a range that ends at `end`; None at the end of the text.
+/// Splits the start of the next range off the front of `text`, after a range that ends at `end`. Returns None at the end of the text.
 #[tactic(auto, using(std::proofs::lemmas::Bool::Decides::nat_tests), unfolding(crate::specs::memory::Reading::next_range_place))]
 pub(crate) fn take_next(end: u64, text: &[u8]) -> Result<Option<Number<'_>>, MapFault>
     requires { end < 2 ^ 33 }

@@ -1,4 +1,4 @@
-//! Ranges of a map, one after the other.
+//! The ranges of a map.
 
 ghost use Rattle.std.specs.Prelude.{◌≡◌, ◌<◌, ◌≤◌, ◌^◌, IfOk};
 ghost use Rattle.std.specs.List.{All};
@@ -13,16 +13,16 @@ use crate::memory::pages::Pages;
 use crate::memory::place::take_next;
 use arrayvec::ArrayVec;
 
-/// Returns the address after the last byte of range `pages`, up to 2^32.
+/// Returns the address after the last byte of range `pages`, at most 2^32.
 pub(crate) fn end_of(pages: &Pages) -> u64
     requires { IsRange pages.now }
     ensures value { result ≡ end_of_range pages.now }
-    ensures fits { result ≤ 2 ^ 32 }
+    ensures at_most_4_gib { result ≤ 2 ^ 32 }
 {
     pages.start as u64 + pages.count as u64 * pages.size
 }
 
-/// Takes ranges, at most 32, up to the end of the text; the first begins at `start`. Returns them, or the first fault.
+/// Reads at most 32 ranges, up to the end of the text. The first begins at `start`. Returns them, or the first fault.
 pub(crate) fn take_ranges(start: u64, text: &[u8]) -> Result<ArrayVec<Pages, MOST_RANGES>, MapFault>
     requires { start < 2 ^ 33 }
     ensures value { IsRangeResult result (ranges_at 32 start text.now) }

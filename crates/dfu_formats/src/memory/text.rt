@@ -1,11 +1,11 @@
-//! Pieces taken off the front of a text.
+//! Parts that are split off the front of a text.
 
 ghost use Rattle.std.specs.Prelude.{◌≡◌, [], ◌∷◌, Some, None, IfSome, MatchOption};
 ghost use Rattle.dfu_formats.specs.memory.Reading.{text_after_byte};
 
 use std::marker::Model;
 
-/// A number, and the text after it.
+/// A number and the text after it.
 #[derive(Drop)]
 pub(crate) struct Number<'t> {
     pub value: u64,
@@ -20,7 +20,7 @@ impl<'t> Model for Number<'t> {
     ghost view = { λ n. record { value = n.value; rest = n.rest.now } };
 }
 
-/// Returns the first byte of `text`, and the text after it; None if `text` is empty.
+/// Returns the first byte of `text` and the text after it, or None if `text` is empty.
 pub(crate) fn front(text: &[u8]) -> Option<(u8, &[u8])>
     ensures none { result ≡ None → text.now ≡ [] }
     ensures some { IfSome result (λ f. text.now ≡ f.0 ∷ f.1.now) }
@@ -33,7 +33,7 @@ pub(crate) fn front(text: &[u8]) -> Option<(u8, &[u8])>
     Some((byte, rest))
 }
 
-/// Returns the text after `byte`, if `text` begins with it; else None.
+/// Returns the text after the first byte of `text`, or None if this byte isn't `byte`.
 #[tactic(auto, using(std::proofs::lemmas::Bool::Decides::nat_tests), unfolding(crate::specs::memory::Reading::text_after_byte))]
 pub(crate) fn behind(byte: u8, text: &[u8]) -> Option<&[u8]>
     ensures { MatchOption result (text_after_byte byte text.now ≡ None) (λ rest. text_after_byte byte text.now ≡ Some rest.now) }

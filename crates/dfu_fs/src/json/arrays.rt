@@ -7,7 +7,7 @@ ghost use Rattle.dfu_fs.specs.Quoted.{array_of_words, array_word_byte};
 use crate::json::quoting::push_escaped;
 use std::alloc::AllocError;
 
-/// Adds `byte`, one of words in an array, to `out`: a space ends a string, and begins the next one.
+/// Adds `byte`, which belongs to the words of an array, to `out`. A space ends a string and begins the next one.
 #[tactic(auto, unfolding(crate::specs::Quoted::array_word_byte))]
 fn push_array_byte(out: &mut Vec<u8>, byte: u8) -> Result<(), AllocError>
     ensures { OnOk result (out.new.items ≡ out.old.items ++ array_word_byte byte) }
@@ -18,7 +18,7 @@ fn push_array_byte(out: &mut Vec<u8>, byte: u8) -> Result<(), AllocError>
     push_escaped(out, byte)
 }
 
-/// Adds the bytes of `words`, which are strings of an array between the outer quotes, to `out`.
+/// Adds `words`, the strings of an array between the outer quotes, to `out`.
 fn push_array_bytes(out: &mut Vec<u8>, words: &[u8]) -> Result<(), AllocError>
     ensures { OnOk result (out.new.items ≡ out.old.items ++ flat_map array_word_byte words.now) }
 {
@@ -28,7 +28,7 @@ fn push_array_bytes(out: &mut Vec<u8>, words: &[u8]) -> Result<(), AllocError>
     Ok(())
 }
 
-/// Adds the array of `words`, which are separated by single spaces, to `out`; an empty array if there are none.
+/// Adds the array of `words`, which single spaces separate, to `out`; an empty array if there are none.
 #[inline(never)]
 #[tactic(auto, unfolding(crate::specs::Quoted::array_of_words))]
 pub(crate) fn push_array(out: &mut Vec<u8>, words: &[u8]) -> Result<(), AllocError>

@@ -1,4 +1,4 @@
-//! Forms, tried on a line one by one.
+//! Search for the form that fits a line.
 
 ghost use Rattle.std.specs.Prelude.{◌≡◌, [], IfOk, MatchOption, None, Some};
 ghost use Rattle.dfu_fs.specs.Objects.{members_of_first_form, members_by_form};
@@ -7,7 +7,7 @@ use crate::json::part::LinePart;
 use crate::json::taking::take_part;
 use std::alloc::{AllocError, Global};
 
-/// Returns the members that `form` makes of `line`; None if the line doesn't have the form.
+/// Returns the members of `line` by `form`, or None if the line doesn't have this form.
 fn fit(alloc: Global, form: &[LinePart], line: &[u8]) -> Result<Option<Vec<u8>>, AllocError>
     ensures { IfOk result (λ r. MatchOption r (members_by_form form.now [] line.now ≡ None)
         (λ out. members_by_form form.now [] line.now ≡ Some out.items)) }
@@ -26,7 +26,7 @@ fn fit(alloc: Global, form: &[LinePart], line: &[u8]) -> Result<Option<Vec<u8>>,
     Ok(None)
 }
 
-/// Returns the members that the first fitting of `forms` makes of `line`; None if the line has none of the forms.
+/// Returns the members of `line` by the first form that fits, or None if no form fits.
 pub(crate) fn first_fit(
     alloc: Global,
     forms: &[[LinePart; 8]],

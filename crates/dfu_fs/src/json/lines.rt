@@ -6,7 +6,7 @@ use crate::json::objects::object;
 use std::alloc::Global;
 use std::io::{self, ErrorKind, Write};
 
-/// Output that writes each line as a JSON object, or unchanged. An object is written once its line ends.
+/// Output that writes each line as a JSON object, or unchanged. It writes an object when its line ends.
 #[derive(Drop)]
 pub struct JsonLines<'t, W> {
     alloc: Global,
@@ -17,8 +17,8 @@ pub struct JsonLines<'t, W> {
 }
 
 impl<'t, W> JsonLines<'t, W> {
-    /// Returns a new output in front of `out`, about `file`, if it is given. Each line is written as an object if `is_on` is set, and
-    /// unchanged otherwise.
+    /// Returns a new output that writes to `out`, with the name of `file`, if given, in each object. If `is_on` is set, it writes each line
+    /// as an object, and otherwise unchanged.
     pub fn new(alloc: Global, is_on: bool, file: Option<&'t str>, out: W) -> JsonLines<'t, W> {
         JsonLines {
             alloc,
@@ -53,11 +53,11 @@ impl<W: Write> JsonLines<'_, W> {
 }
 
 impl<W: Write> Write for JsonLines<'_, W> {
-    /// Takes bytes up to the end of a line; or, if lines stay unchanged, the bytes that the output takes.
+    /// Takes bytes up to the end of a line. If lines stay unchanged, passes the bytes on to the output.
     ///
     /// # Errors
     ///
-    /// `OutOfMemory` if memory ran out for the line or its object; or the error of the output.
+    /// `OutOfMemory` if there is no memory for the line or its object, or the error of the output.
     fn write(&mut self, buf: &[u8]) -> io::Result<usize> {
         if !self.is_on {
             return self.out.write(buf);

@@ -1,4 +1,4 @@
-//! Words of the printed lines, and keys of the objects.
+//! Words of printed lines, and keys of JSON objects.
 
 ghost use Rattle.std.specs.Prelude.{◌≡◌};
 ghost use Rattle.dfu_fs.specs.Names.{name_text};
@@ -70,7 +70,7 @@ static TEXTS: [&str; 51] = [
 ];
 
 impl Name {
-    /// Returns the text of the word or the key.
+    /// Returns the text of the word or key.
     pub(crate) fn text(self) -> &'static str
         ensures { result.now ≡ name_text self }
     {

@@ -9,7 +9,7 @@ use crate::json::forms::FORMS;
 use crate::json::quoting::push_quoted;
 use std::alloc::{AllocError, Global};
 
-/// Adds the member `file` with the name of the file, if it is given, to `out`.
+/// Adds the member `file` with the name of the file to `out`, if there is a file.
 fn push_file(out: &mut Vec<u8>, file: Option<&str>) -> Result<(), AllocError>
     ensures { OnOk result (out.new.items ≡ out.old.items ++ file_member (name_in file.entry)) }
 {
@@ -37,7 +37,7 @@ fn push_members(alloc: Global, out: &mut Vec<u8>, line: &[u8]) -> Result<(), All
 }
 
 /// Returns the JSON object of a printed line, without a line end: `{"file":FILE,MEMBERS}`, or `{MEMBERS}` if there is no file. The members
-/// are those of the first form that fits the line. If none fits, the only one is `"line":LINE`, with the text of the line.
+/// are those of the first form that fits the line. If no form fits, the single member is `"line":LINE` with the text of the line.
 ///
 /// # Errors
 ///

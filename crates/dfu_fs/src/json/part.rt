@@ -2,34 +2,36 @@
 
 use crate::json::name::Name;
 
-/// Kind of a word, and of its value in an object.
+/// Kind of a word, which determines the form of the word's value in an object.
 #[derive(Clone, Copy)]
 pub(crate) enum WordKind {
-    /// A decimal number, whose value is a number.
+    /// A decimal number. Its value in the object is a number.
     Number,
-    /// `yes` or `no`, whose value is `true` or `false`.
+    /// `yes` or `no`. Its value in the object is `true` or `false`.
     Flag,
-    /// Any word, whose value is a string.
+    /// Any word. Its value in the object is a string.
     Word,
-    /// Any word, whose value is an object: its member of this name has the word as its string. A later part ends the object.
+    /// Any word. Its value in the object is an inner object with one member, which has this name, and the word as its string. A later part
+    /// closes the inner object.
     Inner(Name),
 }
 
-/// Part of a form: the words that it takes off a line, and the member that they give the object.
+/// Part of a form. Most parts consume words of a line and add a member to the object.
 #[derive(Clone, Copy)]
 pub(crate) enum LinePart {
-    /// The second name, which is the string of the member of the first name.
+    /// The text of the second name. It becomes the string of the member with the first name.
     Says(Name, Name),
-    /// A word, which is the value of the member of this name.
+    /// A word, which becomes the value of the member with this name.
     Value(Name, WordKind),
-    /// The name and a word, which is the value of the member of this name.
+    /// The text of this name, and the next word, which becomes the value of the member with this name.
     Pair(Name, WordKind),
-    /// The first name and words, up to ` events ` or to the end, which are the array of the member of the second name.
+    /// The text of the first name, and all words after it up to ` events ` or the end of the line. These words become the array of the
+    /// member with the second name.
     List(Name, Name),
-    /// All words that are left, which are the array of the member of this name; the inner object ends.
+    /// All remaining words, which become the array of the member with this name. This part closes the inner object.
     Rest(Name),
-    /// No word; the member of this name has an empty array.
+    /// No word. The member with this name has an empty array as its value.
     Without(Name),
-    /// No word, and no member.
+    /// No word and no member.
     Blank,
 }

@@ -18,7 +18,7 @@ fn lower_hex_digit(number: u8) -> u8
     }
 }
 
-/// Adds `byte`, one of a string, to `out`, escaped if a string can't have it as it is.
+/// Adds `byte` to `out`, escaped if a JSON string can't contain it directly.
 #[tactic(auto, unfolding(crate::specs::Quoted::escaped_byte))]
 pub(crate) fn push_escaped(out: &mut Vec<u8>, byte: u8) -> Result<(), AllocError>
     ensures { OnOk result (out.new.items ≡ out.old.items ++ escaped_byte byte) }
@@ -39,7 +39,7 @@ pub(crate) fn push_escaped(out: &mut Vec<u8>, byte: u8) -> Result<(), AllocError
     out.extend_from_slice(&[byte])
 }
 
-/// Adds the bytes of `text`, each escaped if a string can't have it as it is, to `out`.
+/// Adds the bytes of `text` to `out`, each escaped if a JSON string can't contain it directly.
 fn push_string_bytes(out: &mut Vec<u8>, text: &[u8]) -> Result<(), AllocError>
     ensures { OnOk result (out.new.items ≡ out.old.items ++ flat_map escaped_byte text.now) }
 {
@@ -49,7 +49,7 @@ fn push_string_bytes(out: &mut Vec<u8>, text: &[u8]) -> Result<(), AllocError>
     Ok(())
 }
 
-/// Adds the string `text`, between quotes, to `out`.
+/// Adds `text` to `out` as a string with its quotes.
 #[tactic(auto, unfolding(crate::specs::Quoted::quoted_string))]
 #[inline(never)]
 pub(crate) fn push_quoted(out: &mut Vec<u8>, text: &[u8]) -> Result<(), AllocError>

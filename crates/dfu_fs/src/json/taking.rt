@@ -1,4 +1,4 @@
-//! Parts of a form, taken off a line one by one.
+//! Parsing of a line, part by part of a form.
 
 ghost use Rattle.std.specs.Prelude.{◌≡◌, IfOk, MatchBool, MatchOption, OnOk, None, Some};
 ghost use Rattle.std.specs.Char.{is_ascii_digit};
@@ -19,14 +19,14 @@ fn has_only_digits(word: &[u8]) -> bool
     word.iter().all(|byte| byte.is_ascii_digit())
 }
 
-/// Returns true if `word` is a number of JSON, or empty: only digits, without a 0 in front of others.
+/// Returns true if `word` is a JSON number or empty: it has only digits, and no leading 0 unless it has a single digit.
 fn is_json_number(word: &[u8]) -> bool
     ensures { result ≡ is_json_number word.now }
 {
     has_only_digits(word) && (word.len() <= 1 || word[0] != b'0')
 }
 
-/// Adds `key`, the key of a member, and a colon to `out`, after a comma if `out` has members already.
+/// Adds the key of a member and a colon to `out`, after a comma if `out` already has members.
 #[inline(never)]
 #[tactic(auto, unfolding(crate::specs::Parts::with_key))]
 fn push_key(out: &mut Vec<u8>, key: Name) -> Result<(), AllocError>
@@ -39,7 +39,7 @@ fn push_key(out: &mut Vec<u8>, key: Name) -> Result<(), AllocError>
     out.extend_from_slice(b":")
 }
 
-/// Adds the value of `word` to `out` and returns true, if the word is of `kind`; else returns false.
+/// If `word` is of `kind`, adds its value to `out` and returns true. Otherwise returns false.
 #[tactic(auto, unfolding(crate::specs::Parts::with_value))]
 fn push_value(out: &mut Vec<u8>, kind: WordKind, word: &[u8]) -> Result<bool, AllocError>
     ensures { IfOk result (λ fits. MatchBool fits (with_value kind out.old.items word.now ≡ Some out.new.items)
@@ -78,8 +78,7 @@ fn push_value(out: &mut Vec<u8>, kind: WordKind, word: &[u8]) -> Result<bool, Al
     }
 }
 
-/// Takes the first word of `line` as the value of `key`, and returns the words after it; None if there is no word, or if it is not of
-/// `kind`.
+/// Takes the first word of `line` as the value of `key`, and returns the words after it. Returns None if there is no word of `kind`.
 fn take_value<'l>(
     out: &mut Vec<u8>,
     key: Name,
@@ -99,7 +98,7 @@ fn take_value<'l>(
     Ok(None)
 }
 
-/// Takes the list at the front of `line` as the value of `key`, and returns the words after it.
+/// Takes the list at the beginning of `line` as the value of `key`, and returns the words after it.
 fn take_list<'l>(out: &mut Vec<u8>, key: Name, line: &'l [u8]) -> Result<&'l [u8], AllocError>
     ensures { IfOk result (λ rest. with_list key out.old.items line.now ≡ Some (out.new.items, rest.now)) }
 {
@@ -114,8 +113,8 @@ fn take_list<'l>(out: &mut Vec<u8>, key: Name, line: &'l [u8]) -> Result<&'l [u8
     Ok(rest)
 }
 
-/// Takes `part` off the front of `line`: adds its member to `out`, and returns the words after it. None if the words at the front are not
-/// those of the part.
+/// Matches `part` with the beginning of `line`, adds its member to `out`, and returns the words after it. Returns None if `line` doesn't
+/// begin with the words of the part.
 #[tactic(auto, unfolding(crate::specs::Parts::with_part))]
 pub(crate) fn take_part<'l>(
     out: &mut Vec<u8>,

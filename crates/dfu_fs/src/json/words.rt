@@ -1,4 +1,4 @@
-//! Words of a line, which has one space between two of them, and none before the first or after the last.
+//! Words of a line. A single space separates two words, and the line neither begins nor ends with a space.
 
 ghost use Rattle.std.specs.Prelude.{◌≡◌, ◌≤◌, codes, length, nat_eq, None, Some, MatchOption};
 ghost use Rattle.std.specs.List.{position, position_or_len, starts_with};
@@ -7,7 +7,7 @@ ghost use Rattle.dfu_fs.specs.Parts.{is_space, list_length, rest_after, word_in}
 /// Text that ends a list before the end of a line.
 const EVENTS: &[u8] = b" events ";
 
-/// Returns the index of the first space of `line`; None if it has none.
+/// Returns the index of the first space of `line`, or None if there is none.
 fn first_space(line: &[u8]) -> Option<usize>
     ensures { result ≡ position is_space line.now }
 {
@@ -25,7 +25,8 @@ fn word_length(line: &[u8]) -> usize
     }
 }
 
-/// Returns the first word of `line`, and the words after it; None if the first word is empty, or the line ends with the space behind it.
+/// Returns the first word of `line` and the words after it. Returns None if the first word is empty, or if the line ends with the space
+/// after it.
 pub(crate) fn word_in(line: &[u8]) -> Option<(&[u8], &[u8])>
     ensures { MatchOption result (word_in line.now ≡ None) (λ w. word_in line.now ≡ Some (w.0.now, w.1.now)) }
 {
@@ -41,7 +42,8 @@ pub(crate) fn word_in(line: &[u8]) -> Option<(&[u8], &[u8])>
     Some((word, rest))
 }
 
-/// Returns the words of `line` after `text`; None if the line does not begin with `text`, or no word ends there.
+/// Returns the words of `line` after `text`. Returns None if `line` doesn't begin with `text`, or if the text isn't followed by the end of
+/// a word.
 #[tactic(auto, unfolding(crate::specs::Parts::after_word))]
 pub(crate) fn rest_after<'l>(line: &'l [u8], text: &str) -> Option<&'l [u8]>
     ensures { MatchOption result (rest_after line.now text.now ≡ None) (λ r. rest_after line.now text.now ≡ Some r.now) }
@@ -59,7 +61,7 @@ pub(crate) fn rest_after<'l>(line: &'l [u8], text: &str) -> Option<&'l [u8]>
     Some(&behind[1..])
 }
 
-/// Returns the length of the list at the front of `line`, up to ` events ` or to the end, in bytes.
+/// Returns the length in bytes of the list at the beginning of `line`, which ends before ` events ` or at the end of the line.
 pub(crate) fn list_length(line: &[u8]) -> usize
     ensures value { result ≡ list_length line.now }
     ensures within { result ≤ length line.now }

@@ -9,13 +9,12 @@ use Rattle.dfu_host.specs.declared.seen.Seen.TheVariants as seen
 use Rattle.dfu_host.specs.InParts.{bytes_kept_for_part}
 use Rattle.dfu_host.specs.Rooms.{part_overflows}
 
--- Refusal of bytes in a phase by a room of `room` bytes: a part that the phase asked for is refused exactly if it overflows the room.
+-- A part that the host requested in this phase was refused exactly if the part overflows a room of `room` bytes.
 abbrev pub RefusesBytesByRoom : (room t : ℕ) → Phase → (memory bytes : List ℕ) → (refused : Bool) → Type 0
 RefusesBytesByRoom room t (phase.Fetch k) memory bytes refused = refused ≡ part_overflows room t k (bytes_kept_for_part k memory) bytes
 RefusesBytesByRoom room t other memory bytes refused = Unit {0}
 
--- Refusal of an answer in a phase by a room of `room` bytes: bytes are refused as `RefusesBytesByRoom` says, and other answers are not
--- constrained here.
+-- The bytes of an answer were refused by the rule of `RefusesBytesByRoom`. Answers without bytes are not constrained here.
 abbrev pub RefusesAnswerByRoom : (room t : ℕ) → Phase → (memory : List ℕ) → Seen → (refused : Bool) → Type 0
 RefusesAnswerByRoom room t phase memory (seen.Bytes bytes) refused = RefusesBytesByRoom room t phase memory bytes.now refused
 RefusesAnswerByRoom room t phase memory seen.Ack refused = Unit {0}
@@ -26,12 +25,12 @@ RefusesAnswerByRoom room t phase memory seen.WasReset refused = Unit {0}
 RefusesAnswerByRoom room t phase memory seen.Restarted refused = Unit {0}
 RefusesAnswerByRoom room t phase memory seen.Left refused = Unit {0}
 
--- Meaning of `size` bytes in a phase: a part that was asked for means NoRoom if it was refused, else the part.
+-- A part of `size` bytes that the host requested in this phase means NoRoom if it was refused, else the part.
 abbrev pub BytesMeaningIn : Phase → (size : ℕ) → (refused : Bool) → Heard → Type 0
 BytesMeaningIn (phase.Fetch k) size refused word = word ≡ (if refused then heard.NoRoom else heard.Part size)
 BytesMeaningIn other size refused word = Unit {0}
 
--- Meaning of an answer in a phase, if its part was refused or not; answers without bytes are not constrained here.
+-- An answer of bytes has the meaning that `BytesMeaningIn` gives. Answers without bytes are not constrained here.
 abbrev pub SeenMeaningIn : Phase → Seen → (refused : Bool) → Heard → Type 0
 SeenMeaningIn phase (seen.Bytes bytes) refused word = BytesMeaningIn phase (length bytes.now) refused word
 SeenMeaningIn phase seen.Ack refused word = Unit {0}

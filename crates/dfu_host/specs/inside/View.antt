@@ -1,4 +1,4 @@
--- Meanings of the code's values in the table.
+-- Values in the table that correspond to the code's values.
 use Rattle.std.specs.Prelude.{ℕ, List, [], length}
 use Rattle.dfu_wire.specs.declared.codes.Code.{Code}
 use Rattle.dfu_wire.specs.declared.states.State.{State}
@@ -16,7 +16,7 @@ use Rattle.dfu_host.specs.InParts.{host_of}
 use Rattle.dfu_host.specs.Table as table
 use Rattle.dfu_host.specs.Host.{HostState}
 
--- The table's meaning of a result in the code, with the bytes of the part.
+-- Result in the table that corresponds to a result in the code. `part` holds the bytes of an uploaded part.
 abbrev pub meaning_of_heard : (part : List ℕ) → Heard → table.Heard
 meaning_of_heard part heard.Acked = table.Acked
 meaning_of_heard part (heard.Told status) = table.Status status.code status.poll_ms status.state
@@ -42,7 +42,7 @@ part_of seen.WasReset = []
 part_of seen.Restarted = []
 part_of seen.Left = []
 
--- The table's task for a task of the code, with equal fields.
+-- Task in the table that corresponds to a task of the code. All fields are equal.
 abbrev pub task_of_session : Task → table.Task
 task_of_session t = record {
   goal = goal_of t.goal;
@@ -65,11 +65,11 @@ session_parts t p = record {
   restarts = p.restarts;
 }
 
--- The host with a task and a progress, and with the kept bytes of the memory.
+-- Host with this task and this progress, whose kept bytes are those in the memory.
 abbrev pub host_of_progress : List ℕ → Task → Progress → HostState
 host_of_progress memory t p = host_of memory (session_parts t p)
 
--- Row of the table for a status in a phase that asks for it, by the status's code, poll time and state.
+-- Row of the table for a status that the host requested in this phase. The result depends on the status's code, poll time and state.
 abbrev pub status_row : table.Task → Phase → Code → ℕ → State → table.Phase
 status_row task (phase.Poll n) = table.polled_phase (table.work_start task.goal) (length (table.session_blocks task)) n
 status_row task phase.Manifest = table.manifest_phase (table.work_start task.goal) task.tolerant

@@ -1,4 +1,4 @@
--- The DfuSe session that a record holds.
+-- The DfuSe session in a record.
 use Rattle.std.specs.Prelude.{◌≡◌, ℕ, Bool, true, false, ◌==◌, not, if◌then◌else◌, List, Option, Some, None, option_map}
 use Rattle.std.specs.Borrow.{Bor}
 use Rattle.dfu_formats.specs.memory.Reading.{MapContent}
@@ -14,7 +14,7 @@ use Rattle.dfu_host_c.specs.declared.dfuse.phases.EncodedDfusePhase.{EncodedDfus
 use Rattle.dfu_host_c.specs.declared.dfuse.plan.DfusePlan.{DfusePlan}
 use Rattle.dfu_host_c.specs.declared.dfuse.session.DfuseSession.{DfuseSession}
 
--- The numbers that a record has for its phase.
+-- The numbers of a record that encode its phase.
 abbrev pub numbers_of : DfuseSession → EncodedDfusePhase
 numbers_of r = record {
   work = r.work;
@@ -27,7 +27,7 @@ numbers_of r = record {
   report = r.report;
 }
 
--- Phase of a record; None for another version, or if no phase has its numbers.
+-- Phase of a record; None if the record has another version, or if no phase has its numbers.
 abbrev pub phase_in : DfuseSession → Option Phase
 phase_in r = if r.version == version then dfuse_phase_at (numbers_of r) else None
 
@@ -42,7 +42,7 @@ dfuse_plan_of r map image = record {
   start = r.start;
 }
 
--- Session with the plan, the actions and the restarts of a record, a map and an image, in a phase.
+-- Session in a phase, with a map and an image, and with the plan, the actions and the restarts of a record.
 abbrev pub dfuse_session_in_phase : DfuseSession → (map : Bor MapContent) → (image : Bor (List Element)) → Phase → Session
 dfuse_session_in_phase r map image phase = record {
   plan = dfuse_plan_of r.plan map image;
@@ -51,11 +51,10 @@ dfuse_session_in_phase r map image phase = record {
   restarts = r.plan.restarts;
 }
 
--- Session of a record, with a map and an image; None for another version, or if no phase has the record's numbers.
+-- Session of a record, with a map and an image; None if the record has another version, or if no phase has its numbers.
 abbrev pub session_in : DfuseSession → (map : Bor MapContent) → (image : Bor (List Element)) → Option Session
 session_in r map image = option_map (dfuse_session_in_phase r map image) (phase_in r)
 
--- The number of a bit: 1 if it is true, else 0.
 abbrev pub number_of_bit : Bool → ℕ
 number_of_bit true = 1
 number_of_bit false = 0

@@ -15,23 +15,23 @@ use crate::dfuse::session::DfuseSession;
 use crate::refusals::{NO_ROOM, NO_SESSION};
 use dfuse_host::{Action, Element};
 
-/// `struct dfuse_action`: the next action. The header says what each number means.
+/// `struct dfuse_action`: the next action. The header explains each number.
 #[repr(C)]
 #[derive(Drop)]
 pub struct DfuseAction {
-    /// Length in bytes of the body, which is at the beginning of the buffer.
+    /// Length in bytes of the body, which is at the front of the buffer.
     pub length: u64,
     /// 0 to send, 1 to wait, 3 if the session is over.
     pub what: u32,
     /// The milliseconds of a wait, or the number of a report.
     pub value: u32,
-    /// Detail of the report: the leaving, or a code.
+    /// Detail of the report: the number of its `Leaving`, or a status code.
     pub more: u32,
-    /// Setup of the request to send.
+    /// Setup packet of the request to send.
     pub setup: [u8; 8],
 }
 
-/// Writes a request to send, with its body. Returns 0 or `DFUSE_NO_ROOM`.
+/// Writes a request with its body. Returns 0, or `DFUSE_NO_ROOM` if the body is longer than the buffer.
 fn send(setup: [u8; 8], sent: &[u8], body: &mut [u8], action: &mut DfuseAction) -> i32
     ensures outcome { (request : Request) → IsDfuseSetupOf request setup
         → ((result ≡ pos 0) × DfuseActionRecord (Send request sent.now) action.new body.old body.new)
@@ -51,7 +51,7 @@ fn send(setup: [u8; 8], sent: &[u8], body: &mut [u8], action: &mut DfuseAction) 
     0
 }
 
-/// Returns the record of an action without a request, with zeros for the setup and the body.
+/// Returns the record of an action without a request: the setup packet and the length of the body are 0.
 fn other(what: u32, value: u32, more: u32) -> DfuseAction
     ensures { (bytes : List ℕ) → DfuseNoRequestRecord what value more result bytes bytes }
 {

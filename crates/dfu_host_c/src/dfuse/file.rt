@@ -3,10 +3,10 @@
 ghost use Rattle.std.specs.Prelude.{◌≡◌, ◌⊎◌, pos};
 ghost use Rattle.dfu_host_c.specs.dfuse.Files.{file_record, setting_number, HasFileRecord, IsNoDfuSe};
 
-use crate::refusals::Refusal;
+use crate::refusals::HostRefusal;
 use dfu_formats::dfuse::{File, read};
 
-/// `struct dfuse_file`: the fields of a DfuSe file. The header says what each number means.
+/// `struct dfuse_file`: the fields of a DfuSe file. The header explains each number.
 #[repr(C)]
 #[derive(Drop)]
 pub struct DfuseFile {
@@ -22,7 +22,7 @@ pub struct DfuseFile {
     pub vendor: u16,
 }
 
-/// Returns the number of the one setting of all targets; 256 if there is none.
+/// Returns the number of the setting that all targets share; 256 if they have several.
 fn setting_number(setting: Option<u8>) -> u32
     ensures { result ≡ setting_number setting }
 {
@@ -32,7 +32,6 @@ fn setting_number(setting: Option<u8>) -> u32
     }
 }
 
-/// Makes the record of a file.
 fn file_record(file: &File<'_>) -> DfuseFile
     ensures { result ≡ file_record file.now }
 {
@@ -46,7 +45,7 @@ fn file_record(file: &File<'_>) -> DfuseFile
     }
 }
 
-/// Reads DfuSe file `file` into `out`. Returns 0, or the number of its first fault.
+/// Reads the DfuSe file `file` into `out`. Returns 0, or the number of its first fault.
 #[unsafe(no_mangle)]
 pub extern "C" fn dfuse_read_file(file: &[u8], out: &mut DfuseFile) -> i32
     ensures outcome { ((result ≡ pos 0) × HasFileRecord file.now out.new) ⊎ (IsNoDfuSe file.now result × (out.new ≡ out.old)) }
@@ -56,6 +55,6 @@ pub extern "C" fn dfuse_read_file(file: &[u8], out: &mut DfuseFile) -> i32
             *out = file_record(&read);
             0
         }
-        Err(fault) => Refusal::DfuseFile(fault).number(),
+        Err(fault) => HostRefusal::DfuseFile(fault).number(),
     }
 }

@@ -3,12 +3,13 @@
 ghost use Rattle.std.specs.Prelude.{◌≡◌, ◌⊎◌, length, pos};
 ghost use Rattle.dfu_host_c.specs.dfuse.Files.{HasFileElements, HasNoElements, IsNoDfuSe};
 
-use crate::refusals::Refusal;
+use crate::refusals::HostRefusal;
 use dfu_formats::dfuse::read;
 use dfuse_host::Element;
 
-/// Writes the elements of DfuSe file `file` for alternate setting `setting`, in the order of the file, to the beginning of `places`.
-/// Returns 0, or the number of the file's first fault, or of the reason why it has no such image.
+/// Writes the elements of the DfuSe file `file` for alternate setting `setting` to the front of `places`, in the order of the file, and
+/// their number to `count`. Returns 0; the number of the file's first fault; or the number of the image's fault, if the file has no image
+/// for the setting or more elements than fit in `places`.
 #[unsafe(no_mangle)]
 pub extern "C" fn dfuse_file_image<'f>(
     file: &'f [u8],
@@ -23,13 +24,13 @@ pub extern "C" fn dfuse_file_image<'f>(
 {
     let read = match read(file) {
         Ok(read) => read,
-        Err(fault) => return Refusal::DfuseFile(fault).number(),
+        Err(fault) => return HostRefusal::DfuseFile(fault).number(),
     };
     match read.listed(setting, places) {
         Ok(found) => {
             *count = found as u64;
             0
         }
-        Err(fault) => Refusal::Image(fault).number(),
+        Err(fault) => HostRefusal::Image(fault).number(),
     }
 }

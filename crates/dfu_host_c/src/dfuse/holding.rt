@@ -1,4 +1,4 @@
-//! The session of a record, and the record of a session.
+//! Conversion between a DfuSe session and its record for C.
 
 ghost use Rattle.std.specs.Prelude.{◌≡◌, IfSome, None, Some};
 ghost use Rattle.dfu_formats.specs.memory.Grammar.{IsMap};
@@ -28,7 +28,7 @@ fn numbers_in(given: &DfuseSession) -> EncodedDfusePhase
     }
 }
 
-/// Returns the phase of a record; None for another version, or if no phase has its numbers.
+/// Returns the phase of a record; None if the record has another version, or if no phase has its numbers.
 fn phase_in(given: &DfuseSession) -> Option<Phase>
     ensures { result ≡ phase_in given.now }
 {
@@ -38,7 +38,7 @@ fn phase_in(given: &DfuseSession) -> Option<Phase>
     phase_at(numbers_in(given))
 }
 
-/// Returns the map of a string; None if the string is not a map.
+/// Returns the map in a string; None if the string is not a map.
 pub(crate) fn map_of(text: &[u8]) -> Option<Map<'_>>
     ensures some { IfSome result (λ m. IsMap m text.now) }
     ensures none { result ≡ None → (m : MapContent) → IsMap m text.now → ⊥ }
@@ -49,7 +49,7 @@ pub(crate) fn map_of(text: &[u8]) -> Option<Map<'_>>
     }
 }
 
-/// Returns the session of a record with a map and an image; None for another version, or if the record has no phase.
+/// Returns the session of a record with a map and an image; None if the record has another version or no phase.
 pub(crate) fn session_of<'f>(
     given: &DfuseSession,
     map: &'f Map<'f>,
@@ -69,7 +69,7 @@ pub(crate) fn session_of<'f>(
     })
 }
 
-/// Makes the record of a session.
+/// Returns the record of a session.
 pub(crate) fn record_of(session: &Session<'_>) -> DfuseSession
     ensures value { result ≡ dfuse_record_of session.now }
     ensures says { session_in result session.now.plan.map session.now.plan.image ≡ Some session.now }

@@ -4,10 +4,10 @@ ghost use Rattle.std.specs.Prelude.{◌≡◌, ◌⊎◌, pos};
 ghost use Rattle.dfu_host_c.specs.dfuse.Maps.{access_number, map_record, range_record, HasMapRecord, HasRangeRecord, HasNoRange, IsNoMap};
 ghost use Rattle.dfu_host_c.specs.Refusals.{no_range};
 
-use crate::refusals::{NO_RANGE, Refusal};
+use crate::refusals::{HostRefusal, NO_RANGE};
 use dfu_formats::memory::{Access, Map, Pages};
 
-/// `struct dfuse_map`: the numbers of a map. The header says what each number means.
+/// `struct dfuse_map`: the numbers of a map. The header explains each of them.
 #[repr(C)]
 #[derive(Drop)]
 pub struct DfuseMap {
@@ -17,7 +17,7 @@ pub struct DfuseMap {
     pub ranges: u64,
 }
 
-/// `struct dfuse_range`: pages of one size. The header says what each number means.
+/// `struct dfuse_range`: pages of one size. The header explains each number.
 #[repr(C)]
 #[derive(Drop)]
 pub struct DfuseRange {
@@ -31,7 +31,6 @@ pub struct DfuseRange {
     pub access: u32,
 }
 
-/// Makes the record of a map.
 fn map_record(map: &Map<'_>) -> DfuseMap
     ensures { result ≡ map_record map.now }
 {
@@ -50,7 +49,6 @@ fn access_number(access: Access) -> u32
         + 4 * u32::from(access.is_writable)
 }
 
-/// Makes the record of a range.
 fn range_record(pages: &Pages) -> DfuseRange
     ensures { result ≡ range_record pages.now }
 {
@@ -72,12 +70,12 @@ pub extern "C" fn dfuse_read_map(text: &[u8], out: &mut DfuseMap) -> i32
             *out = map_record(&map);
             0
         }
-        Err(fault) => Refusal::Map(fault).number(),
+        Err(fault) => HostRefusal::Map(fault).number(),
     }
 }
 
-/// Reads range number `number` of the map `text` into `out`. Returns 0, or the number of the string's first fault, or the number for a map
-/// without this range.
+/// Reads range `number` of the map `text` into `out`. Returns 0, or the number of the string's first fault, or `NO_RANGE` if the map has no
+/// such range.
 #[unsafe(no_mangle)]
 pub extern "C" fn dfuse_read_range(text: &[u8], number: u32, out: &mut DfuseRange) -> i32
     ensures outcome { ((result ≡ pos 0) × HasRangeRecord text.now number out.new)
@@ -86,7 +84,7 @@ pub extern "C" fn dfuse_read_range(text: &[u8], number: u32, out: &mut DfuseRang
 {
     let map = match Map::read(text) {
         Ok(map) => map,
-        Err(fault) => return Refusal::Map(fault).number(),
+        Err(fault) => return HostRefusal::Map(fault).number(),
     };
     match map.ranges().get(number as usize) {
         Some(pages) => {

@@ -1,4 +1,4 @@
-//! Phases of DfuSe sessions as numbers, both ways.
+//! Conversion between the phases of DfuSe sessions and numbers.
 
 ghost use Rattle.std.specs.Prelude.{◌≡◌, ◌≢◌, Some};
 ghost use Rattle.dfuse_host.specs.declared.phase.Phase.TheVariants.{On};
@@ -8,7 +8,7 @@ use crate::dfuse::reports::{report_at, report_numbers};
 use crate::tables::numbers;
 use dfuse_host::{Phase, Place, Standing, Step, Work};
 
-/// Numbers of a DfuSe phase.
+/// Numbers that encode a phase in the record of a DfuSe session.
 #[derive(Clone, Copy)]
 pub(crate) struct EncodedDfusePhase {
     pub(crate) work: u32,
@@ -21,7 +21,7 @@ pub(crate) struct EncodedDfusePhase {
     pub(crate) report: u32,
 }
 
-/// The steps by their numbers.
+/// Table of the steps and their numbers.
 macro_rules! steps {
     ($($way:tt)*) => {
         numbers!($($way)*, Step {
@@ -31,7 +31,7 @@ macro_rules! steps {
     };
 }
 
-/// Returns the work with these numbers; None if no work has them.
+/// Returns the work with these numbers; None if no work has these numbers.
 fn work_at(number: u32, at: u64, end: u64) -> Option<Work>
     ensures { result ≡ work_at number at end }
 {
@@ -47,7 +47,7 @@ fn work_at(number: u32, at: u64, end: u64) -> Option<Work>
     }
 }
 
-/// Returns the knowledge of the pointer, by its number and an address; None for a number over 2.
+/// Returns the `Place` with this number and this pointer address; None for a number over 2.
 fn place_at(number: u32, pointer: u64) -> Option<Place>
     ensures { result ≡ place_at number pointer }
 {
@@ -59,14 +59,14 @@ fn place_at(number: u32, pointer: u64) -> Option<Place>
     }
 }
 
-/// Returns the step with this number, and with its time; None for a number over 14.
+/// Returns the step with this number and time; None for a number over 14.
 fn step_at(number: u32, ms: u32) -> Option<Step>
     ensures { result ≡ step_at number ms }
 {
     steps!(read number, ms)
 }
 
-/// Returns the phase with these numbers; None if no phase has them.
+/// Returns the phase with these numbers; None if no phase has these numbers.
 pub(crate) fn phase_at(n: EncodedDfusePhase) -> Option<Phase>
     ensures { result ≡ dfuse_phase_at n }
 {
@@ -88,10 +88,10 @@ pub(crate) fn phase_at(n: EncodedDfusePhase) -> Option<Phase>
     Some(Phase::On(Standing { work, place, step }))
 }
 
-/// Returns the number of a work, the address that it has reached, and the address at which it ends; 0 for an address that it does not have.
+/// Returns the number of a work, its current address, and its end address; 0 for an address that it doesn't have.
 fn work_numbers(work: Work) -> (u32, u64, u64)
     ensures work { work_at result.0 result.1 result.2 ≡ Some work }
-    ensures on { result.0 ≢ 7 }
+    ensures not_7 { result.0 ≢ 7 }
     ensures numbers { result ≡ work_numbers work }
 {
     match work {
@@ -105,7 +105,7 @@ fn work_numbers(work: Work) -> (u32, u64, u64)
     }
 }
 
-/// Returns the number of the knowledge of the pointer, and the pointer's address; 0 if that isn't known.
+/// Returns the number of a `Place`, and the address to which the pointer was set, or 0 if the pointer is unknown.
 fn place_numbers(place: Place) -> (u32, u64)
     ensures place { place_at result.0 result.1 ≡ Some place }
     ensures numbers { result ≡ place_numbers place }
@@ -117,7 +117,7 @@ fn place_numbers(place: Place) -> (u32, u64)
     }
 }
 
-/// Returns the number of a step, and its time; 0 for a step without a time.
+/// Returns the number of a step, and its time, or 0 for a step without a time.
 fn step_numbers(step: Step) -> (u32, u32)
     ensures step { step_at result.0 result.1 ≡ Some step }
     ensures numbers { result ≡ step_numbers step }
@@ -125,7 +125,6 @@ fn step_numbers(step: Step) -> (u32, u32)
     steps!(write step)
 }
 
-/// Returns the numbers of a phase.
 pub(crate) fn numbers_of(phase: Phase) -> EncodedDfusePhase
     ensures phase { dfuse_phase_at result ≡ Some phase }
     ensures numbers { result ≡ dfuse_numbers_in phase }
@@ -148,7 +147,7 @@ pub(crate) fn numbers_of(phase: Phase) -> EncodedDfusePhase
     }
 }
 
-/// Returns the numbers of the phase of a session that goes on.
+/// Returns the numbers of the phase of a session that is not over.
 fn numbers_of_standing(standing: Standing) -> EncodedDfusePhase
     ensures phase { dfuse_phase_at result ≡ Some (On standing) }
     ensures numbers { result ≡ dfuse_numbers_in (On standing) }

@@ -6,21 +6,21 @@ ghost use Rattle.dfu_host_c.specs.dfuse.Sessions.{dfuse_plan_of};
 use dfu_formats::memory::Map;
 use dfuse_host::{Element, Plan};
 
-/// `struct dfuse_plan`: the plan of a session, except its map and its image. The header says what each number means.
+/// `struct dfuse_plan`: the plan of a session, except its map and its image. The header explains each number.
 #[repr(C)]
 #[derive(Drop)]
 pub struct DfusePlan {
     /// Address at which the application must start.
     pub start: u32,
-    /// Calls of `dfuse_take` after which the session is over; 0 counts as 1.
+    /// Number of calls of `dfuse_take` after which the session is over; 0 counts as 1.
     pub actions: u32,
-    /// Restarts of the device that the session takes.
+    /// Number of restarts of the device that the session tolerates.
     pub restarts: u16,
     /// Largest number of bytes of a block.
     pub transfer: u16,
     /// Number of bytes of the image that are written last.
     pub front: u16,
-    /// 0 if the device stays, any other number if it must leave.
+    /// 0 if the device stays in DFU mode, any other number if it must leave.
     pub leaves: u16,
 }
 

@@ -1,4 +1,4 @@
-//! Reports of DfuSe sessions as numbers, both ways.
+//! Conversion between the reports of DfuSe sessions and numbers.
 
 ghost use Rattle.std.specs.Prelude.{◌≡◌, Some};
 ghost use Rattle.dfu_host_c.specs.dfuse.ReportNumbers.{leaving_at, leaving_number, dfuse_report_at, dfuse_report_numbers};
@@ -7,7 +7,7 @@ use crate::reports::{code_at, code_number};
 use crate::tables::numbers;
 use dfuse_host::{Leaving, Report};
 
-/// The reports by their numbers.
+/// Table of the reports and their numbers.
 macro_rules! reports {
     ($($way:tt)*) => {
         numbers!($($way)*, Report {
@@ -17,7 +17,7 @@ macro_rules! reports {
     };
 }
 
-/// Returns the leaving with this number; None for a number over 2.
+/// Returns the `Leaving` with this number; None for a number over 2.
 fn leaving_at(number: u32) -> Option<Leaving>
     ensures { result ≡ leaving_at number }
 {
@@ -29,14 +29,14 @@ fn leaving_at(number: u32) -> Option<Leaving>
     }
 }
 
-/// Returns the report with this number; None for 0 or over 7, or if `more` is no leaving for Verified or no code for Refused.
+/// Returns the report with this number. None for a number of 0 or over 7, or if `more` isn't the number of a `Leaving` (for Verified) or of
+/// a status code (for Refused).
 pub(crate) fn report_at(number: u32, more: u32) -> Option<Report>
     ensures { result ≡ dfuse_report_at number more }
 {
     reports!(read number, more)
 }
 
-/// Returns the number of a leaving.
 fn leaving_number(leaving: Leaving) -> u32
     ensures leaving { leaving_at result ≡ Some leaving }
     ensures number { result ≡ leaving_number leaving }
@@ -48,7 +48,7 @@ fn leaving_number(leaving: Leaving) -> u32
     }
 }
 
-/// Returns the number of a report, and its detail: a leaving or a code, or 0 for other reports.
+/// Returns the number of a report, and its detail: the number of its `Leaving` or status code, or 0 for other reports.
 pub(crate) fn report_numbers(report: Report) -> (u32, u32)
     ensures report { dfuse_report_at result.0 result.1 ≡ Some report }
     ensures numbers { result ≡ dfuse_report_numbers report }

@@ -1,4 +1,4 @@
-//! The calls that begin and step a session.
+//! The calls that begin a session, and pass a result to it.
 
 ghost use Rattle.std.specs.Prelude.{◌≡◌, ◌⊎◌, None, pos};
 ghost use Rattle.dfu_host_core.specs.Numbers.{no_seen, no_session};
@@ -9,12 +9,13 @@ ghost use Rattle.dfu_host_c.specs.dfuse.SeenNumbers.{dfuse_seen_at};
 use crate::dfuse::holding::{map_of, record_of, session_of};
 use crate::dfuse::plan::DfusePlan;
 use crate::dfuse::session::DfuseSession;
-use crate::refusals::{NO_SEEN, NO_SESSION, Refusal};
+use crate::refusals::{HostRefusal, NO_SEEN, NO_SESSION};
 use crate::seen::dfuse_seen_at;
 use dfu_formats::memory::Map;
 use dfuse_host::{Element, Limits, Session};
 
-/// Begins a session that writes an image and reads it back. Returns 0, or the number of the string's fault, or else of the plan's.
+/// Begins a session that writes an image and reads it back. Returns 0; the number of the string's first fault; or, if the string has no
+/// fault, the number of the plan's first fault.
 #[unsafe(no_mangle)]
 pub extern "C" fn dfuse_begin(
     session: &mut DfuseSession,
@@ -28,7 +29,7 @@ pub extern "C" fn dfuse_begin(
 {
     let map = match Map::read(map) {
         Ok(map) => map,
-        Err(fault) => return Refusal::Map(fault).number(),
+        Err(fault) => return HostRefusal::Map(fault).number(),
     };
     let limits = Limits {
         actions: plan.actions,
@@ -39,11 +40,11 @@ pub extern "C" fn dfuse_begin(
             *session = record_of(&host);
             0
         }
-        Err(fault) => Refusal::Plan(fault).number(),
+        Err(fault) => HostRefusal::Plan(fault).number(),
     }
 }
 
-/// Gives a session the result of its action. Returns 0, `DFU_NO_SESSION` or `DFU_NO_SEEN`.
+/// Passes the result of a session's action to the session. Returns 0, `DFU_NO_SESSION` or `DFU_NO_SEEN`.
 #[unsafe(no_mangle)]
 pub extern "C" fn dfuse_take(
     session: &mut DfuseSession,

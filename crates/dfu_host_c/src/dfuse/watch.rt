@@ -4,10 +4,10 @@
 #[repr(C)]
 #[derive(Drop)]
 pub struct DfuseWatch {
-    /// Requests in a row that went out and had no answer; 24 or more end the session, or, if the device was asked to
-    /// leave, 3 or more mean that it is gone.
+    /// Number of requests in a row that reached the device and had no answer. 24 end the session; after the request to leave, 3 mean that
+    /// the device is gone.
     pub silent: u32,
-    /// Waits of 0 ms in a row, since the last longer wait or request other than GETSTATUS.
+    /// Number of waits of 0 ms since the last longer wait or request other than GETSTATUS.
     pub waits: u32,
     /// 1 if a request of the session may have changed the memory.
     pub sent: u8,

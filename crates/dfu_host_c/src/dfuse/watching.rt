@@ -1,4 +1,4 @@
-//! Calls of the watch over a DfuSe session: when a program gives a device up, and how long it waits.
+//! Calls of the watch over a DfuSe session, which decide when a program gives up on a device and how long it waits.
 
 ghost use Rattle.std.specs.Prelude.{◌≡◌};
 ghost use Rattle.dfu_host_c.specs.Watch.{c_number_of_bool};
@@ -23,39 +23,39 @@ use crate::watching::{
     ENDS_GONE, ENDS_MANY, ENDS_OTHER, ENDS_SILENT, GOES_ON, MOST_SILENT, count_and_one,
 };
 
-/// Course of `dfuse_watch_after`, beside those of `dfu_watch_after`: report a restart instead of the result.
+/// Course 8: pass a restart to the session instead of the action's result, because a device that must leave counts as gone.
 const GOES_RESTARTED: u32 = 8;
-/// Course to report nothing, because the user has stopped the session and the device is gone.
+/// Course 9: pass no result to the session, because the device is gone and the user has stopped the session.
 const GOES_TO_STOP: u32 = 9;
-/// Requests in a row without an answer after which a device that was asked to leave counts as gone.
+/// Number of requests in a row without an answer after which a device that must leave counts as gone.
 const MOST_SILENT_AT_CLOSE: u32 = 3;
 /// Number of waits of 0 ms in a row that take no time.
 const SHORT_WAITS: u32 = 3;
-/// Milliseconds that each further wait of 0 ms lasts.
+/// Milliseconds that each wait of 0 ms takes after the first three in a row.
 const SHORT_WAIT_MS: u32 = 5;
 
-/// Returns whether the device was asked to leave: the session sends, or has sent, the DNLOAD of no bytes.
+/// Returns true if the session sends, or has sent, the DNLOAD of 0 bytes that makes the device leave.
 fn is_closing(session: &DfuseSession) -> bool
     ensures { result ≡ is_closing session.now }
 {
     session.work == 6 && session.step >= 12
 }
 
-/// Returns whether the action is a request that went out to the device.
+/// Returns true if the action is a request that reached the device.
 fn is_out(action: &DfuseAction, facts: &DfuFacts) -> bool
     ensures { result ≡ is_dfuse_request_out action.now facts.now }
 {
     action.what == 0 && facts.reached != 0
 }
 
-/// Returns whether an action is GETSTATUS (USB DFU 1.1, section 6.1.2).
+/// Returns true if an action is GETSTATUS (USB DFU 1.1, section 6.1.2).
 fn is_status(action: &DfuseAction) -> bool
     ensures { result ≡ is_status action.now }
 {
     action.setup[0] == 0xa1 && action.setup[1] == 3
 }
 
-/// Returns whether an action may change the memory: a block of data, whose number isn't 0, or command 41h, which erases.
+/// Returns true if an action may change the memory: it sends a block of data, whose number isn't 0, or command 41h, which erases.
 fn alters_memory(action: &DfuseAction, command: u32) -> bool
     ensures { result ≡ may_change_memory action.now command }
 {
@@ -66,7 +66,7 @@ fn alters_memory(action: &DfuseAction, command: u32) -> bool
         && (action.setup[2] != 0 || action.setup[3] != 0 || command == 0x41)
 }
 
-/// Returns the number of requests in a row that went out and had no answer, after an action.
+/// Returns the number of requests in a row that reached the device and had no answer, after an action.
 fn silent_after(watch: &DfuseWatch, action: &DfuseAction, seen: u32, facts: &DfuFacts) -> u32
     ensures { result ≡ dfuse_silent_after watch.now action.now seen facts.now }
 {
@@ -100,8 +100,8 @@ fn watch_after(
     }
 }
 
-/// Returns whether a device that was asked to leave counts as gone after a request: another device is open, it is gone, it left by itself,
-/// or at least three requests in a row had no answer.
+/// Returns true if a device that must leave counts as gone after a request: another device is open, it is gone, it left by itself, or at
+/// least three requests in a row had no answer.
 fn is_gone_while_closing(
     watch: &DfuseWatch,
     action: &DfuseAction,
@@ -115,7 +115,7 @@ fn is_gone_while_closing(
         && (is_other || facts.gone != 0 || seen == 7 || watch.silent >= MOST_SILENT_AT_CLOSE)
 }
 
-/// Returns the course of the program, by the record of the watch and the facts of the device.
+/// Returns the course of the program, from the record of the watch and the facts of the device.
 fn course(
     watch: &DfuseWatch,
     session: &DfuseSession,
@@ -145,7 +145,8 @@ fn course(
     }
 }
 
-/// Returns 1 if the device was asked to leave, and may be gone at any request, else 0.
+/// Returns 1 if the session sends, or has sent, the DNLOAD that makes the device leave, so that the device may be gone at any request; else
+/// 0.
 #[unsafe(no_mangle)]
 pub extern "C" fn dfuse_watch_closes(session: &DfuseSession) -> u32
     ensures { result ≡ c_number_of_bool (is_closing session.now) }
@@ -153,8 +154,8 @@ pub extern "C" fn dfuse_watch_closes(session: &DfuseSession) -> u32
     u32::from(is_closing(session))
 }
 
-/// Returns the course after an action, by its result and by the facts of the device. `command` is the first byte of the action's body, or
-/// 0.
+/// Records an action in `watch`, and returns the course after it, from the action's result and the facts of the device. `command` is the
+/// first byte of the action's body, or 0.
 #[unsafe(no_mangle)]
 pub extern "C" fn dfuse_watch_after(
     watch: &mut DfuseWatch,
@@ -171,7 +172,8 @@ pub extern "C" fn dfuse_watch_after(
     course(watch, session, action, seen, facts)
 }
 
-/// Returns the milliseconds to wait if the host asks for `ms`: `ms`, but 5 from the fourth wait of 0 ms in a row on.
+/// Records a wait in `watch`, and returns the milliseconds to wait if the host requests `ms`: 5 from the fourth wait of 0 ms in a row on,
+/// else `ms`.
 #[unsafe(no_mangle)]
 pub extern "C" fn dfuse_watch_wait(watch: &mut DfuseWatch, ms: u32) -> u32
     ensures waits { watch.new.waits ≡ dfuse_waits_after_wait watch.old ms }

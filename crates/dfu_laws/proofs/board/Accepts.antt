@@ -1,4 +1,4 @@
--- Images of devices and boards whose program checks each image: the active image stays one that the check accepts.
+-- If a program checks each image, the active image of its board, or of the board's device, is the first one, or one that passes the check.
 use Rattle.std.specs.Prelude.{◌≡◌, ◌⊎◌, ℕ, Bool, true, List, [], ◌∷◌}
 use Rattle.std.proofs.Common.{inl, inr, ap, ◌∙◌}
 use Rattle.dfu_laws.specs.board.Board.{BoardStep}
@@ -9,13 +9,13 @@ use Rattle.dfu_device.specs.History.{IsTableRow, HistoryStep as TableRow}
 use Rattle.dfu_laws.specs.board.Accepts.{ClosesPassCheck, RunKeepsAcceptedImage, RowPassesCheck, HistoryKeepsAcceptedImage}
 use Rattle.dfu_laws.proofs.board.Closing.{row_has_image_outcome}
 
--- An image whose download was closed passes the check.
+-- The image of a closed download passes the check.
 closed_image_passes_check : (check : List ℕ → Bool) (old steps : List BoardStep) (image : List ℕ) → ClosesPassCheck check old steps
     → DownloadOfImageClosed old steps image
     → check image ≡ true
 closed_image_passes_check check old steps image heeds c = ap check c.image_is ∙ heeds c.first c.close c.rest c.steps_are c.is
 
--- After a run whose closes pass the check, the active image is the first one or passes the check.
+-- If each download that a run closes passes the check, the active image after the run is the first one, or one that passes the check.
 pub run_image_passes_check : RunsKeepImage → RunKeepsAcceptedImage
 run_image_passes_check keeps check b b' steps image on active run heeds =
     let kept = keeps b b' steps image on active run in
@@ -28,7 +28,7 @@ run_image_passes_check keeps check b b' steps image on active run heeds =
       ];
     }
 
--- If the program heeds the check at a row, the image after it is the image before it, or passes the check.
+-- If a row passes the check, the image after the row is unchanged, or passes the check.
 row_image_passes_check : (check : List ℕ → Bool) (s : TableRow) → IsTableRow s → RowPassesCheck check s
     → (image_of s.after.slots ≡ image_of s.before.slots) ⊎ (check (image_of s.after.slots) ≡ true)
 row_image_passes_check check s row heeds =
@@ -47,7 +47,7 @@ row_image_passes_check check s row heeds =
       ]
     ]
 
--- If the program heeds the check at each row of a history, the image at its end is the first one, or passes the check.
+-- If each row of a history passes the check, the image at the end of the history is the first one, or one that passes the check.
 pub history_image_passes_check : HistoryKeepsAcceptedImage
 history_image_passes_check check [] w w' same heeds = inl (ap (λ (x : DeviceView). image_of x.slots) same)
 history_image_passes_check check (s ∷ rest) w w' (begins, row, more) heeds = elim (history_image_passes_check check rest s.after w' more

@@ -1,4 +1,4 @@
--- A bound of the number of times that a board asks: each time its series of writes gets shorter by a piece.
+-- A board requests a bounded number of writes, because each report leaves one fewer piece of its write steps.
 use Rattle.std.specs.Prelude.{◌≡◌, ◌==◌, nat_lt, nat_le, not, ◌&&◌, ℕ, ◌+◌, ◌%◌, ◌≤◌, ◌<◌, Bool, true, false, IsTrue, List, [], length, take, Option, if◌then◌else◌}
 use Rattle.std.proofs.Common.{sym, ap, ◌∙◌, subst, arith}
 use Rattle.std.proofs.Math.Nat.{mod-lt}
@@ -28,9 +28,7 @@ use Rattle.dfu_laws.specs.board.Refines.{IsBoardAtWork}
 use Rattle.dfu_laws.proofs.board.Counting.{piece_count}
 use Rattle.dfu_laws.proofs.board.Bounds.{unit_has_a_byte, block_pieces_bound, commit_pieces_bound}
 
--- Series of steps of a device.
-
--- The steps of the row that is due in a stage, if the stage has this job.
+-- Write steps of this job in a stage with a pending row; none in any other stage.
 abbrev due_steps_of_stage : SlotsState → Stage → SlotWrite → List Step
 due_steps_of_stage s (InDownloadSync before block number) j = job_steps j s.medium.grain (length before) (held_before_block s (length
     before)) block
@@ -40,7 +38,7 @@ due_steps_of_stage s (InManifestSync taken) j = job_steps j s.medium.grain (leng
 due_steps_of_stage s (InManifest taken passed) j = job_steps j s.medium.grain (length taken) s.held []
 due_steps_of_stage s stage j = []
 
--- The steps of the row that is due on a device, if its stage has this job.
+-- Write steps of this job in the stage of a device.
 abbrev pub device_due_steps : DeviceView → SlotWrite → List Step
 device_due_steps d j = due_steps_of_stage d.slots d.stage j
 
@@ -60,7 +58,7 @@ module _ (s : SlotsState) where
       let room : n ≤ room_of s = grind (arith, common_steps) in
       omega (arith, shaped_spare_has_room_size shape, room)
 
-  -- The first n bytes of a spare slot of at least n bytes have the length n.
+  -- If a spare slot has at least n bytes, its first n bytes have the length n.
   taken_bytes_have_length : (n : ℕ) → n ≤ length (spare_of s) → length (take n (spare_of s)) ≡ n
   taken_bytes_have_length n fits = omega (arith, length-take n (spare_of s), fits)
 
@@ -78,7 +76,7 @@ module _ (s : SlotsState) where
       ∙ (λ i. job_steps (is.job_is i) s.medium.grain n s.held block) ∙ (λ i. job_steps (sym is.job_is i) s.medium.grain n s.held [])
       ∙ ap (λ (k : ℕ). job_steps j s.medium.grain k s.held []) (sym (taken_bytes_have_length n fits))
 
-  -- The steps of the job that is due are the steps of its stage.
+  -- The write steps of the pending job are those that `due_steps_of_stage` gives for its stage.
   due_job_steps_same : (m : DeviceState) (asked : Option ℕ) (len : ℕ) (j : SlotWrite) (w : Grain) (end : ℕ) (held block : List ℕ)
       → s.medium.grain ≡ w → IsTrue (are_device_parts m (length block) s) → IsDueJobOfMode m asked len s j end held
       → job_steps j w end held block ≡ due_steps_of_stage s (stage_of m (spare_of s) block) j
@@ -92,7 +90,7 @@ module _ (s : SlotsState) where
       commit_job_steps_same n j w end held block grain (commit_fits_spare n _ sound) due.1
   due_job_steps_same m asked len j w end held block grain sound due = elim due [ ]
 
--- The steps of the work of a board at work are the steps of the device that the board represents.
+-- The write steps of a board's pending writes are those that `device_due_steps` gives for the device that the board represents.
 pub work_steps_are_device_steps : (b : Board) (cause : Cause) (d : DeviceView) (k : IsBoardAtWork b cause d)
     → steps_in (lent_on b) k.asks.work ≡ device_due_steps d k.asks.work.job
 work_steps_are_device_steps b cause d k =
@@ -104,11 +102,9 @@ work_steps_are_device_steps b cause d k =
     on.due
     ∙ ap (λ (x : DeviceView). device_due_steps x w.job) k.device
 
--- Bounds of the pieces of a series.
-
 module _ (s : SlotsState) (store : IsStore s) (u : WriteUnit) (sector : ℕ) (grain : s.medium.grain ≡ record { unit = u; sector = sector })
   where
-    -- The steps of a job have at most as many pieces as `operation_bound` says.
+    -- The write steps of a job have at most `operation_bound` pieces.
     abbrev JobPiecesBounded : SlotWrite → ℕ → (held block : List ℕ) → Type 0
     JobPiecesBounded j end held block =
         piece_count (job_steps j (record { unit = u; sector = sector }) end held block) ≤ operation_bound j (length block) sector
@@ -118,7 +114,7 @@ module _ (s : SlotsState) (store : IsStore s) (u : WriteUnit) (sector : ℕ) (gr
         (subst (λ (x : ℕ). x < unit_size s.medium.grain.unit) (sym store.puts.part) (mod-lt s.put_end (unit_has_a_byte
         s.medium.grain.unit)))
 
-    -- A sector has at least 256 bytes.
+    -- If the flash has sectors, each sector has at least 256 bytes.
     wide : 0 < sector → 256 ≤ sector
     wide some =
         let whole = subst (λ (g : Grain). g.sector % 256 ≡ 0) grain store.has_image.active.sized.whole.pages in
@@ -162,7 +158,7 @@ module _ (s : SlotsState) (store : IsStore s) (u : WriteUnit) (sector : ℕ) (gr
         due.1
     due_job_pieces_bounded m asked len j end held block due = elim due [ ]
 
--- The series of a board at work has at most as many pieces as `operation_bound` says.
+-- The write steps of a board with pending writes have at most `operation_bound` pieces.
 pub work_pieces_bounded : (b : Board) (cause : Cause) (d : DeviceView) (k : IsBoardAtWork b cause d)
     → piece_count (device_due_steps d k.asks.work.job) ≤ operation_bound k.asks.work.job (length (lent_on b).block) b.asking.sector.size
 work_pieces_bounded b cause d k =

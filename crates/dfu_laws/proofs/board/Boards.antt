@@ -1,4 +1,4 @@
--- The laws of a board: the facts of a device that each row keeps hold on the board's flash.
+-- Laws of a board, proved from what each row of the device table preserves.
 use Rattle.std.specs.Prelude.{◌≡◌, ◌⊎◌, ℕ, Bool, true, false, List, [], Option, Some, None}
 use Rattle.std.proofs.Common.{inl, inr, refl, sym, ap, ◌∙◌, subst}
 use Rattle.std.proofs.lemmas.List.{append-nil}
@@ -19,22 +19,19 @@ use Rattle.dfu_laws.proofs.board.Cut.{WriteLaws, torn_piece_cuts_row_off}
 use Rattle.dfu_laws.specs.board.Accepts.{IsPending}
 use Rattle.dfu_laws.proofs.board.Closing.{waiting_bytes_are_taken}
 use Rattle.dfu_laws.proofs.board.Installs.{nothing_waits_when_over}
-use Rattle.dfu_laws.proofs.board.Due.{failing_due_row_outcome}
+use Rattle.dfu_laws.proofs.board.DueRow.{failing_due_row_outcome}
 use Rattle.dfu_laws.proofs.board.Powers.{powered_board_is_idle, nothing_taken_at_start, nothing_waits_at_power}
-use Rattle.dfu_laws.proofs.board.Each.{board_step_makes_rows}
+use Rattle.dfu_laws.proofs.board.EachStepRows.{board_step_makes_rows}
 use Rattle.dfu_laws.proofs.board.Runs.{board_state_is_device_state, DeviceBytesFromSteps, step_keeps_device_bytes, RunOutcome, run_keeps_and_makes_rows}
 
--- The active image of a board's flash.
-
--- The clause `only` of the law `active_image_is_one`.
+-- Clause `only` of the law `active_image_is_one`: no image other than that of the store is active.
 abbrev pub ActiveImageIsOneClause : Type 0
 ActiveImageIsOneClause = (s : SlotsState) (image : List ℕ) → Active s.medium image → image ≡ image_of s
 
--- The flash of a board has an active image: that of its device, or while writes are due the image that waits.
+-- The flash of a board has an active image. It is the image of the board's device, or while writes are pending possibly the pending image.
 record HasImageOfDevice (b : Board) (due : Option Cause) (d : DeviceView) : Type 0 where
-  -- The flash has an active image.
   has : HasImage (medium_on b)
-  -- An active image is that of the device, or the image that waits while writes are due.
+  -- An active image is the device's image, or while writes are pending possibly the pending image.
   is : (image : List ℕ) → Active (medium_on b) image → (image ≡ image_of d.slots) ⊎ ((due ≡ None → ⊥) × IsPending d.stage image)
 
 some_due_is_not_none : (cause : Cause) → ◌≡◌ {A = Option Cause} (Some cause) None → ⊥
@@ -60,27 +57,25 @@ module _ (laws : WriteLaws) (only : ActiveImageIsOneClause) where
             ];
       }
 
--- Laws of a run.
-
--- No image waits in a board that was just powered on.
+-- A board that was just powered on has no pending image.
 no_image_waits_at_start : (begins : Bool) → is_manifesting (state_of (start_stage begins)) ≡ false
 no_image_waits_at_start true = refl
 no_image_waits_at_start false = refl
 
--- An image waits only in a state of manifestation.
+-- An image is pending only in dfuMANIFEST-SYNC and dfuMANIFEST.
 pending_image_means_manifesting : (st : Stage) (t : List ℕ) → IsPending st t → is_manifesting (state_of st) ≡ true
 pending_image_means_manifesting (InManifestSync taken) t m = refl
 pending_image_means_manifesting (InManifest taken passed) t m = refl
 pending_image_means_manifesting st t m = absurd m
 
--- No image waits in a stage whose state is not one of manifestation.
+-- In any other state than dfuMANIFEST-SYNC and dfuMANIFEST no image is pending.
 no_pending_unless_manifesting : (st : Stage) (t : List ℕ) → is_manifesting (state_of st) ≡ false → IsPending st t → ⊥
 no_pending_unless_manifesting (InManifestSync taken) t off m = absurd (cc)
 no_pending_unless_manifesting (InManifest taken passed) t off m = absurd (cc)
 no_pending_unless_manifesting st t off m = m
 
 module _ (laws : WriteLaws) (takes : RowAcceptsBody) (only : ActiveImageIsOneClause) where
-  -- A board that was just powered on has the facts of `DeviceBytesFromSteps`.
+  -- A board that was just powered on satisfies `DeviceBytesFromSteps` for the empty list of steps.
   begun : (b : Board) → IsPoweredOn b → DeviceBytesFromSteps (image_of (device_on b).slots) [] [] (device_on b)
   begun b on = record {
     taken = subst (λ (x : DeviceView). [] ≡ accepted_of (situation x)) (sym on.device)
@@ -89,7 +84,7 @@ module _ (laws : WriteLaws) (takes : RowAcceptsBody) (only : ActiveImageIsOneCla
     whence = inl refl;
   }
 
-  -- A run from power on keeps the facts of `DeviceBytesFromSteps`.
+  -- A run from power on preserves `DeviceBytesFromSteps`.
   ran : (b b' : Board) (steps : List BoardStep) → IsPoweredOn b → IsRun b steps b'
       → RunOutcome (DeviceBytesFromSteps (image_of (device_on b).slots) []) [] steps b' None (device_on b)
   ran b b' steps on run =
@@ -97,7 +92,7 @@ module _ (laws : WriteLaws) (takes : RowAcceptsBody) (only : ActiveImageIsOneCla
       (device_on b).slots) []) [] steps b b' None
       (device_on b) (powered_board_is_idle b on) (begun b on) run
 
-  -- A board with no writes due makes rows of the device table.
+  -- All steps of a run that begins without pending writes are rows of the device table.
   pub idle_runs_refine_table : IdleRunsRefineTable
   idle_runs_refine_table b b' d steps k run =
       let r = run_keeps_and_makes_rows laws takes (λ steps d. Unit {0}) (λ steps s due d kept x. tt) [] steps b b' None d k tt run in
@@ -120,11 +115,11 @@ module _ (laws : WriteLaws) (takes : RowAcceptsBody) (only : ActiveImageIsOneCla
         ];
       }
 
-  -- A board makes rows of the device table from power on.
+  -- All steps of a board from power on are rows of the device table.
   pub runs_refine_device_table : RunsRefineDeviceTable
   runs_refine_device_table b b' steps on run = idle_runs_refine_table b b' (device_on b) steps (powered_board_is_idle b on) run
 
-  -- If a device has the facts of `DeviceBytesFromSteps`, the image on the board's flash was kept or closed.
+  -- If a device satisfies `DeviceBytesFromSteps`, the active image of its board is the given image, or all bytes of a closed download.
   device_image_kept_on_board : (image : List ℕ) (old steps : List BoardStep) (b : Board) (due : Option Cause) (d : DeviceView)
       → RepresentsDevice b due d
       → DeviceBytesFromSteps image old steps d → ImageKeptOrClosed image old steps b
@@ -142,7 +137,7 @@ module _ (laws : WriteLaws) (takes : RowAcceptsBody) (only : ActiveImageIsOneCla
         ];
       }
 
-  -- From a time at which no image waits, the active image stays until another download is closed.
+  -- From a time at which no image is pending, the active image stays the same until another download is closed.
   pub image_stays_in_run : ImageStaysInRun
   image_stays_in_run b mid b' old steps image on before off active run =
       let r = ran b mid old on before in
@@ -162,7 +157,7 @@ module _ (laws : WriteLaws) (takes : RowAcceptsBody) (only : ActiveImageIsOneCla
       }) run in
       device_image_kept_on_board image old steps b' r'.due' r'.device r'.stands r'.kept
 
-  -- From power on, the image stays until a download is closed.
+  -- From power on, the active image stays the same until a download is closed.
   pub runs_keep_image : RunsKeepImage
   runs_keep_image b b' steps image on active run =
       image_stays_in_run b b b' [] steps image on refl (ap is_manifesting (state b on) ∙ no_image_waits_at_start on.begins) active run
@@ -171,7 +166,8 @@ module _ (laws : WriteLaws) (takes : RowAcceptsBody) (only : ActiveImageIsOneCla
       state b on = board_state_is_device_state b None (device_on b) (powered_board_is_idle b on)
           ∙ ap (λ (x : DeviceView). state_of x.stage) on.device
 
-  -- A step that leads out of manifestation without a fault has put all bytes taken in place.
+  -- If a step leads out of manifestation without a fault, and is not a restart into dfuIDLE, all bytes of the download are the active image
+  -- after the step.
   pub manifestation_installs : ManifestationInstalls
   manifestation_installs b mid b' steps last on before manifests run other over =
       let r = ran b mid steps on before in

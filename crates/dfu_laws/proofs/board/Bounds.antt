@@ -1,4 +1,4 @@
--- Bounds of the number of pieces of a block, and of a commit.
+-- Upper bounds for the number of pieces of a block or a commit.
 use Rattle.std.proofs.Common.{◌≡◌, ◌≢◌, inl, inr, Bool, true, false, not, if◌then◌else◌, ◌==◌, ℕ, zero, suc, ◌+◌, ◌-◌, ◌/◌, ◌≤◌, ◌<◌, min, List, [], ◌∷◌, ◌++◌, length, take, drop, replicate, refl, sym, ◌∙◌, ap, subst, arith, eq-eqb, length-append, length-drop}
 use Rattle.std.proofs.lemmas.Bool.{cases_eq, ne_eqb, true≢false}
 use Rattle.std.proofs.lemmas.List.{length-take, length-replicate}
@@ -13,7 +13,7 @@ use Rattle.dfu_asks.specs.Jobs.{held_bytes_place, job_steps}
 use Rattle.dfu_laws.specs.board.Counts.{block_erases, block_programs, commit_erases, commit_programs}
 use Rattle.dfu_laws.proofs.board.Counting.{part_count, piece_count, piece_count_of_append, erases_for_write, write_anew_count_bound, write_some_count_bound, erases_of_joined_ranges, bytes_of_sectors, sectors_that_fit, sector_erases_bound}
 
--- A unit has at most 256 bytes.
+-- A write unit has at most 256 bytes.
 unit_at_most_256 : (u : WriteUnit) → unit_size u ≤ 256
 unit_at_most_256 Byte = omega arith
 unit_at_most_256 _ = omega arith
@@ -41,10 +41,8 @@ filled_held_at_most_256 u held low =
     let n = fill_size u (length held) in
     omega (arith, length-append held (replicate n 0), length-replicate {A = ℕ} n 0, filled_up_at_most_256 u (length held) low)
 
--- The two parts of a put.
-
--- Sizes of the two parts of a put: the first has at most a unit, and no byte if none was held back; the second has at most the bytes of the
--- block.
+-- Sizes of the two writes of a `put`, for h bytes held back before and a block of b bytes. The first write has at most 256 bytes, and it is
+-- empty if no bytes were held back. The second has at most b bytes, and both together have at most h + b.
 record ArePutParts (h b first second : ℕ) : Type 0 where
   few : first ≤ 256
   block : second ≤ b
@@ -82,14 +80,14 @@ module _ (u : WriteUnit) (held block : List ℕ) (low : length held < unit_size 
         none = λ h. absurd (more h);
       }
 
-  -- The two parts of a put have the sizes of `ArePutParts`.
+  -- The two writes of a `put` have the sizes of `ArePutParts`.
   put_has_two_parts : ArePutParts (length held) (length block) head (whole - head)
   put_has_two_parts = elim (cases_eq (length held) 0) [
     | inl none ↦ sizes (length held == 0) refl (λ e. none) (λ e. absurd (true≢false (sym (eq-eqb (length held) 0 none) ∙ e)))
     | inr some ↦ sizes (length held == 0) refl (λ e. absurd (true≢false (sym e ∙ ne_eqb (length held) 0 some))) (λ e. some)
   ]
 
-  -- The pieces of a put are at most the erases of its two parts, and one program for each 256 bytes of a part.
+  -- A `put` needs at most the erases of its two writes, and one program for each 256 bytes of a write.
   put_pieces_bound : (sector at : ℕ) → piece_count (put_steps (record { unit = u; sector = sector }) at held block)
       ≤ length (erases_for_write sector at head) + (head + 255) / 256
       + (length (erases_for_write sector (at + head) (whole - head)) + (whole - head + 255) / 256)
@@ -112,7 +110,7 @@ module _ (u : WriteUnit) (held block : List ℕ) (low : length held < unit_size 
         more,
       )
 
--- The close of a gate is one piece: an erase or a program.
+-- Closing a gate takes at most one piece: a program, or on flash with sectors an erase.
 pub gate_close_is_one_piece : (u : WriteUnit) (sector spare : ℕ) →
     piece_count (close_step (record { unit = u; sector = sector }) spare ∷ []) ≤ 1
 gate_close_is_one_piece u zero spare = omega (arith, gate_unit_length_at_most_256 u 0)
@@ -131,8 +129,7 @@ optional_close_piece_bound : (u : WriteUnit) (sector spare : ℕ) (close : Bool)
 optional_close_piece_bound u sector spare true = gate_close_is_one_piece u sector spare
 optional_close_piece_bound u sector spare false = omega arith
 
--- The gate and the sectors that begin in both parts of a block need at most 1 + ⌈b / s⌉ erases, for a block of b bytes and sectors of s
--- bytes.
+-- For a block of b bytes and sectors of s bytes, closing the gate and the two writes need at most 1 + ⌈b / s⌉ erases.
 block_sector_erases_bound : (close : Bool) (h b s c : ℕ) → 256 ≤ s → h ≤ 256 → (close ≡ true → h ≡ 0) → bytes_of_sectors s c ≤ h + b + s - 1
     → number_of_flag close + c ≤ 1 + (b + s - 1) / s
 block_sector_erases_bound true h b s c wide few none le =
@@ -142,13 +139,13 @@ block_sector_erases_bound false h b s zero wide few none le = omega arith
 block_sector_erases_bound false h b s (suc c) wide few none le =
     omega (arith, sectors_that_fit s c (b + s - 1) (omega (arith, wide)) (omega (arith, le, wide, few)))
 
--- The gate and both parts of a block need at most ⌈b / 256⌉ + 1 programs, for a block of b bytes.
+-- For a block of b bytes, the gate and both writes need at most ⌈b / 256⌉ + 1 programs.
 block_program_parts_bound : (close : Bool) (h b one two : ℕ) → ArePutParts h b one two → (close ≡ true → h ≡ 0)
     → number_of_flag close + ((one + 255) / 256 + (two + 255) / 256) ≤ (b + 255) / 256 + 1
 block_program_parts_bound true h b one two p none = omega (arith, p.block, p.none (none refl))
 block_program_parts_bound false h b one two p none = omega (arith, p.block, p.few)
 
--- If a medium has sectors, the test for none is false, and the branch for sectors is taken.
+-- If a condition is false, the conditional has the value of its second branch.
 pub choice_takes_second : (b : Bool) → b ≡ false → (x : ℕ) → ◌≡◌ {A = ℕ} (if b then 0 else x) x
 choice_takes_second true e x = absurd (true≢false e)
 choice_takes_second false e x = refl
@@ -156,7 +153,7 @@ choice_takes_second false e x = refl
 pub write_erases_its_sectors : (s at n : ℕ) → (s == 0) ≡ false → length (erases_for_write s at n) ≡ length (sector_erases s at n)
 write_erases_its_sectors s at n e = ap (λ (b : Bool). length (if b then [] else sector_erases s at n)) e
 
--- The pieces of a block are at most `block_erases` plus `block_programs`.
+-- A block has at most `block_erases` plus `block_programs` pieces.
 pub block_pieces_bound : (u : WriteUnit) (sector spare : ℕ) (close : Bool) (end : ℕ) (held block : List ℕ) → length held < unit_size u
     → (close ≡ true → length held ≡ 0) → (0 < sector → 256 ≤ sector)
     → piece_count (job_steps (slot_write.Block spare close) (record { unit = u; sector = sector }) end held block)
@@ -203,14 +200,14 @@ block_pieces_bound u (suc k) spare close end held block low none wide =
       choice_takes_second (s == 0) on (1 + (length block + s - 1) / s),
     )
 
--- A range of at most 256 bytes has the beginning of at most one sector.
+-- If sectors have at least 256 bytes, at most one begins in a range of 256 bytes.
 
 range_of_256_spans_one_sector : (s c n : ℕ) → 256 ≤ s → n ≤ 256 → bytes_of_sectors s c ≤ n + s - 1 → c ≤ 1
 range_of_256_spans_one_sector s zero n wide few le = omega arith
 range_of_256_spans_one_sector s (suc zero) n wide few le = omega arith
 range_of_256_spans_one_sector s (suc (suc c)) n wide few le = absurd (omega (arith, wide, few, le))
 
--- At most 256 bytes are one program, and with sectors one erase.
+-- A write of at most 256 bytes takes one program, and on flash with sectors at most one erase.
 pub unit_write_pieces_bound : (s at n : ℕ) → (0 < s → 256 ≤ s) → n ≤ 256 → length (erases_for_write s at n) + (n + 255) / 256
     ≤ number_of_flag (not (s == 0)) + 1
 unit_write_pieces_bound zero at n wide few = omega (arith, few)

@@ -1,4 +1,4 @@
--- The row that is due, broken off: the laws of dfu_asks on its writes make it a row that failed.
+-- If the writes of a pending row are broken off, the row fails. The proof uses the laws of dfu_asks about writes.
 use Rattle.std.proofs.Common.{◌≡◌, ◌⊎◌, true, IsTrue, ℕ, ◌+◌, ◌≤◌, List, [], length, take, Option, refl, sym, ap, subst, arith}
 use Rattle.dfu_slots.specs.declared.fault.WriteFault.{WriteFault}
 use Rattle.dfu_slots.specs.Units.{Grain}
@@ -20,13 +20,13 @@ use Rattle.dfu_asks.specs.Due.{DueRowFails}
 use Rattle.dfu_asks.specs.Asks.{IsBlockJob, IsCommitJob, IsDueJobOfMode, failed_mode, IsRowEndAnswer}
 use Rattle.dfu_asks.proofs.Working.{NextBlockFits, IsAll, unwritten_block_may_be_written, due_commit_commits_all_puts, block_job_is_series, commit_job_is_series}
 
--- The clause `block_broken` of the law `writes_are_the_calls`.
+-- Clause `block_broken` of the law `writes_are_the_calls`: a call whose block is broken off by a fault fails with that fault.
 abbrev pub BrokenBlockFailsCall : Type 0
 BrokenBlockFailsCall = (fault : WriteFault) (s : SlotsState) (n : ℕ) (block : List ℕ) (now : MediumState) → IsStore s → is_shaped s ≡ true
     → (n ≡ 0) ⊎ (is_put n s ≡ true) → n + length block ≤ room_of s → BrokenWrites fault s.medium (block_series s n block) now
     → BlockBroken fault s n block (store_on now)
 
--- The clause `commit_broken` of the law `writes_are_the_calls`.
+-- Clause `commit_broken` of the law `writes_are_the_calls`: a commit whose writes are broken off by a fault fails with that fault.
 abbrev pub BrokenCommitFailsCall : Type 0
 BrokenCommitFailsCall = (fault : WriteFault) (s : SlotsState) (n : ℕ) (now : MediumState) → IsStore s → is_shaped s ≡ true → is_put n s
     ≡ true
@@ -36,19 +36,19 @@ module _ (blocks : BrokenBlockFailsCall) (commits : BrokenCommitFailsCall) (c : 
     SlotWrite)
     (s : SlotsState)
     (m flash : List ℕ) (medium : s.medium ≡ mapped_medium w m) (store : IsStore s) (fault : WriteFault) where
-  -- Store on the flash as it is.
+  -- Store on the flash after the failure.
   abbrev left : SlotsState
   left = store_on (mapped_medium w flash)
 
-  -- The units and sectors stay.
+  -- The write unit and the sectors of the store are those of the flash.
   grain : s.medium.grain ≡ w
   grain = ap (λ (x : MediumState). x.grain) medium
 
-  -- The count of failures rose.
+  -- The failure count rose, or already had its largest value.
   rose : CountRose s.medium.failures left.medium.failures
   rose = omega (arith, ap (λ (x : MediumState). x.failures) medium)
 
-  -- The writes of the job were broken off.
+  -- If the writes of a job are broken off on the flash, any equal list of writes is broken off on the medium of the store.
   broken : (ws : List Write) → BrokenWrites fault (mapped_medium w m) (job_writes j w end held b) (mapped_medium w flash)
       → job_writes j w end held b ≡ ws → BrokenWrites fault s.medium ws (mapped_medium w flash)
   broken ws all same = subst (λ (x : MediumState). BrokenWrites fault x ws (mapped_medium w flash)) (sym medium)
@@ -74,7 +74,7 @@ module _ (blocks : BrokenBlockFailsCall) (commits : BrokenCommitFailsCall) (c : 
         got.store,
       )
 
-  -- If a write of the row that is due had a fault, the row failed with that fault, and the store is sound.
+  -- If a write of the pending row has a fault, the row fails with that fault, and the store stays well-formed.
   pub fails : (d : DeviceState) (asked : Option ℕ) (len : ℕ) → IsTrue (are_device_parts d (length b) s) →
       IsDueJobOfMode d asked len s j end held
       → BrokenWrites fault (mapped_medium w m) (job_writes j w end held b) (mapped_medium w flash) → (a : Answer) (out : List ℕ)

@@ -1,4 +1,4 @@
--- Rows that change the image: an image waits only after a DNLOAD that closes its download, and only an image that waited becomes active.
+-- Rows that change the image: only an acknowledged DNLOAD of no bytes makes an image pending, and only a pending image becomes active.
 use Rattle.std.specs.Prelude.{◌≡◌, ◌⊎◌, ℕ, ◌+◌, ◌==◌, ◌&&◌, nat_lt, nat_le, max, not, true, List, [], ◌∷◌, length, take, drop, slice_index}
 use Rattle.std.proofs.Common.{inl, inr, refl, sym, ap, ◌∙◌, subst}
 use Rattle.dfu_wire.specs.declared.setups.Setup.{Setup}
@@ -21,7 +21,7 @@ use Rattle.dfu_slots.specs.declared.fault.WriteFault.{WriteFault}
 use Rattle.dfu_slots.specs.declared.fault.WriteFault.TheVariants.{Failed, NotVerified}
 use Rattle.dfu_laws.specs.board.Accepts.{IsPending, IsAbandonedStage}
 
--- In the stage an image is in place, or its commit broke off: no image waits, and none was given up.
+-- No image is pending in this stage, and a device does not enter this stage by giving up a pending image.
 abbrev pub IsPlaced : Stage → Type 0
 IsPlaced st = ((t : List ℕ) → IsPending st t → ⊥) × (IsAbandonedStage st → ⊥)
 
@@ -29,19 +29,17 @@ failed_commit_settles_image : (fault : WriteFault) → IsPlaced (InError (commit
 failed_commit_settles_image Failed = (λ t m. m, λ g. g)
 failed_commit_settles_image NotVerified = (λ t m. m, λ g. g)
 
--- The bytes of an image that waits are the bytes taken.
+-- A pending image consists of all bytes of the download.
 pub waiting_bytes_are_taken : (image : List ℕ) (st : Stage) (t : List ℕ) → IsPending st t → accepted_in image st ≡ t
 waiting_bytes_are_taken image (InManifestSync taken) t m = m
 waiting_bytes_are_taken image (InManifest taken passed) t m = m
 waiting_bytes_are_taken image st t m = absurd m
 
--- Plans of requests and of time.
-
 -- The reply acknowledges a DNLOAD of no bytes.
 abbrev ReplyClosesDownload : Request → Reply → Type 0
 ReplyClosesDownload r reply = (reply ≡ Ack) × (number : ℕ) × (r ≡ Dnload number [])
 
--- An image is pending only if it was pending before, or the request closed its download. Only a pending image is committed.
+-- An image is pending only if it was pending before, or the request closed the download of this image. Only a pending image is committed.
 abbrev IsPendingOnlyIfClosed : List ℕ → Stage → Request → Plan → Type 0
 IsPendingOnlyIfClosed image st r (Sure reply next) = (t : List ℕ) → IsPending next t → IsPending st t ⊎ (ReplyClosesDownload r reply
     × (t ≡ accepted_in image st))
@@ -74,7 +72,7 @@ upload_plan_leaves_no_new_image_pending c image st place expected number size =
     (holds_in_both_branches P (not (number == expected)) _ _ (λ t m. absurd m)
     (holds_in_both_branches P (nat_lt (length (take size (drop place image))) size) _ _ (λ t m. absurd m) (λ t m. absurd m))))
 
--- The plan of each request makes an image pending only by closing its download.
+-- A request makes an image pending only if it closes the image's download.
 request_plan_pending_if_closed : (c : Profile) (image : List ℕ) (st : Stage) (r : Request) →
     IsPendingOnlyIfClosed image st r (plan c image st r)
 request_plan_pending_if_closed c image InDfuIdle (Dnload number body) =
@@ -101,7 +99,7 @@ request_plan_pending_if_closed c image (InUploadIdle place number) (Upload k siz
 request_plan_pending_if_closed c image st GetState = λ t m. absurd m
 request_plan_pending_if_closed c image st r = λ t m. absurd m
 
--- The plan of time that passes makes no image pending.
+-- The passing of time makes no image pending.
 time_plan_pending_if_closed : (c : Profile) (image : List ℕ) (st : Stage) (ms : ℕ) →
     IsPendingOnlyIfClosed image st OtherRequest (time_plan c st ms)
 time_plan_pending_if_closed c image (InAppDetach timer passed) ms =
@@ -125,21 +123,19 @@ time_plan_pending_if_closed c image (InManifest taken passed) ms =
 time_plan_pending_if_closed c image (InManifestSync taken) ms = λ t m. inl m
 time_plan_pending_if_closed c image st ms = λ t m. absurd m
 
--- Rows of the device table.
-
 -- The cause is a DNLOAD of no bytes, and its answer is an acknowledgement.
 abbrev pub IsClosingAnswer : Cause → Answer → List ℕ → Type 0
 IsClosingAnswer cause a out =
     (setup : List ℕ) × (cause ≡ Transfer setup []) × (is_dnload setup ≡ true) × (a ≡ answer.Ack) × (out ≡ [])
 
--- An image that waits after a row waited before it, or the row closed its download; the active image is the one before, or the one that
--- waited.
+-- If an image is pending after a row, it was pending before, or the row closed the download of this image. The active image is unchanged,
+-- or is the image that was pending.
 pub record RowImageOutcome (w : DeviceView) (cause : Cause) (a : Answer) (out : List ℕ) (w' : DeviceView) : Type 0 where
   pub waits : (t : List ℕ) → IsPending w'.stage t → IsPending w.stage t ⊎ (IsClosingAnswer cause a out × (t ≡ accepted_of (situation w)))
   pub image : (image_of w'.slots ≡ image_of w.slots) ⊎ IsPending w.stage (image_of w'.slots)
   pub placed : (image_of w'.slots ≡ image_of w.slots) ⊎ IsPlaced w'.stage
 
--- A request that means a DNLOAD of no bytes is a DNLOAD without a body.
+-- If `request_for_table` gives a DNLOAD of no bytes, the request is a DNLOAD and its body is empty.
 empty_dnload_has_no_body : (q : Asked) (body : List ℕ) (number : ℕ) → request_for_table q body ≡ Dnload number []
     → (block : ℕ) × (len : ℕ) × (q ≡ asked.Dnload block len) × (body ≡ [])
 empty_dnload_has_no_body (asked.Dnload block len) body number e = (block, len, refl, cc)
@@ -163,7 +159,7 @@ acked_reply_is_ack : (len : ℕ) (reply : Reply) (a : Answer) (out : List ℕ) �
     × (out ≡ [])
 acked_reply_is_ack len reply a out is says = subst (λ (x : Reply). ReplyAnswer len x a out) is says
 
--- A plan that was carried out changes images only as `IsPendingOnlyIfClosed` says of the plan.
+-- If a plan satisfies `IsPendingOnlyIfClosed`, a row that carries out the plan satisfies `RowImageOutcome`.
 done_plan_leads_image : (p : Plan) (r : Request) (cause : Cause) (len : ℕ) (w : DeviceView) (a : Answer) (out : List ℕ) (w' : DeviceView)
     → IsPendingOnlyIfClosed (image_of w.slots) w.stage r p → Done p len w a out w'
     → ((number : ℕ) → r ≡ Dnload number [] → (a ≡ answer.Ack) × (out ≡ []) → IsClosingAnswer cause a out) → RowImageOutcome w cause a out w'
@@ -215,12 +211,12 @@ pending_after_refusal_was_before why (InManifestSync taken) t m = absurd m
 pending_after_refusal_was_before why (InManifest taken passed) t m = absurd m
 pending_after_refusal_was_before why st t m = m
 
--- Opening a store again does not change its image.
+-- Reopening a store does not change its image.
 pub reopened_store_keeps_image : (s : SlotsState) → image_of (store_on s.medium) ≡ image_of s
 unfolding image_of
 reopened_store_keeps_image s = refl
 
--- Each row changes the image only as `RowImageOutcome` says.
+-- Each row satisfies `RowImageOutcome`.
 pub row_has_image_outcome : (w : DeviceView) (cause : Cause) (a : Answer) (out : List ℕ) (w' : DeviceView) → Row w cause a out w'
     → RowImageOutcome w cause a out w'
 row_has_image_outcome w (Transfer setup body) a out w' (handled_by_reading p q reads asks done) =

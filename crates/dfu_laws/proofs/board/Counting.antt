@@ -1,4 +1,4 @@
--- Number of pieces of a series of steps.
+-- Number of pieces into which a list of write steps is divided.
 use Rattle.std.proofs.Common.{◌≡◌, inl, inr, Bool, true, false, if◌then◌else◌, ◌==◌, ℕ, zero, suc, ◌+◌, ◌-◌, ◌*◌, ◌/◌, ◌%◌, ◌≤◌, ◌<◌, min, List, [], ◌∷◌, ◌++◌, length, sym, ◌∙◌, ap, subst, arith, length-append}
 use Rattle.std.proofs.Math.Nat.{mod-lt, mod-add-mod, mod-eq_of_lt, mod_self, le-div_iff_mul-le}
 use Rattle.std.proofs.lemmas.Bool.{ne_eqb}
@@ -8,19 +8,17 @@ use Rattle.dfu_asks.specs.Steps.{Step, steps_of_writes, program_step, write_anew
 use Rattle.dfu_asks.specs.Carried.{IsStepPiece}
 use Rattle.dfu_laws.proofs.board.Pieces.{below_or_at_least}
 
--- Pieces of a series.
-
--- Number of pieces of a step of n bytes: one for an erase, and one for each 256 bytes of a program.
+-- Number of pieces of a write step of n bytes: one for an erase, and one for each 256 bytes of a program.
 abbrev pub part_count : Bool → ℕ → ℕ
 part_count true n = min 1 n
 part_count false n = (n + 255) / 256
 
--- Number of pieces of a series behind its first n bytes.
+-- Number of remaining pieces of write steps once their first n bytes are written.
 abbrev pub count_behind_bytes : List Step → ℕ → ℕ
 count_behind_bytes [] n = 0
 count_behind_bytes (s ∷ ss) n = part_count s.erases (length s.write.bytes - n) + count_behind_bytes ss (n - length s.write.bytes)
 
--- Number of pieces of a series.
+-- Number of pieces of all write steps in a list.
 abbrev pub piece_count : List Step → ℕ
 piece_count [] = 0
 piece_count (s ∷ ss) = part_count s.erases (length s.write.bytes) + piece_count ss
@@ -38,7 +36,7 @@ parts_grow_with_bytes : (b : Bool) (x y : ℕ) → x ≤ y → part_count b x �
 parts_grow_with_bytes true x y le = omega (arith, le)
 parts_grow_with_bytes false x y le = omega (arith, le)
 
--- Behind a piece the series has one piece fewer.
+-- After each piece, one fewer piece remains.
 pub one_piece_fewer_behind : (ss : List Step) (n : ℕ) (p : Step) → IsStepPiece ss n p →
     suc (count_behind_bytes ss (n + length p.write.bytes)) ≤ count_behind_bytes ss n
 one_piece_fewer_behind [] n p absent = absurd absent
@@ -63,7 +61,7 @@ one_piece_fewer_behind (s ∷ ss) n p (inr (past, piece)) =
       no_parts_of_no_bytes s.erases (len - (n + k)) there,
     )
 
--- The rest of a series has at most as many pieces as the series.
+-- The remaining pieces are at most as many as all pieces of the steps.
 pub count_behind_at_most_count : (ss : List Step) (n : ℕ) → count_behind_bytes ss n ≤ piece_count ss
 count_behind_at_most_count [] n = omega arith
 count_behind_at_most_count (s ∷ ss) n =
@@ -83,7 +81,7 @@ marked_steps_count_bound : (ws : List Write) → piece_count (steps_of_writes tr
 marked_steps_count_bound [] = omega arith
 marked_steps_count_bound (w ∷ ws) = omega (arith, marked_steps_count_bound ws)
 
--- The erases for bytes that are written anew; none without sectors.
+-- Erases for n bytes that are written from offset `at`; none on flash without sectors.
 abbrev pub erases_for_write : (sector at n : ℕ) → List Write
 erases_for_write sector at n = if sector == 0 then [] else sector_erases sector at n
 
@@ -102,9 +100,7 @@ write_some_count_bound sector at bytes = by_test (length bytes == 0)
     by_test true = omega arith
     by_test false = write_anew_count_bound sector at bytes
 
--- Erases of a range.
-
--- The erases of a range are as many as those of its two parts together.
+-- A range needs as many erases as its two parts together.
 pub erases_of_joined_ranges : (s a b at : ℕ) → length (sector_erases s at (a + b)) ≡ length (sector_erases s at a) + length
     (sector_erases s (at + a) b)
 erases_of_joined_ranges s zero b at =
@@ -124,7 +120,7 @@ erases_of_joined_ranges s (suc a) b at =
       ap (λ (x : ℕ). length (sector_erases s at x)) one,
     )
 
--- Number of bytes of c sectors.
+-- Number of bytes of c sectors with s bytes each.
 abbrev pub bytes_of_sectors : (s c : ℕ) → ℕ
 bytes_of_sectors s zero = 0
 bytes_of_sectors s (suc c) = s + bytes_of_sectors s c
@@ -142,7 +138,7 @@ bytes_of_sectors_mul s (suc c) = ap (λ (x : ℕ). s + x) (bytes_of_sectors_mul 
 pub sectors_that_fit : (s c n : ℕ) → 0 < s → bytes_of_sectors s c ≤ n → c ≤ n / s
 sectors_that_fit s c n some le = (le-div_iff_mul-le {k = s} {x = c} {y = n} some).1 (subst (λ (x : ℕ). x ≤ n) (bytes_of_sectors_mul s c) le)
 
--- Number of bytes up to the next sector, from a place with remainder r.
+-- Number of bytes from an offset to the next sector of s bytes, if the offset modulo s is r.
 abbrev bytes_up_to_sector : (s r : ℕ) → ℕ
 bytes_up_to_sector s zero = 0
 bytes_up_to_sector s (suc r) = s - suc r
@@ -176,7 +172,7 @@ sector_erases_bound_step s n w rest (suc r) low le =
           ++ rest))) inside,
     )
 
--- The sectors that begin in n bytes have fewer than n + s bytes together, for sectors of s bytes.
+-- The sectors of s bytes that begin in a range of n bytes have at most n + s - 1 bytes together.
 pub sector_erases_bound : (s : ℕ) → 0 < s → (n at : ℕ) → bytes_of_sectors s (length (sector_erases s at n)) + bytes_up_to_sector s (at % s)
     ≤ n + s - 1
 sector_erases_bound s some zero at = omega (arith, gap_below_sector s (at % s) (mod-lt at some))

@@ -1,4 +1,4 @@
--- A board at work whose row is broken off with the flash as it is.
+-- If a loss of power tears a piece of a board's pending row, the row fails.
 use Rattle.std.proofs.Common.{◌≡◌, Bool, true, false, if◌then◌else◌, ℕ, ◌<◌, List, [], ◌∷◌, length, take, Option, Some, None, refl, sym, subst}
 use Rattle.dfu_wire.specs.declared.codes.Code.{Code}
 use Rattle.dfu_wire.specs.Code.{code_byte}
@@ -31,40 +31,36 @@ use Rattle.dfu_laws.proofs.board.Broken.{BrokenBlockFailsCall, BrokenCommitFails
 use Rattle.dfu_laws.proofs.board.Pieces.{series_has_next_piece}
 use Rattle.dfu_asks.proofs.Inside.{work_writes_within_flash}
 
--- The clause `torn` of the law `pieces_are_the_writes`.
+-- Clause `torn` of the law `pieces_are_the_writes`: a torn piece breaks off the writes of its steps.
 abbrev pub TornPieceBreaksWrites : Type 0
 TornPieceBreaksWrites = (grain : Grain) (fault : WriteFault) (steps : List Step) (bytes now : List ℕ) (n : ℕ) (piece : Step)
     → WritesWithin (step_writes steps) (length bytes) → IsStepPiece steps n piece
     → Torn (bytes_after_writes bytes (step_writes steps) n) piece.write.at piece.write.bytes now
     → BrokenWrites fault (mapped_medium grain bytes) (step_writes steps) (mapped_medium grain now)
 
--- The law `steps_are_the_writes`.
+-- Law `steps_are_the_writes`: the write steps of a job are its writes.
 abbrev pub StepsAreWrites : Type 0
 StepsAreWrites = (job : SlotWrite) (grain : Grain) (end : ℕ) (held block : List ℕ)
     → step_writes (job_steps job grain end held block) ≡ job_writes job grain end held block
 
--- Laws of dfu_asks of the pieces and writes of a job.
+-- Laws of dfu_asks about the pieces and writes of a job.
 pub record WriteLaws : Type 0 where
-  -- A torn piece breaks the writes off.
+  -- A torn piece breaks off the writes.
   pub tear : TornPieceBreaksWrites
   -- The steps of a job are its writes.
   pub same : StepsAreWrites
-  -- A block whose writes are broken off fails its call.
+  -- If the writes of a block are broken off, the call that writes the block fails.
   pub blocks : BrokenBlockFailsCall
-  -- A commit whose writes are broken off fails its call.
+  -- If the writes of a commit are broken off, the commit fails.
   pub commits : BrokenCommitFailsCall
 
--- The record of these four laws.
 pub write_laws : TornPieceBreaksWrites → StepsAreWrites → BrokenBlockFailsCall → BrokenCommitFailsCall → WriteLaws
 write_laws tear same blocks commits = record { tear = tear; same = same; blocks = blocks; commits = commits }
 
--- The device has an answer at the end of a row.
+-- A device in mode `m` has an answer at the end of the pending row: the status if a GETSTATUS caused the row, else an acknowledgement.
 record HasRowEndAnswer (c : Setting) (m : DeviceState) (asked : Option ℕ) : Type 0 where
-  -- Answer of the device.
   answer : Answer
-  -- Bytes of the answer.
   out : List ℕ
-  -- The row ends with this answer.
   says : IsRowEndAnswer c m asked answer out
 
 error_has_row_end_answer : (c : Setting) (code : Code) (asked : Option ℕ) → HasRowEndAnswer c (device_state.Error code) asked
@@ -95,38 +91,33 @@ failed_mode_has_row_end_answer c fault m asked = by_test (is_block m)
     by_test true = error_has_row_end_answer c (write_code fault) asked
     by_test false = error_has_row_end_answer c (commit_code fault) asked
 
--- The row that is due failed by a write, and leaves a device whose store is on the flash as it is.
+-- The pending row failed, and the flash holds the store of its device.
 pub record IsRowCutOff (b : Board) (len : ℕ) (d : DeviceView) : Type 0 where
-  -- Answer of the row, which nobody saw.
+  -- Answer of the row, which the host never receives.
   pub answer : Answer
-  -- Bytes of the answer.
   pub out : List ℕ
-  -- Device after the row.
   pub after : DeviceView
-  -- The row failed.
   pub row : DueRowFails Failed len d answer out after
-  -- The device keeps its setting.
+  -- The configuration of the device does not change.
   pub config : after.config ≡ b.asking.config
-  -- Its store is the one on the flash as it is.
   pub slots : after.slots ≡ store_on (medium_on b)
-  -- This store is sound.
+  -- The store that the flash holds is well-formed.
   pub store : IsStore (store_on (medium_on b))
 
--- The work has a next piece, whose range may have any bytes.
+-- A board with pending writes has a next piece, whose range may hold any bytes.
 pub record HasNextPiece (b : Board) (cause : Cause) (d : DeviceView) (k : IsBoardAtWork b cause d) : Type 0 where
-  -- Next piece of the work.
   pub piece : Step
-  -- The piece is due.
+  -- The piece follows the completed bytes of the writes.
   pub is : IsStepPiece (steps_in (lent_on b) k.asks.work) k.asks.work.done piece
-  -- The flash has any bytes in the range of the piece.
+  -- The flash holds any bytes in the range of the piece.
   pub torn : Torn k.stood piece.write.at piece.write.bytes b.flash
 
 module _ (laws : WriteLaws) where
-  -- The steps of the work are its writes.
+  -- The write steps of a board are its pending writes.
   pub work_steps_are_writes : (b : Board) (w : PendingWrites) → step_writes (steps_in (lent_on b) w) ≡ writes_in (lent_on b) w
   work_steps_are_writes b w = laws.same w.job (grain_in (lent_on b)) (lent_on b).put_end (lent_on b).held (lent_on b).block
 
-  -- A board at work has a next piece.
+  -- A board with pending writes has a next piece.
   pub board_at_work_has_next_piece : (b : Board) (cause : Cause) (d : DeviceView) (k : IsBoardAtWork b cause d) → HasNextPiece b cause d k
   board_at_work_has_next_piece b cause d k =
       let w = k.asks.work in
@@ -149,7 +140,7 @@ module _ (laws : WriteLaws) where
       (subst (λ (ws : List Write). Torn (bytes_after_writes k.was ws w.done) p.at p.bytes b.flash) (sym same)
       (subst (λ (l : List ℕ). Torn l p.at p.bytes b.flash) k.asks.flash_is next.torn)))
 
-  -- With any bytes in the range of the piece that is due, the row was broken off by a write that failed.
+  -- For any bytes in the range of the next piece, the pending row of the board is a row whose write failed.
   pub torn_piece_cuts_row_off : (b : Board) (cause : Cause) (d : DeviceView) (k : IsBoardAtWork b cause d) → IsRowCutOff b k.len d
   torn_piece_cuts_row_off b cause d k =
       let a = lent_on b in

@@ -18,28 +18,28 @@ use Rattle.dfu_device.specs.Cases.{holds_in_both_branches}
 use Rattle.dfu_laws.specs.board.ImageSurvival.{is_manifesting, has_manifested}
 use Rattle.dfu_laws.specs.board.Accepts.{IsPending}
 
--- The state of the stage is one of manifestation: an image may wait in it, or is complete.
+-- The state of the stage is dfuMANIFEST-SYNC or dfuMANIFEST.
 abbrev pub IsManifestingStage : Stage → Type 0
 IsManifestingStage st = is_manifesting (state_of st) ≡ true
 
--- The state of the stage is one in which manifestation is over.
+-- The state of the stage is dfuIDLE or dfuMANIFEST-WAIT-RESET.
 abbrev pub IsManifestationOver : Stage → Type 0
 IsManifestationOver st = has_manifested (state_of st) ≡ true
 
--- No stage is both one of manifestation and one after it.
+-- No stage is both in manifestation and after it.
 pub manifesting_stage_is_not_over : (st : Stage) → IsManifestingStage st → IsManifestationOver st → ⊥
 manifesting_stage_is_not_over (InManifestSync taken) on over = false≢true over
 manifesting_stage_is_not_over InManifestSyncComplete on over = false≢true over
 manifesting_stage_is_not_over (InManifest taken passed) on over = false≢true over
 manifesting_stage_is_not_over st on over = false≢true on
 
--- No image waits once manifestation is over.
+-- No image is pending after manifestation.
 pub nothing_waits_when_over : (st : Stage) (t : List ℕ) → IsManifestationOver st → IsPending st t → ⊥
 nothing_waits_when_over (InManifestSync taken) t over m = false≢true over
 nothing_waits_when_over (InManifest taken passed) t over m = false≢true over
 nothing_waits_when_over st t over m = m
 
--- If a plan leads to a stage in which manifestation is over, the image is the bytes taken.
+-- If a plan leads to a stage after manifestation, the image is the bytes of the download.
 abbrev PlanInstallsTakenBytes : List ℕ → Stage → Plan → Type 0
 PlanInstallsTakenBytes image st (Sure reply next) = IsManifestationOver next → image ≡ accepted_in image st
 PlanInstallsTakenBytes image st (Writes before block reply next bad) = IsManifestationOver next → ⊥
@@ -100,7 +100,7 @@ refusal_never_ends_manifestation why InManifestSyncComplete on over = false≢tr
 refusal_never_ends_manifestation why (InManifest taken passed) on over = false≢true over
 refusal_never_ends_manifestation why st on over = false≢true on
 
--- A row that leads out of manifestation without a fault has put the bytes taken in place.
+-- If a row leads out of manifestation without a fault, the image after the row is the bytes of the download.
 pub row_out_of_manifest_installs : (w : DeviceView) (cause : Cause) (a : Answer) (out : List ℕ) (w' : DeviceView) →
     Row w cause a out w' → IsManifestingStage w.stage
     → IsManifestationOver w'.stage → image_of w'.slots ≡ accepted_of (situation w)

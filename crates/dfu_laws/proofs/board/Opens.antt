@@ -1,4 +1,4 @@
--- Images in the slots of a medium after the writes that open the spare: if it is open, its image is the active one.
+-- Images in the slots of a medium after a commit: if the spare slot is open, its image is active.
 use Rattle.std.proofs.Common.{◌≡◌, ◌⊎◌, inl, inr, ℕ, ◌+◌, ◌*◌, ◌%◌, ◌≤◌, List, ◌++◌, length, slice_index, slice_range, sym, ◌∙◌, ap, subst, arith}
 use Rattle.dfu_slots.specs.Units.{Grain, gate_room, gate_size}
 use Rattle.dfu_slots.specs.Medium.{MediumState, Write, ChangedWithin, AllWrites}
@@ -11,15 +11,15 @@ use Rattle.dfu_slots.proofs.Edges.{data_begins_at_edge, header_begins_at_edge}
 use Rattle.dfu_slots.proofs.Parts.{gate_unit_has_size, header_unit_has_size, gate_kept_outside_change, header_kept_outside_change, slot_size_kept_by_change}
 use Rattle.dfu_slots.proofs.Newest.{test_finds_active_image, slot_place_ends_within}
 use Rattle.dfu_slots.proofs.Kept.{active_slot_kept}
-use Rattle.dfu_slots.proofs.Torn.{two_changes_are_one_change, wider_frame_holds}
+use Rattle.dfu_slots.proofs.BytesOutsideWrite.{two_changes_are_one_change, wider_frame_holds}
 use Rattle.dfu_slots.proofs.Series.{AllWritesInside, WritesEnded, writes_inside_keep_rest, broken_writes_keep_rest, writes_keep_grain, ended_writes_keep_grain, list_has_two_parts, either_part_was_broken}
-use Rattle.dfu_slots.proofs.Anew.{write_with_erases_inside, write_goes_over_erases}
+use Rattle.dfu_slots.proofs.WritesWithErases.{write_with_erases_inside, write_goes_over_erases}
 use Rattle.dfu_slots.proofs.Commit.{unit_begins_with_header}
 use Rattle.dfu_boot.specs.trial.Trial.{IsFilledSlot}
 use Rattle.dfu_laws.specs.board.Slots.{IsInSlot}
 use Rattle.dfu_laws.proofs.board.Slots.{image_shown_in, active_slot_shows_image, place_is_one_of_two, spare_change_keeps_slot_images}
 
--- A filled slot of a medium, next to which the active one is one generation behind, is the active one.
+-- If the other slot is filled and one generation newer, its image is the active one.
 module _ (now : MediumState) (after : HasImage now) (mine other : ℕ) (places : ArePlaces now.bytes mine other)
     (other_is_older : generation (slot_of now other) ≡ next_generation (generation (slot_of now mine))) where
   opened_spare_is_active : IsFilledSlot (slot_of now other) → Active now (image_shown_in (slot_of now other))
@@ -50,19 +50,19 @@ module _ (now : MediumState) (after : HasImage now) (mine other : ℕ) (places :
 module _ (m now : MediumState) (has : HasImage m) (after : HasImage now) (shut : ¬ HasOpenGate (slot (gate_of m) m.bytes has.active.spare))
     (part : List Write) (len crc : ℕ)
     (inside : AllWritesInside (has.active.spare + 2 * gate_of m) (has.active.spare + slot_size m.bytes) part) where
-  -- Room of a gate.
+  -- Number of bytes reserved for a gate, and for a header.
   abbrev g : ℕ
   g = gate_of m
 
-  -- Place of the active slot.
+  -- Offset of the active slot.
   abbrev mine : ℕ
   mine = has.active.at
 
-  -- Size of a gate.
+  -- Number of bytes that are programmed for a gate, and for a header.
   abbrev k : ℕ
   k = gate_size m.grain.unit
 
-  -- Place of the spare slot.
+  -- Offset of the spare slot.
   abbrev other : ℕ
   other = has.active.spare
 
@@ -74,19 +74,19 @@ module _ (m now : MediumState) (has : HasImage m) (after : HasImage now) (shut :
   abbrev gen : ℕ
   gen = next_generation (generation (slot g m.bytes (active_at g m.bytes)))
 
-  -- Writes of the header.
+  -- Writes of the spare slot's header.
   abbrev head : List Write
   head = erasing_write m.grain.sector (spare_at g m.bytes + g) (header_unit k gen len crc)
 
-  -- Writes that open the gate.
+  -- Writes that open the spare slot's gate.
   abbrev gate : List Write
   gate = erasing_write m.grain.sector (spare_at g m.bytes) (gate_unit k OPEN)
 
-  -- The active image is at its place.
+  -- The active image is in the active slot.
   stands : ActiveAt g m.bytes mine other has.image
   stands = active_image_at_its_place has.active
 
-  -- The two places are those of the active and the spare slot.
+  -- The two offsets are those of the active and the spare slot.
   there : (mine ≡ active_at g m.bytes) × (other ≡ spare_at g m.bytes)
   there = test_finds_active_image g m.bytes mine other has.image stands
 
@@ -94,23 +94,23 @@ module _ (m now : MediumState) (has : HasImage m) (after : HasImage now) (shut :
   end : to ≤ length m.bytes
   end = (slot_place_ends_within g m.bytes mine other stands.sized stands.places).1
 
-  -- The room of a gate has at least 16 bytes.
+  -- At least 16 bytes are reserved for a gate.
   wide : 16 ≤ g
   wide = gate_room_at_least_16 m.grain
 
-  -- The writes of the header are in the second room of the spare slot.
+  -- The writes of the header lie in the range reserved for the spare slot's header.
   head_inside : AllWritesInside (other + g) (other + 2 * g) head
   head_inside = write_with_erases_inside m.grain.sector (other + g) (other + 2 * g) (spare_at g m.bytes + g) (header_unit k gen len crc)
       (data_begins_at_edge m.grain m.bytes stands.sized has.active.sized.whole mine other has.active.places) (omega (arith, there.1))
       (omega (arith, there.1, header_unit_has_size k gen len crc (gate_unit_at_least_16 m.grain.unit)))
 
-  -- The writes that open the gate are in the first room of the spare slot.
+  -- The writes that open the gate lie in the range reserved for the spare slot's gate.
   gate_inside : AllWritesInside other (other + g) gate
   gate_inside = write_with_erases_inside m.grain.sector other (other + g) (spare_at g m.bytes) (gate_unit k OPEN)
       (header_begins_at_edge m.grain m.bytes stands.sized has.active.sized.whole mine other has.active.places) (omega (arith, there.1))
       (omega (arith, there.1, gate_unit_has_size k OPEN (gate_unit_at_least_16 m.grain.unit)))
 
-  -- If a commit's writes are broken off before the gate is written, each image in a slot was in one before, or is active.
+  -- If a commit is broken off before its writes reach the gate, each image in a slot was in a slot before, or is active.
   early : ChangedWithin (other + g) to m.bytes now.bytes → now.grain ≡ m.grain → (i : List ℕ) → IsInSlot now i
       → IsInSlot m i ⊎ Active now i
   early keeps grain = spare_change_keeps_slot_images m now has (λ i. IsInSlot m i ⊎ Active now i)
@@ -118,7 +118,7 @@ module _ (m now : MediumState) (has : HasImage m) (after : HasImage now) (shut :
       (λ filled. absurd (shut (sym (gate_kept_outside_change g (other + g) to m.bytes now.bytes other keeps (inl (omega (arith, wide))))
       ∙ filled.counts.is_open)))
 
-  -- If a commit's writes are broken off while the gate is written, each image in a slot was in one before, or is active.
+  -- If a commit is broken off while its gate is written, each image in a slot was in a slot before, or is active.
   late : (mid top : MediumState) → AllWrites m part mid → AllWrites mid head top → ChangedWithin other (other + g) top.bytes now.bytes
       → now.grain ≡ m.grain → (i : List ℕ) → IsInSlot now i → IsInSlot m i ⊎ Active now i
   late mid top first second torn grain =
@@ -159,7 +159,7 @@ module _ (m now : MediumState) (has : HasImage m) (after : HasImage now) (shut :
       (subst (λ (n : ℕ). ((mine ≡ 0) × (other ≡ n)) ⊎ ((mine ≡ n) × (other ≡ 0))) (sym size) has.active.places) other_is_older
       (subst IsFilledSlot (sym (at other)) filled))))
 
-  -- After the writes of a commit, with any result, each image in a slot was in one before, or is active.
+  -- After the writes of a commit, with any result, each image in a slot was in a slot before, or is active.
   pub commit_keeps_or_activates_image : WritesEnded m (part ++ commit_writes m.grain m.bytes len crc) now → (i : List ℕ) → IsInSlot now i
       → IsInSlot m i ⊎ Active now i
   commit_keeps_or_activates_image (inl all) =

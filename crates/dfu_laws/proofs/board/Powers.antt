@@ -1,4 +1,4 @@
--- The steps of a board whose power goes, and comes back.
+-- Steps of a board that loses power and restarts.
 use Rattle.std.specs.Prelude.{◌≡◌, ◌≢◌, ℕ, Bool, true, false, min, List, [], ◌∷◌, ◌++◌, Some, None}
 use Rattle.std.proofs.Common.{inl, inr, refl, sym, ap, ◌∙◌, subst}
 use Rattle.std.proofs.lemmas.Bool.{false≢true}
@@ -26,17 +26,15 @@ use Rattle.dfu_laws.proofs.board.Cut.{WriteLaws, torn_piece_cuts_row_off}
 use Rattle.dfu_laws.specs.board.Accepts.{IsPending}
 use Rattle.dfu_laws.proofs.board.Closing.{reopened_store_keeps_image}
 use Rattle.dfu_laws.proofs.board.Installs.{IsManifestationOver}
-use Rattle.dfu_laws.proofs.board.Due.{failing_due_row_outcome}
+use Rattle.dfu_laws.proofs.board.DueRow.{failing_due_row_outcome}
 use Rattle.dfu_laws.proofs.board.SlotCalls.{SlotImagesKeptOrActive, failing_row_keeps_slot_images}
-use Rattle.dfu_laws.proofs.board.Turns.{StepMakesRows, row_of_answer}
+use Rattle.dfu_laws.proofs.board.StepRows.{StepMakesRows, row_of_answer}
 
--- The device of a board once power is back.
-
--- The device after a loss of power, in appIDLE on the same medium.
+-- Device after a loss of power, in appIDLE on the same medium.
 abbrev device_after_power_loss : DeviceView → DeviceView
 device_after_power_loss w = record { config = w.config; slots = store_on w.slots.medium; stage = InAppIdle }
 
--- The device after a loss of power, in the stage in which it starts.
+-- Device after a loss of power, in the stage in which it starts.
 abbrev device_after_start : DeviceView → Bool → DeviceView
 device_after_start w begins = record (device_after_power_loss w) { stage = start_stage begins }
 
@@ -48,13 +46,11 @@ started_board_has_start_device b b' w config medium same flash begins (on, is) =
     let set : b'.asking.config ≡ w.config = same.config ∙ sym config in
     on.device ∙ (λ i. record { config = set i; slots = store_on (again i); stage = start_stage (is i) })
 
--- The rows of the device table for power and a DETACH.
-
--- The eight bytes of a DETACH.
+-- Eight bytes of the setup packet of a DETACH.
 abbrev detach_bytes : List ℕ
 detach_bytes = 0x21 ∷ 0 ∷ 0 ∷ 0 ∷ 0 ∷ 0 ∷ 0 ∷ 0 ∷ []
 
--- Setup of a DETACH, with the timeout 0.
+-- Setup packet of a DETACH, with the timeout 0.
 abbrev detach_setup : Setup
 detach_setup = record { kind = 0x21; request = 0; value = 0; index = 0; length = 0 }
 
@@ -64,13 +60,11 @@ detach_setup_has_its_bytes = record { length = refl; kind = refl; request = refl
 detach_setup_asks_detach : AsksFor detach_setup (request.Detach 0)
 detach_setup_asks_detach = (record { kind = refl; request = refl; index = refl }, refl, refl)
 
--- The rows that a device makes as power comes back.
+-- The start of a device corresponds to these rows of the device table.
 record MakesStartRows (w : DeviceView) (begins : Bool) (w' : DeviceView) : Type 0 where
-  -- Rows of the start.
   rows : List TableRow
-  -- The rows lead from one device to the other.
+  -- The rows lead from the device before the start to the one after it.
   history : IsHistory w rows w'
-  -- The rows are those of a start.
   start : AreStartRows begins rows
 
 power_makes_rows : (w w' : DeviceView) (begins : Bool) → w' ≡ device_after_start w begins → MakesStartRows w begins w'
@@ -120,13 +114,11 @@ power_makes_rows w w' true e =
       };
     }
 
--- Facts of a board that was just powered on.
-
--- A board that was just powered on has no writes due, and represents a device.
+-- A board that was just powered on has no pending writes, and represents a device.
 pub powered_board_is_idle : (b : Board) → IsPoweredOn b → IsIdleBoard b (device_on b)
 powered_board_is_idle b on = record { work = on.work; is = on.is; device = refl }
 
--- The device that starts has accepted no bytes of a download.
+-- A device that starts holds no bytes of a download.
 pub nothing_taken_at_start : (begins : Bool) (image : List ℕ) → accepted_in image (start_stage begins) ≡ []
 nothing_taken_at_start true image = refl
 nothing_taken_at_start false image = refl
@@ -144,15 +136,15 @@ start_ends_nothing : (begins : Bool) → Restart begins ≢ Restart true → IsM
 start_ends_nothing true other over = other refl
 start_ends_nothing false other over = false≢true over
 
--- No image waits to be put in place on a board that was just powered on.
+-- A board that was just powered on has no pending image.
 pub nothing_waits_at_power : (b : Board) (t : List ℕ) → IsPoweredOn b → IsPending (device_on b).stage t → ⊥
 nothing_waits_at_power b t on m = nothing_pending_at_start on.begins t (subst (λ (x : DeviceView). IsPending x.stage t) on.device m)
 
--- A loss of power leaves the active image as it was.
+-- A loss of power does not change the active image.
 power_loss_keeps_image : (w w' : DeviceView) (begins : Bool) → w' ≡ device_after_start w begins → image_of w'.slots ≡ image_of w.slots
 power_loss_keeps_image w w' begins e = ap (λ (x : DeviceView). image_of x.slots) e ∙ reopened_store_keeps_image w.slots
 
--- A restart of a board with no writes due makes the rows of a start.
+-- A restart of a board without pending writes corresponds to the rows of a start.
 pub idle_restart_makes_rows : (b b' : Board) (d : DeviceView) (begins : Bool) (says : BoardReply) → IsIdleBoard b d →
     SameConfig b.asking b'.asking
     → b'.flash ≡ b.flash → BoardStarts begins b' → StepMakesRows b' None d (Restart begins) says
@@ -179,7 +171,7 @@ idle_restart_makes_rows b b' d begins says k same flash on =
       slots = inl (ap (λ (x : DeviceView). x.slots.medium) there);
     }
 
--- A restart of a board while its writes are due makes the row of those writes, cut off, and the rows of a start.
+-- A restart of a board with pending writes corresponds to the row of these writes, which failed, and then the rows of a start.
 pub restart_cuts_due_row : (laws : WriteLaws) (b b' : Board) (cause : Cause) (d : DeviceView) (begins : Bool) (says : BoardReply) →
     IsBoardAtWork b cause d
     → SameConfig b.asking b'.asking → b'.flash ≡ b.flash → BoardStarts begins b' → StepMakesRows b' (Some cause) d (Restart begins) says

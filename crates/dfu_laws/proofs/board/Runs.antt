@@ -1,4 +1,4 @@
--- Whole runs of a board.
+-- Rows to which a whole run of a board corresponds, and facts that each step preserves.
 use Rattle.std.specs.Prelude.{◌≡◌, ◌⊎◌, ℕ, List, [], ◌∷◌, ◌++◌, Option, Some, None}
 use Rattle.std.proofs.Common.{inl, inr, refl, sym, ap, ◌∙◌, subst}
 use Rattle.std.proofs.lemmas.List.{append_assoc, append-nil}
@@ -18,10 +18,8 @@ use Rattle.dfu_laws.specs.board.ImageSurvival.{acknowledged_body, accepted_bytes
 use Rattle.dfu_laws.specs.board.Refines.{StepRows, RepresentsDevice}
 use Rattle.dfu_laws.proofs.board.Cut.{WriteLaws}
 use Rattle.dfu_laws.specs.board.Accepts.{IsPending}
-use Rattle.dfu_laws.proofs.board.Turns.{StepMakesRows}
-use Rattle.dfu_laws.proofs.board.Each.{board_step_makes_rows}
-
--- The state of a board.
+use Rattle.dfu_laws.proofs.board.StepRows.{StepMakesRows}
+use Rattle.dfu_laws.proofs.board.EachStepRows.{board_step_makes_rows}
 
 state_of_mode_alone : (m : DeviceState) (xs ys xs' ys' : List ℕ) → state_of (stage_of m xs ys) ≡ state_of (stage_of m xs' ys')
 state_of_mode_alone m xs ys xs' ys' = by_mode m
@@ -37,16 +35,13 @@ board_state_is_device_state b None d k = state_of_mode_alone b.asking.mode [] []
 board_state_is_device_state b (Some cause) d k = state_of_mode_alone b.asking.mode [] [] _ _
     ∙ ap (λ (x : DeviceView). state_of x.stage) k.device
 
--- Facts that each step keeps.
-
--- The bytes that a device has taken are those that the old steps and the steps took. An image that waits was closed by one of the steps.
--- The active image is the one given, or was closed by one of the steps.
+-- The bytes of the download and the images of a device result from the old steps and these steps.
 pub record DeviceBytesFromSteps (image : List ℕ) (old steps : List BoardStep) (d : DeviceView) : Type 0 where
-  -- The bytes taken are those of the steps.
+  -- The bytes of the download are those that the steps acknowledged.
   pub taken : accepted_bytes_of [] (old ++ steps) ≡ accepted_of (situation d)
-  -- An image that waits was closed by one of the steps.
+  -- A pending image is that of a download that one of the steps closed.
   pub waits : (t : List ℕ) → IsPending d.stage t → DownloadOfImageClosed old steps t
-  -- The active image is the one given, or was closed by one of the steps.
+  -- The active image is the given one, or that of a download that one of the steps closed.
   pub whence : (image_of d.slots ≡ image) ⊎ DownloadOfImageClosed old steps (image_of d.slots)
 
 accepted_bytes_append : (t : List ℕ) (xs ys : List BoardStep) → accepted_bytes_of t (xs ++ ys)
@@ -66,7 +61,7 @@ closed_download_stays_closed old steps s t c = record {
   image_is = c.image_is;
 }
 
--- Each step keeps the facts of `DeviceBytesFromSteps`.
+-- Each step preserves `DeviceBytesFromSteps`.
 pub step_keeps_device_bytes : (image : List ℕ) (old steps : List BoardStep) (s : BoardStep) (due : Option Cause) (d : DeviceView)
     → DeviceBytesFromSteps image old steps d
     → (x : StepMakesRows s.after due d s.event s.says) → DeviceBytesFromSteps image old (steps ++ s ∷ []) x.device
@@ -100,38 +95,32 @@ step_keeps_device_bytes image old steps s due d k x =
       ];
     }
 
--- Runs of a board.
-
 history_append : (w mid w' : DeviceView) (xs ys : List TableRow) → IsHistory w xs mid → IsHistory mid ys w' → IsHistory w (xs ++ ys) w'
 history_append w mid w' [] ys h more = subst (λ (x : DeviceView). IsHistory x ys w') h more
 history_append w mid w' (x ∷ xs) ys h more = (h.0, h.1, history_append x.after mid w' xs ys h.2 more)
 
--- Result of the rest of a run after the steps, if each step keeps the fact `Kept` of all steps and of the device.
+-- Outcome of the remaining steps of a run. `Kept` is a fact about all steps and the device, and each step preserves it.
 pub record RunOutcome (Kept : List BoardStep → DeviceView → Type 0) (steps rest : List BoardStep) (b' : Board) (due : Option Cause)
     (d : DeviceView)
     : Type 0 where
-  -- Rows of the rest of the run.
   pub rows : List TableRow
-  -- Cause whose row is due at its end, or none.
+  -- Cause of the row that is pending at the end, or None.
   pub due' : Option Cause
-  -- Device at its end.
   pub device : DeviceView
-  -- The rows lead to this device.
   pub history : IsHistory d rows device
-  -- The rows are those of the steps.
+  -- The rows are those of the remaining steps.
   pub tells : StepRows due rest rows due'
-  -- The board represents the device.
   pub stands : RepresentsDevice b' due' device
-  -- The fact holds of all steps and of the device.
+  -- The fact `Kept` holds for all steps and the device.
   pub kept : Kept (steps ++ rest) device
 
--- Each step keeps the fact `Kept`.
+-- Each step preserves the fact `Kept`.
 abbrev pub EachStepKeeps : (List BoardStep → DeviceView → Type 0) → Type 0
 EachStepKeeps Kept = (steps : List BoardStep) (s : BoardStep) (due : Option Cause) (d : DeviceView) → Kept steps d
     → (x : StepMakesRows s.after due d s.event s.says) → Kept (steps ++ s ∷ []) x.device
 
 module _ (laws : WriteLaws) (takes : RowAcceptsBody) (Kept : List BoardStep → DeviceView → Type 0) (keeps : EachStepKeeps Kept) where
-  -- A run makes rows of the device that the board represents, and keeps each fact that each step keeps.
+  -- A run corresponds to rows of the device that the board represents, and preserves each fact that each step preserves.
   pub run_keeps_and_makes_rows : (steps rest : List BoardStep) (b b' : Board) (due : Option Cause) (d : DeviceView) →
       RepresentsDevice b due d
       → Kept steps d → IsRun b rest b' → RunOutcome Kept steps rest b' due d

@@ -1,4 +1,4 @@
--- Images in the slots of a medium after the row that is due: each was in a slot before, or is active.
+-- Images in the slots of a medium after the pending row: each was in a slot before, or is active.
 use Rattle.std.proofs.Common.{◌≡◌, ◌⊎◌, inl, inr, ◌==◌, Bool, true, false, IsTrue, if◌then◌else◌, ℕ, ◌+◌, ◌-◌, ◌*◌, ◌≤◌, ◌≢◌, List, [], ◌∷◌, ◌++◌, length, take, refl, sym, ◌∙◌, ap, subst, arith, length-append}
 use Rattle.std.proofs.lemmas.Bool.{eqb-true, eqb-false, and_parts}
 use Rattle.std.proofs.lemmas.List.{length-take}
@@ -15,10 +15,10 @@ use Rattle.dfu_slots.proofs.Newest.{test_finds_active_image}
 use Rattle.dfu_slots.proofs.Edges.{slot_ends_at_edge}
 use Rattle.dfu_slots.proofs.Series.{WritesEnded}
 use Rattle.dfu_slots.proofs.Multiples.{held_bytes_end_at_put_end, filled_held_fits_capacity}
-use Rattle.dfu_slots.proofs.Anew.{write_some_lies_inside}
-use Rattle.dfu_slots.proofs.Put.{put_writes_lie_inside}
-use Rattle.dfu_slots.proofs.Begun.{begin_keeps_size, begin_keeps_active_image, begin_closes_gate}
-use Rattle.dfu_slots.proofs.Seeing.{room_is_capacity, begun_gate_is_closed, active_on_same_size}
+use Rattle.dfu_slots.proofs.WritesWithErases.{write_some_lies_inside}
+use Rattle.dfu_slots.proofs.PutWrites.{put_writes_lie_inside}
+use Rattle.dfu_slots.proofs.BeginMedium.{begin_keeps_size, begin_keeps_active_image, begin_closes_gate}
+use Rattle.dfu_slots.proofs.VisibleStores.{room_is_capacity, begun_gate_is_closed, active_on_same_size}
 use Rattle.dfu_device.specs.declared.answer.Answer.{Answer}
 use Rattle.dfu_device.specs.declared.device_state.DeviceState.{DeviceState}
 use Rattle.dfu_device.specs.declared.device_state.DeviceState.TheVariants as device_state
@@ -34,11 +34,11 @@ use Rattle.dfu_laws.specs.board.Slots.{IsInSlot}
 use Rattle.dfu_laws.proofs.board.Slots.{begin_adds_no_image, data_writes_add_no_image}
 use Rattle.dfu_laws.proofs.board.Opens.{commit_keeps_or_activates_image}
 
--- Each image in a slot was in one before, or is active.
+-- Each image in a slot was in a slot before, or is active.
 abbrev pub SlotImagesKeptOrActive : MediumState → MediumState → Type 0
 SlotImagesKeptOrActive m now = (i : List ℕ) → IsInSlot now i → IsInSlot m i ⊎ Active now i
 
--- The writes of a call were all made, or were broken off.
+-- The writes of a call were completed or broken off.
 call_ends_its_writes : (s now : SlotsState) (call : StoreCall) (ending : Ending) → CallEnds s call ending now
     → WritesEnded s.medium (writes_of s call) now.medium
 call_ends_its_writes s now call AllWorked c = inl c.writes
@@ -51,7 +51,7 @@ one_call_ends_its_writes s now call AllWorked (mid, came, same) =
 one_call_ends_its_writes s now call (BrokenBy fault) (inl broken) = call_ends_its_writes s now call (BrokenBy fault) broken
 one_call_ends_its_writes s now call (BrokenBy fault) (inr (mid, came, none)) = absurd none
 
--- A `put` in a closed spare slot puts no image into a slot.
+-- A `put` into a closed spare slot adds no image to the slots.
 put_adds_no_image : (s now : SlotsState) (has : HasImage s.medium) → ¬ HasOpenGate (slot (gate_of s.medium) s.medium.bytes has.active.spare)
     → (at : ℕ) (new : List ℕ) → at - length s.held + length (s.held ++ new) ≤ capacity_of s.medium
     → WritesEnded s.medium (writes_of s (Put at new)) now.medium → (i : List ℕ) → IsInSlot now.medium i → IsInSlot s.medium i
@@ -66,7 +66,7 @@ put_adds_no_image s now has shut at new fits ends =
     (arith, place))
     (omega (arith, place, fits, a.sized.room))) ends
 
--- A `begin` with the first `put` after it puts no image into a slot.
+-- A `begin` and the first `put` after it add no image to the slots.
 first_put_adds_no_image : (s now : SlotsState) (has : HasImage s.medium) (new : List ℕ) → length new ≤ capacity_of s.medium →
     (ending : Ending)
     → CallsEnd s (Begin ∷ Put 0 new ∷ []) ending now → (i : List ℕ) → IsInSlot now.medium i → IsInSlot s.medium i
@@ -108,14 +108,14 @@ module _ (s now : SlotsState) (store : IsStore s) where
   has : HasImage s.medium
   has = store.has_image
 
-  -- The spare slot is closed once `begin` worked.
+  -- The spare slot is closed after a successful `begin`.
   begun_spare_is_closed : is_begun s ≡ true → ¬ HasOpenGate (slot (gate_of s.medium) s.medium.bytes has.active.spare)
   begun_spare_is_closed begun =
       let place = (test_finds_active_image (gate_of s.medium) s.medium.bytes has.active.at has.active.spare has.image
       (active_image_at_its_place has.active)).1 in
       subst (λ (q : ℕ). ¬ HasOpenGate (slot (gate_of s.medium) s.medium.bytes q)) (sym place) (begun_gate_is_closed s begun)
 
-  -- The calls of the block that follows n taken bytes put no image into a slot that was not in one before.
+  -- The calls that write a block add no image to the slots.
   block_calls_add_no_image : (n : ℕ) (block : List ℕ) → NextBlockFits s n (length block) → (ending : Ending)
       → CallsEnd s (block_calls (take n (spare_of s)) block) ending now → (i : List ℕ) → IsInSlot now.medium i → IsInSlot s.medium i
   block_calls_add_no_image n block next ending = by_test (length (take n (spare_of s)) == 0) refl
@@ -145,7 +145,7 @@ module _ (s now : SlotsState) (store : IsStore s) where
       by_test true e called = first_put_adds_no_image s now has block (omega (arith, next.room, room_is_capacity s)) ending called
       by_test false e called = further (eqb-false _ _ e) called
 
-  -- The calls of a commit put no image into a slot except the image that becomes active.
+  -- The calls of a commit add no image to the slots, except the one that becomes active.
   commit_keeps_slot_images : HasImage now.medium → (len : ℕ) → is_begun s ≡ true → (ending : Ending) →
       CallsEnd s (Commit len ∷ []) ending now
       → SlotImagesKeptOrActive s.medium now.medium
@@ -164,7 +164,7 @@ module _ (s now : SlotsState) (store : IsStore s) where
       (omega (arith, place, filled_held_fits_capacity s store.puts a.sized.whole.units, a.sized.room)))
       (one_call_ends_its_writes s now (Commit len) ending called)
 
--- Rows that ended.
+-- After the pending row, completed or broken off, each image in a slot was in a slot before, or is active.
 module _ (a : LentDevice) (w : PendingWrites) (len : ℕ) (s : SlotsState) (was : List ℕ) (on : IsWorkingForRow a w len s was) (x : Answer)
     (out : List ℕ) (w' : DeviceView) (after : HasImage w'.slots.medium) where
   pub working_row_keeps_slot_images : DueRowWorks len (device_of a s) x out w' → SlotImagesKeptOrActive s.medium w'.slots.medium

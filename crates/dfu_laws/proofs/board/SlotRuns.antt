@@ -1,4 +1,4 @@
--- Images in the slots of a board's flash through whole runs.
+-- Images in the slots of a board's flash during whole runs.
 use Rattle.std.specs.Prelude.{◌≡◌, ◌⊎◌, ℕ, List, [], ◌∷◌, Option, Some, None}
 use Rattle.std.proofs.Common.{inl, inr, refl, sym, ap, subst}
 use Rattle.dfu_slots.specs.Medium.{MediumState}
@@ -11,18 +11,18 @@ use Rattle.dfu_laws.specs.board.Happens.{IsRun}
 use Rattle.dfu_laws.specs.board.Refines.{IsIdleBoard, RepresentsDevice}
 use Rattle.dfu_laws.specs.board.Slots.{IsInSlot, WasActiveMeanwhile, IdleRunsKeepSlots}
 use Rattle.dfu_laws.proofs.board.Cut.{WriteLaws}
-use Rattle.dfu_laws.proofs.board.Turns.{kept_work_is_not_none, StepMakesRows}
-use Rattle.dfu_laws.proofs.board.Each.{board_step_makes_rows}
+use Rattle.dfu_laws.proofs.board.StepRows.{kept_work_is_not_none, StepMakesRows}
+use Rattle.dfu_laws.proofs.board.EachStepRows.{board_step_makes_rows}
 
--- P holds of each image that is active after some of the steps.
+-- P holds for each image that is active after some of the steps.
 abbrev AllActiveAlong : (P : List ℕ → Type 0) → Board → List BoardStep → Type 0
 AllActiveAlong P b steps = (image : List ℕ) → WasActiveMeanwhile b steps image → P image
 
--- P holds of each image in a slot.
+-- P holds for each image in a slot.
 abbrev AllInSlots : (P : List ℕ → Type 0) → MediumState → Type 0
 AllInSlots P m = (image : List ℕ) → IsInSlot m image → P image
 
--- Medium of a board with nothing due.
+-- A board without pending writes has the medium of its device.
 idle_board_medium : (b : Board) (due : Option Cause) (d : DeviceView) → RepresentsDevice b due d → due ≡ None → medium_on b ≡ d.slots.medium
 idle_board_medium b due d k none =
     let idle : IsIdleBoard b d = subst (λ (x : Option Cause). RepresentsDevice b x d) none k in ap

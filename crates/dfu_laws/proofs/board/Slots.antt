@@ -14,18 +14,18 @@ use Rattle.dfu_slots.proofs.Counting.{formed_header_has_its_length, same_bytes_s
 use Rattle.dfu_slots.proofs.Parts.{gate_kept_outside_change, header_kept_outside_change, data_kept_outside_change, data_length, slot_size_kept_by_change}
 use Rattle.dfu_slots.proofs.Newest.{test_finds_active_image, slot_place_ends_within}
 use Rattle.dfu_slots.proofs.Kept.{active_slot_kept}
-use Rattle.dfu_slots.proofs.Torn.{wider_frame_holds}
+use Rattle.dfu_slots.proofs.BytesOutsideWrite.{wider_frame_holds}
 use Rattle.dfu_slots.proofs.Series.{AllWritesInside, WritesEnded, ended_writes_keep_rest, ended_writes_keep_grain, tested_writes_ended}
-use Rattle.dfu_slots.proofs.Begun.{closed_gate_fits_room}
+use Rattle.dfu_slots.proofs.BeginMedium.{closed_gate_fits_room}
 use Rattle.dfu_boot.specs.trial.Trial.{IsFilledSlot}
 use Rattle.dfu_boot.proofs.Places.{slot_places_swap}
 use Rattle.dfu_laws.specs.board.Slots.{IsInSlot}
 
--- The image in a slot, if it has one.
+-- Image of the length in the slot's header.
 abbrev pub image_shown_in : Slot → List ℕ
 image_shown_in s = take (header_length s) s.data_bytes
 
--- An open slot has the image of any filled slot with the same header and the same data.
+-- If two slots have the same header and data, one is filled, and the other is open, then the other is filled too, with the same image.
 pub same_bytes_fill_same_image : (s t : Slot) → s.header ≡ t.header → s.data_bytes ≡ t.data_bytes → HasOpenGate t → IsFilledSlot s
     → IsFilledSlot t × (image_shown_in t ≡ image_shown_in s)
 same_bytes_fill_same_image s t head body is_open f =
@@ -37,7 +37,7 @@ same_bytes_fill_same_image s t head body is_open f =
       λ i. take (sym len i) (sym body i),
     )
 
--- A filled slot holds the image that it shows.
+-- A filled slot holds the image of the length in its header.
 pub filled_slot_holds_image : (m : MediumState) (at other : ℕ) (image : List ℕ) → ArePlaces m.bytes at other → IsFilledSlot (slot_of m at)
     → image_shown_in (slot_of m at) ≡ image → IsInSlot m image
 filled_slot_holds_image m at other image places f is = (at, other, places, f.counts, f.header_is, is)
@@ -45,7 +45,7 @@ filled_slot_holds_image m at other image places f is = (at, other, places, f.cou
 pub slot_of_image_is_filled : (m : MediumState) (image : List ℕ) (x : IsInSlot m image) → IsFilledSlot (slot_of m x.0)
 slot_of_image_is_filled m image x = record { counts = x.3; header_is = x.4 }
 
--- The slot of the active image holds that image.
+-- The active slot holds the active image.
 pub active_slot_shows_image : (m : MediumState) (image : List ℕ) (a : Active m image) → (header_length (slot_of m a.at) ≡ length image)
     × (image_shown_in (slot_of m a.at) ≡ image)
 active_slot_shows_image m image a =
@@ -60,14 +60,14 @@ active_slot_shows_image m image a =
     let long = formed_header_has_its_length (slot_of m a.at) (length image) a.header_is fits in
     (long, ap (λ (n : ℕ). take n (slot_of m a.at).data_bytes) long ∙ sym a.image_is)
 
--- An active image is in a slot.
+-- The active image is in a slot.
 pub active_image_is_in_slot : (m : MediumState) (image : List ℕ) → Active m image → IsInSlot m image
 active_image_is_in_slot m image a =
     let s = active_slot_shows_image m image a in
     filled_slot_holds_image m a.at a.spare image a.places
     (record { counts = a.newest.counts; header_is = subst (λ (n : ℕ). HasHeader (slot_of m a.at) n) (sym s.0) a.header_is }) s.1
 
--- A place of a slot is one of the two places.
+-- The offset of a slot is one of the two slot offsets.
 pub place_is_one_of_two : (bytes : List ℕ) (mine other at beside : ℕ) → ArePlaces bytes mine other → ArePlaces bytes at beside
     → (at ≡ mine) ⊎ (at ≡ other)
 place_is_one_of_two bytes mine other at beside (inl p) (inl q) = inl (q.0 ∙ sym p.0)
@@ -76,15 +76,15 @@ place_is_one_of_two bytes mine other at beside (inr p) (inl q) = inr (q.0 ∙ sy
 place_is_one_of_two bytes mine other at beside (inr p) (inr q) = inl (q.0 ∙ sym p.0)
 
 module _ (m now : MediumState) (has : HasImage m) where
-  -- Room of a gate.
+  -- Number of bytes reserved for a gate, and for a header.
   abbrev g : ℕ
   g = gate_of m
 
-  -- Place of the active slot.
+  -- Offset of the active slot.
   abbrev mine : ℕ
   mine = has.active.at
 
-  -- Place of the spare slot.
+  -- Offset of the spare slot.
   abbrev other : ℕ
   other = has.active.spare
 
@@ -92,11 +92,11 @@ module _ (m now : MediumState) (has : HasImage m) where
   abbrev to : ℕ
   to = other + slot_size m.bytes
 
-  -- The active image is at its place.
+  -- The active image is in the active slot.
   stands : ActiveAt g m.bytes mine other has.image
   stands = active_image_at_its_place has.active
 
-  -- The spare slot is at its place.
+  -- The offset `other` is that of the spare slot.
   place : other ≡ spare_at g m.bytes
   place = (test_finds_active_image g m.bytes mine other has.image stands).1
 
@@ -104,15 +104,16 @@ module _ (m now : MediumState) (has : HasImage m) where
   end : to ≤ length m.bytes
   end = (slot_place_ends_within g m.bytes mine other stands.sized stands.places).1
 
-  -- The room of a gate has at least 16 bytes.
+  -- At least 16 bytes are reserved for a gate.
   wide : 16 ≤ g
   wide = gate_room_at_least_16 m.grain
 
-  -- The write that closes the gate of the spare slot.
+  -- Write that closes the gate of the spare slot.
   abbrev closing : List Write
   closing = record { at = spare_at g m.bytes; bytes = closed_gate m.grain } ∷ []
 
-  -- If P holds of each image before a change in the spare slot, and of the spare slot's image after it, P holds of each image after it.
+  -- Let P hold for each image in a slot before a change in the spare slot, and for the spare slot's image after the change. Then P holds
+  -- for each image in a slot after the change.
   pub spare_change_keeps_slot_images : (P : List ℕ → Type 0) → ChangedWithin other to m.bytes now.bytes → now.grain ≡ m.grain
       → ((i : List ℕ) → IsInSlot m i → P i) → (IsFilledSlot (slot g now.bytes other) → P (image_shown_in (slot g now.bytes other)))
       → (i : List ℕ) → IsInSlot now i → P i
@@ -136,7 +137,7 @@ module _ (m now : MediumState) (has : HasImage m) where
             subst P (ap image_shown_in (sym same) ∙ x.5) (beside (subst IsFilledSlot same (slot_of_image_is_filled now image x)))
       ]
 
-  -- `begin` puts no image into a slot, because it changes at most the gate of the spare slot, and that only if the gate is open.
+  -- `begin` adds no image to the slots, because it changes at most the gate of the spare slot, and only if that gate is open.
   pub begin_adds_no_image : WritesEnded m (begin_writes m.grain m.bytes) now → (i : List ℕ) → IsInSlot now i → IsInSlot m i
   begin_adds_no_image ends = ⊎_elim (λ one. closes one.0 one.1)
       (λ none. subst (λ (x : MediumState). (i : List ℕ) → IsInSlot x i → IsInSlot m i) (sym none.1) (λ i x. x))
@@ -157,7 +158,7 @@ module _ (m now : MediumState) (has : HasImage m) where
           filled_slot_holds_image m other mine _ (slot_places_swap m.bytes mine other has.active.places) same.0 same.1)
 
   module _ (shut : ¬ HasOpenGate (slot g m.bytes other)) where
-    -- Writes in the data of a closed spare leave it closed.
+    -- Writes in the data of a closed spare slot add no image to the slots.
     pub data_writes_add_no_image : (ws : List Write) → AllWritesInside (other + 2 * g) to ws → WritesEnded m ws now → (i : List ℕ) →
         IsInSlot now i → IsInSlot m i
     data_writes_add_no_image ws inside ends =

@@ -1,4 +1,4 @@
--- Actions of a session in C, as deeds of its host.
+-- Each action of a session in C is the action of its host.
 use Rattle.std.specs.Prelude.{◌≡◌, ◌≢◌, ℕ, pos, Bool, List, take, drop}
 use Rattle.std.proofs.Common.{inl, refl, sym, ap, ◌∙◌, subst, arith}
 use Rattle.dfu_wire.specs.declared.states.State.{State}
@@ -19,11 +19,8 @@ use Rattle.dfu_laws.specs.ends.Sessions.{CoreSession, NoSession, InSession, IsSe
 
 -- The live session in C is the session of a host.
 pub record LiveHostOf (payload : List ℕ) (x : CoreHost) (session : Session) : Type 0 where
-  -- Host of the session.
   pub host : HostState
-  -- The session is live with this host.
   pub live : session ≡ HostSession host
-  -- The record in C is this host.
   pub is : CoreHostMatches payload x host
 
 pub core_session_has_live_host : (payload : List ℕ) (x : CoreHost) (s : CoreSession) (session : Session) → s ≡ InSession payload x
@@ -34,7 +31,7 @@ core_session_has_live_host payload x s session e is = held session (subst (λ (y
     held (HostSession h) is = record { host = h; live = refl; is = is }
     held NoLiveSession is = absurd is
 
--- If a trial may end with the session in C, it may end with its host.
+-- If a trial may end with the session in C, the trial may end with the session of its host.
 pub trial_may_end_with_host : (s : CoreSession) (session : Session) (state : State) (begins : Bool) → IsSessionOf s session
     → CoreTrialMayEnd s state begins
     → TrialMayEnd session state begins
@@ -45,11 +42,10 @@ trial_may_end_with_host (InSession payload x) NoLiveSession state begins is may 
 
 -- The action sends the request of its host.
 pub record SendsRequestOf (payload : List ℕ) (d : Deed) (a : DfuAction) : Type 0 where
-  -- Request of the host.
   pub request : Request
-  -- The host sends it with the bytes of the action.
+  -- The host sends this request, with the bytes of the action.
   pub deed_is : d ≡ Send request (sent_body payload a)
-  -- The setup of the action asks for it.
+  -- The setup of the action is that of the request.
   pub asked : IsSetupOf request a.setup
 
 action_0_sends_request : (payload : List ℕ) (from : ℕ) (d : Deed) (a : DfuAction) → ActionRecord payload from d a → a.what ≡ 0 →
@@ -85,7 +81,7 @@ done_deed_is_action_3 payload from (Wait ms) a report t e = absurd cc
 done_deed_is_action_3 payload from Reset a report t e = absurd cc
 
 module _ (tells : NextIsHostAction) (payload : List ℕ) (x : CoreHost) (h : HostState) (here : CoreHostMatches payload x h) where
-  -- dfu_host_next returns the action of the host.
+  -- dfu_host_next returns the next action of the host.
   pub told : (a : DfuAction) → WantsAction payload x a → IsNextActionOfHost payload h (pos 0) a
   told a wants = tells payload x h wants.0 (pos 0) a a here wants.1 (inl (refl, wants.2))
 
@@ -103,7 +99,7 @@ module _ (tells : NextIsHostAction) (payload : List ℕ) (x : CoreHost) (h : Hos
   host_is_done_only_by_action_3 a wants on report e = let t = told a wants in on (done_deed_is_action_3 payload t.from (deed h.task
       h.phase) a report t.tells e)
 
--- A call that may be under way with the session in C may be under way with its host.
+-- A call that may be under way with the session in C may be under way with the session of its host.
 pub call_is_under_way_with_host : (tells : NextIsHostAction) (s : CoreSession) (session : Session) (call : Event) →
     IsSessionOf s session → CoreCallMayBeUnderWay s call
     → CallMayBeUnderWay session call

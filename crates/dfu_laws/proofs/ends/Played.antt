@@ -1,4 +1,4 @@
--- The laws of sessions between a host in C and a board in C.
+-- Laws of sessions between a host in C and a board in C.
 use Rattle.std.specs.Prelude.{◌≡◌, ℕ, pos, List, [], ◌++◌, Option}
 use Rattle.std.proofs.Common.{refl, sym, subst}
 use Rattle.std.proofs.lemmas.List.{append-nil}
@@ -25,16 +25,16 @@ use Rattle.dfu_laws.specs.in_c.Plays.{CorePlays, CoreLinkStep, CoreReportMeansIn
 use Rattle.dfu_laws.specs.ends.Sessions.{CoreSession, NoSession, InSession, IsSessionOf, CoreTrialMayEnd}
 use Rattle.dfu_laws.specs.ends.EndsSteps.{EndsStep, mark_is_set}
 use Rattle.dfu_laws.specs.ends.Plays.{EndsPlay, no_session_yet, download_begins, upload_begins, session_is_given_up, and_then, trial_is_over, operations_come, CoreEndsLink, CoreEndsPlay, CoreEndsStep, SessionsOfEndsHaveHosts, EndsReportMeansInPlace, EndsUploadIsActiveImage, EndsActiveImageIsKnown, EndsActiveImageKnownWithin, EndsContinue}
-use Rattle.dfu_laws.proofs.in_c.Each.{power_outcome_starts_board}
+use Rattle.dfu_laws.proofs.in_c.StepsInC.{power_outcome_starts_board}
 use Rattle.dfu_laws.proofs.in_c.Runs.{core_flash_is_board_flash, core_state_is_board_state}
 use Rattle.dfu_laws.proofs.in_c.Played.{core_board_is_one_board}
-use Rattle.dfu_laws.proofs.in_c.Marked.{core_mark_marks_board, core_trial_end_ends_board, core_run_with_marks_append, core_run_then_mark, core_run_then_trial_end}
-use Rattle.dfu_laws.proofs.in_c.Copied.{core_home_copy_copies_board, core_run_then_home_copy}
-use Rattle.dfu_laws.proofs.in_c.GoesOn.{board_steps_of_append}
+use Rattle.dfu_laws.proofs.in_c.TrialMarks.{core_mark_marks_board, core_trial_end_ends_board, core_run_with_marks_append, core_run_then_mark, core_run_then_trial_end}
+use Rattle.dfu_laws.proofs.in_c.CopyOperations.{core_home_copy_copies_board, core_run_then_home_copy}
+use Rattle.dfu_laws.proofs.in_c.ContinuedSessions.{board_steps_of_append}
 use Rattle.dfu_laws.proofs.ends.Actions.{core_session_has_live_host, trial_may_end_with_host}
-use Rattle.dfu_laws.proofs.ends.Heard.{abort_matches_aborted_host}
-use Rattle.dfu_laws.proofs.ends.Settled.{aborted_host_is_counted}
-use Rattle.dfu_laws.proofs.ends.Came.{came}
+use Rattle.dfu_laws.proofs.ends.ResultNumbers.{abort_matches_aborted_host}
+use Rattle.dfu_laws.proofs.ends.ReportsInC.{aborted_host_is_counted}
+use Rattle.dfu_laws.proofs.ends.EventsInC.{came}
 
 -- The sessions in C are sessions of a host, and the live session in C is the live session of that host.
 record PlaysWithHost (b : Board) (steps : List BoardStep) (past back : List (List ℕ)) (last : Option (List ℕ)) (s : CoreSession) (now :
@@ -125,7 +125,7 @@ module _ (begin : BegunSessionIsInitialHost) (refine : CoreSessionsRefineHosts) 
       let o = ends_plays_are_host_plays p.first p.calls past back last l.session p.now p.plays in
       record { session = o.session; is = o.is; plays = ends_plays_are_core_plays b steps past back last l p o }
 
-  -- The next event of a session in C happens to sessions of a host.
+  -- The next event of the sessions in C is the next event of sessions with a host.
   pub record NextEventWithHost (b : CoreBoard) (steps more : List CoreStep) (past back : List (List ℕ)) (last : Option (List ℕ)) (l l' :
       CoreEndsLink)
       (answer : Answered) : Type 0 where
@@ -180,7 +180,7 @@ module _ (begin : BegunSessionIsInitialHost) (refine : CoreSessionsRefineHosts) 
       knows b mid steps front rest past back last (record { board = l.board; session = n.session })
       (record { board = l'.board; session = n.later }) answer image on active n.plays n.comes run
 
--- Sessions with another record on the same board, after the same steps.
+-- If the board and its steps are unchanged, the sessions in C continue with another live session.
 ends_play_with_other_session : {b : CoreBoard} {steps : List CoreStep} {past past' back back' : List (List ℕ)} {last last' : Option (List
     ℕ)}
     {on : CoreBoard} {was mine : CoreSession} (p : CoreEndsPlay b steps past back last (record { board = on; session = was }))
@@ -196,7 +196,7 @@ ends_play_with_other_session p plays = record {
   plays = plays;
 }
 
--- Sessions after the same steps, on a board in C that changed since.
+-- If a board in C changes between steps, the sessions in C continue with the changed board.
 ends_play_on_changed_board : {b on b' : CoreBoard} {steps : List CoreStep} {past back back' : List (List ℕ)} {last : Option (List ℕ)}
     {s : CoreSession} (p : CoreEndsPlay b steps past back last (record { board = on; session = s })) (now : Board) → IsBoardOfCore b' now
     → IsCoreRunWithMarks b steps b' → EndsPlay p.first p.calls past back' last s now
@@ -212,7 +212,7 @@ ends_play_on_changed_board p now is run plays = record {
   plays = plays;
 }
 
--- Sessions between both ends in C continue.
+-- Sessions between both ends in C may continue with each of the events of `EndsContinue`.
 pub ends_sessions_go_on : EndsContinue
 ends_sessions_go_on = record {
   starts = λ b on.

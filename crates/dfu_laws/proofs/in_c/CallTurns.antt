@@ -16,7 +16,7 @@ use Rattle.dfu_asks.specs.Addressed.{addressed_setup}
 use Rattle.dfu_core.specs.RecordMeaning.{with_memory}
 use Rattle.dfu_core.specs.Calls.{IsIntactBlock}
 use Rattle.dfu_core.specs.Writes.{ask_step, WriteHandedOut, RefusesPiece, device_is_not_found, piece_is_refused}
-use Rattle.dfu_core.specs.declared.numbers.Refusal.TheVariants as refusal
+use Rattle.dfu_core.specs.declared.numbers.CoreRefusal.TheVariants as refusal
 use Rattle.dfu_core.specs.Idle.{RefusesUnlessIdle}
 use Rattle.dfu_asks.specs.Verdict.{IsBodyOf}
 use Rattle.dfu_asks.specs.declared.reply.Reply.TheVariants as reply
@@ -24,13 +24,13 @@ use Rattle.dfu_asks.specs.Calls.{DeviceCalled, call_answered}
 use Rattle.dfu_core.specs.Board.{CoreBoard, CoreHandle, CoreElapse, CoreReset, CoreTooLong, CoreTook}
 use Rattle.dfu_core.specs.Happens.{KeepsConfigAndFlash, HandleOutcome, ElapseOutcome, ResetOutcome, TooLongOutcome, CoreTookOutcome}
 use Rattle.dfu_laws.specs.in_c.Steps.{board_of_core, IsRefusalNumber}
-use Rattle.dfu_laws.proofs.in_c.Same.{work_number_0_is_no_work, record_is_one_device}
+use Rattle.dfu_laws.proofs.in_c.RecordDevices.{work_number_0_is_no_work, record_is_one_device}
 use Rattle.dfu_laws.proofs.in_c.Parts.{reply_number_tells_reply, time_reply_number_tells_reply}
-use Rattle.dfu_laws.proofs.board.Served.{reply_to_setup_is_served, reply_to_time_is_served, reply_to_report_is_outcome}
-use Rattle.dfu_laws.proofs.in_c.Turned.{IsSoundCoreBoard, CoreStepIsBoardStep, block_memory_fits, refused_call_is_board_step, record_call_is_of_device, record_call_is_board_step, sound_with_same_config}
+use Rattle.dfu_laws.proofs.board.DeviceCalls.{reply_to_setup_is_served, reply_to_time_is_served, reply_to_report_is_outcome}
+use Rattle.dfu_laws.proofs.in_c.BoardStepsInC.{IsSoundCoreBoard, CoreStepIsBoardStep, block_memory_fits, refused_call_is_board_step, record_call_is_of_device, record_call_is_board_step, sound_with_same_config}
 
--- dfu_core_handle is a step of a board, in its three outcomes: the record handled the setup, the call was refused, or the buffer has no
--- room for the answer.
+-- A call of dfu_core_handle is a step of a board, with each of its three results: the setup was handled, the call was refused, or the
+-- buffer has no room for the answer.
 pub core_handle_is_board_step : (b : CoreBoard) (a : Asking) (setup body out : List ℕ) (n : ℤ) (out' : List ℕ) (b' : CoreBoard) →
     IsSoundCoreBoard b a
     → KeepsConfigAndFlash b b' → HandleOutcome b setup body out n out' b' → CoreStepIsBoardStep b a (CoreHandle setup body out) n out' b'
@@ -48,7 +48,7 @@ core_handle_is_board_step b a setup body out n out' b' sound called (inr (inr de
     refused_call_is_board_step b a _ n out' b' sound called.config called.flash denied.unchanged denied.block_is (λ same. same)
     (inl denied.number_is)
 
--- dfu_core_elapse is a step of a board.
+-- A call of dfu_core_elapse is a step of a board.
 pub core_elapse_is_board_step : (b : CoreBoard) (a : Asking) (ms : ℕ) (n : ℤ) (out' : List ℕ) (b' : CoreBoard) → IsSoundCoreBoard b a
     → KeepsConfigAndFlash b b' → ElapseOutcome b ms n b' → CoreStepIsBoardStep b a (CoreElapse ms) n out' b'
 core_elapse_is_board_step b a ms n out' b' sound called (inl g) =
@@ -61,7 +61,7 @@ core_elapse_is_board_step b a ms n out' b' sound called (inr denied) =
     refused_call_is_board_step b a _ n out' b' sound called.config called.flash denied.unchanged denied.block_is (λ same. same)
     (inr (inr (denied.why, denied.number_is)))
 
--- dfu_core_usb_reset is a step of a board.
+-- A call of dfu_core_usb_reset is a step of a board.
 pub core_reset_is_board_step : (b : CoreBoard) (a : Asking) (n : ℤ) (out' : List ℕ) (b' : CoreBoard) → IsSoundCoreBoard b a
     → KeepsConfigAndFlash b b' → ResetOutcome b n b' → CoreStepIsBoardStep b a CoreReset n out' b'
 core_reset_is_board_step b a n out' b' sound called (inl g) =
@@ -83,7 +83,7 @@ core_reset_is_board_step b a n out' b' sound called (inr denied) =
     refused_call_is_board_step b a _ n out' b' sound called.config called.flash denied.unchanged denied.block_is (λ same. same)
     (inr (inr (denied.why, denied.number_is)))
 
--- The work that is handed out is due in the device of the record.
+-- If dfu_core_next returns a write, this write is the next piece of the device's pending writes.
 pub handed_out_work_is_due : (b : CoreBoard) (a : Asking) (flash : List ℕ) (n : ℤ) (ask : DfuAsk) → IsSoundCoreBoard b a
     → (h : WriteHandedOut b.config b.kept b.block flash n ask)
     → (a.work ≡ Some h.work) × IsStepPiece (steps_in (with_memory b.block a) h.work) h.work.done (ask_step ask)
@@ -91,12 +91,12 @@ handed_out_work_is_due b a flash n ask sound h =
     subst (λ (x : Asking). (x.work ≡ Some h.work) × IsStepPiece (steps_in (with_memory b.block x) h.work) h.work.done (ask_step ask))
     (record_is_one_device b.config b.kept h.asking a h.is sound.kept) (h.work_is, h.piece)
 
--- If dfu_core_took refuses a piece, its number is that of a refusal.
+-- If dfu_core_took refuses a report, it returns a refusal number (`IsRefusalNumber`).
 refused_piece_is_refusal : (b : CoreBoard) (Why : Asking → Type 0) (n : ℤ) → RefusesPiece b.config b.kept b.block Why n → IsRefusalNumber n
 refused_piece_is_refusal b Why n (device_is_not_found e is cause) = inr (inr (e, is))
 refused_piece_is_refusal b Why n (piece_is_refused x is config room kept why) = inr (inr (refusal.NoDevice, is))
 
--- dfu_core_took is a step of a board.
+-- A call of dfu_core_took is a step of a board.
 pub core_took_is_board_step : (b : CoreBoard) (a : Asking) (failed : ℕ) (out : List ℕ) (n : ℤ) (out' : List ℕ) (b' : CoreBoard)
     → IsSoundCoreBoard b a → KeepsConfigAndFlash b b' → CoreTookOutcome b failed out n out' b'
     → CoreStepIsBoardStep b a (CoreTook failed out) n out' b'
@@ -113,13 +113,13 @@ core_took_is_board_step b a failed out n out' b' sound called (inr (inr denied))
     refused_call_is_board_step b a _ n out' b' sound called.config called.flash denied.unchanged denied.block_is (λ same. same)
     (inl denied.number_is)
 
--- If a setup is refused, the number is that of a refusal.
+-- If a call refuses a setup, it returns a refusal number (`IsRefusalNumber`).
 pub refused_setup_is_refusal : (b : CoreBoard) (n : ℤ) → RefusesUnlessIdle b.config b.kept n → IsRefusalNumber n
 refused_setup_is_refusal b n (inl (inl cause)) = inr (inr (refusal.NoConfig, cause.0))
 refused_setup_is_refusal b n (inl (inr cause)) = inr (inr (refusal.NoDevice, cause.0))
 refused_setup_is_refusal b n (inr cause) = inr (inr (refusal.Asked, cause.0))
 
--- dfu_core_too_long is a step of a board.
+-- A call of dfu_core_too_long is a step of a board.
 pub core_too_long_is_board_step : (b : CoreBoard) (a : Asking) (setup body : List ℕ) (n : ℤ) (out' : List ℕ) (b' : CoreBoard) →
     IsSoundCoreBoard b a → KeepsConfigAndFlash b b'
     → b'.block ≡ b.block → transfer_of b.config ≤ length b.block → IsBodyOf (addressed_setup b.config.interface setup) body

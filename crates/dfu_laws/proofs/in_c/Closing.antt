@@ -1,19 +1,19 @@
--- Agreement of dfu_core_closes and dfu_core_refuse_close.
+-- dfu_core_closes and dfu_core_refuse_close agree on the setups that close a download.
 use Rattle.std.proofs.Common.{◌≡◌, ℤ, pos, ◌⊎◌, inl, inr, Bool, true, false, IsTrue, refl, ap, ◌∙◌}
 use Rattle.dfu_laws.specs.in_c.Closes.{ClosesIfRefused}
 use Rattle.dfu_core.specs.Numbers.{yes_no_number}
 
--- A number that is 0 or 1, and not 1, is 0.
+-- If a number is 0 or 1, and it is not 1, it is 0.
 zero_if_not_one : (n : ℤ) → (n ≡ pos 0) ⊎ (n ≡ pos 1) → (n ≡ pos 1 → ⊥) → n ≡ pos 0
 zero_if_not_one n (inl zero) not_one = zero
 zero_if_not_one n (inr one) not_one = absurd (not_one one)
 
--- If the number of a yes or a no is 1, the answer was yes.
+-- If the number of a yes-or-no answer is 1, the answer is yes.
 number_one_is_yes : (said : Bool) (n : ℤ) → n ≡ yes_no_number said → n ≡ pos 1 → IsTrue said
 number_one_is_yes true n is one = refl
 number_one_is_yes false n is one = absurd (cc)
 
--- dfu_core_closes agrees with dfu_core_refuse_close.
+-- For each setup, dfu_core_closes agrees with dfu_core_refuse_close.
 pub closes_if_refused : ClosesIfRefused
 closes_if_refused c r r' setup status n refused idle is told two (inl (stall, idle2, is2, takes)) block flash a kept device =
     let closes = ((takes a kept).4 block flash device).1.2 in

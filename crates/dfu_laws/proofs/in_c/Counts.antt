@@ -1,4 +1,4 @@
--- A board in C asks for writes as often as the board that it represents.
+-- A board in C requests as many writes as the board that it represents.
 use Rattle.std.specs.Prelude.{◌≡◌, ℕ, suc, zero, ◌+◌, ◌-◌, ◌/◌, ◌*◌, ◌≤◌, ◌<◌, ℤ, Bool, pos, List, [], ◌∷◌, length, Some, if◌then◌else◌}
 use Rattle.std.proofs.Common.{inl, inr, refl, sym, ap, ◌∙◌, subst, arith}
 use Rattle.std.proofs.Math.Nat.{le-div_iff_mul-le}
@@ -16,8 +16,8 @@ use Rattle.dfu_asks.specs.Steps.{Step}
 use Rattle.dfu_asks.specs.Carried.{IsStepPiece}
 use Rattle.dfu_asks.specs.Asks.{steps_in}
 use Rattle.dfu_core.specs.declared.config.DfuConfig.{DfuConfig}
-use Rattle.dfu_core.specs.declared.numbers.Refusal.{Refusal}
-use Rattle.dfu_core.specs.declared.numbers.Refusal.TheVariants as refusal
+use Rattle.dfu_core.specs.declared.numbers.CoreRefusal.{CoreRefusal}
+use Rattle.dfu_core.specs.declared.numbers.CoreRefusal.TheVariants as refusal
 use Rattle.dfu_core.specs.Config.{transfer_of}
 use Rattle.dfu_core.specs.RecordMeaning.{IsRecordOf}
 use Rattle.dfu_core.specs.Further.{PiecesAdvance}
@@ -29,17 +29,17 @@ use Rattle.dfu_laws.specs.board.Board.{Board, lent_on, Event, BoardReply, Nothin
 use Rattle.dfu_laws.specs.board.Counts.{block_erases, operation_bound, operations_of, operations_in, IsUnanswered, AreUnanswered, PieceAdvances, AllPiecesAdvance, RunOperationsBounded}
 use Rattle.dfu_laws.specs.in_c.Steps.{CoreStep, IsCoreRun, board_of_core, IsBoardOfCore, event_of_core, IsRefusalNumber, NumberTellsReply, TimeNumberTellsReply, ObjectionNumberTellsReply, EventNumberTellsReply, AreBoardStepsOf}
 use Rattle.dfu_laws.specs.in_c.Counts.{IsUnansweredNumber, IsCoreUnanswered, AreCoreUnanswered, operations_of_number, core_operations_in, CoreOperationsBounded}
-use Rattle.dfu_laws.proofs.in_c.Same.{record_is_one_device, record_has_one_work, work_number_0_is_no_work}
-use Rattle.dfu_laws.proofs.in_c.Each.{power_outcome_starts_board}
+use Rattle.dfu_laws.proofs.in_c.RecordDevices.{record_is_one_device, record_has_one_work, work_number_0_is_no_work}
+use Rattle.dfu_laws.proofs.in_c.StepsInC.{power_outcome_starts_board}
 use Rattle.dfu_laws.proofs.in_c.Runs.{core_run_has_outcome}
 
--- The number of an answer is 0 or more, or DFU_STALL.
+-- The number of an answer is at least 0, or DFU_STALL.
 answer_number_is_an_answer : (n : ℤ) (a : Answer) (count : ℕ) → IsUnansweredNumber n → n ≡ answer_number a count → ⊥
 answer_number_is_an_answer n answer.Ack count un is = un.0 0 is
 answer_number_is_an_answer n answer.Bytes count un is = un.0 count is
 answer_number_is_an_answer n answer.Stall count un is = un.1 is
 
--- A step without an answer in C is a step without an answer of the board.
+-- If a step in C gives no answer and is not a restart, the step of the board gives no answer and is not a restart.
 core_unanswered_is_unanswered : (c : DfuConfig) (e : CoreEvent) (n : ℤ) (out : List ℕ) (says : BoardReply) →
     EventNumberTellsReply e n out says → IsCoreUnanswered e n
     → IsUnanswered (event_of_core c e) says
@@ -73,9 +73,7 @@ core_unanswered_is_unanswered c (CoreRefuseClose setup status) n out WritesDue t
 core_unanswered_is_unanswered c (CoreRefuse status) n out WritesDue told un = tt
 core_unanswered_is_unanswered c (CoreTook failed buffer) n out WritesDue told un = tt
 
--- Number of operations that a number of a call counts: 1 for DFU_WRITE_PENDING, and 0 for any other.
-
-refusal_number_is_no_operation : (e : Refusal) → operations_of_number (refusal_number e) ≡ 0
+refusal_number_is_no_operation : (e : CoreRefusal) → operations_of_number (refusal_number e) ≡ 0
 refusal_number_is_no_operation refusal.NoConfig = refl
 refusal_number_is_no_operation refusal.NoBlock = refl
 refusal_number_is_no_operation refusal.Asked = refl
@@ -125,8 +123,6 @@ event_number_counts_operation (CoreTook failed buffer) n out says told = call_nu
 event_number_counts_operation CoreWrite n out says told = ap operations_of_number told.0 ∙ sym (ap operations_of told.1)
 event_number_counts_operation (CoreRestart begins) n out says told = ap operations_of_number told.0 ∙ sym (ap operations_of told.1)
 
--- After a report that is answered by more writes, fewer pieces are left.
-
 pending_number_is_of_asks : (r : Reply) (n : ℤ) → n ≡ WRITE_PENDING_NUMBER → n ≡ reply_number r → r ≡ reply.Asks
 pending_number_is_of_asks reply.Asks n asks is = refl
 pending_number_is_of_asks (reply.Answered a count) n asks is =
@@ -175,7 +171,7 @@ core_step_advances_piece b b' x x' (CoreRefuse status) n out' says is is' happen
 core_step_advances_piece b b' x x' CoreWrite n out' says is is' happens told = tt
 core_step_advances_piece b b' x x' (CoreRestart begins) n out' says is is' happens told = tt
 
--- The steps of the board are unanswered too, and ask as often as the steps in C.
+-- The steps of the board give no answer, and the board requests as many writes in them as the board in C does in its steps.
 record CoreStepsCounted (steps : List CoreStep) (ts : List BoardStep) : Type 0 where
   un : AreUnanswered ts
   further : AllPiecesAdvance ts
@@ -204,7 +200,7 @@ core_steps_are_counted b b' (s ∷ steps) (t ∷ ts) run are un =
 core_steps_are_counted b b' [] (t ∷ ts) run are un = absurd are
 core_steps_are_counted b b' (s ∷ steps) [] run are un = absurd are
 
--- The bound of operations grows with the block.
+-- A longer block begins at least as many sectors. Therefore the upper bound of the writes grows with the block.
 sectors_grow_with_block : (s n m : ℕ) → n ≤ m → (n + suc s - 1) / suc s ≤ (m + suc s - 1) / suc s
 sectors_grow_with_block s n m le =
     let k = suc s in

@@ -1,4 +1,4 @@
--- Replies of a board that fit the request of the setup.
+-- Each reply of a board to a setup fits the request of that setup.
 use Rattle.std.specs.Prelude.{ℕ, List, [], ◌∷◌, ◌++◌, Option}
 use Rattle.std.proofs.Common.{refl, sym, ap, subst}
 use Rattle.dfu_wire.specs.declared.requests.Request.{Request}
@@ -18,8 +18,6 @@ use Rattle.dfu_device.specs.History.{IsHistory, HistoryStep as TableRow}
 use Rattle.dfu_laws.specs.board.Board.{Event, Handle, BoardReply, Nothing, WritesDue, Answers as SaysAnswer, BoardStep}
 use Rattle.dfu_laws.specs.board.Refines.{EventRows, StepRows}
 use Rattle.dfu_laws.specs.in_c.ReplyKinds.{ReplyFitsRequest, ReplyFitsSetup, RepliesFitSetups}
-
--- Each kind of answer fits its request.
 
 stall_fits_request : (q : Request) (out : List ℕ) → ReplyFitsRequest q (SaysAnswer answer.Stall out)
 stall_fits_request (request.GetStatus len) out = tt
@@ -74,8 +72,6 @@ writes_due_fit_request (request.GetState len) = tt
 writes_due_fit_request (request.Upload block len) = tt
 writes_due_fit_request q = tt
 
--- Replies of a run.
-
 step_reply_fits_setup : (e : Event) (says : BoardReply) (due due' : Option Cause) (rows : List TableRow) (d d' : DeviceView)
     → EventRows due e says rows due'
     → IsHistory d rows d' → ReplyFitsSetup e says
@@ -91,13 +87,12 @@ step_reply_fits_setup (Handle setup body) Nothing due due' rows d d' tells h = �
 step_reply_fits_setup (Handle setup body) WritesDue due due' rows d d' tells h = λ p q reads asks. writes_due_fit_request q
 step_reply_fits_setup e says due due' rows d d' tells h = tt
 
--- A history in two parts, with the device between them.
+-- A history consists of two parts, with this device between them.
 record HistoryParts (d : DeviceView) (xs ys : List TableRow) (d' : DeviceView) : Type 0 where
-  -- Device between the parts.
   mid : DeviceView
-  -- The first rows lead to it.
+  -- The first rows lead to this device.
   first : IsHistory d xs mid
-  -- The other rows lead on from it.
+  -- The other rows begin at this device.
   second : IsHistory mid ys d'
 
 history_has_parts : (d : DeviceView) (xs ys : List TableRow) (d' : DeviceView) → IsHistory d (xs ++ ys) d' → HistoryParts d xs ys d'

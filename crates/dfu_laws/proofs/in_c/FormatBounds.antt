@@ -1,4 +1,4 @@
--- Bounds of the number of pieces of a format.
+-- Upper bounds for the number of pieces of a format.
 use Rattle.std.proofs.Common.{◌≡◌, inl, inr, Bool, true, false, not, if◌then◌else◌, ◌==◌, ℕ, zero, suc, ◌+◌, ◌-◌, ◌*◌, ◌/◌, ◌%◌, ◌≤◌, ◌<◌, List, [], ◌∷◌, ◌++◌, length, take, drop, refl, ap, arith, length-drop}
 use Rattle.std.proofs.lemmas.Bool.{ne_eqb}
 use Rattle.std.proofs.lemmas.List.{length-take}
@@ -16,9 +16,7 @@ use Rattle.dfu_laws.proofs.board.Pieces.{below_or_at_least}
 use Rattle.dfu_laws.proofs.board.Counting.{piece_count, piece_count_of_append, erases_for_write, write_anew_count_bound, erases_of_joined_ranges, bytes_of_sectors, bytes_of_sectors_add, sectors_that_fit, sector_erases_bound}
 use Rattle.dfu_laws.proofs.board.Bounds.{number_of_flag, header_unit_at_most_256, gate_unit_length_at_most_256, gate_close_is_one_piece, unit_write_pieces_bound, choice_takes_second, write_erases_its_sectors}
 
--- The image is written 4096 bytes at a time.
-
--- The erases of a range are as many as those of its two parts together, with sectors or without.
+-- A range needs as many erases as its two parts together, on flash with sectors or without.
 write_erases_of_joined_ranges : (s a b at : ℕ) → length (erases_for_write s at (a + b))
     ≡ length (erases_for_write s at a) + length (erases_for_write s (at + a) b)
 write_erases_of_joined_ranges s a b at = by_test (s == 0)
@@ -28,7 +26,7 @@ write_erases_of_joined_ranges s a b at = by_test (s == 0)
     by_test true = refl
     by_test false = erases_of_joined_ranges s a b at
 
--- Bytes that are written 4096 at a time make at most as many pieces as one write of all of them.
+-- Bytes that are written 4096 at a time need at most as many pieces as one write of all bytes.
 pieces_of_4096_count_bound : (sector n at : ℕ) (bytes : List ℕ)
     → piece_count (piece_steps sector n at bytes) ≤ length (erases_for_write sector at (length bytes)) + (length bytes + 255) / 256
 pieces_of_4096_count_bound sector zero at bytes = omega arith
@@ -77,14 +75,12 @@ pieces_of_4096_count_bound sector (suc n) at (x ∷ xs) =
         by_test true = refl
         by_test false = refl
 
--- Sectors that an image needs.
-
--- Whole sectors are whole pages of 256 bytes, if one sector is.
+-- If a sector is a multiple of 256 bytes, any number of sectors is.
 sectors_are_whole_pages : (s q : ℕ) → s % 256 ≡ 0 → bytes_of_sectors s q % 256 ≡ 0
 sectors_are_whole_pages s zero pages = refl
 sectors_are_whole_pages s (suc q) pages = omega (arith, pages, sectors_are_whole_pages s q pages)
 
--- Whole pages of 256 bytes are whole units.
+-- A multiple of 256 bytes is a multiple of the write unit.
 pages_are_whole_units : (u : WriteUnit) (n : ℕ) → n % 256 ≡ 0 → n % unit_size u ≡ 0
 pages_are_whole_units Byte n pages = omega arith
 pages_are_whole_units _ n pages = omega (arith, pages)
@@ -98,7 +94,7 @@ begun_sectors_hold_bytes s n some =
       | inr high ↦ absurd (omega (arith, sectors_that_fit s (suc q) (n + s - 1) some high))
     ]
 
--- In n bytes at most as many sectors begin as hold n bytes.
+-- The number of sectors that begin in n bytes is at most the number of sectors that hold n bytes.
 begun_sectors_at_most_holding : (s c q n : ℕ) → 0 < s → n ≤ bytes_of_sectors s q → bytes_of_sectors s c ≤ n + s - 1 → c ≤ q
 begun_sectors_at_most_holding s c q n some hold le = elim (below_or_at_least q c) [
   | inl more ↦
@@ -108,23 +104,23 @@ begun_sectors_at_most_holding s c q n some hold le = elim (below_or_at_least q c
   | inr few ↦ few
 ]
 
--- An image that is filled up to whole units has no more pages of 256 bytes than before.
+-- Filling the last write unit of an image adds no page of 256 bytes.
 filled_image_has_no_more_pages : (u : WriteUnit) (image : List ℕ) → (length (filled_units u image) + 255) / 256 ≤ (length image + 255) / 256
 filled_image_has_no_more_pages u image =
     let n = (length image + 255) / 256 * 256 in
     omega (arith, filled_bytes_within u n image (pages_are_whole_units u n (omega arith)) (omega arith))
 
--- Pieces of all parts of a format.
+-- Upper bounds for the pieces of each part of a format.
 module _ (u : WriteUnit) (sector size crc : ℕ) (image : List ℕ) (pages : sector % 256 ≡ 0) where
-  -- Units and sectors of the flash.
+  -- Write unit and sector size of the flash.
   abbrev w : Grain
   w = record { unit = u; sector = sector }
 
-  -- The image, filled up to whole units.
+  -- The image with its last write unit filled up.
   abbrev units : List ℕ
   units = filled_units u image
 
-  -- Place of the data of the first slot.
+  -- Offset of the data of the first slot.
   abbrev data_at : ℕ
   data_at = 2 * gate_room w + 0
 
@@ -155,7 +151,7 @@ module _ (u : WriteUnit) (sector size crc : ℕ) (image : List ℕ) (pages : sec
         unit_write_pieces_bound sector 0 (length gate) wide (gate_unit_length_at_most_256 u OPEN),
       )
 
-  -- The steps of a format have at most the pieces of two gate closes, of the image, and of an open.
+  -- A format has at most as many pieces as are needed to close two gates, write the image, and open a slot.
   all_count : piece_count (format_steps_from w size image crc CloseSecond)
       ≤ 2 + (length (erases_for_write sector data_at (length units)) + (length units + 255) / 256)
       + ((number_of_flag (not (sector == 0)) + 1) + (number_of_flag (not (sector == 0)) + 1))

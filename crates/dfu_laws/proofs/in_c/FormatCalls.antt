@@ -1,4 +1,4 @@
--- The laws of a format in C.
+-- Laws of a format in C.
 use Rattle.std.specs.Prelude.{◌≡◌, ◌≢◌, ◌*◌, ◌/◌, ◌-◌, ◌≤◌, ◌<◌, ◌^◌, ◌==◌, ℕ, ℤ, pos, Bool, List, length, if◌then◌else◌}
 use Rattle.std.proofs.Common.{inl, inr, refl, sym, ap, ◌∙◌, subst, arith}
 use Rattle.dfu_slots.specs.declared.fault.WriteFault.{WriteFault}
@@ -25,12 +25,10 @@ use Rattle.dfu_core.specs.Formats.{FormatStartRefused, progress_number}
 use Rattle.dfu_core.specs.Numbers.{WRITE_PENDING_NUMBER, format_number}
 use Rattle.dfu_core.specs.Writes.{ask_step}
 use Rattle.dfu_laws.specs.in_c.FormatCalls.{FormatPieceResult, IsBeingFormatted, begins, goes_on, EndedFormatActivatesImage, BrokenFormatCanRestart}
-use Rattle.dfu_laws.proofs.in_c.Same.{sector_of_size_is_one}
+use Rattle.dfu_laws.proofs.in_c.RecordDevices.{sector_of_size_is_one}
 use Rattle.dfu_laws.proofs.in_c.Runs.{sized_medium_below_2_32}
 
--- A record represents at most one format.
-
--- Phase of a format that the numbers of its record have.
+-- Phase of a format that the numbers of its record encode.
 format_phase_at : (n from : ℕ) → FormatStep
 format_phase_at n from =
     if n == 0 then format_step.CloseSecond else if n == 1 then format_step.CloseFirst else if n == 2 then format_step.Image from
@@ -55,21 +53,16 @@ record_is_one_format c r f g h k = λ i. record {
   done = (h.done ∙ sym k.done) i;
 }
 
--- Formats that ask for their next write.
-
--- The record is a format of the image, and asks for its next write on the flash.
+-- The record represents a format of the image. The format requests its next write on this flash.
 pub record IsFormatAsking (c : DfuConfig) (image flash : List ℕ) (r : DfuRecord) : Type 0 where
-  -- The configuration is one of a device.
+  -- The configuration is valid for a device.
   pub config : IsConfig c
-  -- Format of the record.
   pub format : Formatting
-  -- The record is this format.
   pub is : IsFormatRecord c r format
   -- Bytes of the flash before the format.
   pub was : List ℕ
-  -- The format asks for its next write.
   pub asks : FormatPending format image was flash
-  -- The flash has kept its length.
+  -- The flash has the same length as before the format.
   pub size : length was ≡ length flash
 
 pub format_grain_is_config_grain : (c : DfuConfig) (r : DfuRecord) (f : Formatting) → IsFormatRecord c r f → format_grain f ≡ config_grain c
@@ -85,7 +78,7 @@ zero_number_means_formatted format_progress.Asks e = absurd (cc)
 zero_number_means_formatted format_progress.Formatted e = refl
 zero_number_means_formatted (format_progress.Broken why) e = absurd (cc)
 
--- Outcome of a piece that did not break the format.
+-- A piece that does not break off the format has the outcome of its format step.
 unbroken_piece_has_outcome : (f f' : Formatting) (image was flash : List ℕ) (p : Write) (failed : Bool) (came : FormatProgress)
     → FormatPieceReported f f' image was flash p failed came → ((why : WriteFault) → came ≢ format_progress.Broken why)
     → FormatOutcome (format_grain f) f' image was flash came
@@ -105,7 +98,7 @@ module _ (c : DfuConfig) (image flash flash' : List ℕ) (r r' : DfuRecord) (n :
       (subst (λ (f : Formatting). IsStepPiece (remaining_steps f (length flash) image) f.done (ask_step t.ask)) handed t.handed.piece))
       t.torn
 
-  -- A piece that is answered by DFU_WRITE_PENDING leaves a format that asks for its next write.
+  -- If dfu_core_format_took returns DFU_WRITE_PENDING, the format requests its next write.
   piece_leaves_format_asking : n ≡ WRITE_PENDING_NUMBER → IsFormatAsking c image flash' r'
   piece_leaves_format_asking e =
       let came : t.goes.came ≡ format_progress.Asks = pending_number_means_asks t.goes.came (sym t.goes.number_is ∙ e) in
@@ -120,7 +113,7 @@ module _ (c : DfuConfig) (image flash flash' : List ℕ) (r r' : DfuRecord) (n :
         size = a.size ∙ sym t.torn.size;
       }
 
-  -- A piece that is answered by 0 leaves the image active.
+  -- If dfu_core_format_took returns 0, the image is active.
   ends : n ≡ pos 0 → Active (mapped_medium (config_grain c) flash') image
   ends e =
       let came : t.goes.came ≡ format_progress.Formatted = zero_number_means_formatted t.goes.came (sym t.goes.number_is ∙ e) in
@@ -144,7 +137,7 @@ format_under_way_asks c image flash r (begins s) = record {
 format_under_way_asks c image flash' r' (goes_on {flash = flash} {n = n} {r = r} before t e) =
     piece_leaves_format_asking c image flash flash' r r' n (format_under_way_asks c image flash r before) t e
 
--- A format that ended made its image active.
+-- A completed format makes its image the active one.
 pub ended_format_activates_image : EndedFormatActivatesImage
 ended_format_activates_image c image flash flash' r r' n f t e =
     let a = format_under_way_asks c image flash r f in
@@ -159,7 +152,7 @@ ended_format_activates_image c image flash flash' r r' n f t e =
       ],
     )
 
--- If two flashes have one size and one is sized for two slots, so is the other.
+-- If two flashes have the same length, and one has the size of two slots, the other has that size too.
 same_length_is_sized_alike : (g : Grain) (xs ys : List ℕ) → length xs ≡ length ys → IsSizedMedium (mapped_medium g ys) →
     IsSizedMedium (mapped_medium g xs)
 same_length_is_sized_alike g xs ys e s = record {
@@ -173,7 +166,7 @@ same_length_same_capacity : (g : Grain) (xs ys : List ℕ) → length xs ≡ len
     ≡ capacity_of (mapped_medium g ys)
 same_length_same_capacity g xs ys e = ap (λ (n : ℕ). n / 2 - 2 * gate_room g) e
 
--- A start is refused on a flash of two slots only if the image is too large.
+-- On a flash of two slots, dfu_core_format_start refuses an image only if the image is too large.
 format_refused_if_too_large : (c : DfuConfig) (flash other : List ℕ) (n : ℤ) → IsConfig c →
     IsSizedMedium (mapped_medium (config_grain c) flash) →
     FormatStartRefused c flash other n
@@ -185,7 +178,7 @@ format_refused_if_too_large c flash other n config sized (inr (inr (fault.WrongS
 format_refused_if_too_large c flash other n config sized (inr (inr (fault.TooLarge, known, is, allowed, small, bad))) = (is, bad.1)
 format_refused_if_too_large c flash other n config sized (inr (inr (fault.Failed, known, is, allowed, small, bad))) = absurd (known refl)
 
--- A format that was broken off may be begun anew.
+-- After a format was broken off, a new format may start.
 pub broken_format_can_restart : BrokenFormatCanRestart
 broken_format_can_restart c image flash flash' r f size =
     let a = format_under_way_asks c image flash r f in

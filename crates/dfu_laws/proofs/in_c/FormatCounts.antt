@@ -1,4 +1,4 @@
--- Number of times that a format asks, which is at most the number of its pieces.
+-- A format requests at most one write for each of its pieces.
 use Rattle.std.specs.Prelude.{◌≡◌, ℕ, suc, ◌+◌, ◌-◌, ◌≤◌, ◌<◌, List, [], ◌∷◌, ◌++◌, length}
 use Rattle.std.proofs.Common.{sym, ap, ◌∙◌, subst, arith}
 use Rattle.dfu_slots.specs.Units.{Grain}
@@ -22,7 +22,7 @@ use Rattle.dfu_laws.proofs.board.Counting.{count_behind_bytes, piece_count, piec
 use Rattle.dfu_laws.proofs.in_c.FormatBounds.{format_pieces_bound}
 use Rattle.dfu_laws.proofs.in_c.FormatCalls.{format_under_way_asks, record_is_one_format, format_grain_is_config_grain, pending_number_means_asks}
 
--- Behind the first steps of a series, the pieces of the other steps are left.
+-- After the writes of the first steps, the pieces of the other steps remain.
 count_behind_first_steps : (xs ys : List Step) (n k : ℕ) → n ≡ total (step_writes xs) + k → count_behind_bytes (xs ++ ys) n
     ≡ count_behind_bytes ys k
 count_behind_first_steps [] ys n k e = ap (λ (i : ℕ). count_behind_bytes ys i) (omega (arith, e))
@@ -34,15 +34,15 @@ count_behind_first_steps (x ∷ xs) ys n k e =
       count_behind_first_steps xs ys (n - len) k (omega (arith, e)),
     )
 
--- Number of pieces that are left of a format.
+-- Number of remaining pieces of a format.
 abbrev format_pieces_left : Formatting → ℕ → List ℕ → ℕ
 format_pieces_left f size image = count_behind_bytes (remaining_steps f size image) f.done
 
--- The most pieces of a format of an image.
+-- Upper bound of the pieces of a format of an image.
 abbrev format_piece_bound : DfuConfig → List ℕ → ℕ
 format_piece_bound c image = format_erases (length image) c.sector + format_programs (length image) c.sector
 
--- If a piece of a format is due, at least one is left.
+-- If a format requests a write, at least one piece remains.
 due_format_has_piece_left : (f : Formatting) (image was flash : List ℕ) → FormatPending f image was flash →
     0 < format_pieces_left f (length was) image
 due_format_has_piece_left f image was flash asks =
@@ -53,7 +53,7 @@ due_format_has_piece_left f image was flash asks =
           x.0 x.1),
     )
 
--- When a format starts, at most all of its pieces are left.
+-- At the start of a format, its remaining pieces are at most `format_piece_bound`.
 pieces_left_at_first : (c : DfuConfig) (f : Formatting) (image flash : List ℕ) → format_grain f ≡ config_grain c
     → FormatPending f image flash flash → format_pieces_left f (length flash) image ≤ format_piece_bound c image
 pieces_left_at_first c f image flash grain asks =
@@ -71,7 +71,7 @@ pieces_left_at_first c f image flash grain asks =
       ap (λ (g : Grain). bound g) grain,
     )
 
--- A piece that is carried out leaves one piece fewer.
+-- Each piece that is carried out leaves one fewer piece.
 piece_leaves_one_fewer : (f f' : Formatting) (size : ℕ) (image : List ℕ) (p : Step) → IsStepPiece (remaining_steps f size image) f.done p
     → FormatAdvancedBy f f' size image (length p.write.bytes) → suc (format_pieces_left f' size image) ≤ format_pieces_left f size image
 piece_leaves_one_fewer f f' size image p piece on =
@@ -83,7 +83,7 @@ piece_leaves_one_fewer f f' size image p piece on =
       count_behind_first_steps on.front (remaining_steps f' size image) (f.done + length p.write.bytes) f'.done on.place,
     )
 
--- Times that a format has asked, plus pieces that are left, are at most one more than all pieces.
+-- The number of writes that a format has requested, plus its remaining pieces, is at most 1 + `format_piece_bound`.
 asked_and_left_pieces_bound : (c : DfuConfig) (image flash : List ℕ) (r : DfuRecord) (f : IsBeingFormatted c image flash r)
     → format_operation_count c image flash r f + format_pieces_left (format_under_way_asks c image flash r f).format (length flash) image ≤
     1 + format_piece_bound c image

@@ -1,4 +1,4 @@
--- The laws of sessions with a board in C.
+-- Laws of sessions with a board in C.
 use Rattle.std.specs.Prelude.{◌≡◌, ◌⊎◌, ◌<◌, ℕ, List, [], ◌∷◌, ◌++◌, Option, pos}
 use Rattle.std.proofs.Common.{refl, sym, ap, ◌∙◌, subst, arith}
 use Rattle.dfu_slots.specs.Medium.{MediumState}
@@ -11,14 +11,14 @@ use Rattle.dfu_laws.specs.board.Board.{Board, BoardStep, medium_on}
 use Rattle.dfu_laws.specs.board.Happens.{IsPoweredOn, IsRun}
 use Rattle.dfu_laws.specs.link.LinkSteps.{BoardLink, BoardLinkStep}
 use Rattle.dfu_laws.specs.link.Plays.{ReportMeansPayloadInPlace, UploadIsActiveImage, ActiveImageIsKnown, ActiveImageIsKnownWithin}
-use Rattle.dfu_laws.proofs.link.Standing.{WasThereAtFirst}
-use Rattle.dfu_laws.proofs.link.Ran.{link_step_is_run_or_mark, first_steps_are_run}
+use Rattle.dfu_laws.proofs.link.LastingFacts.{WasThereAtFirst}
+use Rattle.dfu_laws.proofs.link.TrialRuns.{link_step_is_run_or_mark, first_steps_are_run}
 use Rattle.dfu_core.specs.Board.{CoreBoard, medium_of_core}
 use Rattle.dfu_laws.specs.in_c.Steps.{CoreStep, IsCoreRun, board_of_core, IsBoardOfCore, AreBoardStepsOf}
 use Rattle.dfu_core.specs.Happens.{IsCorePoweredOn}
 use Rattle.dfu_laws.specs.in_c.Plays.{CoreLink, IsLinkOf, CorePlays, CoreLinkStep, CoreReportMeansInPlace, CoreUploadIsActiveImage, CoreActiveImageIsKnown, CoreActiveImageKnownWithin}
-use Rattle.dfu_laws.proofs.in_c.Same.{record_is_one_device}
-use Rattle.dfu_laws.proofs.in_c.Each.{power_outcome_starts_board}
+use Rattle.dfu_laws.proofs.in_c.RecordDevices.{record_is_one_device}
+use Rattle.dfu_laws.proofs.in_c.StepsInC.{power_outcome_starts_board}
 use Rattle.dfu_laws.proofs.in_c.Runs.{core_flash_is_board_flash}
 
 -- A board in C represents at most one board.
@@ -33,11 +33,9 @@ core_link_is_one_link l x y h k = λ i. record {
   session = (h.session ∙ sym k.session) i;
 }
 
--- A board in C that was just powered on represents a board that was just powered on, with a transfer size over 0.
+-- The board was just powered on, and its transfer size is at least 1.
 record IsOnWithTransferSize (x : Board) : Type 0 where
-  -- The board was just powered on.
   on : IsPoweredOn x
-  -- The transfer size is over 0.
   sized : 0 < x.asking.config.functional.transfer
 
 core_on_is_board_on : (b : CoreBoard) (x : Board) → IsCorePoweredOn b → IsBoardOfCore b x → IsOnWithTransferSize x
@@ -48,19 +46,19 @@ core_on_is_board_on b x on is =
     let config = ap (λ (s : Setting). s.functional.transfer) is.kept.set_up.config_is in
     record { on = subst IsPoweredOn same start.1.0; sized = omega (arith, config, on.powers.config.allowed.transfer.some) }
 
--- The image that is active on the board is active on the flash in C.
+-- If an image is active on the board, it is active on the flash in C.
 pub board_image_active_in_core : (b : CoreBoard) (x : Board) (image : List ℕ) → IsBoardOfCore b x → Active (medium_on x) image →
     Active (medium_of_core b) image
 board_image_active_in_core b x image is active = subst (λ (m : MediumState). Active m image) (core_flash_is_board_flash b x is) active
 
--- If an image is known on the board, it is known on the flash in C.
+-- If an image was on the board's flash at first, or was offered, the same holds for the flash in C.
 board_image_known_in_core : (b : CoreBoard) (x : Board) (image : List ℕ) (past back : List (List ℕ)) (now : List ℕ) → IsBoardOfCore b x
     → WasThereAtFirst (medium_on x) image back now ⊎ IsOneOf now past
     → WasThereAtFirst (medium_of_core b) image back now ⊎ IsOneOf now past
 board_image_known_in_core b x image past back now is known =
     subst (λ (m : MediumState). WasThereAtFirst m image back now ⊎ IsOneOf now past) (core_flash_is_board_flash b x is) known
 
--- The next event in C happens to the board that the sessions so far represent.
+-- The next event in C is an event of the board that the board in C represents.
 pub event_comes_to_board : (b : CoreBoard) (steps more : List CoreStep) (past back : List (List ℕ)) (last : Option (List ℕ))
     (l l' : CoreLink)
     (answer : Answered) → (p : CorePlays b steps past back last l) → (c : CoreLinkStep l more answer l')
@@ -69,7 +67,7 @@ event_comes_to_board b steps more past back last l l' answer p c =
     subst (λ (x : BoardLink). BoardLinkStep x c.calls answer c.after) (core_link_is_one_link l c.before p.link c.is_before p.is_link)
     c.comes
 
--- If Installed or Verified is reported, the payload is in place.
+-- If the host reports Installed or Verified, the payload of the last session is the active image, and the board in C is in appIDLE.
 pub core_report_means_in_place : ReportMeansPayloadInPlace → CoreReportMeansInPlace
 core_report_means_in_place installs b steps more past back last l l' answer on p c says =
     let start = core_on_is_board_on b p.first on p.is_first in
@@ -83,7 +81,7 @@ core_report_means_in_place installs b steps more past back last l l' answer on p
       state = record { mode = c.after.board.asking.mode; has_mode = is.kept.mode; state_is = x.state };
     }
 
--- Bytes that come with Uploaded are the active image.
+-- The bytes of the report Uploaded are the active image.
 pub core_upload_is_active_image : UploadIsActiveImage → CoreUploadIsActiveImage
 core_upload_is_active_image gives b steps more past back last l l' answer bytes on p c e =
     let start = core_on_is_board_on b p.first on p.is_first in
@@ -91,7 +89,7 @@ core_upload_is_active_image gives b steps more past back last l l' answer bytes 
     (gives p.first p.calls c.calls past back last p.link c.after answer bytes start.on start.sized p.plays
     (event_comes_to_board b steps more past back last l l' answer p c) e)
 
--- The active image is known.
+-- The active image is the first one, was offered, or was in a slot at first and active after the end of a trial.
 pub core_active_image_is_known : ActiveImageIsKnown → CoreActiveImageIsKnown
 core_active_image_is_known knows b steps past back last l image on active p =
     let start = core_on_is_board_on b p.first on p.is_first in
@@ -103,17 +101,11 @@ core_active_image_is_known knows b steps past back last l image on active p =
       known = board_image_known_in_core b p.first image past back x.now p.is_first x.known;
     }
 
--- The active image at each step of an event.
-
--- The first steps in C are the first steps of the board.
+-- The first steps in C correspond to the first steps of the board.
 record FirstStepsOf (front : List CoreStep) (ts : List BoardStep) : Type 0 where
-  -- First steps of the board.
   first : List BoardStep
-  -- Its other steps.
   later : List BoardStep
-  -- The steps of the board are these two parts.
   are : ts ≡ first ++ later
-  -- The first steps in C are its first steps.
   steps : AreBoardStepsOf front first
 
 first_c_steps_are_board_steps : (front rest : List CoreStep) (ts : List BoardStep) → AreBoardStepsOf (front ++ rest) ts
@@ -129,7 +121,7 @@ first_c_steps_are_board_steps (s ∷ front) rest (t ∷ ts) are =
     }
 first_c_steps_are_board_steps (s ∷ front) rest [] are = absurd are
 
--- The first steps of the board lead to the board that the board in C represents then.
+-- If a board in C represents a board, the board in C after some steps represents the board after the same steps.
 core_steps_lead_to_board : (steps : List CoreStep) (ts : List BoardStep) (b mid : CoreBoard) (x y : Board) → IsBoardOfCore b x →
     AreBoardStepsOf steps ts
     → IsCoreRun b steps mid → IsRun x ts y → IsBoardOfCore mid y
@@ -140,7 +132,7 @@ core_steps_lead_to_board (s ∷ steps) (t ∷ ts) b mid x y is are run same = co
 core_steps_lead_to_board [] (t ∷ ts) b mid x y is are run same = absurd are
 core_steps_lead_to_board (s ∷ steps) [] b mid x y is are run same = absurd are
 
--- The active image is known at each step.
+-- After each step of the next event, the active image is one that `HasKnownCoreImage` allows.
 pub core_active_image_known_within : ActiveImageIsKnownWithin → CoreActiveImageKnownWithin
 core_active_image_known_within knows b mid steps front rest past back last l l' answer image on active p c run =
     let start = core_on_is_board_on b p.first on p.is_first in

@@ -23,24 +23,21 @@ use Rattle.dfu_core.specs.RecordMeaning.{IsRecordOf}
 use Rattle.dfu_core.specs.Board.{CoreBoard, CoreEvent, CoreHandle, CoreElapse, CoreReset, CoreTooLong, CoreRefuseClose, CoreRefuse, CoreWrite, CoreTook, CoreRestart, medium_of_core, HasBoardState}
 use Rattle.dfu_laws.specs.in_c.Steps.{CoreStep, IsCoreRun, board_of_core, event_of_core, IsBoardOfCore, AreBoardStepsOf}
 use Rattle.dfu_laws.specs.in_c.Runs.{CoreRunIsBoardRun, CoreRunsRefineTable, CoreRunsKeepImage, CoreImageStaysInRun, CoreManifestationInstalls, CorePowerOnSucceeds}
-use Rattle.dfu_laws.proofs.in_c.Same.{record_has_one_mode, same_config_same_setup}
+use Rattle.dfu_laws.proofs.in_c.RecordDevices.{record_has_one_mode, same_config_same_setup}
 use Rattle.dfu_laws.proofs.in_c.Fits.{run_replies_fit_setups}
-use Rattle.dfu_laws.proofs.in_c.Turned.{IsSoundCoreBoard}
-use Rattle.dfu_laws.proofs.in_c.Each.{power_outcome_starts_board, core_step_is_board_step}
+use Rattle.dfu_laws.proofs.in_c.BoardStepsInC.{IsSoundCoreBoard}
+use Rattle.dfu_laws.proofs.in_c.StepsInC.{power_outcome_starts_board, core_step_is_board_step}
 
--- The steps lead from a board in C with the device a to a board in C with another device, and are a run of boards.
+-- The steps lead from a board in C, with the device a, to a board in C with another device. The steps correspond to a run of the boards
+-- that the two boards in C represent.
 pub record CoreRunOutcome (b : CoreBoard) (a : Asking) (steps : List CoreStep) (b' : CoreBoard) : Type 0 where
-  -- The configuration stays.
   pub config : b'.config ≡ b.config
-  -- Device at the end.
   pub last : Asking
-  -- The board in C is sound with it.
+  -- The board in C represents this device, and is well-formed.
   pub sound : IsSoundCoreBoard b' last
-  -- Steps of the board.
   pub run : List BoardStep
-  -- The steps lead from board to board.
   pub is_run : IsRun (board_of_core b a) run (board_of_core b' last)
-  -- The steps in C are these steps.
+  -- The steps in C correspond to these steps.
   pub are : AreBoardStepsOf steps run
 
 sound_core_board_is_board : (b : CoreBoard) (a : Asking) → IsSoundCoreBoard b a → IsBoardOfCore b (board_of_core b a)
@@ -113,7 +110,7 @@ core_outcome_is_board_run b a steps b' sound ran = record {
   are = ran.are;
 }
 
--- Runs from power on are runs of a board.
+-- Runs of a board in C from power on are runs of a board, and rows of the device table.
 pub core_runs_refine_table : RunsRefineDeviceTable → CoreRunsRefineTable
 core_runs_refine_table refines b b' steps on run =
     let start = power_outcome_starts_board b (pos 0) on.begins on.powers in
@@ -163,11 +160,11 @@ core_image_stays_in_run stays b mid b' old steps image state on before is other 
           (core_flash_is_board_flash b' (board_of_core b' ran.last) (sound_core_board_is_board b' ran.last ran.sound)) kept.active;
     }
 
--- Only dfu_core_begin is the event that begins.
+-- Only dfu_core_begin restarts a board for a host.
 only_core_begin_begins : (c : DfuConfig) (e : CoreEvent) → event_of_core c e ≡ Restart true → e ≡ CoreRestart true
 only_core_begin_begins c (CoreRestart begins) same = ap CoreRestart (ap event_begins_for_host same)
   where
-    -- The event is a restart that begins for a host.
+    -- True for a restart of a board that begins for a host.
     event_begins_for_host : Event → Bool
     event_begins_for_host (Restart begins) = begins
     event_begins_for_host e = false
@@ -203,11 +200,11 @@ write_unit_at_most_256 unit.U16 = omega arith
 write_unit_at_most_256 unit.U64 = omega arith
 write_unit_at_most_256 unit.U256 = omega arith
 
--- Two slots have less than 2^32 bytes.
+-- A medium of two slots has less than 2^32 bytes.
 pub sized_medium_below_2_32 : (m : MediumState) → IsSizedMedium m → length m.bytes < 2 ^ 32
 sized_medium_below_2_32 m sized = omega (arith, sized.even, sized.bound, sized.whole.bound, write_unit_at_most_256 m.grain.unit)
 
--- Power that comes back is not refused.
+-- After any run, dfu_core_power_on is not refused.
 pub core_power_on_succeeds : CoreRunsKeepImage → CorePowerOnSucceeds
 core_power_on_succeeds keeps b b' steps on run n refused =
     let start = (power_outcome_starts_board b (pos 0) on.begins on.powers).1.0.is.store.has_image in

@@ -1,11 +1,12 @@
--- The bits of bmAttributes.
+-- Rows of the judge's table that apply to a device, by the bits of its bmAttributes.
 use Rattle.std.specs.Prelude.{◌≡◌, Bool, true, false, not}
 use Rattle.std.proofs.Common.{refl}
 use Rattle.dfu_conformance.specs.declared.row.When.TheVariants.{CanDownload, CanUpload, Tolerant, NotTolerant, WillDetach}
 use Rattle.dfu_conformance.specs.Candidates.{applies_to}
 use Rattle.dfu_laws.specs.judge.Conformity.{attributes}
 
--- A row for an attribute applies to a device exactly if the device's bit of that attribute is set, or for NotTolerant is not set.
+-- A row for an attribute applies to a device exactly if the device has the bit of that attribute. A row for NotTolerant applies exactly if
+-- the device lacks the bit of Tolerant.
 pub attribute_bits_select_rows : (d u t w : Bool)
     → (applies_to CanDownload (attributes d u t w) 0 ≡ d) × (applies_to CanUpload (attributes d u t w) 0 ≡ u)
     × (applies_to Tolerant (attributes d u t w) 0 ≡ t)

@@ -1,4 +1,4 @@
--- Histories of a device, as runs of the standard's table.
+-- The events of a device's history are a run of the standard's table.
 use Rattle.std.specs.Prelude.{◌≡◌, ℕ, ◌<◌, Bool, true, false, List, [], ◌∷◌, length}
 use Rattle.std.proofs.Common.{refl, sym, ap, subst, ◌∙◌, inl, inr, lit<, ◌==◌}
 use Rattle.std.proofs.lemmas.Bool.{and_left, eq-eqb, eqb-true, cond-true, false≢true}
@@ -26,12 +26,13 @@ use Rattle.dfu_conformance.specs.Setups.{event_of, is_plain}
 use Rattle.dfu_conformance.specs.MayAnswer.{Run}
 use Rattle.dfu_conformance.proofs.ForCallers.{move_begins_run}
 use Rattle.dfu_laws.specs.judge.Conformity.{attributes, attributes_of, place_of, seen, TransferAddsEvent, EventsOfStep, StageInvariant, NeedsManifestTime, HistoriesConform, DevicesFromStartConform}
-use Rattle.dfu_laws.proofs.judge.Leads.{PlanOutcomesLead, stall_row_leads, write_code_allowed_in_error, commit_code_allowed_in_error}
+use Rattle.dfu_laws.proofs.judge.LeadingAnswers.{PlanOutcomesLead, stall_row_leads, write_code_allowed_in_error, commit_code_allowed_in_error}
 use Rattle.dfu_laws.proofs.judge.Rows.{all_plans_lead}
-use Rattle.dfu_laws.proofs.judge.Seen.{EventLeadsOn}
+use Rattle.dfu_laws.proofs.judge.SeenAnswers.{EventLeadsOn}
 use Rattle.dfu_laws.proofs.judge.Passing.{time_plan_moves, passed_time_moves_device, reset_leads_run_on, reset_stage_keeps_invariant, late_refusal_moves_device, objection_code_allowed_in_error, power_leads_run_on}
 
--- A plan that was carried out led the device on by a row of the standard's table, if each of its outcomes does.
+-- If each outcome of a plan is a row of the standard's table, a device that carries out the plan follows the table and preserves the stage
+-- invariant.
 done_plan_leads_on : (pl : Plan) (c : Profile) (p : Setup) (q : Asked) (body : List ℕ) (st : Stage) (w : DeviceView) (a : Answer) (out :
     List ℕ)
     (w' : DeviceView) → PlanOutcomesLead c p q body st pl → Done pl (asked_length q) w a out w'
@@ -57,7 +58,7 @@ done_plan_leads_on (Commits taken reply next bad) c p q body st w a out w' ((lea
     × StageInvariant c z)
     (sym h.stage_is) (fails fault a out says, commit_code_allowed_in_error c fault)
 
--- A plan that was carried out keeps the setting of the device.
+-- A plan that is carried out does not change the configuration of the device.
 done_plan_keeps_config : (pl : Plan) (len : ℕ) (w : DeviceView) (a : Answer) (out : List ℕ) (w' : DeviceView) → Done pl len w a out w' →
     w'.config ≡ w.config
 done_plan_keeps_config (Sure reply next) len w a out w' (says, is) = ap (λ (z : DeviceView). z.config) is
@@ -71,13 +72,13 @@ abbrev pub IsClassForInterface0 : Asked → Type 0
 IsClassForInterface0 asked.NotDfu = ⊥
 IsClassForInterface0 q = Unit {0}
 
--- A transfer whose body has another length than its setup says is no request as section 3 has it.
+-- If the body of a transfer is not as long as its setup requires, the transfer is not a request as section 3 describes it.
 unserved_request_is_not_plain : (p : Setup) (q : Asked) (body : List ℕ) → IsClassForInterface0 q → is_served p q body ≡ false →
     is_plain p q (length body) ≡ false
 unserved_request_is_not_plain p asked.NotDfu body ours off = absurd ours
 unserved_request_is_not_plain p q body ours off = and_left _ _ off
 
--- A transfer led the device on: by its row, or, if its body or setup is not as section 3 has it, by a stall that changed nothing.
+-- A transfer is a row of the standard's table, or a stall without a change if its body or setup is not as section 3 requires.
 transfer_leads_on : (w : DeviceView) (setup body : List ℕ) (a : Answer) (out : List ℕ) (w' : DeviceView) (p : Setup) (q : Asked) (b : Bool)
     → NeedsManifestTime (profile w) → StageInvariant (profile w) w.stage → IsSetup p setup → SetupAsksFor p q → IsClassForInterface0 q
     → is_served p q body ≡ b → Handles setup body w a out w'
@@ -107,14 +108,14 @@ transfer_leads_on w setup body a out w' p q false takes stands reads asks ours o
       refl,
     )
 
--- A run of the standard's table from the end of a step is one from its beginning, with the events of the step before it.
+-- If the events after a step are a run of the standard's table, they are still a run with the event of the step before them.
 abbrev pub StepExtendsRun : DeviceView → DeviceView → (rest events : List LogEvent) → Type 0
 StepExtendsRun w w' rest events =
     ((last : StandardState) → Run (attributes_of (profile w)) 0 (place_of w'.stage) rest last
     → Run (attributes_of (profile w)) 0 (place_of w.stage) events last)
     × StageInvariant (profile w) w'.stage × (w'.config ≡ w.config)
 
--- An event that led a device on, and that a judge sees, is the head of a run.
+-- If the standard's table allows an event that a judge observes, the event extends a run at its front.
 led_event_extends_run : (w w' : DeviceView) (e : LogEvent) (rest events : List LogEvent) → events ≡ e ∷ rest
     → EventLeadsOn (attributes_of (profile w)) (place_of w.stage) e (place_of w'.stage) × StageInvariant (profile w) w'.stage
     × (w'.config ≡ w.config) → StepExtendsRun w w' rest events
@@ -137,7 +138,7 @@ request_extends_run w setup body a out w' rest events p asked.NotDfu takes stand
 request_extends_run w setup body a out w' rest events p q takes stands reads asks h adds =
     led_event_extends_run w w' _ rest events adds (transfer_leads_on w setup body a out w' p q _ takes stands reads asks tt refl h)
 
--- A close that the program refuses is a stall in the standard's table.
+-- If the program refuses an image at its close, the standard's table allows the stall, and the event extends a run of the table.
 refused_close_extends_run : (w : DeviceView) (a : Answer) (out : List ℕ) (w' : DeviceView) (rest events : List LogEvent) (p : Setup) (q :
     Asked)
     (why : Objection) (st : Stage) → is_close q ≡ true → SetupAsksFor p q → may_close w.config.least st ≡ true → w.stage ≡ st
@@ -245,7 +246,7 @@ histories_conform (s ∷ h) events w w' takes stands (begins, row, after) (rest,
     stage_invariant_of_same_config w z (InError NoFault) config h = absurd h
     stage_invariant_of_same_config w z st config h = tt
 
--- bmAttributes are below 16.
+-- bmAttributes is below 16.
 attributes_below_16 : (d u t w : Bool) → attributes d u t w < 16
 attributes_below_16 false false false false = lit< tt
 attributes_below_16 true false false false = lit< tt
@@ -264,7 +265,7 @@ attributes_below_16 true false true true = lit< tt
 attributes_below_16 false true true true = lit< tt
 attributes_below_16 true true true true = lit< tt
 
--- The answers of each device that begins in appIDLE keep the standard.
+-- A device that begins in appIDLE gives only answers that the standard allows.
 pub devices_from_start_conform : DevicesFromStartConform
 devices_from_start_conform h events w w' allowed starts is are_seen =
     let c = profile w in

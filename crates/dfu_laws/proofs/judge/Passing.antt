@@ -1,4 +1,4 @@
--- Time, resets of the bus and power, which lead a device on by rows of the standard's table.
+-- The passing of time, resets of the bus and losses of power, as steps of the standard's table.
 use Rattle.std.specs.Prelude.{◌≡◌, ℕ, ◌+◌, ◌==◌, nat_le, max, not, true, List, ◌∷◌, length}
 use Rattle.std.specs.List.{list_any}
 use Rattle.std.proofs.Common.{refl, sym, ap, subst, ◌∙◌, inl, inr}
@@ -26,9 +26,9 @@ use Rattle.dfu_conformance.specs.MayAnswer.{MayAnswer, MayMove, Run}
 use Rattle.dfu_conformance.proofs.ForCallers.{is_row, device_goes_by_listed_row, is_move, device_moves_by_listed_drift, move_begins_run}
 use Rattle.dfu_laws.specs.judge.Conformity.{attributes_of, place_of, StageInvariant}
 use Rattle.dfu_laws.proofs.judge.Bits.{attribute_bits_select_rows}
-use Rattle.dfu_laws.proofs.judge.Leads.{write_code_allowed_in_error, commit_code_allowed_in_error, fact_of_branch}
+use Rattle.dfu_laws.proofs.judge.LeadingAnswers.{write_code_allowed_in_error, commit_code_allowed_in_error, fact_of_branch}
 
--- Time that passes moves the device as the standard's table lets it, or not at all.
+-- If time passes, the device stays in its state, or makes a move that the standard's table allows without an event.
 abbrev pub TimePlanMoves : Profile → Stage → Plan → Type 0
 TimePlanMoves c st (Sure reply next) = MayMove (attributes_of c) 0 (place_of st) (place_of next) × StageInvariant c next
 TimePlanMoves c st (Writes before block reply next bad) =
@@ -38,14 +38,14 @@ TimePlanMoves c st (Commits taken reply next bad) =
     (MayMove (attributes_of c) 0 (place_of st) (place_of next) × StageInvariant c next)
     × MayMove (attributes_of c) 0 (place_of st) place.Error
 
--- A move of the standard's table that needs no event is one that the device may make.
+-- If the standard's table has a move of the device without an event, the device may make this move.
 pub device_moves_itself : (c : Profile) (from : StandardState) (when : When) (next : StandardState)
     → list_any (is_move from when next) DRIFTS ≡ true
     → applies_to when (attributes_of c) 0 ≡ true → MayMove (attributes_of c) 0 from next
 device_moves_itself c from when next some row_is_for_device = inr (device_moves_by_listed_drift DRIFTS from when next (attributes_of c) 0
     some row_is_for_device)
 
--- The plan of time that passes moves the device as the table lets it, or not at all.
+-- The plan of a device for the passing of time makes only moves that the table allows without an event.
 pub time_plan_moves : (c : Profile) (st : Stage) (ms : ℕ) → StageInvariant c st → TimePlanMoves c st (time_plan c st ms)
 time_plan_moves c (InAppDetach timer passed) ms stands =
     let P : Plan → Type 0 = TimePlanMoves c (InAppDetach timer passed) in
@@ -94,7 +94,7 @@ time_plan_moves c (InManifest taken passed) ms stands =
     (inl refl, tt))
 time_plan_moves c st ms stands = (inl refl, stands)
 
--- Time that passed moved the device as the table lets it, or not at all.
+-- After the passing of time, a device is in the same state, or has made a move that the table allows without an event.
 pub passed_time_moves_device : (pl : Plan) (c : Profile) (st : Stage) (w : DeviceView) (a : Answer) (out : List ℕ) (w' : DeviceView) →
     TimePlanMoves c st pl
     → Done pl 0 w a out w'
@@ -116,12 +116,12 @@ passed_time_moves_device (Commits taken reply next bad) c st w a out w' kept (in
       commit_code_allowed_in_error c fault,
     )
 
--- The code of a program's objection is one that a device may have in dfuERROR.
+-- The status code of a program's objection is allowed in dfuERROR.
 pub objection_code_allowed_in_error : (c : Profile) (why : Objection) → StageInvariant c (InError (objection_code why))
 objection_code_allowed_in_error c Target = tt
 objection_code_allowed_in_error c File = tt
 
--- An image that is refused after the close moves the device to dfuERROR, or leaves its state.
+-- If a program refuses an image after its close, the device moves to dfuERROR, or stays in its state.
 pub late_refusal_moves_device : (c : Profile) (why : Objection) (st : Stage) → StageInvariant c st
     → MayMove (attributes_of c) 0 (place_of st) (place_of (refuse_stage why st)) × StageInvariant c (refuse_stage why st)
 late_refusal_moves_device c why (InManifestSync taken) stands =
@@ -130,14 +130,14 @@ late_refusal_moves_device c why (InManifest taken passed) stands =
     (device_moves_itself c place.Manifest Always place.Error refl refl, objection_code_allowed_in_error c why)
 late_refusal_moves_device c why st stands = (inl refl, stands)
 
--- An event that a row of the table of marks allows is one that the device may answer.
+-- If the judge's table `MARKS` has a row for an event, the standard allows the event.
 pub mark_row_allows_event : (att : ℕ) (from : StandardState) (next : StandardState) (e : LogEvent)
     → list_any (is_row from e.asked Always gives.Silent next) MARKS ≡ true
     → answer_matches gives.Silent from next e.length e.answer ≡ true → asks e.asked e ≡ true → MayAnswer att 0 from e next
 mark_row_allows_event att from next e some is_shown is_asked =
     inr (inl (device_goes_by_listed_row MARKS from e.asked Always gives.Silent next att 0 e some refl is_asked is_shown))
 
--- A reset leads a device on: in appDETACH to dfuIDLE, by way of dfuIDLE just entered.
+-- If the events after a reset of the bus are a run, they are a run with the reset before them. In appDETACH, the reset leads to dfuIDLE.
 pub reset_leads_run_on : (att : ℕ) (st : Stage) (rest : List LogEvent) (last : StandardState) →
     Run att 0 (place_of (reset_stage st)) rest last
     → Run att 0 (place_of st) (reset_event ∷ rest) last
@@ -152,12 +152,12 @@ reset_leads_run_on att (InAppDetach timer passed) rest last run = (
 reset_leads_run_on att st rest last run =
     (place_of st, place.AppIdle, inl refl, mark_row_allows_event att (place_of st) place.AppIdle reset_event refl refl refl, run)
 
--- A reset of the bus keeps the invariant of stages.
+-- A reset of the bus preserves the stage invariant.
 pub reset_stage_keeps_invariant : (c : Profile) (st : Stage) → StageInvariant c (reset_stage st)
 reset_stage_keeps_invariant c (InAppDetach timer passed) = tt
 reset_stage_keeps_invariant c st = tt
 
--- Power that comes back leads a device to appIDLE.
+-- If the events after a power on are a run that begins in appIDLE, they are a run with the power on before them.
 pub power_leads_run_on : (att : ℕ) (st : Stage) (rest : List LogEvent) (last : StandardState) → Run att 0 place.AppIdle rest last
     → Run att 0 (place_of st) (power_event ∷ rest) last
 power_leads_run_on att InAppIdle rest last run =

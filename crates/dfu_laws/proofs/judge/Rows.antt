@@ -1,4 +1,4 @@
--- Rows of the device table in each stage, each of which the standard's table has too.
+-- In each stage of the device, the answer to each request is a row of the standard's table.
 use Rattle.std.specs.Prelude.{◌≡◌, ℕ, ◌==◌, nat_le, not, min, true, List, [], ◌∷◌, ◌++◌, length}
 use Rattle.std.proofs.Common.{refl, ◌∙◌, arith}
 use Rattle.std.proofs.lemmas.Bool.{true_from_ne_false, false≢true, eqb-true, not-false}
@@ -16,15 +16,15 @@ use Rattle.dfu_conformance.specs.declared.row.When.TheVariants.{Always, CanDownl
 use Rattle.dfu_conformance.specs.RowMatches.{asks}
 use Rattle.dfu_laws.specs.judge.Conformity.{StageInvariant, NeedsManifestTime}
 use Rattle.dfu_laws.proofs.judge.Bits.{attribute_bits_select_rows}
-use Rattle.dfu_laws.proofs.judge.Leads.{PlanOutcomesLead, stall_row_leads, ack_row_leads, getstatus_row_leads, getstatus_of_fault_leads, write_code_allowed_in_error, commit_code_allowed_in_error, getstate_row_leads, fact_of_branch, upload_plan_leads, block_plan_leads}
+use Rattle.dfu_laws.proofs.judge.LeadingAnswers.{PlanOutcomesLead, stall_row_leads, ack_row_leads, getstatus_row_leads, getstatus_of_fault_leads, write_code_allowed_in_error, commit_code_allowed_in_error, getstate_row_leads, fact_of_branch, upload_plan_leads, block_plan_leads}
 
--- The plan of each request in the stage leads the device on by a row of the standard's table.
+-- In this stage, the plan of each request follows the standard's table.
 abbrev pub AllPlansLead : Profile → (image : List ℕ) → Stage → Type 0
 AllPlansLead c i st = (p : Setup) (q : Asked) (body : List ℕ) → NeedsManifestTime c → StageInvariant c st → SetupAsksFor p q
     → is_served p q body ≡ true
     → PlanOutcomesLead c p q body st (plan c i st (request_for_table q body))
 
--- Each request in appIDLE leads the device on by a row of the standard's table.
+-- In appIDLE, the plan of each request follows the standard's table.
 app_idle_plans_lead : (c : Profile) (i : List ℕ) → AllPlansLead c i InAppIdle
 app_idle_plans_lead c i p asked.NotDfu body takes s asks v = absurd (false≢true v)
 app_idle_plans_lead c i p (asked.Detach timeout) body takes s asks v =
@@ -39,7 +39,7 @@ app_idle_plans_lead c i p (asked.Dnload k len) [] takes s asks v =
     (stall_row_leads c p (asked.Dnload k len) [] InAppIdle InAppIdle asks v refl, tt)
 app_idle_plans_lead c i p q body takes s asks v = (stall_row_leads c p q body InAppIdle InAppIdle asks v refl, tt)
 
--- Each request in appDETACH leads the device on by a row of the standard's table.
+-- In appDETACH, the plan of each request follows the standard's table.
 app_detach_plans_lead : (c : Profile) (i : List ℕ) (timer passed : ℕ) → AllPlansLead c i (InAppDetach timer passed)
 app_detach_plans_lead c i timer passed p asked.NotDfu body takes s asks v = absurd (false≢true v)
 app_detach_plans_lead c i timer passed p (asked.GetStatus len) body takes s asks v =
@@ -54,7 +54,7 @@ app_detach_plans_lead c i timer passed p q body takes s asks v = (
   tt,
 )
 
--- Each request in dfuIDLE leads the device on by a row of the standard's table.
+-- In dfuIDLE, the plan of each request follows the standard's table.
 dfu_idle_plans_lead : (c : Profile) (i : List ℕ) → AllPlansLead c i InDfuIdle
 dfu_idle_plans_lead c i p asked.NotDfu body takes s asks v = absurd (false≢true v)
 dfu_idle_plans_lead c i p (asked.Dnload k len) [] takes s asks v =
@@ -83,7 +83,7 @@ dfu_idle_plans_lead c i p (asked.GetStatus len) body takes s asks v = (
 dfu_idle_plans_lead c i p (asked.GetState len) body takes s asks v = (getstate_row_leads c p len body InDfuIdle asks.1 refl, tt)
 dfu_idle_plans_lead c i p q body takes s asks v = (stall_row_leads c p q body InDfuIdle (InError ErrStalledPkt) asks v refl, tt)
 
--- Each request in dfuDNLOAD-SYNC, with a block that is not written, leads the device on by a row of the standard's table.
+-- In dfuDNLOAD-SYNC with an unwritten block, the plan of each request follows the standard's table.
 download_sync_plans_lead : (c : Profile) (i : List ℕ) (before block : List ℕ) (number : ℕ)
     → AllPlansLead c i (InDownloadSync before block number)
 download_sync_plans_lead c i before block number p asked.NotDfu body takes s asks v = absurd (false≢true v)
@@ -108,7 +108,7 @@ download_sync_plans_lead c i before block number p (asked.Dnload k len) [] takes
 download_sync_plans_lead c i before block number p q body takes s asks v =
     (stall_row_leads c p q body (InDownloadSync before block number) (InError ErrStalledPkt) asks v refl, tt)
 
--- Each request in dfuDNLOAD-SYNC, with all blocks written, leads the device on by a row of the standard's table.
+-- In dfuDNLOAD-SYNC with all blocks written, the plan of each request follows the standard's table.
 written_sync_plans_lead : (c : Profile) (i : List ℕ) (taken : List ℕ) (number : ℕ)
     → AllPlansLead c i (InDownloadSyncWritten taken number)
 written_sync_plans_lead c i taken number p asked.NotDfu body takes s asks v = absurd (false≢true v)
@@ -121,7 +121,7 @@ written_sync_plans_lead c i taken number p (asked.Dnload k len) [] takes s asks 
 written_sync_plans_lead c i taken number p q body takes s asks v =
     (stall_row_leads c p q body (InDownloadSyncWritten taken number) (InError ErrStalledPkt) asks v refl, tt)
 
--- Each request in dfuDNBUSY leads the device on by a row of the standard's table.
+-- In dfuDNBUSY, the plan of each request follows the standard's table.
 download_busy_plans_lead : (c : Profile) (i : List ℕ) (before block : List ℕ) (number passed : ℕ)
     → AllPlansLead c i (InDownloadBusy before block number passed)
 download_busy_plans_lead c i before block number passed p asked.NotDfu body takes s asks v = absurd (false≢true v)
@@ -130,7 +130,7 @@ download_busy_plans_lead c i before block number passed p (asked.Dnload k len) [
 download_busy_plans_lead c i before block number passed p q body takes s asks v =
     (stall_row_leads c p q body (InDownloadBusy before block number passed) (InError ErrStalledPkt) asks v refl, tt)
 
--- Each request in dfuDNLOAD-IDLE leads the device on by a row of the standard's table.
+-- In dfuDNLOAD-IDLE, the plan of each request follows the standard's table.
 download_idle_plans_lead : (c : Profile) (i : List ℕ) (taken : List ℕ) (number : ℕ) → AllPlansLead c i (InDownloadIdle taken number)
 download_idle_plans_lead c i taken number p asked.NotDfu body takes s asks v = absurd (false≢true v)
 download_idle_plans_lead c i taken number p (asked.Dnload k len) [] takes s asks v =
@@ -148,7 +148,7 @@ download_idle_plans_lead c i taken number p (asked.GetState len) body takes s as
 download_idle_plans_lead c i taken number p q body takes s asks v =
     (stall_row_leads c p q body (InDownloadIdle taken number) (InError ErrStalledPkt) asks v refl, tt)
 
--- Each request in dfuMANIFEST-SYNC, not complete, leads the device on by a row of the standard's table.
+-- In dfuMANIFEST-SYNC before manifestation, the plan of each request follows the standard's table.
 manifest_sync_plans_lead : (c : Profile) (i : List ℕ) (taken : List ℕ) → AllPlansLead c i (InManifestSync taken)
 manifest_sync_plans_lead c i taken p asked.NotDfu body takes s asks v = absurd (false≢true v)
 manifest_sync_plans_lead c i taken p (asked.GetStatus len) body takes s asks v =
@@ -177,7 +177,7 @@ manifest_sync_plans_lead c i taken p q body takes s asks v = (
   tt,
 )
 
--- Each request in dfuMANIFEST-SYNC, complete, leads the device on by a row of the standard's table.
+-- In dfuMANIFEST-SYNC after manifestation, the plan of each request follows the standard's table.
 manifest_complete_plans_lead : (c : Profile) (i : List ℕ) → AllPlansLead c i InManifestSyncComplete
 manifest_complete_plans_lead c i p asked.NotDfu body takes s asks v = absurd (false≢true v)
 manifest_complete_plans_lead c i p (asked.GetStatus len) body takes s asks v = (
@@ -198,7 +198,7 @@ manifest_complete_plans_lead c i p q body takes s asks v = (
   tt,
 )
 
--- Each request in dfuMANIFEST leads the device on by a row of the standard's table.
+-- In dfuMANIFEST, the plan of each request follows the standard's table.
 manifest_plans_lead : (c : Profile) (i : List ℕ) (taken : List ℕ) (passed : ℕ) → AllPlansLead c i (InManifest taken passed)
 manifest_plans_lead c i taken passed p asked.NotDfu body takes s asks v = absurd (false≢true v)
 manifest_plans_lead c i taken passed p (asked.Dnload k len) [] takes s asks v =
@@ -209,7 +209,7 @@ manifest_plans_lead c i taken passed p q body takes s asks v = (
   tt,
 )
 
--- Each request in dfuMANIFEST-WAIT-RESET leads the device on by a row of the standard's table.
+-- In dfuMANIFEST-WAIT-RESET, the plan of each request follows the standard's table.
 manifest_wait_reset_plans_lead : (c : Profile) (i : List ℕ) → AllPlansLead c i InManifestWaitReset
 manifest_wait_reset_plans_lead c i p asked.NotDfu body takes s asks v = absurd (false≢true v)
 manifest_wait_reset_plans_lead c i p (asked.Dnload k len) [] takes s asks v =
@@ -220,7 +220,7 @@ manifest_wait_reset_plans_lead c i p q body takes s asks v = (
   tt,
 )
 
--- Each request in dfuUPLOAD-IDLE leads the device on by a row of the standard's table.
+-- In dfuUPLOAD-IDLE, the plan of each request follows the standard's table.
 upload_idle_plans_lead : (c : Profile) (i : List ℕ) (at number : ℕ) → AllPlansLead c i (InUploadIdle at number)
 upload_idle_plans_lead c i at number p asked.NotDfu body takes s asks v = absurd (false≢true v)
 upload_idle_plans_lead c i at number p (asked.Upload k len) body takes s asks v =
@@ -239,7 +239,7 @@ upload_idle_plans_lead c i at number p q body takes s asks v = (
   tt,
 )
 
--- Each request in dfuERROR leads the device on by a row of the standard's table.
+-- In dfuERROR, the plan of each request follows the standard's table.
 error_plans_lead : (c : Profile) (i : List ℕ) (code : Code) → AllPlansLead c i (InError code)
 error_plans_lead c i code p asked.NotDfu body takes s asks v = absurd (false≢true v)
 error_plans_lead c i code p asked.ClrStatus body takes s asks v =
@@ -251,7 +251,7 @@ error_plans_lead c i code p (asked.Dnload k len) [] takes s asks v =
     (stall_row_leads c p (asked.Dnload k len) [] (InError code) (InError code) asks v refl, s)
 error_plans_lead c i code p q body takes s asks v = (stall_row_leads c p q body (InError code) (InError code) asks v refl, s)
 
--- The plan of each request in any stage leads the device on by a row of the standard's table.
+-- In each stage, the plan of each request follows the standard's table.
 pub all_plans_lead : (c : Profile) (i : List ℕ) (st : Stage) → AllPlansLead c i st
 all_plans_lead c i InAppIdle = app_idle_plans_lead c i
 all_plans_lead c i (InAppDetach timer passed) = app_detach_plans_lead c i timer passed

@@ -1,4 +1,4 @@
--- Boards after the end of a trial, and the facts of the live session that still hold.
+-- Boards after the end of a trial or a copy, and session facts that still hold.
 use Rattle.std.specs.Prelude.{◌≡◌, ℕ, ◌-◌, ◌*◌, ◌/◌, Bool, true, List, [], length}
 use Rattle.std.proofs.Common.{inl, inr, refl, sym, ap, ◌∙◌, subst}
 use Rattle.dfu_wire.specs.declared.states.State.TheVariants.{DfuIdle}
@@ -23,9 +23,7 @@ use Rattle.dfu_laws.specs.board.Refines.{IsIdleBoard, IdleRunsRefineTable}
 use Rattle.dfu_laws.specs.link.Marks.{TrialEnd}
 use Rattle.dfu_laws.specs.link.Copies.{HomeCopy}
 use Rattle.dfu_laws.specs.link.Trials.{BeginsTransfer, TrialMayEnd}
-use Rattle.dfu_laws.proofs.link.Copied.{operations_keep_size}
-
--- The board after the end of a trial.
+use Rattle.dfu_laws.proofs.link.BoardsAfterCopies.{operations_keep_size}
 
 -- Flash of the same size has the same room for an image.
 same_length_same_room : (a a' : LentDevice) (flash flash' : List ℕ) → length flash' ≡ length flash → grain_in a' ≡ grain_in a
@@ -33,26 +31,26 @@ same_length_same_room : (a a' : LentDevice) (flash flash' : List ℕ) → length
 unfolding room_of
 same_length_same_room a a' flash flash' size grain = λ i. size i / 2 - 2 * gate_room (grain i)
 
--- The end of a trial keeps the profile of the device.
+-- The end of a trial does not change the profile of the device.
 pub trial_end_keeps_profile : (b b' : Board) (begins : Bool) → TrialEnd b begins b' → profile (device_on b') ≡ profile (device_on b)
 trial_end_keeps_profile b b' begins end = λ i. profile_of (end.same.config i)
     (same_length_same_room (lent_on b) (lent_on b') b.flash b'.flash end.closed.4.size (λ j. grain_of (end.same.unit j) (end.same.sector
     j)) i)
 
--- Operations of the copy keep the profile of the device.
+-- The copy between two areas does not change the profile of the device.
 pub home_copy_keeps_profile : (b b' : Board) → HomeCopy b b' → profile (device_on b') ≡ profile (device_on b)
 home_copy_keeps_profile b b' copy = λ i. profile_of (copy.same.config i)
     (same_length_same_room (lent_on b) (lent_on b') b.flash b'.flash
     (operations_keep_size (medium_on b) (medium_on b') copy.operations) (λ j. grain_of (copy.same.unit j) (copy.same.sector j)) i)
 
--- A board is in the same stage after operations of the copy.
+-- The copy between two areas does not change the stage of a board.
 pub home_copy_keeps_stage : (b b' : Board) → HomeCopy b b' → (device_on b').stage ≡ (device_on b).stage
 home_copy_keeps_stage b b' copy =
     ap (λ (d : DeviceView). d.stage) copy.starts.0.device
     ∙ ap start_stage (copy.starts.1 ∙ sym copy.power.1)
     ∙ sym (ap (λ (d : DeviceView). d.stage) copy.power.0.device)
 
--- A board with no writes due is in the state of its device.
+-- A board without pending writes is in the state of its device.
 pub idle_board_has_device_state : (refines : IdleRunsRefineTable) (b : Board) (d : DeviceView) → IsIdleBoard b d → state_on b
     ≡ state_of d.stage
 idle_board_has_device_state refines b d k =
@@ -64,19 +62,16 @@ idle_board_has_device_state refines b d k =
 pub begun_board_is_in_dfu_idle : (b' : Board) (begins : Bool) → BoardStarts begins b' → begins ≡ true → (device_on b').stage ≡ InDfuIdle
 begun_board_is_in_dfu_idle b' begins (on, is) e = ap (λ (d : DeviceView). d.stage) on.device ∙ ap start_stage (is ∙ e)
 
--- Only one stage is dfuIDLE.
 pub dfu_idle_is_one_stage : (stage : Stage) → state_of stage ≡ DfuIdle → stage ≡ InDfuIdle
 dfu_idle_is_one_stage InDfuIdle e = refl
 dfu_idle_is_one_stage stage e = absurd (cc)
 
--- The host after the end of a trial.
-
 module _ (c : Profile) (s s' : Situation) (before : s.stage ≡ InDfuIdle) (after : s'.stage ≡ InDfuIdle) where
-  -- Both devices are in the same stage.
+  -- Both devices are in dfuIDLE, and therefore in the same stage.
   stage_is : s.stage ≡ s'.stage
   stage_is = before ∙ sym after
 
-  -- In dfuIDLE no byte of any image was fetched yet.
+  -- In dfuIDLE no byte of any image has been fetched.
   nothing_fetched_in_dfu_idle : (k : ℕ) (kept : List ℕ) → FetchedSoFar k kept s.image s.stage → FetchedSoFar k kept s'.image s'.stage
   nothing_fetched_in_dfu_idle k kept f =
       let none : FetchedSoFar k kept s'.image InDfuIdle = subst (λ (x : Stage). FetchedSoFar k kept s.image x) before f in
@@ -108,7 +103,7 @@ module _ (c : Profile) (s s' : Situation) (before : s.stage ≡ InDfuIdle) (afte
   any_image_keeps_compare_fact p task Enter t f = f
   any_image_keeps_compare_fact p task phase t f = absurd t
 
-  -- Before a transfer begins in dfuIDLE, the facts of a session hold of any image.
+  -- Before a transfer begins in dfuIDLE, the session facts hold for any image.
   any_image_keeps_goal_fact : (g : Goal) (task : Task) (phase : Phase) → BeginsTransfer (deed task phase) → GoalFact c g phase s →
       GoalFact c g phase s'
   any_image_keeps_goal_fact (LoadGoal p) task phase t f = any_image_keeps_load_fact p task phase t f
@@ -116,7 +111,7 @@ module _ (c : Profile) (s s' : Situation) (before : s.stage ≡ InDfuIdle) (afte
   any_image_keeps_goal_fact (VerifyGoal p) task phase t f = any_image_keeps_load_fact p task phase t f
   any_image_keeps_goal_fact (CompareGoal p) task phase t f = any_image_keeps_compare_fact p task phase t f
 
--- The facts of the live session hold after the end of a trial.
+-- After the end of a trial, the session facts still hold.
 pub trial_end_keeps_session_fact : (c : Profile) (session : Session) (b b' : Board) (begins : Bool) (d : DeviceView) → state_on b
     ≡ state_of d.stage
     → TrialMayEnd session (state_on b) begins → BoardStarts begins b' → SessionFact c (situation d) session

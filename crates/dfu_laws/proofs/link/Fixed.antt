@@ -1,4 +1,4 @@
--- The profile of a device, which each row keeps.
+-- The profile of a device, which no row changes.
 use Rattle.std.specs.Prelude.{◌≡◌, ℕ, List, [], ◌∷◌}
 use Rattle.std.proofs.Common.{ap, ◌∙◌}
 use Rattle.dfu_slots.specs.StoreView.{fuse_changes_nothing_visible}
@@ -13,7 +13,7 @@ handled_setup_keeps_profile : (setup body : List ℕ) (d d' : DeviceView) (a : A
 handled_setup_keeps_profile setup body d d' a out (handled_by_reading p q reads asks done) =
     (came (setup_plan d p q body) (asked_length q) d a out d' done).fixed
 
--- Each row keeps the profile.
+-- A row does not change the profile of the device.
 pub row_keeps_profile : (d d' : DeviceView) (cause : Cause) (a : Answer) (out : List ℕ) → Row d cause a out d' → profile d' ≡ profile d
 row_keeps_profile d d' (Transfer setup body) a out h = handled_setup_keeps_profile setup body d d' a out h
 row_keeps_profile d d' (Passing ms) a out h = (times_have_outcomes ms d d' h.2).fixed
@@ -23,7 +23,7 @@ row_keeps_profile d d' (Refusing why) a out h = ap profile h.2
 row_keeps_profile d d' PowerOn a out h =
     ap profile h.2 ∙ (λ k. profile_of d.config ((fuse_changes_nothing_visible d.slots d.slots.medium.fuse [] 0).room k))
 
--- Each history keeps the profile.
+-- A history does not change the profile of the device.
 pub history_keeps_profile : (d d' : DeviceView) (rows : List TableRow) → IsHistory d rows d' → profile d' ≡ profile d
 history_keeps_profile d d' [] h = ap profile h
 history_keeps_profile d d' (r ∷ rest) h =

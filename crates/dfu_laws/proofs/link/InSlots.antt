@@ -6,7 +6,7 @@ use Rattle.dfu_slots.specs.Medium.{MediumState, ChangedWithin}
 use Rattle.dfu_slots.specs.Layout.{Slot, slot, slot_size, ArePlaces}
 use Rattle.dfu_slots.specs.Image.{gate_of, slot_of, IsSizedMedium}
 use Rattle.dfu_slots.proofs.Sectors.{gate_room_at_least_16}
-use Rattle.dfu_slots.proofs.Torn.{no_change_keeps_all, wider_frame_holds}
+use Rattle.dfu_slots.proofs.BytesOutsideWrite.{no_change_keeps_all, wider_frame_holds}
 use Rattle.dfu_slots.proofs.Parts.{slot_size_kept_by_change, header_kept_outside_change, data_kept_outside_change, slot_kept_outside_change}
 use Rattle.dfu_boot.specs.trial.Trial.{IsFilledSlot}
 use Rattle.dfu_boot.specs.trial.Unread.{ChangedUnreadBytes}
@@ -17,7 +17,7 @@ use Rattle.dfu_laws.specs.board.Slots.{IsInSlot}
 use Rattle.dfu_laws.specs.link.Marks.{OpenGateWasClosed}
 use Rattle.dfu_laws.proofs.board.Slots.{image_shown_in, same_bytes_fill_same_image, filled_slot_holds_image, slot_of_image_is_filled, place_is_one_of_two}
 
--- Marks put no image into a slot.
+-- A mark adds no image to the slots.
 pub marks_add_no_slot_image : (m now : MediumState) → ChangedUnreadBytes m now → (i : List ℕ) → IsInSlot now i → IsInSlot m i
 marks_add_no_slot_image m now un i x =
     let size : slot_size now.bytes ≡ slot_size m.bytes = ap (λ (n : ℕ). n / 2) un.size in
@@ -28,15 +28,15 @@ marks_add_no_slot_image m now un i x =
     x.5)
 
 module _ (m now : MediumState) (sized : IsSizedMedium m) (closed : OpenGateWasClosed m now.bytes) (grain : now.grain ≡ m.grain) where
-  -- Place of the slot whose gate was closed.
+  -- Offset of the slot whose gate was closed.
   abbrev at : ℕ
   at = closed.0
 
-  -- Place of the other slot.
+  -- Offset of the other slot.
   abbrev base : ℕ
   base = closed.1
 
-  -- Room of a gate.
+  -- Number of bytes reserved for a gate, and for a header.
   abbrev g : ℕ
   g = gate_of m
 
@@ -44,7 +44,7 @@ module _ (m now : MediumState) (sized : IsSizedMedium m) (closed : OpenGateWasCl
   closed_gate_alone_changes : ChangedWithin at (at + g) m.bytes now.bytes
   closed_gate_alone_changes = wider_frame_holds at (at + m.grain.sector) at (at + g) m.bytes now.bytes closed.4 (omega arith) (omega arith)
 
-  -- Slots have the room of a gate that they had.
+  -- The slots have the same layout as before, because the grain is unchanged.
   there : (p : ℕ) → ◌≡◌ {A = Slot} (slot_of now p) (slot g now.bytes p)
   there p = ap (λ (w : Grain). slot (gate_room w) now.bytes p) grain
 
@@ -53,7 +53,7 @@ module _ (m now : MediumState) (sized : IsSizedMedium m) (closed : OpenGateWasCl
       (gate_room_at_least_16 m.grain) (omega (arith, sized.room))
       (⊎_elim (λ p. inr (omega (arith, p.0, p.1, sized.room))) (λ p. inl (omega (arith, p.0, p.1))) closed.2)
 
-  -- Each image in a slot was in a slot before the gate was closed.
+  -- After the gate was closed, each image in a slot was in a slot before.
   pub gate_close_adds_no_image : (i : List ℕ) → IsInSlot now i → IsInSlot m i
   gate_close_adds_no_image i x =
       let size : slot_size now.bytes ≡ slot_size m.bytes = slot_size_kept_by_change at (at + g) m.bytes now.bytes closed_gate_alone_changes
@@ -75,7 +75,7 @@ module _ (m now : MediumState) (sized : IsSizedMedium m) (closed : OpenGateWasCl
             (ap image_shown_in (sym same) ∙ x.5)
       ]
 
--- As a trial ends by dfu_boot, an open gate is closed; if nothing is on trial, nothing changes.
+-- The end of a trial by dfu_boot changes only the sector of an open gate. If no image is on trial, it changes nothing.
 pub trial_end_closes_gate : (m now : MediumState) (tries : ℕ) → TrialStepResult tries m Ends now → OpenGateWasClosed m now.bytes
 trial_end_closes_gate m now tries (standing.Settled s, stands, same) =
     let a = stands.has.active in (

@@ -1,4 +1,4 @@
--- First steps of a call to a board, while the call is under way.
+-- Steps of a board while a call is still under way: a prefix of the call's steps.
 use Rattle.std.specs.Prelude.{◌≡◌, ◌⊎◌, ℕ, Bool, List, [], ◌∷◌, ◌++◌, Option, Some, None}
 use Rattle.std.proofs.Common.{inl, inr, refl, sym, ap, ◌∙◌, subst}
 use Rattle.dfu_device.specs.declared.answer.Answer.{Answer}
@@ -7,33 +7,29 @@ use Rattle.dfu_device.specs.History.{HistoryStep as TableRow}
 use Rattle.dfu_laws.specs.board.Board.{Event, Restart, BoardReply, WritesDue, BoardStep}
 use Rattle.dfu_laws.specs.board.Refines.{CallRows, EventRows, StepRows}
 use Rattle.dfu_laws.specs.link.Calls.{WritesStayDue, WritesEndWithAnswer, ends, writes_still_due_then, AnsweredCall, at_once, answered_after_writes, WritesCutByPower, power_goes, power_lost_later, IsBrokenCall, broken}
-use Rattle.dfu_laws.proofs.link.Served.{IsCallOfCause, event_rows_are_cause_rows, carried_writes_have_no_row}
-
--- Lists of steps.
+use Rattle.dfu_laws.proofs.link.BoardCalls.{IsCallOfCause, event_rows_are_cause_rows, carried_writes_have_no_row}
 
 -- First step of a list, or the given step if the list is empty.
 abbrev pub first_step_of : BoardStep → List BoardStep → BoardStep
 first_step_of s [] = s
 first_step_of s (x ∷ xs) = x
 
--- Steps of a list behind its first.
+-- Steps of a list after its first.
 abbrev pub steps_behind_first : List BoardStep → List BoardStep
 steps_behind_first [] = []
 steps_behind_first (x ∷ xs) = xs
 
--- Two lists that join to nothing are empty.
+-- If two lists join to the empty list, both are empty.
 pub joined_parts_are_empty : (xs ys : List BoardStep) → xs ++ ys ≡ [] → (xs ≡ []) × (ys ≡ [])
 joined_parts_are_empty [] ys e = (refl, e)
 joined_parts_are_empty (x ∷ xs) ys e = absurd (cc)
 
--- First steps of a call.
-
--- Each of the steps leaves writes due.
+-- Writes are still pending after each of the steps.
 abbrev AllWritesStayDue : List BoardStep → Type 0
 AllWritesStayDue [] = Unit {0}
 AllWritesStayDue (s ∷ rest) = WritesStayDue s.event s.says × AllWritesStayDue rest
 
--- The steps are the first steps of a call that is not answered yet: no step, or the call asked for writes, and they are being carried out.
+-- The steps belong to a call without an answer so far: there are none, or the call requested writes, which are still pending.
 abbrev pub IsUnansweredPart : Event → List BoardStep → Type 0
 IsUnansweredPart call [] = Unit {0}
 IsUnansweredPart call (s ∷ rest) = (s.event ≡ call) × (s.says ≡ WritesDue) × AllWritesStayDue rest
@@ -46,7 +42,7 @@ writes_still_due_have_no_row cause (s ∷ rest) rows due c (first, later, mid, a
     are ∙ (λ i. x.0 i ++ later)
     ∙ writes_still_due_have_no_row cause rest later due c.1 (subst (λ (z : Option Cause). StepRows z rest later due) x.1 more)
 
--- The first steps of a call that is not answered yet have no row.
+-- If the steps of a call have given no answer so far, they have no row in the device table.
 pub unanswered_part_has_no_row : (call : Event) (cause : Cause) (steps : List BoardStep) (rows : List TableRow) (due : Option Cause) →
     IsCallOfCause call cause
     → IsUnansweredPart call steps → StepRows None steps rows due → rows ≡ []
@@ -72,7 +68,7 @@ ending_writes_stay_due a out (x ∷ xs) rest _ (writes_still_due_then s more c w
       | inr none ↦ inr none
     ]
 
--- First steps of a call that is answered are a part of it without the answer, or all of it.
+-- A prefix of an answered call is a part without the answer, or the whole call.
 pub call_part_is_unanswered : (call : Event) (a : Answer) (out : List ℕ) (front rest steps : List BoardStep) → AnsweredCall call a out steps
     → front ++ rest ≡ steps → IsUnansweredPart call front ⊎ (rest ≡ [])
 call_part_is_unanswered call a out [] rest steps is e = inl tt
@@ -85,24 +81,22 @@ call_part_is_unanswered call a out (x ∷ xs) rest _ (answered_after_writes s mo
       | inr none ↦ inr none
     ]
 
--- A loss of power within a call.
-
--- The last of the steps is a loss of power, and `Holds` is true of those before it.
+-- The last of the steps is a loss of power, and `Holds` is true for the steps before it.
 pub record IsCutByPowerAfter (Holds : List BoardStep → Type 0) (steps : List BoardStep) : Type 0 where
   -- Steps before the loss of power.
   pub front : List BoardStep
-  -- Step in which the power goes.
+  -- Step at which the power fails.
   pub power : BoardStep
   -- True if the board then begins for a host.
   pub begins : Bool
-  -- The steps are these and the loss of power.
+  -- The steps are those of `front`, and then the loss of power.
   pub steps_are : steps ≡ front ++ power ∷ []
-  -- `Holds` is true of the steps before.
+  -- `Holds` is true for the steps before the loss of power.
   pub part : Holds front
   -- The last step is the loss of power.
   pub event : power.event ≡ Restart begins
 
--- One more step before steps that are cut leaves them cut.
+-- A list of steps that ends with a loss of power still does so if a step is added at the front.
 step_keeps_cut : {Holds Before : List BoardStep → Type 0} (s : BoardStep) (rest : List BoardStep)
     → ((front : List BoardStep) → Holds front → Before (s ∷ front)) → IsCutByPowerAfter Holds rest → IsCutByPowerAfter Before (s ∷ rest)
 step_keeps_cut s rest more x = record {
@@ -119,7 +113,7 @@ cut_writes_end_by_power _ (power_goes s begins event) =
     record { front = []; power = s; begins = begins; steps_are = refl; part = tt; event = event }
 cut_writes_end_by_power _ (power_lost_later s rest c w) = step_keeps_cut s rest (λ front all. (c, all)) (cut_writes_end_by_power rest w)
 
--- A call that is broken off is cut after first steps that are not answered yet.
+-- A broken call consists of steps without an answer and a loss of power.
 pub broken_call_is_cut_by_power : (call : Event) (steps : List BoardStep) → IsBrokenCall call steps →
     IsCutByPowerAfter (IsUnansweredPart call) steps
 broken_call_is_cut_by_power call _ (broken s rest event says w) = step_keeps_cut s rest (λ front all. (event, says, all))
@@ -134,7 +128,7 @@ cut_writes_stay_due (x ∷ xs) rest _ (power_lost_later s more c w) e = elim (cu
   | inr none ↦ inr none
 ]
 
--- First steps of a call that is broken off are a part of it without the loss of power, or all of it.
+-- A prefix of a broken call is a part without the loss of power, or the whole call.
 pub broken_part_unanswered : (call : Event) (front rest steps : List BoardStep) → IsBrokenCall call steps → front ++ rest ≡ steps
     → IsUnansweredPart call front ⊎ (rest ≡ [])
 broken_part_unanswered call [] rest steps br e = inl tt

@@ -1,4 +1,4 @@
--- Facts of a board and its host, which each event over the link keeps.
+-- Facts of a board and its host, which each event over the link preserves.
 use Rattle.std.specs.Prelude.{◌≡◌, ◌⊎◌, ℕ, ◌<◌, Bool, List, [], ◌∷◌, Option, Some}
 use Rattle.std.proofs.Common.{inl, inr, refl, sym, ap, ◌∙◌, subst}
 use Rattle.dfu_slots.specs.StoreView.{image_of}
@@ -18,24 +18,24 @@ use Rattle.dfu_sim.specs.Agreement.{live_session_of, IsLiveOffer}
 use Rattle.dfu_sim.specs.LinkAgreement.{ClosedWasOffered}
 use Rattle.dfu_sim.specs.Fact.{SessionFact}
 use Rattle.dfu_sim.specs.Simulation.{Simulation, ActiveImageWasOffered}
-use Rattle.dfu_sim.proofs.Objecting.{refusal_keeps_closed_offer, refusal_keeps_session_fact}
+use Rattle.dfu_sim.proofs.RefusedImages.{refusal_keeps_closed_offer, refusal_keeps_session_fact}
 use Rattle.dfu_laws.specs.board.Board.{Board, Handle, Elapse, UsbReset, Refuse, Restart, Event, BoardReply, BoardStep}
 use Rattle.dfu_laws.specs.board.Happens.{IsRun}
 use Rattle.dfu_laws.specs.board.Refines.{IsIdleBoard, IdleRunsRefineTable}
 use Rattle.dfu_laws.specs.link.Calls.{CallReaches, lost, behind}
 use Rattle.dfu_laws.specs.link.LinkSteps.{BoardLink, CallMayBeUnderWay, link_after_outcome, BoardLinkStep, passes, sends, refuses, waits, resets, is_reset_by_other_cause, restarts, leaves, restarts_at_reset, marks}
-use Rattle.dfu_laws.proofs.link.Served.{IsCallOfCause, served}
+use Rattle.dfu_laws.proofs.link.BoardCalls.{IsCallOfCause, served}
 use Rattle.dfu_laws.proofs.link.Fixed.{row_keeps_profile}
 use Rattle.dfu_laws.proofs.link.Timed.{ImageKeptOrOffered, any_time_keeps_session_fact}
-use Rattle.dfu_laws.proofs.link.Acted.{FactsAfterAction, action_keeps_session_facts, told_host_keeps_facts, zero_time_keeps_device}
-use Rattle.dfu_laws.proofs.link.Handed.{idle_board_restarts_in_app_idle, enter_fact_of_any_device, enter_reset_keeps_facts, own_reset_keeps_facts}
-use Rattle.dfu_laws.proofs.link.Marked.{mark_keeps_device}
-use Rattle.dfu_laws.proofs.link.Became.{BoardImageKeptOrOffered, board_kept_or_offered_then, reset_call_keeps_image, reached_elapse_keeps_or_offers, elapsed_time_keeps_or_offers}
+use Rattle.dfu_laws.proofs.link.ActionFacts.{FactsAfterAction, action_keeps_session_facts, told_host_keeps_facts, zero_time_keeps_device}
+use Rattle.dfu_laws.proofs.link.FactsAfterRestart.{idle_board_restarts_in_app_idle, enter_fact_of_any_device, enter_reset_keeps_facts, own_reset_keeps_facts}
+use Rattle.dfu_laws.proofs.link.BoardsAfterMarks.{mark_keeps_device}
+use Rattle.dfu_laws.proofs.link.BoardsAfterWaits.{BoardImageKeptOrOffered, board_kept_or_offered_then, reset_call_keeps_image, reached_elapse_keeps_or_offers, elapsed_time_keeps_or_offers}
 use Rattle.dfu_laws.proofs.link.Stopped.{cut_off_call_keeps_or_offers}
 use Rattle.dfu_laws.proofs.link.Sent.{any_reply_may_be_lost, request_keeps_facts, refused_image_keeps_facts}
 
--- A board is the device d, with no writes due, and the facts of the live session hold. The active image was there at first, or was offered;
--- closed bytes were offered; and so was the payload of the live session, which is that of the last session.
+-- The board represents the device d, without pending writes, and the session facts hold. The active image satisfies `first`, or was
+-- offered. If an image is pending, it was offered. The payload of the live session was offered, and is that of the last session.
 pub record BoardAndHostFacts (c : Profile) (first : List ℕ → Type 0) (past : List (List ℕ)) (last : Option (List ℕ)) (l : BoardLink)
     (d : DeviceView) : Type 0 where
   pub idle : IsIdleBoard l.board d
@@ -46,7 +46,8 @@ pub record BoardAndHostFacts (c : Profile) (first : List ℕ → Type 0) (past :
   pub sound : ClosedWasOffered past d.stage
   pub known : first (image_of d.slots) ⊎ IsOneOf (image_of d.slots) past
 
--- The facts hold after the event: with Installed or Verified the last payload is the image, in appIDLE; bytes that are given are the image.
+-- The facts hold after the event. After Installed or Verified, the last payload is the image of a device in appIDLE. The bytes of a report
+-- are the image.
 pub record FactsAfterEvent (c : Profile) (first : List ℕ → Type 0) (past : List (List ℕ)) (last : Option (List ℕ)) (answer : Answered)
     (l' : BoardLink) : Type 0 where
   pub device : DeviceView
@@ -64,7 +65,7 @@ known_image_stays_known first past s s' known w = elim (w.image) [
   | inr one ↦ inr one
 ]
 
--- An action of a host, or a restart of which it hears, keeps the facts.
+-- A host's action, or a restart that the host receives, preserves the facts.
 host_action_keeps_facts : (c : Profile) (first : List ℕ → Type 0) (past : List (List ℕ)) (last : Option (List ℕ)) (l : BoardLink) (d d' :
     DeviceView)
     (b' : Board) (t : HostOutcome) → BoardAndHostFacts c first past last l d → IsIdleBoard b' d' → profile d' ≡ c
@@ -88,7 +89,7 @@ host_action_keeps_facts c first past last l d d' b' t s idle fixed w = record {
   gives = w.gives;
 }
 
--- A call that is under way has a cause.
+-- A call that may be under way has a cause in the device table.
 pub call_under_way_has_cause : (session : Session) (call : Event) → CallMayBeUnderWay session call → (cause : Cause)
     × IsCallOfCause call cause
 call_under_way_has_cause session (Elapse ms) way = (Passing ms, refl)
@@ -97,7 +98,7 @@ call_under_way_has_cause session call way = elim way [ ]
 
 module _ (refines : IdleRunsRefineTable) (simulation : Simulation) (only : ActiveImageWasOffered) (c : Profile) (sized : 0 < c.transfer)
     (past : List (List ℕ)) where
-  -- A call that was under way and ended keeps the image, or puts an offered one in place.
+  -- If a call that was under way ends, the image is unchanged, or one that was offered.
   pub ended_call_keeps_or_offers : (session : Session) (call : Event) (b b' : Board) (d : DeviceView) (steps : List BoardStep) (says :
       BoardReply)
       → IsIdleBoard b d
@@ -112,7 +113,7 @@ module _ (refines : IdleRunsRefineTable) (simulation : Simulation) (only : Activ
       record { device = x.device; idle = x.idle; profile_is = x.profile_is; well = x.acted.device }
   ended_call_keeps_or_offers session call b b' d steps says k e sound offered f way reaches = elim way [ ]
 
-  -- A restart with no call under way keeps the image, or puts an offered one in place.
+  -- After a restart with no call under way, the image is unchanged, or one that was offered.
   restart_keeps_or_offers : (l : BoardLink) (b' : Board) (d : DeviceView) (power : BoardStep) (begins : Bool) → IsIdleBoard l.board d →
       profile d ≡ c
       → ClosedWasOffered past d.stage → IsLiveOffer past (live_session_of l.session) → SessionFact c (situation d) l.session
@@ -122,7 +123,7 @@ module _ (refines : IdleRunsRefineTable) (simulation : Simulation) (only : Activ
       (λ mid more says reaches. ended_call_keeps_or_offers l.session (Elapse 0) l.board mid d more says k e sound offered f tt reaches)
       (behind power begins lost run event)
 
-  -- Each event over the link keeps the facts.
+  -- Each event over the link preserves the facts.
   pub event_keeps_facts : (first : List ℕ → Type 0) (last : Option (List ℕ)) (l l' : BoardLink) (d : DeviceView) (steps : List BoardStep)
       (answer : Answered) → BoardAndHostFacts c first past last l d → BoardLinkStep l steps answer l' →
       FactsAfterEvent c first past last answer l'

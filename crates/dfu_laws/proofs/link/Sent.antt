@@ -1,4 +1,4 @@
--- Results of a host's request to a board.
+-- Session facts after a host's request to a board, by the result that the host receives.
 use Rattle.std.specs.Prelude.{◌≡◌, ℕ, ◌<◌, IsTrue, List, []}
 use Rattle.std.proofs.Common.{inl, inr, refl, sym, ◌∙◌, subst}
 use Rattle.dfu_wire.specs.declared.requests.Request.{Request}
@@ -25,11 +25,11 @@ use Rattle.dfu_laws.specs.board.Board.{Board, Handle, RefuseClose, BoardReply, A
 use Rattle.dfu_laws.specs.board.Refines.{IsIdleBoard, IdleRunsRefineTable}
 use Rattle.dfu_laws.specs.link.Calls.{CallReaches, lost, once, twice, ImageRefusedAtClose, close_refused_once, close_refused_then_repeated}
 use Rattle.dfu_laws.specs.link.LinkSteps.{HeardOfReply}
-use Rattle.dfu_laws.proofs.link.Served.{ServedByRow, served}
+use Rattle.dfu_laws.proofs.link.BoardCalls.{ServedByRow, served}
 use Rattle.dfu_laws.proofs.link.Fixed.{row_keeps_profile}
-use Rattle.dfu_laws.proofs.link.Acted.{FactsAfterAction, action_keeps_session_facts}
+use Rattle.dfu_laws.proofs.link.ActionFacts.{FactsAfterAction, action_keeps_session_facts}
 
--- A host may hear nothing of any reply, because the reply may be lost.
+-- The link may lose any reply, and then the host receives nothing.
 pub any_reply_may_be_lost : (d : Deed) (says : BoardReply) → HeardOfReply d says NothingHeard
 any_reply_may_be_lost d (Answers a out) = inl refl
 any_reply_may_be_lost d says = refl
@@ -39,11 +39,11 @@ module _ (refines : IdleRunsRefineTable) (simulation : Simulation) (only : Activ
     (asked : IsSetupOf q setup) (d : DeviceView) (e : profile d ≡ c) (sound : ClosedWasOffered past d.stage)
     (offered : IsLiveOffer past (live_session_of (HostSession h)))
     (f : SessionFact c (situation d) (HostSession h)) where
-  -- The device went from d to another one, the host heard a meaning, and the facts of the session hold again.
+  -- The device changed from d to d', the host received a result, and the session facts hold again.
   abbrev pub FactsAfterHearing : DeviceView → Heard → Type 0
   FactsAfterHearing d' heard = FactsAfterAction c past (HostSession h) (situation d) (situation d') (host_outcome h heard)
 
-  -- If the request got lost, the facts of the session hold.
+  -- If the link loses the request, the session facts still hold.
   lost_request_keeps_facts : (heard : Heard) → heard ≡ NothingHeard → (heard ≡ NoRoom → IsTrue (wants_memory h.phase)) →
       FactsAfterHearing d heard
   lost_request_keeps_facts heard none room = action_keeps_session_facts simulation only c sized past d d h heard LostOut e sound offered f
@@ -51,7 +51,7 @@ module _ (refines : IdleRunsRefineTable) (simulation : Simulation) (only : Activ
       (subst (λ (x : Deed). ActionDelivered x (delivery_of LostOut) d d heard) (sym is)
       (setup, asked, record { came = response.Lost; out = []; reaches = unseen; hears = none })) room
 
-  -- If the request came once, and its answer was heard or lost, the facts of the session hold again (`FactsAfterHearing`).
+  -- If the request arrives once, and the host receives its answer or nothing, the session facts hold again.
   request_once_keeps_facts : (d' : DeviceView) (a : Answer) (out : List ℕ) (heard : Heard) → Handles setup body d a out d'
       → HeardOfReply (Send q body) (Answers a out) heard → (heard ≡ NoRoom → IsTrue (wants_memory h.phase)) → FactsAfterHearing d' heard
   request_once_keeps_facts d' a out heard row hears room = elim hears [
@@ -63,7 +63,7 @@ module _ (refines : IdleRunsRefineTable) (simulation : Simulation) (only : Activ
         (setup, asked, record { came = response.Answered a; out = out; reaches = once_there row; hears = some })) room
   ]
 
-  -- If the request came twice, and the second answer was heard or lost, the facts of the session hold again.
+  -- If the request arrives twice, and the host receives the second answer or nothing, the session facts hold again.
   request_twice_keeps_facts : (mid d' : DeviceView) (a x : Answer) (out said : List ℕ) (heard : Heard) → Handles setup body d x said mid
       → Handles setup body mid a out d' → HeardOfReply (Send q body) (Answers a out) heard
       → (heard ≡ NoRoom → IsTrue (wants_memory h.phase)) → FactsAfterHearing d' heard
@@ -76,7 +76,7 @@ module _ (refines : IdleRunsRefineTable) (simulation : Simulation) (only : Activ
         (setup, asked, record { came = response.Answered a; out = out; reaches = again mid x said row more; hears = some })) room
   ]
 
-  -- If the request came once and closed an image that the program refused, the facts of the session hold again.
+  -- If the request closes a download, and the program refuses the image, the session facts hold again.
   refused_close_keeps_facts : (why : Objection) (d' : DeviceView) (a : Answer) (out : List ℕ) (heard : Heard) →
       Row d (RefusingClose setup why) a out d'
       → HeardOfReply (Send q body) (Answers a out) heard → (heard ≡ NoRoom → IsTrue (wants_memory h.phase)) → FactsAfterHearing d' heard
@@ -89,7 +89,7 @@ module _ (refines : IdleRunsRefineTable) (simulation : Simulation) (only : Activ
         (setup, asked, record { came = response.Answered a; out = out; reaches = once_there (inl row); hears = some })) room
   ]
 
-  -- If the request closed an image that the program refused, and then came a second time, the facts of the session hold again.
+  -- If the program refuses the image at the close, and the same request arrives again, the session facts hold again.
   repeated_close_keeps_facts : (why : Objection) (mid d' : DeviceView) (a x : Answer) (out said : List ℕ) (heard : Heard)
       → Row d (RefusingClose setup why) x said mid
       → Handles setup body mid a out d' → HeardOfReply (Send q body) (Answers a out) heard
@@ -103,25 +103,23 @@ module _ (refines : IdleRunsRefineTable) (simulation : Simulation) (only : Activ
         (setup, asked, record { came = response.Answered a; out = out; reaches = again mid x said (inl row) more; hears = some })) room
   ]
 
-  -- The board after a request with the meaning that was heard: a device with the same profile, and the facts of the session hold again.
+  -- After a request the board represents a device with the profile c, and the session facts hold again for the result that the host
+  -- received.
   pub record FactsAfterRequest (b' : Board) (heard : Heard) : Type 0 where
-    -- Device of the board.
     pub device : DeviceView
-    -- The board is this device, with no writes due.
+    -- The board represents this device, without pending writes.
     pub idle : IsIdleBoard b' device
-    -- The device has the profile `c`.
     pub profile_is : profile device ≡ c
-    -- The facts of the session hold again.
     pub acted : FactsAfterHearing device heard
 
-  -- One row of the request leaves a board on which the facts hold again.
+  -- If the request has one row, and the session facts hold after that row, `FactsAfterRequest` holds.
   one_row_keeps_facts : (b' : Board) (heard : Heard) (cause : Cause) (a : Answer) (out : List ℕ) (x : ServedByRow d cause a out b') →
       FactsAfterHearing x.device heard
       → FactsAfterRequest b' heard
   one_row_keeps_facts b' heard cause a out x acted =
       record { device = x.device; idle = x.idle; profile_is = row_keeps_profile d x.device cause a out x.row ∙ e; acted = acted }
 
-  -- Two rows of the request leave a board on which the facts hold again.
+  -- If the request has two rows, and the session facts hold after the second row, `FactsAfterRequest` holds.
   second_row_keeps_facts : (mid b' : Board) (heard : Heard) (cause : Cause) (a0 a : Answer) (out0 out : List ℕ) (x : ServedByRow d cause a0
       out0 mid)
       (y : ServedByRow x.device (Transfer setup body) a out b') → FactsAfterHearing y.device heard → FactsAfterRequest b' heard
@@ -133,7 +131,7 @@ module _ (refines : IdleRunsRefineTable) (simulation : Simulation) (only : Activ
     acted = acted;
   }
 
-  -- In each way in which a request reaches a board, the facts of the session hold again.
+  -- If the request is lost, or arrives once or twice, the session facts hold again.
   pub request_keeps_facts : (b b' : Board) (steps : List BoardStep) (says : BoardReply) (heard : Heard) → IsIdleBoard b d
       → CallReaches (Handle setup body) b steps says b' → HeardOfReply (Send q body) says heard
       → (heard ≡ NoRoom → IsTrue (wants_memory h.phase)) → FactsAfterRequest b' heard
@@ -155,7 +153,7 @@ module _ (refines : IdleRunsRefineTable) (simulation : Simulation) (only : Activ
       second_row_keeps_facts mid b' heard (Transfer setup body) a0 a out0 out x y
       (request_twice_keeps_facts x.device y.device a a0 out out0 heard x.row y.row hears room)
 
-  -- If the program refused the image that the request closes, the facts of the session hold again.
+  -- If the program refuses the image that the request closes, the session facts hold again.
   pub refused_image_keeps_facts : (why : Objection) (b b' : Board) (steps : List BoardStep) (says : BoardReply) (heard : Heard) →
       IsIdleBoard b d
       → ImageRefusedAtClose setup body why b steps says b' → HeardOfReply (Send q body) says heard

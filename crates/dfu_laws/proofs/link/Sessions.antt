@@ -1,4 +1,4 @@
--- Facts of sessions that begin with a board, or are given up.
+-- Session facts after a session begins, and after the host's program aborts a live session.
 use Rattle.std.specs.Prelude.{◌≡◌, ℕ, ◌<◌, Bool, true, List, [], ◌∷◌, length, Option, Some}
 use Rattle.std.proofs.Common.{inr, refl, sym, ◌∙◌, subst}
 use Rattle.dfu_device.specs.Stage.{Profile, Stage, InManifestSync, InManifest}
@@ -18,9 +18,7 @@ use Rattle.dfu_sim.specs.Agreement.{live_session_of_goal, live_session_of, IsLiv
 use Rattle.dfu_sim.specs.LinkAgreement.{ClosedWasOffered}
 use Rattle.dfu_sim.specs.Fact.{SessionFact}
 use Rattle.dfu_sim.specs.Simulation.{Simulation, ActiveImageWasOffered}
-use Rattle.dfu_laws.proofs.link.Acted.{machine_of_link, agrees}
-
--- Sessions that begin with a goal.
+use Rattle.dfu_laws.proofs.link.ActionFacts.{machine_of_link, agrees}
 
 pub purpose_goal_is_loading : (purpose : Purpose) (payload : List ℕ) → live_session_of_goal (goal_of_purpose purpose payload)
     ≡ LoadingPayload payload
@@ -48,7 +46,7 @@ module _ (simulation : Simulation) (only : ActiveImageWasOffered) (c : Profile) 
   same_profile_keeps_opened_fact s p e goal limits f =
       subst (λ (x : Profile). SessionFact c s (opened x goal limits.actions limits.restarts)) (sym e) f
 
-  -- The facts of a session hold as it begins.
+  -- Once a payload is offered, the session facts hold.
   pub offered_session_has_fact : (past : List (List ℕ)) (s : Situation) (purpose : Purpose) (payload : List ℕ) (limits : Limits)
       → ClosedWasOffered past s.stage
       → 0 < length payload → SessionFact c s (opened c (goal_of_purpose purpose payload) limits.actions limits.restarts)
@@ -68,11 +66,9 @@ module _ (simulation : Simulation) (only : ActiveImageWasOffered) (c : Profile) 
       (agrees simulation only c sized past s NoLiveSession sound tt)
       (record { allowed = tt; first = Works; second = Works; room = true; same = refl })).fact
 
-  -- Once a live host is given up, the facts of its session hold, and the live session is the same.
+  -- If the program aborts a live host, the session facts hold, and the live session is the same.
   pub record GivenUpKeepsFact (s : Situation) (h : HostState) : Type 0 where
-    -- The facts of the session hold.
     pub fact : SessionFact c s (HostSession (aborted_host h))
-    -- The live session is the same.
     pub live : live_session_of (HostSession (aborted_host h)) ≡ live_session_of (HostSession h)
 
   pub given_up_session_keeps_fact : (past : List (List ℕ)) (s : Situation) (h : HostState) → ClosedWasOffered past s.stage

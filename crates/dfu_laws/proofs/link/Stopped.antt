@@ -18,13 +18,13 @@ use Rattle.dfu_laws.specs.board.Happens.{start_stage, BoardStarts, EventOutcome,
 use Rattle.dfu_laws.specs.board.ImageSurvival.{is_manifesting}
 use Rattle.dfu_laws.specs.board.Refines.{IsIdleBoard, RepresentsDevice, IdleRunsRefineTable}
 use Rattle.dfu_laws.specs.link.Calls.{IsBrokenCall, CallReaches, once, CallCutOff, behind, within, power_lost_in_second_call}
-use Rattle.dfu_laws.proofs.link.Served.{IsCallOfCause}
+use Rattle.dfu_laws.proofs.link.BoardCalls.{IsCallOfCause}
 use Rattle.dfu_laws.proofs.link.Fixed.{history_keeps_profile}
 use Rattle.dfu_laws.proofs.link.Parts.{IsUnansweredPart, unanswered_part_has_no_row, broken_call_is_cut_by_power}
-use Rattle.dfu_laws.proofs.link.Ran.{run_has_parts}
-use Rattle.dfu_laws.proofs.link.Became.{BoardImageKeptOrOffered, board_kept_or_offered_then}
+use Rattle.dfu_laws.proofs.link.TrialRuns.{run_has_parts}
+use Rattle.dfu_laws.proofs.link.BoardsAfterWaits.{BoardImageKeptOrOffered, board_kept_or_offered_then}
 
--- An image that waits is the active image, or was offered, if closed bytes were offered.
+-- If each pending image was offered, the bytes of a download in manifestation are the given image, or were offered.
 waiting_image_is_known : (past : List (List ℕ)) (image i : List ℕ) (st : Stage) → is_manifesting (state_of st) ≡ true →
     ClosedWasOffered past st
     → i ≡ accepted_in image st → (i ≡ image) ⊎ IsOneOf i past
@@ -33,18 +33,18 @@ waiting_image_is_known past image i InManifestSyncComplete on sound e = inl e
 waiting_image_is_known past image i (InManifest taken passed) on sound e = inr (subst (λ (l : List ℕ). IsOneOf l past) (sym e) sound)
 waiting_image_is_known past image i st on sound e = absurd (false≢true on)
 
--- If no writes are due on a board, it is the device that it represents.
+-- If a board represents a device and has no pending writes, `IsIdleBoard` holds.
 board_without_work_is_idle : (b : Board) (due : Option Cause) (d : DeviceView) → RepresentsDevice b due d → b.asking.work ≡ None →
     IsIdleBoard b d
 board_without_work_is_idle b None d k none = k
 board_without_work_is_idle b (Some cause) d k none = let some = k.asks.work_is in absurd (cc)
 
--- No closed bytes wait on a board that was just powered on.
+-- A board that was just powered on has no pending image.
 pub no_bytes_closed_at_start : (past : List (List ℕ)) (begins : Bool) → ClosedWasOffered past (start_stage begins)
 no_bytes_closed_at_start past true = tt
 no_bytes_closed_at_start past false = tt
 
--- A restart leaves the flash, and starts the board.
+-- A restart does not change the flash, and starts the board.
 restart_step_starts_board : (b b' : Board) (s : BoardStep) (begins : Bool) → IsRun b (s ∷ []) b' → s.event ≡ Restart begins
     → (b'.flash ≡ b.flash) × BoardStarts begins b'
 restart_step_starts_board b b' s begins run event =
@@ -52,7 +52,7 @@ restart_step_starts_board b b' s begins run event =
     subst (λ (x : Board). (x.flash ≡ b.flash) × BoardStarts begins x) (sym run.3) (happens.1, happens.2)
 
 module _ (refines : IdleRunsRefineTable) (past : List (List ℕ)) where
-  -- Within a call the active image is that of the device, or was offered.
+  -- While a call is under way, the active image is that of the device, or was offered.
   pub call_image_kept_or_offered : (b mid : Board) (d : DeviceView) (call : Event) (cause : Cause) (front : List BoardStep) (image : List ℕ)
       → IsIdleBoard b d
       → ClosedWasOffered past d.stage → IsCallOfCause call cause → IsUnansweredPart call front → IsRun b front mid →
@@ -70,7 +70,7 @@ module _ (refines : IdleRunsRefineTable) (past : List (List ℕ)) where
       ]
 
   module _ (c : Profile) where
-    -- If the power goes after the first steps of a call, the image is kept or an offered one is in place.
+    -- If the power fails while a call is under way, the image afterwards is unchanged, or one that was offered.
     pub stop_keeps_or_offers : (b b' : Board) (d : DeviceView) (call : Event) (cause : Cause) (front : List BoardStep) (power : BoardStep)
         (begins : Bool)
         → IsIdleBoard b d → profile d ≡ c → ClosedWasOffered past d.stage → IsCallOfCause call cause → IsUnansweredPart call front
@@ -124,7 +124,7 @@ module _ (refines : IdleRunsRefineTable) (past : List (List ℕ)) where
         stop_keeps_or_offers b b' d call cause x.front x.power x.begins k e sound is x.part x.event
         (subst (λ (l : List BoardStep). IsRun b l b') x.steps_are run)
 
-    -- If each whole call keeps the image or puts an offered one in place, a call during which the power fails does the same.
+    -- If each complete call leaves the image unchanged or makes an offered one active, a call that a loss of power cuts off does too.
     pub cut_off_call_keeps_or_offers : (b b' : Board) (d : DeviceView) (call : Event) (cause : Cause) (steps : List BoardStep) →
         IsIdleBoard b d → profile d ≡ c
         → ClosedWasOffered past d.stage → IsCallOfCause call cause

@@ -1,4 +1,4 @@
--- Image of a device after time has passed, also with a medium that fails, and the facts of a session that still hold.
+-- After the passing of time, in which writes may fail, the image is unchanged or one that was offered, and the session facts still hold.
 use Rattle.std.specs.Prelude.{◌≡◌, ◌⊎◌, ℕ, ◌+◌, ◌==◌, nat_le, max, List, length}
 use Rattle.std.proofs.Common.{inl, inr, refl, sym, ◌∙◌, subst}
 use Rattle.dfu_device.specs.Pace.{block_ms, image_ms}
@@ -15,14 +15,13 @@ use Rattle.dfu_sim.specs.LinkAgreement.{ClosedWasOffered}
 use Rattle.dfu_sim.specs.Fact.{IsDfuIdle, FetchedSoFar, FetchFact, CompareFact, GoalFact, SessionFact}
 use Rattle.dfu_sim.proofs.Kept.{time_keeps_phase_fact}
 
--- The image of a device stays, or becomes one that was offered; and closed bytes were offered.
+-- The image of a device is unchanged, or was offered. If an image is pending, it was offered.
 pub record ImageKeptOrOffered (past : List (List ℕ)) (s s' : Situation) : Type 0 where
-  -- The image stays, or becomes one that was offered.
   pub image : (s'.image ≡ s.image) ⊎ IsOneOf s'.image past
-  -- Closed bytes were offered.
   pub sound : ClosedWasOffered past s'.stage
 
--- If the image is kept or offered from a to b and from b to c, the image is kept or offered from a to c.
+-- If the image is unchanged or becomes an offered one from situation a to b, and from b to c, it is also unchanged or an offered one from a
+-- to c.
 pub image_kept_or_offered_then : (past : List (List ℕ)) (a b c : Situation) → ImageKeptOrOffered past a b → ImageKeptOrOffered past b c →
     ImageKeptOrOffered past a c
 image_kept_or_offered_then past a b c x y = record {
@@ -37,7 +36,8 @@ image_kept_or_offered_then past a b c x y = record {
 }
 
 module _ (c : Profile) (past : List (List ℕ)) (i : List ℕ) (ms : ℕ) where
-  -- With any luck of the medium, the plan keeps the image of a device, or puts an offered one in place.
+  -- After the plan is carried out, the image is unchanged or one that was offered, even if a write fails. If an image is pending, it was
+  -- offered.
   abbrev PlanKeepsOrOffers : Stage → Plan → Type 0
   PlanKeepsOrOffers stage p = (luck : Luck) → ImageKeptOrOffered past (record { image = i; stage = stage }) (plan_outcome i p luck).after
 
@@ -49,7 +49,7 @@ module _ (c : Profile) (past : List (List ℕ)) (i : List ℕ) (ms : ℕ) where
       → ImageKeptOrOffered past (record { image = i; stage = stage }) (record { image = taken; stage = next })
   offered_bytes_put_in_place stage next taken one h = record { image = inr one; sound = h }
 
-  -- Time that passes at a device keeps the image or puts an offered one in place, also if the medium fails.
+  -- If time passes, the image is unchanged or one that was offered, even if a write fails.
   pub passed_time_keeps_or_offers : (stage : Stage) → ClosedWasOffered past stage → PlanKeepsOrOffers stage (time_plan c stage ms)
   passed_time_keeps_or_offers (InAppDetach timer passed) h =
       let P : Plan → Type 0 = PlanKeepsOrOffers (InAppDetach timer passed) in
@@ -122,7 +122,7 @@ module _ (c : Profile) (s : Situation) (ms : ℕ) (luck : Luck) where
   any_time_keeps_goal_fact (VerifyGoal p) phase on f = time_keeps_phase_fact c s.image p phase ms s.stage f luck
   any_time_keeps_goal_fact (CompareGoal p) phase on f = any_time_keeps_compare_fact p phase on f
 
-  -- The facts of a session hold after a time in which a write may fail.
+  -- The session facts still hold after a time in which a write may fail.
   pub any_time_keeps_session_fact : (session : Session) → SessionFact c s session → SessionFact c (situation_after_ms c s ms luck) session
   any_time_keeps_session_fact NoLiveSession f = tt
   any_time_keeps_session_fact (HostSession h) f = record {

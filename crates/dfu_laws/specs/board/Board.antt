@@ -1,4 +1,4 @@
--- A board: a device that asks for its writes, with the memory that its program lends it and with its flash.
+-- A board: a device that requests its writes from the board's program, the memory that the program lends to the device, and the flash.
 use Rattle.std.specs.Prelude.{ℕ, Bool, List, []}
 use Rattle.dfu_wire.specs.declared.states.State.{State}
 use Rattle.dfu_slots.specs.Medium.{MediumState}
@@ -27,31 +27,31 @@ lent_on b = lent b.asking b.block b.held
 abbrev pub medium_on : Board → MediumState
 medium_on b = mapped_medium (grain_in (lent_on b)) b.flash
 
--- The device of the device table that a board is, if no writes are due.
+-- Device of the device table that the board represents while no writes are pending.
 abbrev pub device_on : Board → DeviceView
 device_on b = device_in (lent_on b) b.flash
 
--- State of the standard of a board, as `Asking::state` returns it.
+-- DFU state of the board, as `Asking::state` returns it.
 abbrev pub state_on : Board → State
 state_on b = state_of (stage_of b.asking.mode [] [])
 
 -- Events that may happen to a board.
 pub data Event : Type 0 where
-  -- The calls `handle`, `elapse` and `usb_reset`.
+  -- Calls `handle`, `elapse` and `usb_reset`.
   Handle : (setup body : List ℕ) → Event
   Elapse : (ms : ℕ) → Event
   UsbReset : Event
-  -- The calls `refuse_close` and `refuse`, by which the board's program refuses an image.
+  -- Calls `refuse_close` and `refuse`, by which the board's program refuses an image.
   RefuseClose : (setup : List ℕ) (why : Objection) → Event
   Refuse : (why : Objection) → Event
-  -- The flash changes in the range of the piece that `next` hands out.
+  -- The flash changes in the range of the piece that `next` returns.
   Write : Event
-  -- The call `took`.
+  -- Call `took`, in which the program reports a piece of a write.
   Took : (failed : Bool) → Event
-  -- The power goes and comes back: `power_on`. A board that begins for a host is put into dfuIDLE.
+  -- The power fails and returns, and the program calls `power_on`. If `begins` is true, the board starts in dfuIDLE for a host.
   Restart : (begins : Bool) → Event
 
--- Reply of a board to an event: nothing, for example to a call that is refused; writes are due; or an answer with its bytes.
+-- Reply of a board to an event: `Nothing` if no call was served, `WritesDue` if writes are pending, or an answer with its bytes.
 pub data BoardReply : Type 0 where
   Nothing : BoardReply
   WritesDue : BoardReply

@@ -25,105 +25,97 @@ use Rattle.dfu_laws.specs.in_c.Plays.{CorePlays, IsCorePayloadInPlace, HasKnownC
 use Rattle.dfu_laws.specs.ends.Sessions.{CoreSession, NoSession, InSession, IsSessionOf, CoreTrialMayEnd}
 use Rattle.dfu_laws.specs.ends.EndsSteps.{EndsStep}
 
--- A session in C that a call has begun, with its record and any buffer.
+-- New session in C, with the record of the call that began it and any buffer.
 abbrev pub initial_session : (payload : List ℕ) → DfuSession → (buffer : List ℕ) → CoreSession
 initial_session payload r buffer = InSession payload (record { kept = r; buffer = buffer })
 
--- Sessions in C with a board, one after the other, and all other events meanwhile: the steps of the board so far; the payloads offered so
--- far; the images that were active as a trial ended; and the payload with which the last session began, or none.
+-- Sessions in C with a board, one after the other, with all other events between them. The lists are the steps of the board, the payloads
+-- offered so far, and the images that were active after the ends of trials. The option is the payload of the last session, or None.
 pub data EndsPlay (b : Board) : List BoardStep → List (List ℕ) → List (List ℕ) → Option (List ℕ) → CoreSession → Board → Type 0 where
   -- No session has begun.
   no_session_yet : EndsPlay b [] [] [] None NoSession b
-  -- dfu_host_download or dfu_host_verified begins a session on a payload, by the functional descriptor of the board.
+  -- dfu_host_download or dfu_host_verified begins a session for a payload, with the functional descriptor of the board.
   download_begins : {steps : List BoardStep} {past back : List (List ℕ)} {last : Option (List ℕ)} {now : Board} (purpose : Purpose)
       (payload buffer : List ℕ) (limits : Limits) (r : DfuSession) → EndsPlay b steps past back last NoSession now → 0 < length payload
       → IsInitialRecord r (host_for_goal now.asking.config.functional (goal_of_purpose purpose payload) limits)
       → EndsPlay b steps (payload ∷ past) back (Some payload) (initial_session payload r buffer) now
-  -- dfu_host_upload begins a session. The bytes that are passed as its payload are never read.
+  -- dfu_host_upload begins a session, which never reads the bytes that are passed as its payload.
   upload_begins : {steps : List BoardStep} {past back : List (List ℕ)} {last : Option (List ℕ)} {now : Board} (unused buffer : List ℕ)
       (limits : Limits) (r : DfuSession) → EndsPlay b steps past back last NoSession now
       → IsInitialRecord r (host_for_goal now.asking.config.functional FetchGoal limits)
       → EndsPlay b steps past back None (initial_session unused r buffer) now
-  -- dfu_host_abort gives the live session up.
+  -- dfu_host_abort aborts the live session.
   session_is_given_up : {steps : List BoardStep} {past back : List (List ℕ)} {last : Option (List ℕ)} {now : Board} {payload : List ℕ}
       {x x' : CoreHost} → EndsPlay b steps past back last (InSession payload x) now → HostCallResult payload x CoreAbortCall (pos 0) x'
       → EndsPlay b steps past back last (InSession payload x') now
-  -- The next event comes.
+  -- One more event follows the sessions so far.
   and_then : {steps more : List BoardStep} {past back : List (List ℕ)} {last : Option (List ℕ)} {s s' : CoreSession} {now b' : Board}
       {answer : Answered} → EndsPlay b steps past back last s now → EndsStep s now more answer s' b'
       → EndsPlay b (steps ++ more) past back last s' b'
-  -- A trial ends, and the image is active afterwards. The session is not told of it.
+  -- A trial ends, and this image is active afterwards. The session receives nothing.
   trial_is_over : {steps : List BoardStep} {past back : List (List ℕ)} {last : Option (List ℕ)} {s : CoreSession} {now b' : Board}
       {begins : Bool} (image : List ℕ) → EndsPlay b steps past back last s now → CoreTrialMayEnd s (state_on now) begins
       → TrialEnd now begins b'
       → Active (medium_on b') image → EndsPlay b steps past (image ∷ back) last s b'
-  -- In two areas, operations of the copy come after a restart. The session is not told of it.
+  -- On a board with two areas, the copy of the active image runs after a restart. The session receives nothing.
   operations_come : {steps : List BoardStep} {past back : List (List ℕ)} {last : Option (List ℕ)} {s : CoreSession} {now b' : Board}
       → EndsPlay b steps past back last s now → HomeCopy now b' → EndsPlay b steps past back last s b'
 
--- A board in C, and the session in C that is live.
+-- A board in C, and the live session in C.
 pub record CoreEndsLink : Type 0 where
-  -- Board in C.
   pub board : CoreBoard
-  -- Live session in C.
   pub session : CoreSession
 
--- Sessions in C with a board in C: the steps of the board are runs, between marks and ends of trials, and each step is the step of a board
--- that plays these sessions.
+-- Sessions in C with a board in C. The steps in C are runs between marks, ends of trials and copies, and each is a step of a board with
+-- these sessions.
 pub record CoreEndsPlay (b : CoreBoard) (steps : List CoreStep) (past back : List (List ℕ)) (last : Option (List ℕ)) (l : CoreEndsLink)
     : Type 0 where
-  -- The steps in C are runs.
+  -- The steps in C are runs between marks, ends of trials and copies.
   pub run : IsCoreRunWithMarks b steps l.board
-  -- Board that plays the sessions, at first.
+  -- Board that takes part in these sessions, before the first step.
   pub first : Board
-  -- The first board in C represents it.
+  -- The first board in C represents this board.
   pub is_first : IsBoardOfCore b first
-  -- Steps of that board.
   pub calls : List BoardStep
-  -- The steps in C are these steps.
+  -- The steps in C correspond to these steps.
   pub are : AreBoardStepsOf steps calls
-  -- Board after these steps.
   pub now : Board
-  -- The board in C represents it now.
+  -- The board in C represents this board after the steps.
   pub is_now : IsBoardOfCore l.board now
-  -- The board plays the sessions.
+  -- The sessions are those of this board.
   pub plays : EndsPlay first calls past back last l.session now
 
--- The next event, as calls in C.
+-- The next event, with its steps in C. It is also an event of the board that the board in C represents.
 pub record CoreEndsStep (l : CoreEndsLink) (steps : List CoreStep) (answer : Answered) (l' : CoreEndsLink) : Type 0 where
-  -- The steps in C are runs.
+  -- The steps in C are runs between marks, ends of trials and copies.
   pub run : IsCoreRunWithMarks l.board steps l'.board
-  -- Board before the event.
   pub before : Board
-  -- The board in C represents it.
+  -- The board in C represents this board before the event.
   pub is_before : IsBoardOfCore l.board before
-  -- Steps of that board.
   pub calls : List BoardStep
-  -- The steps in C are these steps.
+  -- The steps in C correspond to these steps.
   pub are : AreBoardStepsOf steps calls
-  -- Board after the event.
   pub after : Board
-  -- The board in C represents it then.
+  -- The board in C represents this board after the event.
   pub is_after : IsBoardOfCore l'.board after
-  -- The event happens to the board and the session.
+  -- The event leads from the board `before` to the board `after`, with the steps `calls`.
   pub comes : EndsStep l.session before calls answer l'.session after
 
--- The sessions are those of a board in C with a host; the live session in C is the live session of that host.
+-- The sessions are those of a board in C with a host, and the live session in C is the live session of that host.
 pub record AreHostSessions (b : CoreBoard) (steps : List CoreStep) (past back : List (List ℕ)) (last : Option (List ℕ)) (l : CoreEndsLink)
     : Type 0 where
-  -- Live session of the host.
   pub session : Session
   -- The session in C is this session.
   pub is : IsSessionOf l.session session
-  -- The board in C plays sessions with the host.
+  -- The sessions are those of the board in C with this host.
   pub plays : CorePlays b steps past back last (record { board = l.board; session = session })
 
--- All sessions between both ends in C are sessions with a host.
+-- Each session between both ends in C is also a session of a board in C with a host.
 abbrev pub SessionsOfEndsHaveHosts : Type 0
 SessionsOfEndsHaveHosts = (b : CoreBoard) (steps : List CoreStep) (past back : List (List ℕ)) (last : Option (List ℕ)) (l : CoreEndsLink)
     → CoreEndsPlay b steps past back last l → AreHostSessions b steps past back last l
 
--- If dfu_host_next says that a session is over with Installed or Verified, the payload with which it began is the active image of the
+-- If dfu_host_next reports that a session is over with Installed or Verified, the payload of the last session is the active image of the
 -- flash, and dfu_core_state returns appIDLE.
 abbrev pub EndsReportMeansInPlace : Type 0
 EndsReportMeansInPlace = (b : CoreBoard) (steps more : List CoreStep) (past back : List (List ℕ)) (last : Option (List ℕ)) (l l' :
@@ -132,66 +124,66 @@ EndsReportMeansInPlace = (b : CoreBoard) (steps more : List CoreStep) (past back
     → IsInPlaceReport answer.report
     → IsCorePayloadInPlace last l'.board
 
--- If dfu_host_next says Uploaded, the bytes that the session keeps are the active image of the flash.
+-- If dfu_host_next reports Uploaded, the bytes in the session's buffer are the active image of the flash.
 abbrev pub EndsUploadIsActiveImage : Type 0
 EndsUploadIsActiveImage = (b : CoreBoard) (steps more : List CoreStep) (past back : List (List ℕ)) (last : Option (List ℕ)) (l l' :
     CoreEndsLink)
     (answer : Answered) (bytes : List ℕ) → IsCorePoweredOn b → CoreEndsPlay b steps past back last l → CoreEndsStep l more answer l'
     → answer.gave ≡ Some bytes → Active (medium_of_core l'.board) bytes
 
--- The active image is the one that it was at first, or the whole of a payload offered so far; or, once a trial ended, the other one of the
--- two that were in the slots at first.
+-- The active image is the image that was active at first, or a payload that was offered so far. After the end of a trial it may also be the
+-- other image that was in a slot at first.
 abbrev pub EndsActiveImageIsKnown : Type 0
 EndsActiveImageIsKnown = (b : CoreBoard) (steps : List CoreStep) (past back : List (List ℕ)) (last : Option (List ℕ)) (l : CoreEndsLink)
     (image : List ℕ)
     → IsCorePoweredOn b → Active (medium_of_core b) image → CoreEndsPlay b steps past back last l
     → HasKnownCoreImage (medium_of_core b) image past back l.board
 
--- The active image is known after each step of the next event, also between two writes of a call that is under way.
+-- During the next event, even between two writes of a call, the active image is still one that `HasKnownCoreImage` allows.
 abbrev pub EndsActiveImageKnownWithin : Type 0
 EndsActiveImageKnownWithin = (b mid : CoreBoard) (steps front rest : List CoreStep) (past back : List (List ℕ)) (last : Option (List ℕ))
     (l l' : CoreEndsLink)
     (answer : Answered) (image : List ℕ) → IsCorePoweredOn b → Active (medium_of_core b) image → CoreEndsPlay b steps past back last l
     → CoreEndsStep l (front ++ rest) answer l' → IsCoreRun l.board front mid → HasKnownCoreImage (medium_of_core b) image past back mid
 
--- Sessions between both ends begin on a board in C that was just powered on, and go on: if no session is live a payload is offered or an
--- upload begins; the live session is given up; the next event comes; a mark of a trial is set; a trial ends; or operations of the copy of
--- two areas come.
+-- Sessions between both ends begin on a board in C that was just powered on. They continue with any of these: an offer of a payload or an
+-- upload, if no session is live; an abort of the live session; the next event; a mark of a trial; the end of a trial; or a copy between two
+-- areas.
 pub record EndsContinue : Type 0 where
   -- No session has begun on a board in C that was just powered on.
   pub starts : (b : CoreBoard) → IsCorePoweredOn b → CoreEndsPlay b [] [] [] None (record { board = b; session = NoSession })
-  -- A payload is offered if no session is live.
+  -- Sessions continue with an offer of a payload if no session is live.
   pub offers : (b : CoreBoard) (steps : List CoreStep) (past back : List (List ℕ)) (last : Option (List ℕ)) (on : CoreBoard)
       (purpose : Purpose) (payload buffer : List ℕ) (limits : Limits) (r : DfuSession)
       → CoreEndsPlay b steps past back last (record { board = on; session = NoSession }) → 0 < length payload
       → IsInitialRecord r (host_for_goal (config_setting on.config).functional (goal_of_purpose purpose payload) limits)
       → CoreEndsPlay b steps (payload ∷ past) back (Some payload) (record { board = on; session = initial_session payload r buffer })
-  -- An upload begins if no session is live.
+  -- Sessions continue with an upload if no session is live.
   pub uploads : (b : CoreBoard) (steps : List CoreStep) (past back : List (List ℕ)) (last : Option (List ℕ)) (on : CoreBoard)
       (unused buffer : List ℕ) (limits : Limits) (r : DfuSession)
       → CoreEndsPlay b steps past back last (record { board = on; session = NoSession })
       → IsInitialRecord r (host_for_goal (config_setting on.config).functional FetchGoal limits)
       → CoreEndsPlay b steps past back None (record { board = on; session = initial_session unused r buffer })
-  -- The live session is given up.
+  -- Sessions continue with an abort of the live session.
   pub aborts : (b : CoreBoard) (steps : List CoreStep) (past back : List (List ℕ)) (last : Option (List ℕ)) (on : CoreBoard)
       (payload : List ℕ) (x x' : CoreHost) → CoreEndsPlay b steps past back last (record { board = on; session = InSession payload x })
       → HostCallResult payload x CoreAbortCall (pos 0) x'
       → CoreEndsPlay b steps past back last (record { board = on; session = InSession payload x' })
-  -- The next event comes.
+  -- Sessions continue with one more event (`CoreEndsStep`).
   pub goes_on : (b : CoreBoard) (steps more : List CoreStep) (past back : List (List ℕ)) (last : Option (List ℕ)) (l l' : CoreEndsLink)
       (answer : Answered) → CoreEndsPlay b steps past back last l → CoreEndsStep l more answer l'
       → CoreEndsPlay b (steps ++ more) past back last l'
-  -- A mark of a trial is set.
+  -- Sessions continue with a mark of a trial.
   pub marks : (b b' on : CoreBoard) (steps : List CoreStep) (past back : List (List ℕ)) (last : Option (List ℕ)) (s : CoreSession)
       → CoreEndsPlay b steps past back last (record { board = on; session = s }) → IsMarkedCoreBoard on b'
       → CoreEndsPlay b steps past back last (record { board = b'; session = s })
-  -- A trial ends, if it may.
+  -- Sessions continue with the end of a trial at a time at which `CoreTrialMayEnd` allows it.
   pub ends : (b b' on : CoreBoard) (steps : List CoreStep) (past back : List (List ℕ)) (last : Option (List ℕ)) (s : CoreSession)
       (state : State)
       (begins : Bool) (image : List ℕ) → CoreEndsPlay b steps past back last (record { board = on; session = s }) → HasBoardState on state
       → CoreTrialMayEnd s state begins → CoreTrialEnd on begins b' → Active (medium_of_core b') image
       → CoreEndsPlay b steps past (image ∷ back) last (record { board = b'; session = s })
-  -- Operations of the copy come.
+  -- Sessions continue with a copy between two areas.
   pub copies : (b b' on : CoreBoard) (steps : List CoreStep) (past back : List (List ℕ)) (last : Option (List ℕ)) (s : CoreSession)
       → CoreEndsPlay b steps past back last (record { board = on; session = s }) → CoreHomeCopy on b'
       → CoreEndsPlay b steps past back last (record { board = b'; session = s })

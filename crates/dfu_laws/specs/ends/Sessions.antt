@@ -16,11 +16,11 @@ use Rattle.dfu_host_core.specs.Runs.{CoreHost, CoreHostMatches, CoreTakeCall, Ho
 use Rattle.dfu_laws.specs.link.Trials.{TrialMayEnd}
 use Rattle.dfu_laws.specs.board.Board.{Event, Elapse, Handle, BoardReply, Answers}
 
--- The session in C that is live: none, or a record with its buffer, over a payload.
+-- Live session in C: none, or a record with its buffer and its payload.
 pub data CoreSession : Type 0 where
   -- No session is live.
   NoSession : CoreSession
-  -- The session of this record is live, over this payload.
+  -- A session with this record and this payload is live.
   InSession : (payload : List ℕ) (x : CoreHost) → CoreSession
 
 -- The session in C is the session of a host.
@@ -29,7 +29,7 @@ IsSessionOf NoSession NoLiveSession = Unit {0}
 IsSessionOf (InSession payload x) (HostSession h) = CoreHostMatches payload x h
 IsSessionOf s session = ⊥
 
--- dfu_host_next returns 0 and the action, with the payload at some place in memory.
+-- dfu_host_next returns 0 and the action, for the payload at any address in memory.
 abbrev pub WantsAction : (payload : List ℕ) → CoreHost → DfuAction → Type 0
 WantsAction payload x a = (slice : Bor (List ℕ)) × (slice.now ≡ payload) × IsNextAction x.kept slice a
 
@@ -37,45 +37,44 @@ WantsAction payload x a = (slice : Bor (List ℕ)) × (slice.now ≡ payload) ×
 abbrev pub IsInEnterPhase : (payload : List ℕ) → CoreHost → Type 0
 IsInEnterPhase payload x = (h : HostState) → CoreHostMatches payload x h → h.phase ≡ Enter
 
--- The bytes of the payload that an action sends.
+-- Bytes of the payload that an action sends.
 abbrev pub sent_body : (payload : List ℕ) → DfuAction → List ℕ
 sent_body payload a = take a.length (drop a.from payload)
 
--- dfu_host_take returns 0 for the number of a result, and its bytes.
+-- dfu_host_take returns 0 for the number `seen` of a result and its bytes.
 abbrev pub HostTakeOk : (payload : List ℕ) → CoreHost → (seen : ℕ) → (bytes : List ℕ) → CoreHost → Type 0
 HostTakeOk payload x seen bytes x' = HostCallResult payload x (CoreTakeCall seen bytes) (pos 0) x'
 
--- The number and bytes by which a session is told the reply that is sent back: 0 for an acknowledgement, 1 for an answer with its bytes, 2
--- for a stall. The number 3 says that nothing came back; it may follow any reply, because a reply may be lost.
+-- Number and bytes that the program passes to dfu_host_take for a reply: 0 for an acknowledgement, 1 for an answer with its bytes, 2 for a
+-- stall. The number 3 means that no reply arrived. It is allowed for each reply, because the link may lose the reply.
 abbrev pub SeenOfReply : BoardReply → (seen : ℕ) → (bytes : List ℕ) → Type 0
 SeenOfReply (Answers answer.Ack out) seen bytes = (seen ≡ 0) ⊎ (seen ≡ 3)
 SeenOfReply (Answers answer.Bytes out) seen bytes = ((seen ≡ 1) × (bytes ≡ out)) ⊎ (seen ≡ 3)
 SeenOfReply (Answers answer.Stall out) seen bytes = (seen ≡ 2) ⊎ (seen ≡ 3)
 SeenOfReply says seen bytes = seen ≡ 3
 
--- Bytes that come with a report: with Uploaded those that the session keeps, with any other report none.
+-- Bytes that a report delivers: the contents of the buffer for Uploaded, and none for any other report.
 abbrev pub bytes_of_report : Report → List ℕ → Option (List ℕ)
 bytes_of_report Uploaded bytes = Some bytes
 bytes_of_report report bytes = None
 
--- After a session was told a result, dfu_host_next says that the session goes on, or that it is over, with its report.
+-- After dfu_host_take, dfu_host_next reports that the session continues, or that it is over, with its report.
 pub data SessionSettles (payload : List ℕ) (x : CoreHost) : Answered → CoreSession → Type 0 where
-  -- The action is no end, and the session goes on.
+  -- The action is not the end, and the session continues.
   stays_live : (a : DfuAction) → WantsAction payload x a → a.what ≢ 3 → SessionSettles payload x silent (InSession payload x)
-  -- The action is the end (3), and has a report.
+  -- The action is the end (number 3), and has a report.
   is_over : (a : DfuAction) (report : Report) → WantsAction payload x a → a.what ≡ 3 → report_at a.value a.code ≡ Some report
       → SessionSettles payload x (record { report = Some report; gave = bytes_of_report report (take x.kept.kept x.buffer) }) NoSession
 
--- A live session is told that the device was restarted, by the number 6.
+-- The program reports a restart of the device to the live session, with the number 6.
 pub data RestartReported : CoreSession → Answered → CoreSession → Type 0 where
-  -- No session is live, and none is told.
+  -- No session is live, and there is no report.
   no_session_hears_restart : RestartReported NoSession silent NoSession
-  -- The live session takes the number 6.
+  -- The program passes the number 6 to dfu_host_take.
   session_hears_restart : {payload bytes : List ℕ} {x x' : CoreHost} {said : Answered} {s' : CoreSession} → HostTakeOk payload x 6 bytes x'
       → SessionSettles payload x' said s' → RestartReported (InSession payload x) said s'
 
--- A call of a board may be under way as the bus is reset or the power fails: the call by which the program reports time that passed, or the
--- session's request.
+-- A call of a board may be under way at a reset of the bus or a loss of power: the program's call of `elapse`, or the session's request.
 abbrev pub CoreCallMayBeUnderWay : CoreSession → Event → Type 0
 CoreCallMayBeUnderWay s (Elapse ms) = Unit {0}
 CoreCallMayBeUnderWay (InSession payload x) (Handle setup body) = (a : DfuAction) × WantsAction payload x a × (a.what ≡ 0) × (setup

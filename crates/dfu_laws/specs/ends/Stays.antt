@@ -1,4 +1,4 @@
--- Image that runs after a session between both ends in C whose payload is on trial.
+-- Image that runs after a session between both ends in C, if the session's payload is on trial.
 use Rattle.std.specs.Prelude.{ℕ, List, Option}
 use Rattle.dfu_boot.specs.trial.Marks.{AreTries}
 use Rattle.dfu_boot.specs.trial.Calls.{IsStanding}
@@ -13,8 +13,8 @@ use Rattle.dfu_laws.specs.link.Stays.{PayloadRunsOnTrial}
 use Rattle.dfu_laws.specs.in_c.Steps.{CoreStep}
 use Rattle.dfu_laws.specs.ends.Plays.{CoreEndsLink, CoreEndsPlay, CoreEndsStep}
 
--- If dfu_host_next says that a session is over with Installed or Verified and an image is on trial, that image is the payload, and each
--- start runs the payload or the confirmed image (`PayloadRunsOnTrial`).
+-- Let dfu_host_next report that a session is over with Installed or Verified, while an image is on trial. Then this image is the payload,
+-- and each start runs the payload or the confirmed image (`PayloadRunsOnTrial`).
 abbrev pub EndsReportedTrialStays : Type 0
 EndsReportedTrialStays = (b : CoreBoard) (steps more : List CoreStep) (past back : List (List ℕ)) (last : Option (List ℕ)) (l l' :
     CoreEndsLink)

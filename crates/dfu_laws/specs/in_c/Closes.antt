@@ -1,4 +1,4 @@
--- Answers of dfu_core_closes, and the result of a refusal of the same close.
+-- dfu_core_closes and dfu_core_refuse_close agree on the setups that close a download.
 use Rattle.std.specs.Prelude.{◌≡◌, ◌⊎◌, ◌↔◌, ℕ, ℤ, pos, List}
 use Rattle.dfu_asks.specs.declared.asking.Asking.{Asking}
 use Rattle.dfu_asks.specs.Asks.{IsDevice}
@@ -10,8 +10,8 @@ use Rattle.dfu_core.specs.RecordMeaning.{IsRecordOf, with_memory}
 use Rattle.dfu_core.specs.Numbers.{STALL_NUMBER, NO_CLOSE_NUMBER}
 use Rattle.dfu_core.specs.Refuse.{IsObjectionStatus, RefuseCloseOutcome}
 
--- If dfu_core_closes returns 1 for a setup, dfu_core_refuse_close takes the refusal of its image, with either status; if it returns 0,
--- there is no image to refuse.
+-- dfu_core_closes returns 1 for a setup exactly if dfu_core_refuse_close returns DFU_STALL for it, with either status. It returns 0 exactly
+-- if dfu_core_refuse_close returns DFU_NO_CLOSE.
 abbrev pub ClosesIfRefused : Type 0
 ClosesIfRefused = (c : DfuConfig) (r r' : DfuRecord) (setup : List ℕ) (status : ℕ) (n refused : ℤ) → IsIdleRecord c r →
     IsObjectionStatus status

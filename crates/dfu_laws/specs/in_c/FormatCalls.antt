@@ -1,4 +1,4 @@
--- The calls of a format, one after the other.
+-- Calls of a format, from its start to its end.
 use Rattle.std.specs.Prelude.{◌≡◌, ◌<◌, ℕ, ℤ, pos, Bool, List, length}
 use Rattle.dfu_slots.specs.declared.fault.FormatFault.TheVariants as fault
 use Rattle.dfu_slots.specs.Medium.{Torn}
@@ -13,26 +13,27 @@ use Rattle.dfu_core.specs.Numbers.{WRITE_PENDING_NUMBER, format_number}
 use Rattle.dfu_core.specs.Power.{RefusesPower}
 use Rattle.dfu_core.specs.Writes.{ask_step}
 
--- A piece of a format: dfu_core_format_next hands out a write, the range of the write gets any bytes, and dfu_core_format_took returns n on
--- the new flash. The bytes are arbitrary, because the write may be carried out whole or in part, fail, lie, or be tried several times.
+-- A piece of a format: dfu_core_format_next returns a write, the range of the write then holds any bytes, and dfu_core_format_took returns
+-- n on the new flash. The bytes are arbitrary, because the write may be done in full or in part, may fail, may report success without
+-- effect, or may be repeated.
 pub record FormatPieceResult (c : DfuConfig) (image flash : List ℕ) (r : DfuRecord) (flash' : List ℕ) (n : ℤ) (r' : DfuRecord) : Type 0 where
-  -- Write that is handed out.
+  -- Write that dfu_core_format_next returns.
   pub ask : DfuAsk
-  -- dfu_core_format_next hands it out.
+  -- dfu_core_format_next returns 0 and this write.
   pub handed : FormatWriteHandedOut c r flash image (pos 0) ask
-  -- The range of the write gets any bytes.
+  -- Only bytes in the range of the write change, to any values.
   pub torn : Torn flash (ask_step ask).write.at (ask_step ask).write.bytes flash'
   -- True if the program reports a failure.
   pub failed : Bool
-  -- dfu_core_format_took returns `n`.
+  -- dfu_core_format_took returns `n` and leaves the record `r'`.
   pub goes : FormatReportOutcome c r flash' image failed n r'
 
--- A format of the image is under way, and has left the flash and the record as they are.
+-- A format of the image is under way, with this flash and this record.
 pub data IsBeingFormatted (c : DfuConfig) (image : List ℕ) : (flash : List ℕ) → (r : DfuRecord) → Type 0 where
-  -- dfu_core_format_start returned DFU_WRITE_PENDING. The flash may hold anything, for example the bytes that a format left when the power
-  -- failed.
+  -- dfu_core_format_start returned DFU_WRITE_PENDING. The flash may hold any bytes, for example those of a format that a power cut broke
+  -- off.
   begins : {flash : List ℕ} {n : ℤ} {r : DfuRecord} → FormatStarted c flash image n r → IsBeingFormatted c image flash r
-  -- A piece was carried out, and dfu_core_format_took returned DFU_WRITE_PENDING.
+  -- A write was carried out, and dfu_core_format_took returned DFU_WRITE_PENDING.
   goes_on : {flash flash' : List ℕ} {n : ℤ} {r r' : DfuRecord} → IsBeingFormatted c image flash r →
       FormatPieceResult c image flash r flash' n r'
       → n ≡ WRITE_PENDING_NUMBER → IsBeingFormatted c image flash' r'
@@ -44,7 +45,7 @@ EndedFormatActivatesImage = (c : DfuConfig) (image flash flash' : List ℕ) (r r
     → FormatPieceResult c image flash r flash' n r' → n ≡ pos 0
     → Active (mapped_medium (config_grain c) flash') image × ((k : ℤ) → ¬ RefusesPower c flash' k)
 
--- After a format was broken off at any point, dfu_core_format_start accepts its image again, and refuses another image only because it is
+-- If a format is broken off at any time, dfu_core_format_start accepts the same image again, and refuses another image only because it is
 -- too large.
 abbrev pub BrokenFormatCanRestart : Type 0
 BrokenFormatCanRestart = (c : DfuConfig) (image flash flash' : List ℕ) (r : DfuRecord) → IsBeingFormatted c image flash r

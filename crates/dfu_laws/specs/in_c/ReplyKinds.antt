@@ -1,4 +1,4 @@
--- Kinds of answers that requests get.
+-- Kinds of replies that fit a request.
 use Rattle.std.specs.Prelude.{List, [], ◌∷◌}
 use Rattle.dfu_wire.specs.declared.setups.Setup.{Setup}
 use Rattle.dfu_wire.specs.declared.requests.Request.{Request}
@@ -8,7 +8,7 @@ use Rattle.dfu_wire.specs.Request.{SetupAsksFor}
 use Rattle.dfu_device.specs.declared.answer.Answer.TheVariants as answer
 use Rattle.dfu_laws.specs.board.Board.{Event, Handle, BoardReply, Answers, BoardStep}
 
--- A reply fits its request: GETSTATUS, GETSTATE and UPLOAD are answered by bytes or a stall, and any other request gets no bytes.
+-- A reply fits its request if it is not a bare acknowledgement of a GETSTATUS, GETSTATE or UPLOAD, and has no bytes for any other request.
 abbrev pub ReplyFitsRequest : Request → BoardReply → Type 0
 ReplyFitsRequest (request.GetStatus len) (Answers answer.Ack out) = ⊥
 ReplyFitsRequest (request.GetState len) (Answers answer.Ack out) = ⊥
@@ -19,12 +19,12 @@ ReplyFitsRequest (request.Upload block len) says = Unit {0}
 ReplyFitsRequest q (Answers answer.Bytes out) = ⊥
 ReplyFitsRequest q says = Unit {0}
 
--- The reply that a setup gets at once fits the request for which the setup asks.
+-- The reply to a call of `handle` fits the request of its setup. A reply to any other event always fits.
 abbrev pub ReplyFitsSetup : Event → BoardReply → Type 0
 ReplyFitsSetup (Handle setup body) says = (p : Setup) (q : Request) → IsSetup p setup → SetupAsksFor p q → ReplyFitsRequest q says
 ReplyFitsSetup event says = Unit {0}
 
--- The reply of each step fits its setup.
+-- Each reply to a setup in these steps fits the request of the setup.
 abbrev pub RepliesFitSetups : List BoardStep → Type 0
 RepliesFitSetups [] = Unit {0}
 RepliesFitSetups (s ∷ rest) = ReplyFitsSetup s.event s.says × RepliesFitSetups rest

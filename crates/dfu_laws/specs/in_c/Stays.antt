@@ -1,4 +1,4 @@
--- Image that runs after a session with a board in C whose payload is on trial.
+-- Image that runs after a session with a board in C, if the payload is on trial.
 use Rattle.std.specs.Prelude.{ℕ, List, Option}
 use Rattle.dfu_boot.specs.trial.Marks.{AreTries}
 use Rattle.dfu_boot.specs.trial.Calls.{IsStanding}

@@ -1,9 +1,9 @@
--- Steps of a board in C, and the step of a board that each of them is.
+-- Steps of a board in C, and the step of a board that corresponds to each.
 use Rattle.std.specs.Prelude.{◌≡◌, ◌⊎◌, ◌==◌, not, ℕ, ℤ, pos, List, [], ◌∷◌, take}
 use Rattle.dfu_asks.specs.declared.asking.Asking.{Asking}
 use Rattle.dfu_laws.specs.board.Board.{Board, Event, Handle, Elapse, UsbReset, RefuseClose, Refuse, Write, Took, Restart, BoardReply, Nothing, WritesDue, Answers, BoardStep}
 use Rattle.dfu_core.specs.declared.config.DfuConfig.{DfuConfig}
-use Rattle.dfu_core.specs.declared.numbers.Refusal.{Refusal}
+use Rattle.dfu_core.specs.declared.numbers.CoreRefusal.{CoreRefusal}
 use Rattle.dfu_asks.specs.Addressed.{addressed_setup}
 use Rattle.dfu_core.specs.RecordMeaning.{IsRecordOf, block_in_memory, held_memory}
 use Rattle.dfu_core.specs.Numbers.{WRITE_PENDING_NUMBER, refusal_number, answer_number, NO_ROOM_NUMBER, NOT_LONG_NUMBER, NO_CLOSE_NUMBER, NO_STATUS_NUMBER}
@@ -19,12 +19,12 @@ pub record CoreStep : Type 0 where
   pub out : List ℕ
   pub after : CoreBoard
 
--- The steps of a board in C, one after the other. Each begins where the one before ended.
+-- The steps lead from the first board in C to the last, and each begins where the previous one ended.
 abbrev pub IsCoreRun : CoreBoard → List CoreStep → CoreBoard → Type 0
 IsCoreRun b [] b' = b' ≡ b
 IsCoreRun b (s ∷ rest) b' = (s.before ≡ b) × CoreEventOutcome b s.event s.number s.out s.after × IsCoreRun s.after rest b'
 
--- The board that a board in C represents, if its record is the device a.
+-- Board that a board in C represents, if `a` is the device of its record.
 abbrev pub board_of_core : CoreBoard → Asking → Board
 board_of_core b a = record { asking = a; block = block_in_memory a b.block; held = held_memory a b.block; flash = b.flash }
 
@@ -33,8 +33,8 @@ pub record IsBoardOfCore (b : CoreBoard) (x : Board) : Type 0 where
   pub kept : IsRecordOf b.config b.kept x.asking
   pub is : x ≡ board_of_core b x.asking
 
--- The event of a board for an event in C: the setup gets the interface of the configuration, and a number other than 0 says that a write
--- failed.
+-- Event of a board that corresponds to an event in C. The setup is addressed to the interface of the configuration. A number other than 0
+-- in the report of a write means that the write failed.
 abbrev pub event_of_core : DfuConfig → CoreEvent → Event
 event_of_core c (CoreHandle setup body out) = Handle (addressed_setup c.interface setup) body
 event_of_core c (CoreElapse ms) = Elapse ms
@@ -46,30 +46,31 @@ event_of_core c CoreWrite = Write
 event_of_core c (CoreTook failed out) = Took (not (failed == 0))
 event_of_core c (CoreRestart begins) = Restart begins
 
--- A call with this number was refused.
+-- The number is that of a refused call.
 abbrev pub IsRefusalNumber : ℤ → Type 0
-IsRefusalNumber n = (n ≡ NO_ROOM_NUMBER) ⊎ (n ≡ NOT_LONG_NUMBER) ⊎ ((e : Refusal) × (n ≡ refusal_number e))
+IsRefusalNumber n = (n ≡ NO_ROOM_NUMBER) ⊎ (n ≡ NOT_LONG_NUMBER) ⊎ ((e : CoreRefusal) × (n ≡ refusal_number e))
 
--- The number of a call and the bytes in its buffer give the reply: none if the call was refused; writes that are due for DFU_WRITE_PENDING;
--- else the answer of that number, whose bytes are at the front of the buffer.
+-- The number that a call returns, and the bytes in its buffer, encode the reply: `Nothing` for a refusal, `WritesDue` for
+-- DFU_WRITE_PENDING, else the answer of that number with the first bytes of the buffer.
 abbrev pub NumberTellsReply : ℤ → List ℕ → BoardReply → Type 0
 NumberTellsReply n out Nothing = IsRefusalNumber n
 NumberTellsReply n out WritesDue = n ≡ WRITE_PENDING_NUMBER
 NumberTellsReply n out (Answers a bytes) = (count : ℕ) × (n ≡ answer_number a count) × (bytes ≡ take count out)
 
--- The number of dfu_core_elapse or dfu_core_usb_reset gives the reply; the number 0 is an answer.
+-- The number that dfu_core_elapse or dfu_core_usb_reset returns encodes the reply. The number 0 encodes any answer.
 abbrev pub TimeNumberTellsReply : ℤ → BoardReply → Type 0
 TimeNumberTellsReply n Nothing = IsRefusalNumber n
 TimeNumberTellsReply n WritesDue = n ≡ WRITE_PENDING_NUMBER
 TimeNumberTellsReply n (Answers a bytes) = n ≡ pos 0
 
--- The number of dfu_core_refuse or dfu_core_refuse_close gives the reply.
+-- The number that dfu_core_refuse or dfu_core_refuse_close returns encodes the reply.
 abbrev pub ObjectionNumberTellsReply : ℤ → BoardReply → Type 0
 ObjectionNumberTellsReply n Nothing = IsRefusalNumber n ⊎ (n ≡ NO_CLOSE_NUMBER) ⊎ (n ≡ NO_STATUS_NUMBER)
 ObjectionNumberTellsReply n WritesDue = ⊥
 ObjectionNumberTellsReply n (Answers a bytes) = (n ≡ answer_number a 0) × (bytes ≡ [])
 
--- The number of an event, and the bytes in its buffer, give the reply.
+-- The number that the call of an event returns, and the bytes in its buffer, encode the reply. A write or a restart has the number 0 and no
+-- reply.
 abbrev pub EventNumberTellsReply : CoreEvent → ℤ → List ℕ → BoardReply → Type 0
 EventNumberTellsReply (CoreHandle setup body out) n out' says = NumberTellsReply n out' says
 EventNumberTellsReply (CoreElapse ms) n out' says = TimeNumberTellsReply n says
@@ -80,14 +81,14 @@ EventNumberTellsReply (CoreRefuse status) n out' says = ObjectionNumberTellsRepl
 EventNumberTellsReply (CoreTook failed out) n out' says = NumberTellsReply n out' says
 EventNumberTellsReply e n out' says = (n ≡ pos 0) × (says ≡ Nothing)
 
--- The step s in C is the step t of a board.
+-- The step s in C corresponds to the step t of a board.
 pub record IsBoardStepOf (s : CoreStep) (t : BoardStep) : Type 0 where
   pub before : IsBoardOfCore s.before t.before
   pub event : t.event ≡ event_of_core s.before.config s.event
   pub says : EventNumberTellsReply s.event s.number s.out t.says
   pub after : IsBoardOfCore s.after t.after
 
--- The steps in C are the steps of a board, one by one.
+-- Each step in C corresponds to the board's step at the same index.
 abbrev pub AreBoardStepsOf : List CoreStep → List BoardStep → Type 0
 AreBoardStepsOf [] [] = Unit {0}
 AreBoardStepsOf (s ∷ ss) (t ∷ ts) = IsBoardStepOf s t × AreBoardStepsOf ss ts

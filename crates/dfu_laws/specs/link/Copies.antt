@@ -1,4 +1,4 @@
--- Copy of the active image to the first slot of two areas, carried out on a board between a loss of power and the start of its device.
+-- Copy of the active image to the first of two areas, which runs on a board between a restart and the start of its device.
 use Rattle.std.specs.Prelude.{Bool, List, ℕ}
 use Rattle.dfu_slots.specs.Medium.{MediumState}
 use Rattle.dfu_slots.specs.Image.{Active}
@@ -10,19 +10,19 @@ use Rattle.dfu_asks.specs.Lent.{SameConfig}
 use Rattle.dfu_laws.specs.board.Board.{Board, medium_on}
 use Rattle.dfu_laws.specs.board.Happens.{BoardStarts}
 
--- Any number of operations of the copy were carried out on a medium. Each was due by some progress, which begins anew after a loss of
--- power. Each worked, failed, lied, or was cut off with any bytes in its range.
+-- Any number of operations of the copy were carried out on a medium. Each is the next one for some progress, because the progress begins
+-- anew after a loss of power. Each may succeed, fail, report a wrong result, or be cut off with any bytes in its range.
 pub data HomeOperations (m : MediumState) : MediumState → Type 0 where
   no_operation : HomeOperations m m
   then_operation : {mid now : MediumState} {due : Due} (p : Progress) → HomeOperations m mid → IsNextDue mid p due
       → HomeOperationOutcome mid due now → HomeOperations m now
 
--- The active image stays, with any result of the operations.
+-- The operations of the copy leave the active image unchanged, with any results.
 abbrev pub HomeOperationsKeepImage : Type 0
 HomeOperationsKeepImage = (m now : MediumState) (image : List ℕ) → Active m image → HomeOperations m now → Active now image
 
--- Operations of the copy run on a board that was powered on, for a host or not, before its device begins. The restart before gives the
--- board b, as if the device had begun at once, which changes no flash; the program begins it only after the operations, and that gives b'.
+-- The copy runs on a board after a restart, for a host or not, before its device starts. The board b is the result of a start before the
+-- copy, and such a start changes no flash. The program starts the device only after the copy, and the result is the board b'.
 pub record HomeCopy (b b' : Board) : Type 0 where
   pub begins : Bool
   pub power : BoardStarts begins b

@@ -1,4 +1,4 @@
--- Events of a board and of the host of its session over a link.
+-- Events of a board and of a host's session over a link.
 use Rattle.std.specs.Prelude.{◌≡◌, ◌⊎◌, ℕ, Bool, false, List, [], ◌∷◌, ◌++◌, IsTrue}
 use Rattle.dfu_wire.specs.declared.requests.Request.{Request}
 use Rattle.dfu_device.specs.declared.answer.Answer.{Answer}
@@ -15,65 +15,65 @@ use Rattle.dfu_laws.specs.board.Happens.{IsRun}
 use Rattle.dfu_laws.specs.link.Calls.{CallServed, CallReaches, ImageRefusedAtClose, CallCutOff}
 use Rattle.dfu_laws.specs.link.Marks.{IsMarkedBoard}
 
--- A board, and the session that is live.
+-- A board and its live session.
 pub record BoardLink : Type 0 where
   pub board : Board
   pub session : Session
 
--- The host hears the answer that is sent back, or nothing because it is lost.
+-- The host receives the answer that the board returns, or nothing because the link loses it.
 abbrev pub HeardOfReply : Deed → BoardReply → Heard → Type 0
 HeardOfReply d (Answers a out) heard = (heard ≡ NothingHeard) ⊎ HeardOfAnswer d a out heard
 HeardOfReply d says heard = heard ≡ NothingHeard
 
--- A call may be under way as the bus is reset or the power fails: the call by which the program reports time that passed, or the host's
--- request.
+-- A call may be under way at a reset of the bus or a loss of power: the program's call of `elapse`, or the host's request.
 abbrev pub CallMayBeUnderWay : Session → Event → Type 0
 CallMayBeUnderWay session (Elapse ms) = Unit {0}
 CallMayBeUnderWay (HostSession h) (Handle setup body) = (q : Request) × (deed h.task h.phase ≡ Send q body) × IsSetupOf q setup
 CallMayBeUnderWay session call = ⊥
 
--- The link with the board, and with the session that the host's outcome leaves.
+-- Link with this board, and with the session that remains after the host's outcome.
 abbrev pub link_after_outcome : Board → HostOutcome → BoardLink
 link_after_outcome b t = record { board = b; session = t.session }
 
--- The next event over a link, with the steps of the board, and the report after it: none or one, and with Uploaded its bytes.
+-- The next event over a link, with the steps of the board and the answer to the host's program: a report or none, and with Uploaded its
+-- bytes.
 pub data BoardLinkStep (l : BoardLink) : List BoardStep → Answered → BoardLink → Type 0 where
-  -- Time passes at the board.
+  -- The board's program reports with a call of `elapse` that `ms` milliseconds passed.
   passes : {ms : ℕ} {steps : List BoardStep} {a : Answer} {out : List ℕ} {b' : Board} → CallServed l.board (Elapse ms) steps a out b'
       → BoardLinkStep l steps silent (record { board = b'; session = l.session })
-  -- The host sends its request, as the bytes of a setup that asks for it, and takes the result that it hears. If the request closes a
-  -- download, the board's program may refuse the image. The host lacks memory only in a phase that needs some.
+  -- The host sends a setup packet for its request, and receives the result. If the request closes a download, the board's program may
+  -- refuse the image. The result NoRoom is possible only in a phase in which the host needs memory.
   sends : {h : HostState} {q : Request} {setup body : List ℕ} {steps : List BoardStep} {says : BoardReply} {b' : Board} {heard : Heard}
       → l.session ≡ HostSession h → deed h.task h.phase ≡ Send q body → IsSetupOf q setup
       → CallReaches (Handle setup body) l.board steps says b' ⊎ ((why : Objection)
       × ImageRefusedAtClose setup body why l.board steps says b')
       → HeardOfReply (Send q body) says heard → (heard ≡ NoRoom → IsTrue (wants_memory h.phase))
       → BoardLinkStep l steps (host_outcome h heard).answer (link_after_outcome b' (host_outcome h heard))
-  -- The board's program refuses the image that was closed, if one was.
+  -- The board's program refuses the image of a closed download, if there is one.
   refuses : {why : Objection} {steps : List BoardStep} {a : Answer} {out : List ℕ} {b' : Board}
       → CallServed l.board (Refuse why) steps a out b'
       → BoardLinkStep l steps silent (record { board = b'; session = l.session })
-  -- The host's wait is over. `passes` adds the time that passes at the board, which may be any.
+  -- The host's wait ends. The board's time passes in the events of `passes`, and may differ from the host's.
   waits : {h : HostState} {ms : ℕ} → l.session ≡ HostSession h → deed h.task h.phase ≡ Wait ms
       → BoardLinkStep l [] (host_outcome h Waited).answer (link_after_outcome l.board (host_outcome h Waited))
   -- The host resets the bus.
   resets : {h : HostState} {steps : List BoardStep} {a : Answer} {out : List ℕ} {b' : Board} → l.session ≡ HostSession h
       → deed h.task h.phase ≡ Reset → CallServed l.board UsbReset steps a out b'
       → BoardLinkStep l steps (host_outcome h WasReset).answer (link_after_outcome b' (host_outcome h WasReset))
-  -- The bus is reset by another cause while a call is under way; the call ends first. A live host hears of the reset and of no answer.
+  -- The bus is reset by another cause while a call is under way, and the call ends first. A live host receives the reset and no answer.
   is_reset_by_other_cause : {call : Event} {steps more : List BoardStep} {says : BoardReply} {a : Answer} {out : List ℕ} {mid b' : Board}
       → CallMayBeUnderWay l.session call → CallReaches call l.board steps says mid → CallServed mid UsbReset more a out b'
       → BoardLinkStep l (steps ++ more) (notify_restart l.session).answer (link_after_outcome b' (notify_restart l.session))
-  -- The power goes and comes back while a call is under way. A live host hears of the restart and of no answer.
+  -- The power fails and returns while a call is under way. A live host receives the restart and no answer.
   restarts : {call : Event} {steps : List BoardStep} {b' : Board} → CallMayBeUnderWay l.session call → CallCutOff call l.board steps b'
       → BoardLinkStep l steps (notify_restart l.session).answer (link_after_outcome b' (notify_restart l.session))
-  -- An application leaves after DETACH, for its bootloader or not: the board restarts. The host, which resets or waits next, hears nothing.
+  -- After DETACH, an application restarts the board, into its bootloader or not. The host receives nothing, and resets or waits next.
   leaves : {h : HostState} {power : BoardStep} {begins : Bool} {b' : Board} → l.session ≡ HostSession h → h.phase ≡ Enter
       → IsRun l.board (power ∷ []) b' → power.event ≡ Restart begins → BoardLinkStep l (power ∷ []) silent (record l { board = b' })
-  -- The host resets the bus, and that makes the board restart: in appIDLE, or into a bootloader as an application leaves. The host hears
-  -- only of its reset.
+  -- The host resets the bus, and the board restarts in appIDLE. After an application's DETACH, it may also restart into a bootloader. The
+  -- host only learns that its reset is complete.
   restarts_at_reset : {h : HostState} {power : BoardStep} {begins : Bool} {b' : Board} → l.session ≡ HostSession h → deed h.task h.phase ≡ Reset
       → (begins ≡ false) ⊎ (h.phase ≡ Enter) → IsRun l.board (power ∷ []) b' → power.event ≡ Restart begins
       → BoardLinkStep l (power ∷ []) (host_outcome h WasReset).answer (link_after_outcome b' (host_outcome h WasReset))
-  -- The mark of a start or of a confirmation of a trial is set or torn, or fails. The host hears nothing.
+  -- The mark of a trial's start or confirmation is written; the write may be torn or may fail. The host receives nothing.
   marks : {b' : Board} → IsMarkedBoard l.board b' → BoardLinkStep l [] silent (record l { board = b' })

@@ -1,4 +1,4 @@
--- Bytes that a trial changes on the flash of a board, and steps of a board with such changes between them.
+-- Changes of a board's flash by a trial, and steps of a board with such changes or copies between them.
 use Rattle.std.specs.Prelude.{◌≡◌, ℕ, ◌+◌, Bool, List, [], ◌∷◌, slice_index}
 use Rattle.dfu_slots.specs.Medium.{MediumState, ChangedWithin}
 use Rattle.dfu_slots.specs.Layout.{ArePlaces, OPEN}
@@ -8,13 +8,12 @@ use Rattle.dfu_laws.specs.board.Board.{Board, medium_on, BoardStep}
 use Rattle.dfu_laws.specs.board.Happens.{IsPoweredOn, EventOutcome, IsRun}
 use Rattle.dfu_laws.specs.link.Copies.{HomeCopy}
 
--- Only flash bytes that the slot store does not read have changed. A mark of a trial changes such bytes, if it is set, torn or fails.
+-- The flash changed only in bytes that the slot store does not read. A mark of a trial is such a change, even if it is torn or fails.
 pub record IsMarkedBoard (b b' : Board) : Type 0 where
   pub unread : ChangedUnreadBytes (medium_on b) (medium_on b')
   pub same : b' ≡ record b { flash = b'.flash }
 
--- The gate of an open slot is closed, and that works, fails, lies or is cut: the sector of the gate has any bytes now, and elsewhere
--- nothing changed.
+-- The gate of an open slot is closed, with any result: afterwards the sector of the gate holds any bytes, and no other byte changed.
 abbrev pub OpenGateWasClosed : MediumState → List ℕ → Type 0
 OpenGateWasClosed m now = (at : ℕ) × (other : ℕ) × ArePlaces m.bytes at other × (slice_index m.bytes at ≡ OPEN)
     × ChangedWithin at (at + m.grain.sector) m.bytes now
@@ -25,32 +24,30 @@ pub record TrialEnd (b : Board) (begins : Bool) (b' : Board) : Type 0 where
   pub starts : (on : IsPoweredOn b') × (on.begins ≡ begins)
   pub same : SameConfig b.asking b'.asking
 
--- Any number of marks, ends of trials and copies of two areas happened on a board.
+-- Board after any number of marks, ends of trials and copies.
 pub data MarksOrTrialEnds (b : Board) : Board → Type 0 where
-  -- Nothing happened.
   no_mark_or_end : MarksOrTrialEnds b b
-  -- A mark was set last.
+  -- The last change is a mark.
   one_more : {mid b' : Board} → MarksOrTrialEnds b mid → IsMarkedBoard mid b' → MarksOrTrialEnds b b'
-  -- A trial ended last.
+  -- The last change is the end of a trial.
   then_trial_end : {mid b' : Board} {begins : Bool} → MarksOrTrialEnds b mid → TrialEnd mid begins b' → MarksOrTrialEnds b b'
-  -- A copy was made last.
+  -- The last change is a copy between two areas.
   then_home_copy : {mid b' : Board} → MarksOrTrialEnds b mid → HomeCopy mid b' → MarksOrTrialEnds b b'
 
--- The steps of a board, one after the other; before, between and after them marks may be set, trials may end, and copies may be made.
+-- The steps lead from the first board to the last. Before, between and after them, marks may be set, trials may end, and copies may be
+-- made.
 abbrev pub IsRunWithMarks : Board → List BoardStep → Board → Type 0
 IsRunWithMarks b [] b' = MarksOrTrialEnds b b'
 IsRunWithMarks b (s ∷ rest) b' = MarksOrTrialEnds b s.before × EventOutcome s.before s.event s.says s.after
     × SameConfig s.before.asking s.after.asking
     × IsRunWithMarks s.after rest b'
 
--- Each step begins where the one before ended, so nothing happened between them.
+-- Each step begins where the previous one ended, so nothing happened between the steps.
 abbrev pub AreStepsJoined : Board → List BoardStep → Board → Type 0
 AreStepsJoined b [] b' = b' ≡ b
 AreStepsJoined b (s ∷ rest) b' = (s.before ≡ b) × AreStepsJoined s.after rest b'
 
--- The steps are runs with marks and ends of trials between them. If each step begins where the one before ended, they are one run.
+-- Between the steps there may be marks, ends of trials and copies. If each step begins where the previous one ended, the steps are one run.
 pub record IsRunBetweenMarks (b : Board) (steps : List BoardStep) (b' : Board) : Type 0 where
-  -- The steps are runs with marks between them.
   pub marked : IsRunWithMarks b steps b'
-  -- Steps that are joined are one run.
   pub joined : AreStepsJoined b steps b' → IsRun b steps b'

@@ -1,4 +1,4 @@
--- Image that runs after a session whose payload is on trial.
+-- Image that runs after a session, if the session's payload is on trial.
 use Rattle.std.specs.Prelude.{◌≡◌, ◌<◌, ℕ, List, Option, Some}
 use Rattle.dfu_slots.specs.Medium.{MediumState}
 use Rattle.dfu_boot.specs.trial.Marks.{AreTries}
@@ -14,19 +14,17 @@ use Rattle.dfu_laws.specs.board.Happens.{IsPoweredOn}
 use Rattle.dfu_laws.specs.link.LinkSteps.{BoardLink, BoardLinkStep}
 use Rattle.dfu_laws.specs.link.Plays.{BoardPlays}
 
--- The payload of the last session is on trial on the medium, beside a confirmed image. By `AllTrusted` of dfu_boot each start runs the
--- payload until its tries are spent, starts before the report included. A start whose mark does not read as set runs the confirmed image,
--- and spends no try. Once the confirmed image is back each start runs it, unless another image is confirmed or downloaded.
+-- The payload of the last session is on trial on the medium, beside a confirmed image. By `AllTrusted` of dfu_boot, each start runs the
+-- payload until its tries are spent. A start whose mark does not read as set runs the confirmed image, and spends no try. Once the tries
+-- are spent, each start runs the confirmed image, unless another image is confirmed or downloaded.
 pub record PayloadRunsOnTrial (tries : ℕ) (last : Option (List ℕ)) (m : MediumState) (t : Trial) (list : List TrialStep) : Type 0 where
-  -- Payload of the last session.
   pub payload : List ℕ
-  -- The last session began with it.
   pub offered : last ≡ Some payload
-  -- Each start runs the payload, or the confirmed image.
+  -- `AllTrusted` of dfu_boot holds for all trial steps: each start runs the payload or the confirmed image.
   pub runs : AllTrusted tries (Tried (image_at m t.base) payload t.starts) m list
 
--- If Installed or Verified is reported and an image is on trial, that image is the payload, and `PayloadRunsOnTrial` holds of any starts,
--- confirmations, ends, uploads and downloads after it.
+-- If Installed or Verified is reported and an image is on trial, that image is the payload, and `PayloadRunsOnTrial` holds for any later
+-- starts, confirmations, ends, uploads and downloads.
 abbrev pub ReportedTrialStays : Type 0
 ReportedTrialStays = (b : Board) (steps more : List BoardStep) (past back : List (List ℕ)) (last : Option (List ℕ)) (l l' : BoardLink)
     (answer : Answered) (tries : ℕ) (t : Trial) (list : List TrialStep) → IsPoweredOn b → 0 < b.asking.config.functional.transfer

@@ -14,8 +14,8 @@ BeginsTransfer (Send (request.Dnload block len) body) = Unit {0}
 BeginsTransfer (Send (request.Upload block len) body) = Unit {0}
 BeginsTransfer d = ⊥
 
--- A trial may end by a restart of the board while no session is live, or while the host looks for the device or brings it to dfuIDLE. A
--- trial may also end in dfuIDLE before a transfer begins, if the board begins in dfuIDLE again.
+-- A restart may end a trial while no session is live, or while the host searches for the device or brings it to dfuIDLE. It may also end a
+-- trial in dfuIDLE before a transfer begins, if the board is in dfuIDLE again afterwards.
 abbrev pub TrialMayEnd : Session → State → (begins : Bool) → Type 0
 TrialMayEnd NoLiveSession state begins = Unit {0}
 TrialMayEnd (HostSession h) state begins = IsCommonPhase h.phase ⊎ (BeginsTransfer (deed h.task h.phase) × (state ≡ DfuIdle) × (begins ≡ true))

@@ -1,4 +1,4 @@
--- Writing of a text by the code, the expected line as the code holds it, and the printing of a text while a line is expected.
+-- Results of writing a text, and of printing it while a line is expected.
 use Rattle.std.specs.Prelude.{◌≡◌, ℕ, List, Option, Some, None, Result, OnOk, OnErr, IfErr}
 use Rattle.std.specs.Io.KnownBytes.{Appends}
 use Rattle.dfu_host.specs.declared.limits.Limits.{Limits}
@@ -19,12 +19,12 @@ pub record WriteEnds (text : List ℕ) (old new : Option (List ℕ)) (r : Result
   pub err : OnErr r (IsPartlyWritten old new text)
   pub fault : IfErr r (λ f. f ≡ Write)
 
--- The expectation that the code holds, as plain data.
+-- The `Expectation` of the code as plain data: the number of its line, and its text.
 abbrev pub expectation_of : Option ExpectationHeld → Option Expectation
 expectation_of None = None
 expectation_of (Some e) = Some (record { number = e.number; text = e.text.items })
 
--- Point of a script with the bytes that FILE means, the bytes of a check, the limits, the expected line, and the link.
+-- Point of a script with the bytes that FILE stands for, the bytes of a check, the limits, the expected line, and the link.
 abbrev pub point_of_parts : (given : Option (List ℕ)) → (check : List ℕ) → Limits → Option Expectation → LinkView → ScriptPoint
 point_of_parts given check limits next at = record { given = given; check = check; limits = limits; next = next; at = at }
 
@@ -46,7 +46,7 @@ pub record PrintEnds (e : Option Expectation) (old : Option (List ℕ)) (text : 
   pub err : OnErr r (IsPartlyWritten old new text)
   pub fault : IfErr r (λ f. IsPrintFault e text old new f)
 
--- The fault is a reason for which a line can't be expected: NonePrinted with the number of the line that expects one already, or NoMemory.
+-- Fault of an `expect` line: NonePrinted with the number of the line whose text is expected already, or NoMemory.
 abbrev pub IsExpectFault : Option Expectation → ScriptFault → Type 0
 IsExpectFault e NoMemory = Unit {0}
 IsExpectFault (Some e) (NonePrinted n) = n ≡ e.number

@@ -1,4 +1,4 @@
--- Meaning of `ScriptConfig`, the settings that the code keeps.
+-- Meaning of `ScriptConfig`, the settings of the code.
 use Rattle.std.specs.Prelude.{ℕ, List, [], ◌∷◌, Option, Some, None, Vec}
 use Rattle.std.specs.declared.alloc.Global.{Global}
 use Rattle.dfu_device.specs.declared.config.Pace.{Pace}
@@ -10,12 +10,12 @@ use Rattle.dfu_slots.specs.Units.{Grain}
 use Rattle.dfu_link.specs.declared.scripting.line.Sector.{Sector}
 use Rattle.dfu_link.specs.declared.scripting.script_config.ScriptConfig.{ScriptConfig}
 
--- The image that a device has at first: the byte 00 if no line sets one.
+-- Image of the device at the start: the byte 00 if no line sets one.
 abbrev pub image_bytes : Option (Vec ℕ Global) → List ℕ
 image_bytes None = 0 ∷ []
 image_bytes (Some image) = image.items
 
--- The first bytes of each image that the program takes; none if it takes any image.
+-- First bytes of each image that the program accepts; empty if it accepts every image.
 abbrev pub check_bytes : Option (Vec ℕ Global) → List ℕ
 check_bytes None = []
 check_bytes (Some front) = front.items
@@ -24,11 +24,11 @@ check_bytes (Some front) = front.items
 abbrev pub setup_grain : WriteUnit → Sector → Grain
 setup_grain unit sector = record { unit = unit; sector = sector.bytes }
 
--- Pace of the device's flash, with the unit and the sectors that are set.
+-- Pace of the device's flash, with the unit and the sectors of the settings.
 abbrev pub pace_of : ScriptConfig → Pace
 pace_of s = record { erase_ms = s.erase_ms; program_ms = s.program_ms; unit = s.unit; sector = s.sector.bytes }
 
--- Setting of the device by the settings of a script.
+-- Setting of the device, from the settings of a script.
 abbrev pub setting_of_device : ScriptConfig → Setting
 setting_of_device s = record {
   ids = s.ids;

@@ -1,5 +1,5 @@
-//! Parts of the events of a line: the file of an offer, the fate of an action in which a write is harmed, and the front of an image that
-//! an action closes.
+//! Parts of the events of a line: the file of an offer, the fate of an action in which a write is harmed, and the check of an image that an
+//! action closes.
 
 ghost use Rattle.std.specs.Prelude.{◌≡◌, IfOk, IfErr, ◌+◌, ◌≤◌, ◌<◌, ◌∷◌, [], length, get_or, drop, IfSome, IfNone};
 ghost use Rattle.dfu_link.specs.LineContent.{given_bytes, harm_fate};
@@ -18,7 +18,7 @@ use dfu_sim::{Event, Fate, Purpose};
 use dfu_slots::{Medium, Slots};
 use std::alloc::Global;
 
-/// A file that is offered: bytes in memory of their own, or those that are given to the script.
+/// File of an offer: bytes decoded from the line, or the bytes given to the script.
 #[derive(Drop)]
 pub(crate) enum OfferedFile<'g> {
     Decoded(Vec<u8>),
@@ -37,7 +37,7 @@ impl<'g> OfferedFile<'g> {
     }
 }
 
-/// Returns the file of an offer; an empty one for any other line. The given bytes are not copied.
+/// Returns the file of an offer, or an empty one for any other line. Given bytes are not copied.
 pub(crate) fn file_of<'g>(
     alloc: Global,
     given: Option<&'g [u8]>,
@@ -55,7 +55,8 @@ pub(crate) fn file_of<'g>(
     }
 }
 
-/// Returns the fate of an action in which `writes` writes work, and the next one is harmed.
+/// Returns the fate of an action in which the first `writes` writes succeed, and the next one is torn with `tear`. `harm` is the kind of
+/// the harm.
 pub(crate) fn harmed(harm: HarmKind, writes: u32, tear: &[u8]) -> Fate<'_>
     ensures fate { fate_of result ≡ harm_fate harm }
     ensures harm { harm_of_fate result ≡ harmed writes tear.now }
@@ -67,7 +68,7 @@ pub(crate) fn harmed(harm: HarmKind, writes: u32, tear: &[u8]) -> Fate<'_>
     }
 }
 
-/// Returns the event that offers a file, to be installed or to be verified too.
+/// Returns the event that offers `file`, to install it, or to install and verify it.
 pub(crate) fn offered<'f>(purpose: Purpose, file: &'f [u8], limits: Limits) -> Event<'f, 'static>
     ensures { happening result ≡ Offers purpose file.now limits }
 {
@@ -77,20 +78,20 @@ pub(crate) fn offered<'f>(purpose: Purpose, file: &'f [u8], limits: Limits) -> E
     }
 }
 
-/// Returns the byte of the medium at place `at` + `i`.
+/// Returns the byte of the medium at address `at` + `i`.
 fn stored_byte<M: Medium>(slots: &Slots<M>, at: u32, i: usize) -> u8
     requires { at + i < length slots.now.medium.bytes }
     ensures { result ≡ get_or slots.now.medium.bytes (at + i) 0 }
 {
     let medium = slots.medium();
-    // Calls `len` for its clause: each place within the medium is a number of 32 bits.
+    // The proof needs the contract of this call, by which each address of the medium fits in 32 bits.
     let _end = medium.len();
     let mut byte = [0; 1];
     medium.read(at + i as u32, &mut byte);
     byte[0]
 }
 
-/// Returns byte `i` of a received image, or None past its end.
+/// Returns byte `i` of a received image, or None after its last byte.
 fn byte_at<M: Medium>(slots: &Slots<M>, candidate: Candidate, i: usize) -> Option<u8>
     requires { candidate.at + candidate.stored ≤ length slots.now.medium.bytes }
     ensures some { IfSome result (λ byte. (i < length (candidate_bytes_of slots.now candidate)) × (byte ≡ get_or (candidate_bytes_of slots.now candidate) i 0)) }
@@ -107,7 +108,7 @@ fn byte_at<M: Medium>(slots: &Slots<M>, candidate: Candidate, i: usize) -> Optio
     None
 }
 
-/// Returns whether byte `i` of a received image is `byte`.
+/// Returns true if byte `i` of a received image is `byte`.
 fn has_byte<M: Medium>(slots: &Slots<M>, candidate: Candidate, i: usize, byte: u8) -> bool
     requires { candidate.at + candidate.stored ≤ length slots.now.medium.bytes }
     ensures { result ≡ has_front (byte ∷ []) (drop i (candidate_bytes_of slots.now candidate)) }
@@ -118,7 +119,7 @@ fn has_byte<M: Medium>(slots: &Slots<M>, candidate: Candidate, i: usize, byte: u
     }
 }
 
-/// Returns whether a received image begins with the bytes of `check`.
+/// Returns true if a received image begins with the bytes of `check`.
 pub(crate) fn begins<M: Medium>(slots: &Slots<M>, candidate: Candidate, check: &[u8]) -> bool
     requires { candidate.at + candidate.stored ≤ length slots.now.medium.bytes }
     ensures { result ≡ has_front check.now (candidate_bytes_of slots.now candidate) }

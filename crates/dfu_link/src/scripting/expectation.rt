@@ -9,8 +9,8 @@ use dfu_host::Limits;
 use std::alloc::Global;
 use std::io::Write;
 
-/// A line that is expected to be printed next, without its line feed, and the number of the `expect` line. The next printed line is put
-/// into memory of `alloc` first, to compare it.
+/// Line that the script expects to be printed next, without its line feed, and the number of the `expect` line. The printed line is first
+/// stored in memory of `alloc`, and then compared with `text`.
 #[derive(Drop)]
 pub(crate) struct Expectation {
     pub number: u32,
@@ -18,8 +18,8 @@ pub(crate) struct Expectation {
     pub alloc: Global,
 }
 
-/// Context of the lines to come: the bytes that FILE means, if they are given, the first bytes of each image that the program takes, the
-/// limits of later sessions, and the expected line. The fault of a line is noted in `stopped`.
+/// Context of the lines after the start of the device: the bytes that the word FILE stands for, if they are given; the first bytes of each
+/// image that the program accepts; the limits of later sessions; and the expected line. `stopped` receives the fault of a line.
 #[derive(Drop)]
 pub(crate) struct ScriptContext<'g> {
     pub given: Option<&'g [u8]>,
@@ -29,11 +29,11 @@ pub(crate) struct ScriptContext<'g> {
     pub stopped: &'g Stopped,
 }
 
-/// Sets `next` to the expectation of `text` by line `number`, if no line is expected.
+/// Stores in `next` that line `number` expects `text`, if no line is expected yet.
 ///
 /// # Errors
 ///
-/// NonePrinted if a line is expected already, NoMemory if there is no memory for this one.
+/// NonePrinted if a line is expected already, NoMemory if there is no memory for the text.
 pub(crate) fn expect(
     alloc: Global,
     next: &mut Option<Expectation>,
@@ -59,9 +59,9 @@ pub(crate) fn expect(
     Ok(())
 }
 
-/// Returns whether a text is the expected line, with its line feed.
+/// Returns true if a text is the expected line with its line feed.
 fn is_line(expected: &[u8], text: &[u8]) -> bool
-    ensures same { result ≡ true → text.now ≡ expected.now ++ 10 ∷ [] }
+    ensures same_text { result ≡ true → text.now ≡ expected.now ++ 10 ∷ [] }
     ensures other { result ≡ false → text.now ≢ expected.now ++ 10 ∷ [] }
 {
     match text.split_last() {
@@ -70,7 +70,8 @@ fn is_line(expected: &[u8], text: &[u8]) -> bool
     }
 }
 
-/// Writes a text: whole if it is the expected line; else without its last byte, and returns Expected.
+/// Writes a whole text if it is the expected line. Otherwise writes it without its last byte, and returns Expected. Returns Write if the
+/// writer fails.
 fn write_expected<W: Write>(
     writer: &mut W,
     expected: &Expectation,
@@ -89,7 +90,7 @@ fn write_expected<W: Write>(
     Err(ScriptFault::Expected(expected.number))
 }
 
-/// Writes a text, and compares it with the expected line first, if a line is expected.
+/// Writes a text. If a line is expected and the text is not empty, `write_expected` writes the text, and no line is expected afterwards.
 pub(crate) fn write_next<W: Write>(
     writer: &mut W,
     next: &mut Option<Expectation>,

@@ -1,33 +1,33 @@
-//! Faults that end a script before its last line is written, faults of a line that is not of the language, and the notes of a run.
+//! Faults that end a script before its last line is written, faults of a line that is not of the language, and the reason why a run
+//! stopped.
 
 use crate::scripting::setup_fault::SetupFault;
 use std::cell::Cell;
 use std::fmt;
 use thiserror::Error;
 
-/// Faults that end a script before its last line is written. Lines are counted from 1, and skipped lines count too.
+/// Faults that end a script before its last line is written. Lines are counted from 1, and blank lines and comments count too.
 #[derive(Clone, Copy, Debug, Error)]
 pub enum ScriptFault {
-    /// This line is not one of the language, or has over 65,536 bytes. A line is checked for this before
-    /// LateConfig and BadConfig.
+    /// This line is not one of the language, or has over 65,536 bytes. A line is checked for BadLine before it is checked for LateConfig
+    /// and BadConfig.
     BadLine(u32),
-    /// This line sets something about the device after the first event line, `show` or `expect`.
+    /// This line configures the device after the first event line, `show` or `expect`.
     LateConfig(u32),
-    /// No device can be set up with these settings (`ConfigFault`), or the capacity is no multiple of the
-    /// unit or of the sector, or the image has more bytes than the capacity. Checked at the first event line,
-    /// `show` or `expect`, or at the end.
+    /// No device can be configured with these settings (`ConfigFault`), or the capacity is not a multiple of the unit or of the sector, or
+    /// the image has more bytes than the capacity. The settings are checked at the first event line, `show` or `expect`, or at the end.
     BadConfig,
-    /// This line expects a line, and another one was printed next. The other line is written except its line feed.
+    /// This `expect` line expects a line, but another one was printed next. That one is written without its line feed.
     Expected(u32),
-    /// This line expects a line, and the next `expect` came before anything was printed.
+    /// This `expect` line expects a line, but the next `expect` follows before anything is printed.
     NonePrinted(u32),
     /// The text has over 16,777,216 bytes.
     TooLarge,
-    /// An allocation was refused.
+    /// An allocation failed.
     NoMemory,
-    /// The reader gave an error.
+    /// The reader failed.
     Read,
-    /// The writer gave an error, or took nothing of the rest.
+    /// The writer failed, or accepted none of the remaining bytes.
     Write,
 }
 
@@ -56,7 +56,7 @@ impl fmt::Display for ScriptFault {
     }
 }
 
-/// A field of a line: the form of one of its words.
+/// Kind of field in a line of a script, which determines the form of its word.
 #[derive(Clone, Copy)]
 pub enum Field {
     /// Four hexadecimal digits.
@@ -83,8 +83,7 @@ pub enum Field {
     Bytes,
 }
 
-/// Faults for which a line is not of the language: the first word, from the left, that its place does not allow, or the number of
-/// words that the line must have. Words are counted from 1.
+/// Reason why a line is not of the language. The words are checked from left to right, and counted from 1.
 #[derive(Clone, Copy)]
 pub enum LineFault {
     /// The line has over 65,536 bytes.
@@ -93,52 +92,52 @@ pub enum LineFault {
     Keyword,
     /// No word follows `go`.
     NoFate,
-    /// The word after `go` is no fate, and not `until`.
+    /// The word after `go` is neither a fate nor `until`.
     Fate,
-    /// Nothing follows `expect` and a space.
+    /// No text follows `expect` and one space.
     NoText,
-    /// The line names FILE, but no bytes are given.
+    /// The word after `offer` or `verify` is FILE, but no bytes are given.
     NoFile,
     /// The word with this number does not have the form of this field.
     Word(Field, usize),
-    /// The line must have this many words.
+    /// Number of words that the line must have, but does not have.
     Count(usize),
     /// A comment follows the last word of the line.
     Comment,
 }
 
-/// Details of why a script stopped, besides the `ScriptFault` of its run.
+/// Reason why a script stopped, in more detail than the `ScriptFault` of its run.
 #[derive(Clone, Copy)]
 pub enum Reason {
-    /// With BadLine: the line has a byte outside 20h to 7Eh. `begins` says that the line begins with a byte order mark, `ends` that it ends
-    /// in a carriage return.
+    /// With BadLine: the line has a byte outside 20h to 7Eh. `begins` is true if the line begins with a byte order mark, and `ends` is true
+    /// if the line ends in a carriage return.
     Unprintable { begins: bool, ends: bool },
     /// With BadLine: the fault of the line, and the number of its words.
     Line(LineFault, usize),
-    /// With BadConfig: the reason why no device can be set up, and the number of the line that sets it.
+    /// With BadConfig: the reason why no device can be configured, and the number of the line that causes it (0 if no line does).
     Setup(SetupFault, u32),
 }
 
-/// Notes on why a run of a script stopped; at first there are none. A note changes neither the run nor its printed text.
+/// Reason why a run of a script stopped; None at first. The run and its printed text do not depend on this value.
 #[derive(Drop)]
 pub struct Stopped {
     reason: Cell<Option<Reason>>,
 }
 
 impl Stopped {
-    /// Returns the notes of a run that has not stopped.
+    /// Makes an empty `Stopped`, for a run that has not stopped.
     pub fn new() -> Stopped {
         Stopped {
             reason: Cell::new(None),
         }
     }
 
-    /// Returns the fault of the script, once it stopped at BadLine or BadConfig. A line of over 65,536 bytes has no note.
+    /// Returns the stored reason, or None. A script that stops at BadLine or BadConfig stores one, except for a line of over 65,536 bytes.
     pub fn reason(&self) -> Option<Reason> {
         self.reason.get()
     }
 
-    /// Notes the reason for which the script stopped.
+    /// Stores the reason why the script stopped.
     pub(crate) fn note_reason(&self, reason: Reason) {
         self.reason.set(Some(reason));
     }

@@ -1,5 +1,4 @@
-//! Readers of the words of a line: hexadecimal text, a file, 16 bits, attributes, a unit, a sector, an objection; and of the next word of a
-//! line.
+//! Parsers for the fields of a line. Each field is one word.
 
 ghost use Rattle.std.specs.Prelude.{◌≡◌, ◌↔◌, IsTrue, is_some};
 ghost use Rattle.std.specs.List.{AllPass};
@@ -16,7 +15,8 @@ use dfu_device::Objection;
 use dfu_slots::{PAGE, Unit};
 use dfu_wire::identifier;
 
-// Most bytes of a sector in a script. The store takes larger sectors, but a script that was refused for its sector must stay refused.
+// Largest sector that a script can set, in bytes. The store accepts larger sectors, but a script that an earlier version refused for its
+// sector must stay refused.
 const MAX_SCRIPT_SECTOR: u32 = 1 << 17;
 
 #[tactic(auto, using(std::proofs::lemmas::Bool::Decides::nat_tests))]
@@ -41,7 +41,7 @@ fn is_hex_text(word: &[u8]) -> bool
     word.len() % 2 == 0 && are_digits(word)
 }
 
-/// Reads `word` as an even number of hexadecimal digits of either case, or `-` for no bytes; None if it is neither.
+/// Parses `word` as an even number of hexadecimal digits of either case, or `-` for no bytes; None if it is neither.
 pub(crate) fn hex_text(word: &[u8]) -> Option<HexText<'_>>
     ensures { ReadingMatches hex_bytes result (hex_word_bytes word.now) }
 {
@@ -52,8 +52,8 @@ pub(crate) fn hex_text(word: &[u8]) -> Option<HexText<'_>>
     }
 }
 
-/// Returns the file that a word of an offer means. FILE means the given bytes, which are not copied; any
-/// other word means the bytes that it spells. None if no bytes are given, or the word spells none.
+/// Returns the file that a word of an offer stands for: the given bytes for FILE, which are not copied, or the bytes of hexadecimal text.
+/// None if the word is FILE and no bytes are given, or if it is not hexadecimal text.
 #[tactic(auto, unfolding(crate::specs::Fields::named_bytes))]
 pub(crate) fn offered<'l, 'g>(given: Option<&'g [u8]>, word: &'l [u8]) -> Option<Offered<'l, 'g>>
     ensures { ReadingMatches offered_bytes result (named_bytes (given_bytes given.entry) word.now) }
@@ -69,7 +69,7 @@ pub(crate) fn offered<'l, 'g>(given: Option<&'g [u8]>, word: &'l [u8]) -> Option
     }
 }
 
-/// Reads `word` as a number of two hexadecimal digits; None if it is anything else.
+/// Parses `word` as a number of two hexadecimal digits; None if it is anything else.
 pub(crate) fn pair(word: &[u8]) -> Option<u8>
     ensures { ReadingMatches (λ n. n) result (number_of_pair word.now) }
 {
@@ -80,7 +80,7 @@ pub(crate) fn pair(word: &[u8]) -> Option<u8>
     }
 }
 
-/// Reads `word` as a number of at most 65,535; None if it is anything else.
+/// Parses `word` as a number of at most 65,535; None if it is anything else.
 #[tactic(auto, using(std::proofs::lemmas::Bool::Decides::nat_tests))]
 pub(crate) fn short(word: &[u8]) -> Option<u16>
     ensures { ReadingMatches (λ n. n) result (number_at_most 65535 word.now) }
@@ -89,7 +89,7 @@ pub(crate) fn short(word: &[u8]) -> Option<u16>
     Some(n as u16)
 }
 
-/// Reads `word` as the attributes of a functional descriptor, two hexadecimal digits, 00 to 0f; None if it is anything else.
+/// Parses `word` as the attributes of a functional descriptor, two hexadecimal digits from 00 to 0f; None if it is anything else.
 #[tactic(auto, unfolding(crate::specs::Fields::attributes_of_word), using(std::proofs::lemmas::Bool::Decides::nat_tests))]
 pub(crate) fn attributes(word: &[u8]) -> Option<u8>
     ensures { ReadingMatches (λ n. n) result (attributes_of_word word.now) }
@@ -98,7 +98,7 @@ pub(crate) fn attributes(word: &[u8]) -> Option<u8>
     if n <= 15 { Some(n) } else { None }
 }
 
-/// Returns the unit of a number of bytes, if there is one.
+/// Returns the unit of this many bytes; None if no unit has this size.
 fn unit_of_bytes(bytes: u32) -> Option<Unit>
     ensures { result ≡ unit_of_bytes bytes }
 {
@@ -111,7 +111,7 @@ fn unit_of_bytes(bytes: u32) -> Option<Unit>
     }
 }
 
-/// Reads `word` as the unit in which the medium is written, 1, 16, 64 or 256 bytes; None if it is anything else.
+/// Parses `word` as the unit in which the medium is written, 1, 16, 64 or 256 bytes; None if it is anything else.
 #[tactic(auto, unfolding(crate::specs::Fields::unit_of_word))]
 pub(crate) fn unit(word: &[u8]) -> Option<Unit>
     ensures { result ≡ unit_of_word word.now }
@@ -120,7 +120,8 @@ pub(crate) fn unit(word: &[u8]) -> Option<Unit>
     unit_of_bytes(n)
 }
 
-/// Reads `word` as the bytes that the medium erases at a time, 0 or a multiple of 256 up to 131,072; None if it is anything else.
+/// Parses `word` as the number of bytes that one erase of the medium clears, 0 or a multiple of 256 up to 131,072; None if it is anything
+/// else.
 #[tactic(auto, unfolding(crate::specs::Fields::sector_of), using(std::proofs::lemmas::Bool::Decides::nat_tests))]
 pub(crate) fn sector(word: &[u8]) -> Option<Sector>
     ensures { ReadingMatches (λ s. s.bytes) result (sector_of word.now) }
@@ -133,7 +134,7 @@ pub(crate) fn sector(word: &[u8]) -> Option<Sector>
     }
 }
 
-/// Reads `word` as the reason for which a program refuses an image, `errTARGET` or `errFILE`; None if it is anything else.
+/// Parses `word` as an objection of the program to an image, `errTARGET` or `errFILE`; None if it is anything else.
 pub(crate) fn objection(word: &[u8]) -> Option<Objection>
     ensures { result ≡ objection_of_word word.now }
 {
@@ -143,7 +144,8 @@ pub(crate) fn objection(word: &[u8]) -> Option<Objection>
     })
 }
 
-/// Reads the next word of a line by a function for its field, and gives its value and the rest of the line; or returns the fault.
+/// Parses the next word of a line with the parser of its field. Evaluates to the value of the word and the rest of the line, or returns the
+/// fault from the function around it.
 macro_rules! field {
     ($line:ident, $n:expr, $of:expr, $field:ident, $read:path $(, $most:expr)?) => {{
         let Some((word, rest)) = word_at($line) else {
@@ -158,7 +160,8 @@ macro_rules! field {
 
 pub(crate) use field;
 
-/// Takes word `n` of a line of `of` words, a number, from the front of `line`. Returns the number and the line after it.
+/// Parses the next word of `line`, which is word `n`, as a number. Returns the number and the rest of the line. A whole line has `of`
+/// words.
 #[tactic(auto, unfolding(crate::specs::Lines::number_field))]
 pub(crate) fn number_at(line: &[u8], n: usize, of: usize) -> Result<(u32, &[u8]), LineFault>
     ensures { ReadMatches (λ x. (x.0, words_of x.1.now)) result (number_field n of (words_of line.now)) }
@@ -166,7 +169,8 @@ pub(crate) fn number_at(line: &[u8], n: usize, of: usize) -> Result<(u32, &[u8])
     Ok(field!(line, n, of, Number, number))
 }
 
-/// Takes word `n`, a number of at most 65,535, from the front of `line`. Returns the number and the line after it.
+/// Parses the next word of `line`, which is word `n`, as a number of at most 65,535. Returns the number and the rest of the line. A whole
+/// line has `of` words.
 #[tactic(auto, unfolding(crate::specs::Lines::short_at))]
 pub(crate) fn short_at(line: &[u8], n: usize, of: usize) -> Result<(u16, &[u8]), LineFault>
     ensures { ReadMatches (λ x. (x.0, words_of x.1.now)) result (short_at n of (words_of line.now)) }
@@ -174,7 +178,8 @@ pub(crate) fn short_at(line: &[u8], n: usize, of: usize) -> Result<(u16, &[u8]),
     Ok(field!(line, n, of, Short, short))
 }
 
-/// Takes word `n`, hexadecimal text, from the front of `line`. Returns the text and the line after it.
+/// Parses the next word of `line`, which is word `n`, as hexadecimal text. Returns the text and the rest of the line. A whole line has `of`
+/// words.
 #[tactic(auto, unfolding(crate::specs::Lines::hex_at))]
 pub(crate) fn hex_at(line: &[u8], n: usize, of: usize) -> Result<(HexText<'_>, &[u8]), LineFault>
     ensures { ReadMatches (λ x. (hex_bytes x.0, words_of x.1.now)) result (hex_at n of (words_of line.now)) }
@@ -182,7 +187,8 @@ pub(crate) fn hex_at(line: &[u8], n: usize, of: usize) -> Result<(HexText<'_>, &
     Ok(field!(line, n, of, Bytes, hex_text))
 }
 
-/// Takes word `n`, four hexadecimal digits, from the front of `line`. Returns the number and the line after it.
+/// Parses the next word of `line`, which is word `n`, as four hexadecimal digits. Returns the number and the rest of the line. A whole line
+/// has `of` words.
 #[tactic(auto, unfolding(crate::specs::Lines::identifier_at))]
 pub(crate) fn identifier_at(line: &[u8], n: usize, of: usize) -> Result<(u16, &[u8]), LineFault>
     ensures { ReadMatches (λ x. (x.0, words_of x.1.now)) result (identifier_at n of (words_of line.now)) }

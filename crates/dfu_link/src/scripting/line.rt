@@ -1,4 +1,4 @@
-//! Meaning of a line.
+//! Meaning of a line, and the types of its parts.
 
 ghost use Rattle.std.specs.Prelude.{◌≡◌, ◌%◌, ◌≤◌, IsTrue, is_some};
 ghost use Rattle.dfu_link.specs.Words.{hex_word_bytes};
@@ -8,7 +8,7 @@ use dfu_sim::{Fate, Purpose};
 use dfu_slots::Unit;
 use dfu_wire::{Functional, Ids};
 
-/// Hexadecimal text that spells bytes, so that decoding it can only fail for want of memory.
+/// Hexadecimal text of an even number of digits, or `-`. Decoding it fails only if there is no memory.
 #[derive(Clone, Copy)]
 pub(crate) struct HexText<'l> {
     pub text: &'l [u8],
@@ -23,7 +23,7 @@ pub(crate) struct Room {
     ghost most: { bytes ≤ 1048576 },
 }
 
-/// Number of bytes that the medium erases at a time; with 0 the medium is overwritten in place.
+/// Number of bytes that one erase of the medium clears. With 0 the medium is overwritten in place.
 #[derive(Clone, Copy)]
 pub(crate) struct Sector {
     pub bytes: u32,
@@ -36,16 +36,16 @@ pub(crate) struct Sector {
 pub(crate) enum ConfigLine<'l> {
     /// Identifiers of the device.
     Ids(Ids),
-    /// Fields of its functional descriptor, and the numbers that `Config::new` takes beside it.
+    /// Fields of the device's functional descriptor, the least length of an image in bytes, and the times of a block and of manifestation.
     Device {
         functional: Functional,
         least: u32,
         busy_ms: u32,
         manifest_ms: u32,
     },
-    /// The unit in which the medium is written.
+    /// Unit in which the medium is written.
     Unit(Unit),
-    /// Sectors in which the medium is erased.
+    /// Number of bytes that one erase of the medium clears.
     Erase(Sector),
     /// Milliseconds that the medium takes to erase a sector, and to program 256 bytes.
     Pace {
@@ -54,13 +54,14 @@ pub(crate) enum ConfigLine<'l> {
     },
     /// Largest number of bytes of an image.
     Capacity(Room),
-    /// The image that the device has at first.
+    /// Image of the device at the start.
     Image(HexText<'l>),
-    /// The first bytes of each image that the device's program takes.
+    /// First bytes of each image that the device's program accepts.
     Check(HexText<'l>),
 }
 
-/// Kind of harm of a write in an action of the host: the power is cut in it, or the write fails or lies.
+/// Harm to a write in an action of the host. `Cut`: the power is cut in the write. `Fail`: the write fails. `Lie`: the write is torn, but
+/// the medium reports a success.
 #[derive(Clone, Copy)]
 pub(crate) enum HarmKind {
     Cut,
@@ -68,16 +69,16 @@ pub(crate) enum HarmKind {
     Lie,
 }
 
-/// A file that a line offers.
+/// File that a line offers.
 #[derive(Clone, Copy)]
 pub(crate) enum Offered<'l, 'g> {
-    /// The line spells its bytes.
+    /// The line contains the bytes as hexadecimal text.
     Spelled(HexText<'l>),
-    /// The bytes that are given to the script, which a line names by the word FILE.
+    /// The line contains the word FILE, which stands for these bytes.
     Given(&'g [u8]),
 }
 
-/// The events of a line.
+/// Events of a line.
 #[derive(Clone, Copy)]
 pub(crate) enum EventLine<'l, 'g> {
     /// A file is offered.
@@ -87,21 +88,21 @@ pub(crate) enum EventLine<'l, 'g> {
     },
     /// An upload begins.
     Upload,
-    /// The session is given up.
+    /// The session is aborted.
     Abort,
-    /// The host takes its next `times` actions, each with `fate`.
+    /// The host performs its next `times` actions, each with `fate`.
     Go {
         fate: Fate<'l>,
         times: u32,
     },
-    /// The host takes its next action. After `writes` writes that work one is harmed, and leaves the first
-    /// bytes of `tear`, as many as fit into its range.
+    /// The host performs its next action. The first `writes` writes succeed, and the next one is torn: only the first bytes of `tear` are
+    /// written, at most as many as the write has.
     GoHarmed {
         harm: HarmKind,
         writes: u32,
         tear: HexText<'l>,
     },
-    /// The host takes actions that pass, until one prints a line: the report of its session, or a refusal.
+    /// The host performs actions with the fate `pass`, until one prints a line: the report of its session, or a refusal.
     GoOn,
     /// This many milliseconds pass.
     Time(u32),
@@ -109,23 +110,23 @@ pub(crate) enum EventLine<'l, 'g> {
     Reset,
     /// The power is cut.
     Cut,
-    /// The device's program refuses the image that was closed.
+    /// The device's program refuses the image of the closed download.
     Refuse(Objection),
 }
 
 /// Meaning of a line.
 #[derive(Clone, Copy)]
 pub(crate) enum Line<'l, 'g> {
-    /// Nothing: the line has no words, or is a comment.
+    /// The line has no words, or is a comment.
     Blank,
     /// A configuration line.
     Set(ConfigLine<'l>),
-    /// The limits of later sessions.
+    /// Limits of later sessions.
     Limits { actions: u32, restarts: u16 },
     /// An event line.
     Do(EventLine<'l, 'g>),
     /// The line is `show`.
     Show,
-    /// The next line that is printed must be this text.
+    /// The next printed line must be this text.
     Expect(&'l [u8]),
 }

@@ -1,4 +1,4 @@
-//! Reads the words of a line after its first word, unless that is `go`.
+//! Parsers of the words after the first word of a line, for each keyword except `go`.
 
 ghost use Rattle.std.specs.Prelude.{◌≡◌};
 ghost use Rattle.dfu_link.specs.Words.{words_of};
@@ -13,7 +13,7 @@ use crate::scripting::{fields, words};
 use dfu_sim::Purpose;
 use dfu_wire::{Functional, Ids};
 
-/// Reads the words of `ids VVVV PPPP DDDD` after the first word.
+/// Parses the words `VVVV PPPP DDDD` after `ids`.
 #[tactic(auto, unfolding(crate::specs::Lines::ids_content))]
 pub(crate) fn ids(line: &[u8]) -> Result<Line<'_, 'static>, LineFault>
     ensures { ReadMatches content_of_line result (ids_content (words_of line.now)) }
@@ -29,7 +29,7 @@ pub(crate) fn ids(line: &[u8]) -> Result<Line<'_, 'static>, LineFault>
     ended(Line::Set(ConfigLine::Ids(ids)), 4, rest)
 }
 
-/// Reads the words of `device FF DETACH TRANSFER LEAST BUSY MANIFEST` after the first word.
+/// Parses the words `FF DETACH TRANSFER LEAST BUSY MANIFEST` after `device`.
 #[tactic(auto, unfolding(crate::specs::Lines::device_content))]
 pub(crate) fn device(line: &[u8]) -> Result<Line<'_, 'static>, LineFault>
     ensures { ReadMatches content_of_line result (device_content (words_of line.now)) }
@@ -50,7 +50,7 @@ pub(crate) fn device(line: &[u8]) -> Result<Line<'_, 'static>, LineFault>
     ended(said, 7, rest)
 }
 
-/// Reads the words of `unit N` after the first word.
+/// Parses the word `N` after `unit`.
 #[tactic(auto, unfolding(crate::specs::Lines::unit_content))]
 pub(crate) fn unit(line: &[u8]) -> Result<Line<'_, 'static>, LineFault>
     ensures { ReadMatches content_of_line result (unit_content (words_of line.now)) }
@@ -59,7 +59,7 @@ pub(crate) fn unit(line: &[u8]) -> Result<Line<'_, 'static>, LineFault>
     ended(Line::Set(ConfigLine::Unit(unit)), 2, rest)
 }
 
-/// Reads the words of `erase N` after the first word.
+/// Parses the word `N` after `erase`.
 #[tactic(auto, unfolding(crate::specs::Lines::erase_content))]
 pub(crate) fn erase(line: &[u8]) -> Result<Line<'_, 'static>, LineFault>
     ensures { ReadMatches content_of_line result (erase_content (words_of line.now)) }
@@ -68,7 +68,7 @@ pub(crate) fn erase(line: &[u8]) -> Result<Line<'_, 'static>, LineFault>
     ended(Line::Set(ConfigLine::Erase(sector)), 2, rest)
 }
 
-/// Reads the words of `pace ERASE PROGRAM` after the first word.
+/// Parses the words `ERASE PROGRAM` after `pace`.
 #[tactic(auto, unfolding(crate::specs::Lines::pace_content))]
 pub(crate) fn pace(line: &[u8]) -> Result<Line<'_, 'static>, LineFault>
     ensures { ReadMatches content_of_line result (pace_content (words_of line.now)) }
@@ -82,7 +82,7 @@ pub(crate) fn pace(line: &[u8]) -> Result<Line<'_, 'static>, LineFault>
     ended(said, 3, rest)
 }
 
-/// Reads the words of `capacity N` after the first word.
+/// Parses the word `N` after `capacity`.
 #[tactic(auto, unfolding(crate::specs::Lines::capacity_content))]
 pub(crate) fn capacity(line: &[u8]) -> Result<Line<'_, 'static>, LineFault>
     ensures { ReadMatches content_of_line result (capacity_content (words_of line.now)) }
@@ -91,7 +91,7 @@ pub(crate) fn capacity(line: &[u8]) -> Result<Line<'_, 'static>, LineFault>
     ended(Line::Set(ConfigLine::Capacity(Room { bytes })), 2, rest)
 }
 
-/// Reads the words of `image HEX` after the first word.
+/// Parses the word `HEX` after `image`.
 #[tactic(auto, unfolding(crate::specs::Lines::image_content))]
 pub(crate) fn image(line: &[u8]) -> Result<Line<'_, 'static>, LineFault>
     ensures { ReadMatches content_of_line result (image_content (words_of line.now)) }
@@ -100,7 +100,7 @@ pub(crate) fn image(line: &[u8]) -> Result<Line<'_, 'static>, LineFault>
     ended(Line::Set(ConfigLine::Image(image)), 2, rest)
 }
 
-/// Reads the words of `check HEX` after the first word.
+/// Parses the word `HEX` after `check`.
 #[tactic(auto, unfolding(crate::specs::Lines::check_content))]
 pub(crate) fn check(line: &[u8]) -> Result<Line<'_, 'static>, LineFault>
     ensures { ReadMatches content_of_line result (check_content (words_of line.now)) }
@@ -109,7 +109,7 @@ pub(crate) fn check(line: &[u8]) -> Result<Line<'_, 'static>, LineFault>
     ended(Line::Set(ConfigLine::Check(front)), 2, rest)
 }
 
-/// Reads the words of `limits A R` after the first word.
+/// Parses the words `A R` after `limits`.
 #[tactic(auto, unfolding(crate::specs::Lines::limits_content))]
 pub(crate) fn limits(line: &[u8]) -> Result<Line<'_, 'static>, LineFault>
     ensures { ReadMatches content_of_line result (limits_content (words_of line.now)) }
@@ -119,7 +119,7 @@ pub(crate) fn limits(line: &[u8]) -> Result<Line<'_, 'static>, LineFault>
     ended(Line::Limits { actions, restarts }, 3, rest)
 }
 
-/// Returns the fault of word `n`, which names no file: NoFile for FILE, and the wrong form for any other word.
+/// Returns the fault of word `n`, which stands for no file: NoFile if the word is FILE, and Word with the field Bytes for any other word.
 fn no_file_fault(word: &[u8], n: usize) -> LineFault
     ensures { result ≡ no_file_fault word.now n }
 {
@@ -130,7 +130,8 @@ fn no_file_fault(word: &[u8], n: usize) -> LineFault
     }
 }
 
-/// Takes word `n`, a file, from the front of `line`. Returns the file, by the bytes that FILE means, and the line after it.
+/// Parses the next word of `line`, which is word `n`, as a file. Returns the file and the rest of the line. A whole line has `of` words.
+/// `given` holds the bytes that FILE stands for.
 #[tactic(auto, unfolding(crate::specs::Lines::offered_file))]
 fn file_at<'l, 'g>(
     given: Option<&'g [u8]>,
@@ -138,7 +139,8 @@ fn file_at<'l, 'g>(
     n: usize,
     of: usize,
 ) -> Result<(Offered<'l, 'g>, &'l [u8]), LineFault>
-    ensures { ReadMatches (λ x. (offered_bytes x.0, words_of x.1.now)) result (offered_file (given_bytes given.entry) n of (words_of line.now)) }
+    ensures { ReadMatches (λ x. (offered_bytes x.0, words_of x.1.now)) result
+        (offered_file (given_bytes given.entry) n of (words_of line.now)) }
 {
     let Some((word, rest)) = word_at(line) else {
         return Err(LineFault::Count(of));
@@ -149,8 +151,7 @@ fn file_at<'l, 'g>(
     }
 }
 
-/// Reads the words of `offer HEX`, `offer FILE`, `verify HEX` or `verify FILE` after the first word. `given` has the bytes that FILE
-/// means.
+/// Parses the word `HEX` or `FILE` after `offer` or `verify`. `given` holds the bytes that FILE stands for.
 #[tactic(auto, unfolding(crate::specs::Lines::offer_content))]
 pub(crate) fn offer<'l, 'g>(
     given: Option<&'g [u8]>,
@@ -163,7 +164,7 @@ pub(crate) fn offer<'l, 'g>(
     ended(Line::Do(EventLine::Offer { purpose, file }), 2, rest)
 }
 
-/// Reads the words of `time MS` after the first word.
+/// Parses the word `MS` after `time`.
 #[tactic(auto, unfolding(crate::specs::Lines::time_of))]
 pub(crate) fn time(line: &[u8]) -> Result<Line<'_, 'static>, LineFault>
     ensures { ReadMatches content_of_line result (time_of (words_of line.now)) }
@@ -172,7 +173,7 @@ pub(crate) fn time(line: &[u8]) -> Result<Line<'_, 'static>, LineFault>
     ended(Line::Do(EventLine::Time(ms)), 2, rest)
 }
 
-/// Reads the words of `refuse CODE` after the first word.
+/// Parses the word `CODE` after `refuse`.
 #[tactic(auto, unfolding(crate::specs::Lines::refuse_content))]
 pub(crate) fn refuse(line: &[u8]) -> Result<Line<'_, 'static>, LineFault>
     ensures { ReadMatches content_of_line result (refuse_content (words_of line.now)) }
@@ -181,7 +182,7 @@ pub(crate) fn refuse(line: &[u8]) -> Result<Line<'_, 'static>, LineFault>
     ended(Line::Do(EventLine::Refuse(objection)), 2, rest)
 }
 
-/// Reads the text of `expect TEXT`: all that follows one space.
+/// Parses the text of `expect TEXT`: everything after `expect` and one space.
 ///
 /// # Errors
 ///

@@ -9,8 +9,7 @@ use crate::scripting::fault::ScriptFault;
 use dfu_suffix::write_whole;
 use std::io::Write;
 
-/// Writes a whole text, or returns Write at the first error of the writer, or once it takes nothing of the
-/// rest.
+/// Writes a whole text. Returns Write at the first error of the writer, or if it accepts none of the remaining bytes.
 pub(crate) fn write_out<W: Write>(writer: &mut W, text: &[u8]) -> Result<(), ScriptFault>
     ensures { WriteEnds text.now (W.contents writer.old) (W.contents writer.new) result }
 {
@@ -45,10 +44,10 @@ pub(crate) fn write_three<W: Write>(
     write_out(writer, last.as_bytes())
 }
 
-/// Bytes that are printed in one write.
+/// Largest number of bytes that one write prints as digits.
 pub(crate) const SHOWN_BYTES: usize = 256;
 
-/// Writes at most 256 bytes as digits.
+/// Writes at most 256 bytes as hexadecimal digits in lower case.
 pub(crate) fn write_digits<W: Write>(writer: &mut W, bytes: &[u8]) -> Result<(), ScriptFault>
     requires { length bytes.now ≤ 256 }
     ensures { WriteEnds (encode_lower bytes.now) (W.contents writer.old) (W.contents writer.new) result }
@@ -61,7 +60,7 @@ pub(crate) fn write_digits<W: Write>(writer: &mut W, bytes: &[u8]) -> Result<(),
     write_out(writer, &digits[..2 * len])
 }
 
-/// Writes bytes as digits, piece by piece.
+/// Writes bytes as hexadecimal digits in lower case, in pieces of at most 256 bytes.
 fn write_all_digits<W: Write>(writer: &mut W, bytes: &[u8]) -> Result<(), ScriptFault>
     ensures { WriteEnds (encode_lower bytes.now) (W.contents writer.old) (W.contents writer.new) result }
 {
@@ -75,7 +74,7 @@ fn write_all_digits<W: Write>(writer: &mut W, bytes: &[u8]) -> Result<(), Script
     Ok(())
 }
 
-/// Writes bytes as a script prints them, and ends the line.
+/// Writes bytes as hexadecimal digits, or `-` for none, and a line feed.
 pub(crate) fn write_bytes<W: Write>(writer: &mut W, bytes: &[u8]) -> Result<(), ScriptFault>
     ensures { WriteEnds (hex_text bytes.now ++ 10 ∷ []) (W.contents writer.old) (W.contents writer.new) result }
 {

@@ -25,7 +25,7 @@ use dfu_slots::{Faulty, Medium};
 use std::alloc::Global;
 use std::io::Write;
 
-/// Performs `event`, which is no action of the host, on `world`, and writes the line that it prints, if it prints one, to `writer`.
+/// Applies `event`, which is not an action of the host, to `world`, and writes the line that it prints, if there is one.
 fn play<'f, M: Faulty, W: Write>(
     world: &mut World<'f, M>,
     event: Event<'f, '_>,
@@ -40,8 +40,8 @@ fn play<'f, M: Faulty, W: Write>(
     say_next(writer, next, answer, world.uploaded())
 }
 
-/// Returns whether a program that takes only images that begin with `check` accepts the image that the device has taken: if it begins so,
-/// or if there is none. With an empty check every image is accepted without a look at it.
+/// Returns true if the image that the device received begins with `check`, so that the device's program accepts the image, or if the device
+/// has received none. An empty `check` accepts every image without reading it.
 fn is_accepted<M: Medium>(device: &Device<M>, check: &[u8]) -> bool
     ensures { result ≡ is_accepted check.now (candidate_in device.now.stage) }
 {
@@ -54,7 +54,8 @@ fn is_accepted<M: Medium>(device: &Device<M>, check: &[u8]) -> bool
     }
 }
 
-/// Makes an event of an action with `fate`, in which the device's program refuses a closed image that does not begin with `check`.
+/// Makes the event of an action with `fate`. If the device has received an image that does not begin with `check`, the device's program
+/// refuses that image when the action closes it.
 fn checked<'f, 't, M: Medium>(device: &Device<M>, check: &[u8], fate: Fate<'t>) -> Event<'f, 't>
     ensures { happening result ≡ Goes (checked_fate check.now device.now (fate_of fate.entry)) (harm_of_fate fate.entry) }
 {
@@ -68,8 +69,8 @@ fn checked<'f, 't, M: Medium>(device: &Device<M>, check: &[u8], fate: Fate<'t>) 
     }
 }
 
-/// Takes an action of the host with `fate`, and shows the link to `tracer` before and after it. The device's program refuses an image that
-/// does not begin with `check`, if the action closes the image. The caller still has to write the line of the action.
+/// Performs an action of the host with `fate`, and passes the link to `tracer` before and after it. If the action closes an image that does
+/// not begin with `check`, the device's program refuses the image. The caller must write the line of the action.
 fn take<'f, T: Tracer<M>, M: Faulty>(
     world: &mut World<'f, M>,
     fate: Fate<'_>,
@@ -89,7 +90,7 @@ fn take<'f, T: Tracer<M>, M: Faulty>(
     answer
 }
 
-/// Returns whether an event with this answer prints nothing.
+/// Returns true if an event with this answer prints nothing.
 fn is_silent(answer: Result<Option<Report>, LinkFault>) -> bool
     ensures silent { result ≡ true → answer ≡ Ok None }
     ensures told { result ≡ false → answer ≢ Ok None }
@@ -100,7 +101,7 @@ fn is_silent(answer: Result<Option<Report>, LinkFault>) -> bool
     }
 }
 
-/// Takes `times` actions of the host with `fate`, and writes the line of each that prints one to `writer`.
+/// Performs `times` actions of the host with `fate`, and writes the lines that they print.
 fn play_actions<'f, T: Tracer<M>, M: Faulty, W: Write>(
     world: &mut World<'f, M>,
     fate: Fate<'_>,
@@ -124,7 +125,8 @@ fn play_actions<'f, T: Tracer<M>, M: Faulty, W: Write>(
     Ok(())
 }
 
-/// Takes actions of the host that pass, up to one that prints a line: the report of its session, or a refusal if no session is live.
+/// Performs actions of the host with the fate `Pass`, until one prints a line: the report of its session, or a refusal if no session is
+/// live.
 fn pass_on<'f, T: Tracer<M>, M: Faulty, W: Write>(
     world: &mut World<'f, M>,
     check: &[u8],
@@ -144,8 +146,8 @@ fn pass_on<'f, T: Tracer<M>, M: Faulty, W: Write>(
     }
 }
 
-/// Takes an action of the host in which the write after `writes` others is harmed, as `harm` and `tear` say, and writes the line that it
-/// prints, if it prints one. The tear takes memory.
+/// Performs an action of the host in which the first `writes` writes succeed, and the next one is torn with the bytes of `tear`. `harm` is
+/// the kind of the harm. Writes the line that the action prints, if there is one. Allocates memory for the bytes of the tear.
 fn play_harmed<'f, T: Tracer<M>, M: Faulty, W: Write>(
     alloc: Global,
     world: &mut World<'f, M>,
@@ -167,7 +169,7 @@ fn play_harmed<'f, T: Tracer<M>, M: Faulty, W: Write>(
     play_actions::<T, M, W>(world, fate, 1, check, next, writer, tracer)
 }
 
-/// Plays `events`, the events of a line, and writes the lines that they print to `writer`. A tear takes memory.
+/// Plays the events of a line, and writes the lines that they print. Allocates memory for the bytes of a tear.
 pub(crate) fn play_events<'f, T: Tracer<M>, M: Faulty, W: Write>(
     alloc: Global,
     world: &mut World<'f, M>,
@@ -219,7 +221,7 @@ pub(crate) fn refuse_offer<'f, M: Faulty, W: Write>(
         LineOutcome (point_of_context context.old world.now.bench) (Does (Offer purpose file)) (W.contents writer.old)
         (point_of_context context.new world.now.bench) (W.contents writer.new) result }
 {
-    // Calls `device` for its clause `active`, which the contract needs of the link.
+    // The proof needs the clause `active` of this call, by which the bench shows the active image.
     let _ = world.device();
     say_next(writer, &mut context.next, Err(LinkFault::HostBusy), &[])
 }

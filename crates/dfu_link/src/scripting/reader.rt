@@ -1,4 +1,4 @@
-//! The bytes of a reader, piece by piece.
+//! Reads the bytes of a reader in pieces.
 
 ghost use Rattle.std.specs.Prelude.{◌≡◌, ◌≤◌, [], length, take, drop, OnOk, IfErr, IfSome};
 ghost use Rattle.std.specs.Io.KnownBytes.{Keeps, Consumes, IsAtEnd, prepend_known};
@@ -8,9 +8,9 @@ use dfu_suffix::READ_BYTES;
 use std::io::Read;
 use std::marker::Model;
 
-/// A reader, and the bytes that were read from it and not taken yet.
+/// A reader, with a buffer for the bytes that were read from it and not taken yet.
 ///
-/// Contracts see it as a `PiecesState`.
+/// Contracts describe it as a `PiecesState`.
 #[derive(Drop)]
 pub(crate) struct Pieces<R: Read + Drop> {
     reader: R,
@@ -33,7 +33,7 @@ impl<R: Read + Drop> Model for Pieces<R> {
 }
 
 impl<R: Read + Drop> Pieces<R> {
-    /// Makes pieces of a reader, with nothing read yet.
+    /// Makes an empty buffer for a reader.
     pub(crate) fn new(reader: R) -> Pieces<R>
         ensures ready { result.ready ≡ [] }
         ensures left { result.left ≡ prepend_known [] (R.remaining reader) }
@@ -47,8 +47,8 @@ impl<R: Read + Drop> Pieces<R> {
         }
     }
 
-    /// Makes sure that a byte is at hand, unless the reader has none left. The call makes at most one read,
-    /// and none after the end was seen.
+    /// Reads into the buffer if it is empty, so that it holds a byte unless the reader is at its end. Makes at most one read, and none
+    /// after the end was reached.
     pub(crate) fn fill(&mut self) -> Result<(), ScriptFault>
         ensures left { Keeps self.old.left self.new.left }
         ensures front { IfSome self.new.left (λ left. length self.new.ready ≤ length left) }
@@ -69,14 +69,14 @@ impl<R: Read + Drop> Pieces<R> {
         }
     }
 
-    /// Returns the bytes at hand.
+    /// Returns the bytes in the buffer.
     pub(crate) fn ready(&self) -> &[u8]
         ensures { result.now ≡ self.now.ready }
     {
         &self.bytes[self.from..self.to]
     }
 
-    /// Takes `count` of the bytes at hand.
+    /// Takes the first `count` bytes from the buffer.
     pub(crate) fn advance(&mut self, count: usize)
         requires { count ≤ length self.old.ready }
         ensures ready { self.new.ready ≡ drop count self.old.ready }

@@ -1,4 +1,4 @@
-//! Reads a line by its first word, and after `go` by the fate.
+//! Parses a line by its first word, and a `go` line by its fate.
 
 ghost use Rattle.dfu_link.specs.Words.{ReadingMatches, words_of};
 ghost use Rattle.dfu_sim.specs.Happening.{fate_of, harm_of_fate};
@@ -17,10 +17,10 @@ use crate::scripting::words::{
 };
 use dfu_sim::{Fate, Purpose};
 
-/// Largest number of bytes of a line, without its 0Ah.
+/// Largest number of bytes of a line, without its line feed.
 pub(crate) const MAX_LINE: usize = 65_536;
 
-/// Reads the words of `go pass N` after the second word.
+/// Parses the word `N` after `go pass`.
 #[tactic(auto, unfolding(crate::specs::Lines::pass_content))]
 fn pass(line: &[u8]) -> Result<Line<'_, 'static>, LineFault>
     ensures { ReadMatches content_of_line result (pass_content (words_of line.now)) }
@@ -30,7 +30,7 @@ fn pass(line: &[u8]) -> Result<Line<'_, 'static>, LineFault>
     ended(Line::Do(EventLine::Go { fate, times }), 3, rest)
 }
 
-/// Returns the line of one action with `fate`, if no further word follows.
+/// Returns the line of one action with `fate`, or a fault if another word follows.
 fn once<'l>(fate: Fate<'l>, of: usize, rest: &[u8]) -> Result<Line<'l, 'static>, LineFault>
     ensures { ReadMatches content_of_line result (line_ends (Does (Go (fate_of fate.entry) (harm_of_fate fate.entry) 1)) of
         (words_of rest.now)) }
@@ -38,7 +38,7 @@ fn once<'l>(fate: Fate<'l>, of: usize, rest: &[u8]) -> Result<Line<'l, 'static>,
     ended(Line::Do(EventLine::Go { fate, times: 1 }), of, rest)
 }
 
-/// Reads the words of `go slip MS` after the second word.
+/// Parses the word `MS` after `go slip`.
 #[tactic(auto, unfolding(crate::specs::Lines::slip_content))]
 fn slip(line: &[u8]) -> Result<Line<'_, 'static>, LineFault>
     ensures { ReadMatches content_of_line result (slip_content (words_of line.now)) }
@@ -47,7 +47,7 @@ fn slip(line: &[u8]) -> Result<Line<'_, 'static>, LineFault>
     once(Fate::Slip(ms), 3, rest)
 }
 
-/// Reads the words of `go cut W HEX`, `go fail W HEX` or `go lie W HEX`, as `harm` says, after the second word.
+/// Parses the words `W HEX` after `go cut`, `go fail` or `go lie`.
 #[tactic(auto, unfolding(crate::specs::Lines::harmed_content))]
 fn harmed(harm: HarmKind, line: &[u8]) -> Result<Line<'_, 'static>, LineFault>
     ensures { ReadMatches content_of_line result (harmed_content (harm_fate harm) (words_of line.now)) }
@@ -58,7 +58,7 @@ fn harmed(harm: HarmKind, line: &[u8]) -> Result<Line<'_, 'static>, LineFault>
     ended(Line::Do(events), 4, rest)
 }
 
-/// Reads the words of `go until report` after the second word.
+/// Parses the word `report` after `go until`.
 #[tactic(auto, unfolding(crate::specs::Lines::until_content))]
 fn until(line: &[u8]) -> Result<Line<'_, 'static>, LineFault>
     ensures { ReadMatches content_of_line result (until_content (words_of line.now)) }
@@ -72,7 +72,7 @@ fn until(line: &[u8]) -> Result<Line<'_, 'static>, LineFault>
     ended(Line::Do(EventLine::GoOn), 3, rest)
 }
 
-/// Reads the words behind `go`, by the first of them.
+/// Parses the words after a fate or `until`.
 fn by_fate(keyword: FateKeyword, rest: &[u8]) -> Result<Line<'_, 'static>, LineFault>
     ensures { ReadMatches content_of_line result (content_by_fate keyword (words_of rest.now)) }
 {
@@ -90,7 +90,7 @@ fn by_fate(keyword: FateKeyword, rest: &[u8]) -> Result<Line<'_, 'static>, LineF
     }
 }
 
-/// Reads the words of a `go` line after the first word: a fate or `until`, and the words that belong to it.
+/// Parses the words after `go`: a fate or `until`, and the words that follow it.
 #[tactic(auto, unfolding(crate::specs::Lines::go_content))]
 fn go(line: &[u8]) -> Result<Line<'_, 'static>, LineFault>
     ensures { ReadMatches content_of_line result (go_content (words_of line.now)) }
@@ -104,7 +104,7 @@ fn go(line: &[u8]) -> Result<Line<'_, 'static>, LineFault>
     }
 }
 
-/// Reads a line by its first word.
+/// Parses a line whose first word is `keyword`. `rest` is the text after that word.
 fn by_keyword<'l, 'g>(
     given: Option<&'g [u8]>,
     keyword: Keyword,
@@ -137,7 +137,7 @@ fn by_keyword<'l, 'g>(
     }
 }
 
-/// Returns the meaning of a line, by the bytes that FILE means, or the fault of the line. A line of over 65,536 bytes is not one of the
+/// Returns the meaning of a line, or its fault. `given` holds the bytes that FILE stands for. A line of over 65,536 bytes is not one of the
 /// language.
 #[tactic(auto, unfolding(crate::specs::Lines::read_line))]
 fn read_line<'l, 'g>(given: Option<&'g [u8]>, line: &'l [u8]) -> Result<Line<'l, 'g>, LineFault>
@@ -160,8 +160,7 @@ fn read_line<'l, 'g>(given: Option<&'g [u8]>, line: &'l [u8]) -> Result<Line<'l,
     }
 }
 
-/// Returns the meaning of a line, by the bytes that FILE means, or None if the line is not one of the
-/// language.
+/// Returns the meaning of a line, or None if it is not one of the language. `given` holds the bytes that FILE stands for.
 #[tactic(auto, unfolding(crate::specs::Lines::line_of))]
 pub(crate) fn parse<'l, 'g>(given: Option<&'g [u8]>, line: &'l [u8]) -> Option<Line<'l, 'g>>
     ensures { ReadingMatches content_of_line result (line_of (given_bytes given.entry) line.now) }
@@ -172,7 +171,7 @@ pub(crate) fn parse<'l, 'g>(given: Option<&'g [u8]>, line: &'l [u8]) -> Option<L
     }
 }
 
-/// Counts the words of a line.
+/// Returns the number of words of a line.
 fn count_words(line: &[u8]) -> usize {
     let mut words: usize = 0;
     let mut is_in = false;
@@ -186,7 +185,7 @@ fn count_words(line: &[u8]) -> usize {
     words
 }
 
-/// Notes the fault of a line that is not one of the language, or that it has a byte outside 20h to 7Eh.
+/// Stores the reason why a line is not one of the language: a byte outside 20h to 7Eh, or else the fault of the line.
 pub(crate) fn note_line(stopped: &Stopped, given: Option<&[u8]>, line: &[u8]) {
     if !line.iter().all(|byte| matches!(*byte, b' '..=b'~')) {
         stopped.note_reason(Reason::Unprintable {

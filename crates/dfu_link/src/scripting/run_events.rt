@@ -1,8 +1,7 @@
-//! The lines of a script once the device is started.
+//! The lines of a script after the device is started.
 //!
-//! A `World` borrows the file that it was offered, so each file has a world of its own, as have the lines without a file before and
-//! after it. A world is made over the device and taken apart again for each of these, but not for each line, because a world has
-//! kilobytes.
+//! A `World` borrows the file that is offered to it. Each file therefore needs a new world, and so do the lines before and after the
+//! session of a file. No new world is made for each line, because a world takes several kilobytes.
 
 ghost use Rattle.std.specs.Prelude.{◌≡◌, ◌<◌, Ok, true, OnOk, IfOk, IfErr};
 ghost use Rattle.dfu_sim.specs.LinkView.{NoLiveSession};
@@ -20,7 +19,7 @@ use crate::scripting::line::{EventLine, Line};
 use crate::scripting::playing::{play_events, refuse_offer};
 use crate::scripting::reading::{note_line, parse};
 use crate::scripting::showing::{image_next, show_next};
-use crate::scripting::source::Source;
+use crate::scripting::source::LineReader;
 use crate::trace::Tracer;
 use dfu_device::Device;
 use dfu_host::Limits;
@@ -29,7 +28,7 @@ use dfu_slots::{Faulty, Medium};
 use std::alloc::Global;
 use std::io::{Read, Write};
 
-/// Performs line `line` with number `number`, except its events, which it returns.
+/// Performs the line with this number. The events of an event line are not applied but returned; any other line returns None.
 fn plain_line<'l, 'g, M: Medium, W: Write>(
     alloc: Global,
     device: &Device<M>,
@@ -66,7 +65,7 @@ fn plain_line<'l, 'g, M: Medium, W: Write>(
     }
 }
 
-/// Performs `line`, for which the link `world` was made. The link holds `file`, the file that the line offers, if it offers one.
+/// Performs the first line on the new link `world`. `file` is the file that the line offers; it is empty for any other line.
 fn first_line<'f, T: Tracer<M>, M: Faulty, W: Write>(
     alloc: Global,
     world: &mut World<'f, M>,
@@ -89,8 +88,8 @@ fn first_line<'f, T: Tracer<M>, M: Faulty, W: Write>(
     }
 }
 
-/// Performs `line`, which is not the first on its link. Returns true if the line is deferred, because it offers a file and no session is
-/// live.
+/// Performs a line that is not the first on its link. Returns true if the line is deferred to a new link, because it offers a file and no
+/// session is live.
 fn later_line<'f, T: Tracer<M>, M: Faulty, W: Write>(
     alloc: Global,
     world: &mut World<'f, M>,
@@ -124,21 +123,21 @@ fn later_line<'f, T: Tracer<M>, M: Faulty, W: Write>(
     }
 }
 
-/// Returns whether a link holds a file whose session is over.
+/// Returns true if the link has a file that is not empty, and no session is live.
 fn is_over<M: Faulty>(world: &World<'_, M>, file: &[u8]) -> bool
     ensures { result ≡ true → world.now.bench.session ≡ NoLiveSession }
 {
     !world.is_live() && !file.is_empty()
 }
 
-/// Performs the line that `source` gave, on the link `world` that was made for it, and the lines after it, until one offers a file while no
-/// session is live. A link that holds a file is left once its session is over. If no line is left, the line of the image is written.
-/// Returns true if the line that the source gave last is deferred.
+/// Performs the current line of `source` on the new link `world`, and the lines after it. Stops before a line that offers a file while no
+/// session is live. A link that has a file also stops before the first line after its session. After the last line, writes the line of the
+/// image. Returns true if the current line of `source` is deferred to a new link.
 fn run_link<'f, T: Tracer<M>, R: Read + Drop, M: Faulty, W: Write>(
     alloc: Global,
     world: &mut World<'f, M>,
     file: &'f [u8],
-    source: &mut Source<R>,
+    source: &mut LineReader<R>,
     context: &mut ScriptContext<'_>,
     writer: &mut W,
     tracer: &mut T,
@@ -183,18 +182,19 @@ fn run_link<'f, T: Tracer<M>, R: Read + Drop, M: Faulty, W: Write>(
     }
 }
 
-/// Performs the line that `source` gave and all after it, each on the link of the file that was offered last or on one that holds no file,
-/// and writes the line of the image.
+/// Performs the current line of `source` and all later ones, and writes the line of the image. Each line that `run_link` defers is the
+/// first line of a new link.
 fn run_links<T: Tracer<M>, R: Read + Drop, M: Faulty, W: Write>(
     alloc: Global,
     device: Device<M>,
-    source: &mut Source<R>,
+    source: &mut LineReader<R>,
     context: &mut ScriptContext<'_>,
     writer: &mut W,
     tracer: &mut T,
 ) -> Result<(), ScriptFault>
     requires { IsUnarmed device }
-    ensures ok { OnOk result ((s : SourceState) → SourceLine s source.old → SourceExhausted (point_of_context context.old (link_at_rest device)) s
+    ensures ok { OnOk result ((s : SourceState) → SourceLine s source.old →
+        SourceExhausted (point_of_context context.old (link_at_rest device)) s
         (W.contents writer.old) (W.contents writer.new)) }
     ensures fault { IfErr result (λ f. (s : SourceState) → SourceLine s source.old
         → LinesDoneThenFailure (point_of_context context.old (link_at_rest device)) s (W.contents writer.old) (W.contents writer.new) f) }
@@ -214,11 +214,11 @@ fn run_links<T: Tracer<M>, R: Read + Drop, M: Faulty, W: Write>(
     }
 }
 
-/// Performs the lines from the current one of `source` on, if `given` says that it gave one, and then writes the line of the image.
+/// If `given` is true, performs the current line of `source` and all later ones. In both cases, writes the line of the image at the end.
 pub(crate) fn run_on<T: Tracer<M>, R: Read + Drop, M: Faulty, W: Write>(
     alloc: Global,
     device: Device<M>,
-    source: &mut Source<R>,
+    source: &mut LineReader<R>,
     given: bool,
     context: ScriptContext<'_>,
     writer: &mut W,

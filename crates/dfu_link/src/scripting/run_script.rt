@@ -1,4 +1,4 @@
-//! Runs whole scripts.
+//! Runs whole scripts, from the configuration lines to the line of the image.
 
 ghost use Rattle.std.specs.Prelude.{IfOk, IfErr, IfSome, None};
 ghost use Rattle.dfu_link.specs.LineContent.{given_bytes};
@@ -13,7 +13,7 @@ use crate::scripting::line::Line;
 use crate::scripting::reading::{note_line, parse};
 use crate::scripting::run_events::run_on;
 use crate::scripting::script_config::{ScriptConfig, beginning, check_in, set, set_limits};
-use crate::scripting::source::Source;
+use crate::scripting::source::LineReader;
 use crate::scripting::starting::start;
 use crate::trace::{NoTrace, TraceWriter, Tracer};
 use dfu_host::Limits;
@@ -22,11 +22,12 @@ use dfu_slots::SimMedium;
 use std::alloc::Global;
 use std::io::{Read, Write};
 
-/// Performs the lines of `source` before the first event line, `show` or `expect`. Returns true if there is such a line.
+/// Performs the lines of `source` before the first event line, `show` or `expect`. Returns true if it stops at such a line, and false at
+/// the end of the text.
 fn configure<R: Read + Drop>(
     alloc: Global,
     setup: &mut ScriptConfig<'_>,
-    source: &mut Source<R>,
+    source: &mut LineReader<R>,
     stopped: &Stopped,
 ) -> Result<bool, ScriptFault>
     ensures ok { IfOk result (λ more. LinesConfigured (settings_of setup.old) source.old (settings_of setup.new) more source.new) }
@@ -53,7 +54,7 @@ fn configure<R: Read + Drop>(
     }
 }
 
-/// Runs the script that a reader gives; FILE means the bytes of `given`.
+/// Runs the script of a reader. `given` holds the bytes that FILE stands for.
 pub(super) fn run_lines<T: Tracer<SimMedium>, R: Read + Drop, W: Write>(
     alloc: Global,
     given: Option<&[u8]>,
@@ -65,7 +66,7 @@ pub(super) fn run_lines<T: Tracer<SimMedium>, R: Read + Drop, W: Write>(
     ensures { IfSome (R.remaining reader)
         (λ text. ScriptEnding (given_bytes given.entry) text (W.contents writer.old) (W.contents writer.new) result) }
 {
-    let mut source = Source::new(alloc, reader)?;
+    let mut source = LineReader::new(alloc, reader)?;
     let mut setup = beginning(given);
     let more = configure(alloc, &mut setup, &mut source, stopped)?;
     let device = start(alloc, &setup, stopped)?;
@@ -79,25 +80,24 @@ pub(super) fn run_lines<T: Tracer<SimMedium>, R: Read + Drop, W: Write>(
     run_on::<T, R, SimMedium, W>(alloc, device, &mut source, more, context, writer, tracer)
 }
 
-/// Runs a script: reads it line by line, and performs each line before the next one is read. Configuration
-/// lines set up a device, event lines bring events to a link of that device and a host, and the texts that
-/// they print are written; the line of the device's image comes last.
+/// Runs a script: reads it line by line, and performs each line before it reads the next one. Configuration lines configure a device, event
+/// lines apply events to the link of that device and a host, and the texts that they print are written. With Ok, the last line written is
+/// that of the device's image.
 ///
-/// In `offer` and `verify` the word FILE means the given bytes, which are not copied. If none are given, FILE
-/// is no word of the language.
+/// In `offer` and `verify` the word FILE stands for the given bytes, which are not copied. If none are given, FILE is not a word of the
+/// language.
 ///
-/// The fault of the script is noted in `stopped` if it stops at BadLine or BadConfig.
+/// If the script stops at BadLine or BadConfig, the reason is stored in `stopped`.
 ///
-/// The call keeps one line, one piece of 16,384 bytes that was read, and the file of the session that is
-/// live, however long the text is.
+/// Of the text, one line and one piece of 16,384 bytes are held in memory at a time, so this memory does not grow with the length of the
+/// text.
 ///
 /// # Errors
 ///
-/// `ScriptFault` has them. The first one in the order of the lines is returned, and the text of the lines
-/// before it is written whole. TooLarge is returned if the byte 16,777,217 comes before the end of a line,
-/// and before the byte of that line that is one too many; no read is made after that byte was read. Read is
-/// returned at the first error of the reader, with no second try. With BadConfig nothing is written; with
-/// Write a prefix of the text.
+/// See `ScriptFault`. The first fault in the order of the lines is returned, and the text of the lines before it is written completely.
+/// TooLarge is returned if byte 16,777,217 of the text is reached before the end of a line, and before byte 65,537 of that line; nothing is
+/// read after that byte was read. Read is returned at the first error of the reader, without a retry. With BadConfig nothing is written;
+/// with Write a prefix of the text is written.
 pub fn script_with<R: Read + Drop, W: Write>(
     alloc: Global,
     given: Option<&[u8]>,
@@ -105,29 +105,29 @@ pub fn script_with<R: Read + Drop, W: Write>(
     writer: &mut W,
     stopped: &Stopped,
 ) -> Result<(), ScriptFault>
-    // With Ok the written text is a run of the read text; a fault says where the run stopped, and which text was written by then.
+    // With Ok the written text is that of a run of the read text. A fault determines the line at which the run stopped, and the text that
+    // was written before it.
     ensures ended { IfSome (R.remaining reader)
         (λ text. ScriptEnding (given_bytes given.entry) text (W.contents writer.old) (W.contents writer.new) result) }
-    // The headline, for all of the text or as far as the script goes: each image is the factory image or a payload offered so far. If
-    // `report installed` or `report verified` is printed, the device is in appIDLE and exactly the payload of the last session is active.
-    // This clause relies only on the effect of each line.
+    // The headline, for the whole text or up to the line at which the script stopped: each printed image is the factory image or a payload
+    // offered so far. If `report installed` or `report verified` is printed, the device is in appIDLE and exactly the payload of the last
+    // session is active. This clause relies only on the effect of each line.
     ensures printed { IfSome (R.remaining reader)
         (λ text. HasPrinted (given_bytes given.entry) text (W.contents writer.old) (W.contents writer.new) result) }
 {
-    // Calls the law for its clause, which `printed` needs: the image that a bench shows is the only active
-    // one.
+    // The proof of `printed` needs the clause of this call: the image that a bench shows is the only active one.
     image_shown();
     run_lines::<NoTrace, R, W>(alloc, given, reader, writer, &mut NoTrace, stopped)
 }
 
-/// Runs a script as `script_with` does, and writes a line for each action of the host to `trace`, before the
-/// text that the action prints. The line has the number of the action, the phase of the host, its request, wait
-/// or reset, the fate, the answer of the device, the state of the device before and after, the writes of the
-/// medium, and the milliseconds since the start, once it is over. Such a line begins with `# `, and no line of
-/// `script_with` begins with `#`. The call also returns whether each line of the trace was written.
+/// Runs a script as `script_with` does, and writes a line for each action of the host to `trace`, before the text that the action prints.
+/// The line has the number of the action, the phase of the host, its request, wait or reset, the fate, the answer of the device, the state
+/// of the device before and after, the writes of the medium, and the milliseconds from the start of the script to the end of the action.
+/// Such a line begins with `# `, and no line of `script_with` begins with `#`. The call also returns true if every line of the trace was
+/// written.
 ///
-/// One line of the trace at a time takes memory. If there is none for a line, or `trace` fails, the script goes
-/// on, and no further line is written.
+/// Each line of the trace is built in memory. If there is no memory for a line, or `trace` fails, the script continues without any more
+/// lines of the trace.
 ///
 /// # Errors
 ///
@@ -145,8 +145,7 @@ pub fn script_traced_with<R: Read + Drop, W: Write, N: Write>(
     ensures printed { IfSome (R.remaining reader)
         (λ text. HasPrinted (given_bytes given.entry) text (W.contents writer.old) (W.contents writer.new) result.0) }
 {
-    // Calls the law for its clause, which `printed` needs: the image that a bench shows is the only active
-    // one.
+    // The proof of `printed` needs the clause of this call: the image that a bench shows is the only active one.
     image_shown();
     let mut trace_writer = TraceWriter::new(alloc, trace);
     let answer = run_lines::<TraceWriter<'_, N>, R, W>(
@@ -160,7 +159,7 @@ pub fn script_traced_with<R: Read + Drop, W: Write, N: Write>(
     (answer, !trace_writer.is_broken)
 }
 
-/// Runs a script as `script_with` does, with no bytes given, so FILE is no word of the language.
+/// Runs a script as `script_with` does, with no bytes given, so that FILE is not a word of the language.
 ///
 /// # Errors
 ///
@@ -170,12 +169,13 @@ pub fn script<R: Read + Drop, W: Write>(
     reader: R,
     writer: &mut W,
 ) -> Result<(), ScriptFault>
-    // With Ok the written text is a run of the read text; a fault says where the run stopped, and which text was written by then.
+    // With Ok the written text is that of a run of the read text. A fault determines the line at which the run stopped, and the text that
+    // was written before it.
     ensures ended { IfSome (R.remaining reader)
         (λ text. ScriptEnding None text (W.contents writer.old) (W.contents writer.new) result) }
-    // The headline, for all of the text or as far as the script goes: each image is the factory image or a payload offered so far. If
-    // `report installed` or `report verified` is printed, the device is in appIDLE and exactly the payload of the last session is active.
-    // This clause relies only on the effect of each line.
+    // The headline, for the whole text or up to the line at which the script stopped: each printed image is the factory image or a payload
+    // offered so far. If `report installed` or `report verified` is printed, the device is in appIDLE and exactly the payload of the last
+    // session is active. This clause relies only on the effect of each line.
     ensures printed { IfSome (R.remaining reader)
         (λ text. HasPrinted None text (W.contents writer.old) (W.contents writer.new) result) }
 {

@@ -1,4 +1,4 @@
-//! The lines of reports and of refused events.
+//! Writes the lines of reports and of refused events.
 
 ghost use Rattle.std.specs.Prelude.{◌≡◌};
 ghost use Rattle.dfu_link.specs.inside.Expected.{expectation_of, WriteEnds, PrintEnds};
@@ -59,7 +59,7 @@ fn say_refusal<W: Write>(writer: &mut W, fault: LinkFault) -> Result<(), ScriptF
     }
 }
 
-/// Writes the text of an event's answer, which may be empty; `uploaded` are the bytes of the last upload.
+/// Writes the text of an event's answer, which may be empty. `uploaded` holds the bytes of the last upload.
 #[tactic(auto, using(crate::proofs::WriteLaws::no_text_is_written))]
 pub(crate) fn say<W: Write>(
     writer: &mut W,
@@ -75,8 +75,7 @@ pub(crate) fn say<W: Write>(
     }
 }
 
-/// Writes the text of an event's answer, and compares it with the expected line, if there is one. For that the text is put into memory
-/// first.
+/// Writes the text of an event's answer. If a line is expected, the text is first stored in memory and compared with that line.
 pub(crate) fn say_next<W: Write>(
     writer: &mut W,
     next: &mut Option<Expectation>,

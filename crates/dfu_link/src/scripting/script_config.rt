@@ -13,7 +13,7 @@ use dfu_slots::Unit;
 use dfu_wire::{Functional, Ids};
 use std::alloc::Global;
 
-/// The number of the last line that sets each of these, 0 if no line does.
+/// For each of these settings, the number of the last line that sets it, or 0 if no line does.
 #[derive(Clone, Copy)]
 pub(crate) struct SetLines {
     pub device: u32,
@@ -24,9 +24,9 @@ pub(crate) struct SetLines {
 }
 
 /// Settings of a script: the numbers that `Config::new` takes, the unit in which the medium is written and the sectors in which it is
-/// erased, the milliseconds of an erase and of a program of 256 bytes, the most bytes of an image, the image at first (the byte 00 if there
-/// is none), the first bytes of each image that the program takes (any if there are none), the limits of sessions, the bytes that FILE
-/// means, and the numbers of the lines that set something.
+/// erased, the milliseconds of an erase and of a program of 256 bytes, the largest number of bytes of an image, the image at the start (the
+/// byte 00 if None), the first bytes of each image that the program accepts (None accepts every image), the limits of sessions, the bytes
+/// that FILE stands for, and the numbers of the lines that set values.
 #[derive(Drop)]
 pub(crate) struct ScriptConfig<'g> {
     pub ids: Ids,
@@ -82,8 +82,8 @@ pub(crate) fn beginning(given: Option<&[u8]>) -> ScriptConfig<'_>
     }
 }
 
-/// Sets the values of the configuration line `setting`, whose number is `number`, in `setup`. An image and the bytes of a check take
-/// memory.
+/// Sets the values of the configuration line `setting`, whose number is `number`, in `setup`. Allocates memory for an image and for the
+/// bytes of a check.
 pub(crate) fn set(
     alloc: Global,
     setup: &mut ScriptConfig<'_>,
@@ -123,14 +123,14 @@ pub(crate) fn set(
     Ok(())
 }
 
-/// Sets the limits of sessions.
+/// Sets the limits of the sessions that begin later.
 pub(crate) fn set_limits(setup: &mut ScriptConfig<'_>, limits: Limits)
     ensures { settings_of setup.new ≡ record (settings_of setup.old) { limits = limits } }
 {
     setup.limits = limits;
 }
 
-/// Returns the first bytes of each image that the program takes.
+/// Returns the first bytes of each image that the program accepts; empty if it accepts every image.
 pub(crate) fn check_in<'s>(setup: &'s ScriptConfig<'_>) -> &'s [u8]
     ensures { result.now ≡ check_bytes setup.now.check }
 {

@@ -1,4 +1,4 @@
-//! Faults of settings with which no device can be set up.
+//! Faults of settings with which no device can be configured.
 
 ghost use Rattle.std.specs.Prelude.{IfSome};
 ghost use Rattle.dfu_link.specs.inside.SetupFaults.{HasRoomFault};
@@ -8,29 +8,29 @@ use crate::scripting::script_config::ScriptConfig;
 use crate::scripting::starting::{cuts_sector, device_config, first_image};
 use dfu_device::ConfigFault;
 
-/// Largest number of milliseconds of a poll time, which has 24 bits.
+/// Largest poll time in milliseconds, because bwPollTimeout has 24 bits.
 const MAX_POLL: u32 = 16_777_215;
 
-/// A fault for which no device can be set up. The faults are checked in this order.
+/// Fault of the settings that prevents the configuration of a device. The faults are checked in this order.
 #[derive(Clone, Copy)]
 pub enum SetupFault {
     /// The transfer size isn't 1 to 4,096 bytes.
     Transfer,
-    /// The milliseconds of a block, or of putting an image in place, are over 16,777,215.
+    /// The time of a block, or of manifestation, is over 16,777,215 milliseconds.
     Poll,
-    /// The milliseconds to put an image in place are 0, on a device that isn't tolerant of manifestation.
+    /// The time of manifestation is 0, but the device isn't manifestation tolerant.
     NoTime,
-    /// The fewest bytes of an image aren't 1 to 16,777,216.
+    /// The least length of an image isn't 1 to 16,777,216 bytes.
     Least,
-    /// The capacity is no multiple of the unit.
+    /// The capacity is not a multiple of the unit.
     Unit,
-    /// The capacity is no multiple of the sector.
+    /// The capacity is not a multiple of the sector.
     Sector,
-    /// The image at first has more bytes than the capacity.
+    /// The image at the start has more bytes than the capacity.
     Image,
 }
 
-/// Returns the fault of the settings for which `Config::new` gives `fault`.
+/// Returns the fault of settings that `Config::new` refuses with `fault`.
 fn device_fault(setup: &ScriptConfig<'_>, fault: ConfigFault) -> SetupFault {
     match fault {
         ConfigFault::BadTransfer => SetupFault::Transfer,
@@ -45,7 +45,7 @@ fn device_fault(setup: &ScriptConfig<'_>, fault: ConfigFault) -> SetupFault {
     }
 }
 
-/// Returns the first fault of the capacity, if it has one.
+/// Returns the first fault that involves the capacity, if there is one.
 fn room_fault(setup: &ScriptConfig<'_>) -> Option<SetupFault>
     ensures { IfSome result (λ fault. HasRoomFault fault (settings_of setup.now)) }
 {
@@ -70,7 +70,8 @@ pub(crate) fn setup_fault(setup: &ScriptConfig<'_>) -> Option<SetupFault> {
     }
 }
 
-/// Returns the number of the line that sets a value with this fault: of two lines the later one, and 0 if no line sets one.
+/// Returns the number of the line that causes this fault. If two lines cause the fault together, this is the later one. If no line does, it
+/// is 0.
 pub(crate) fn line_of_fault(setup: &ScriptConfig<'_>, fault: SetupFault) -> u32 {
     let lines = setup.lines;
     match fault {

@@ -1,4 +1,4 @@
-//! The lines of a device: its image, and `show`.
+//! Writes the line of a device's image, and the line of `show`.
 
 ghost use Rattle.std.specs.Prelude.{◌+◌, ◌≤◌, ◌++◌, ◌∷◌, [], length, slice_range};
 ghost use Rattle.hex.specs.Hex.{encode_lower};
@@ -13,7 +13,7 @@ use dfu_device::Device;
 use dfu_slots::{Medium, Slots};
 use std::io::Write;
 
-/// Writes `len` bytes of the image from `at` on as digits.
+/// Writes `len` bytes of the image, beginning at offset `at`, as hexadecimal digits.
 fn write_piece<M: Medium, W: Write>(
     writer: &mut W,
     slots: &Slots<M>,
@@ -31,7 +31,7 @@ fn write_piece<M: Medium, W: Write>(
     write_digits(writer, &bytes[..len])
 }
 
-/// Writes the digits of an image, piece by piece.
+/// Writes an image as hexadecimal digits, in pieces of at most 256 bytes.
 fn write_pieces<M: Medium, W: Write>(writer: &mut W, slots: &Slots<M>) -> Result<(), ScriptFault>
     ensures { WriteEnds (encode_lower (image_of slots.now)) (W.contents writer.old) (W.contents writer.new) result }
 {
@@ -45,7 +45,7 @@ fn write_pieces<M: Medium, W: Write>(writer: &mut W, slots: &Slots<M>) -> Result
     Ok(())
 }
 
-/// Writes the image of a slot store as a script prints bytes, and ends the line.
+/// Writes the image of a slot store as hexadecimal digits, or `-` if it is empty, and a line feed.
 fn write_hex<M: Medium, W: Write>(writer: &mut W, slots: &Slots<M>) -> Result<(), ScriptFault>
     ensures { WriteEnds (hex_text (image_of slots.now) ++ 10 ∷ []) (W.contents writer.old) (W.contents writer.new) result }
 {
@@ -88,8 +88,8 @@ pub(crate) fn write_show<M: Medium, W: Write>(
     write_image(writer, device)
 }
 
-/// Writes the line of the device's image, and compares it with the expected line, if there is one. For that the line is put into memory
-/// first.
+/// Writes the line of the device's image. If a line is expected, the image line is first stored in memory and compared with the expected
+/// line.
 pub(crate) fn image_next<M: Medium, W: Write>(
     writer: &mut W,
     next: &mut Option<Expectation>,
@@ -108,7 +108,7 @@ pub(crate) fn image_next<M: Medium, W: Write>(
     write_next(writer, next, &line)
 }
 
-/// Writes the line of `show`, and compares it with the expected line, if there is one. For that the line is put into memory first.
+/// Writes the line of `show`. If a line is expected, the line of `show` is first stored in memory and compared with the expected line.
 pub(crate) fn show_next<M: Medium, W: Write>(
     writer: &mut W,
     next: &mut Option<Expectation>,

@@ -1,4 +1,4 @@
-//! The lines of a script, in their order.
+//! Reads the lines of a script, one by one.
 
 ghost use Rattle.std.specs.Prelude.{◌≡◌, ◌≤◌, ◌<◌, ◌+◌, ◌++◌, ℕ, List, Option, [], length, vec_capacity, IfOk, IfErr, Ok, true};
 ghost use Rattle.std.specs.Io.KnownBytes.{prepend_known};
@@ -16,20 +16,19 @@ use std::marker::Model;
 /// Largest number of bytes of a text.
 const MAX_TEXT: u32 = 16_777_216;
 
-/// Text that a reader gives, line by line. It holds the line that was given last, in a buffer that is reserved once, and of the text no
-/// more than a piece.
+/// Reads a text line by line. Holds the current line in a buffer that is reserved once, and at most one piece of the text after that line.
 ///
-/// Contracts see it as a `SourceState`.
+/// Contracts describe it as a `SourceState`.
 #[derive(Drop)]
-pub(crate) struct Source<R: Read + Drop> {
+pub(crate) struct LineReader<R: Read + Drop> {
     pieces: Pieces<R>,
-    // Bytes that may still be taken.
+    // Number of bytes of the text that the source may still take.
     room: u32,
     number: u32,
     line: Vec<u8>,
 }
 
-impl<R: Read + Drop> Model for Source<R> {
+impl<R: Read + Drop> Model for LineReader<R> {
     ghost use Rattle.std.specs.Prelude.{◌≤◌, ◌+◌, vec_capacity};
     ghost use Rattle.dfu_link.specs.inside.Source.{SourceState};
 
@@ -40,14 +39,14 @@ impl<R: Read + Drop> Model for Source<R> {
     ghost invariant = { λ s. (s.number + s.room ≤ 16777216) × (65537 ≤ vec_capacity s.line) };
 }
 
-/// Returns the place of the first newline; None if there is none.
+/// Returns the index of the first line feed; None if there is none.
 fn newline_at(text: &[u8]) -> Option<usize>
     ensures { result ≡ position is_newline text.now }
 {
     text.iter().position(|byte| *byte == b'\n')
 }
 
-/// The number of bytes that were taken, and true if the last one is the 0Ah of the line.
+/// Bytes that `take_piece` took. `ended` is true if the last one is a line feed.
 #[derive(Clone, Copy)]
 struct Taken {
     bytes: u32,
@@ -66,15 +65,15 @@ fn put(line: &mut Vec<u8>, piece: &[u8])
     };
 }
 
-/// Takes the bytes of the line among those at hand, up to its 0Ah: at most `most`, and no more than make the line
-/// one byte longer than a line may be.
+/// Takes bytes of the current line from the buffer of `pieces`, up to its line feed, and appends them to `line` without the line feed.
+/// Takes at most `most` bytes, and no more than one byte beyond the longest line.
 fn take_piece<R: Read + Drop>(pieces: &mut Pieces<R>, most: u32, line: &mut Vec<u8>) -> Taken
     requires ready { 0 < length pieces.old.ready }
     requires most { 0 < most }
     requires short { length line.old.items ≤ 65536 }
     requires capacity { 65537 ≤ vec_capacity line.old }
     ensures takes { PieceRead pieces.old.left line.old.items result.bytes result.ended pieces.new.left line.new.items }
-    ensures most { result.bytes ≤ most }
+    ensures within_limit { result.bytes ≤ most }
     ensures capacity { vec_capacity line.old ≤ vec_capacity line.new }
 {
     let ready = pieces.ready();
@@ -102,7 +101,7 @@ fn take_piece<R: Read + Drop>(pieces: &mut Pieces<R>, most: u32, line: &mut Vec<
     }
 }
 
-/// Reads the line after `before` others into `line`, and returns whether there was one.
+/// Reads line `before` + 1 into `line`. Returns true if there is such a line.
 fn read_line<R: Read + Drop>(
     pieces: &mut Pieces<R>,
     room: &mut u32,
@@ -139,16 +138,16 @@ fn read_line<R: Read + Drop>(
     }
 }
 
-impl<R: Read + Drop> Source<R> {
-    /// Makes a source of all that a reader gives, with nothing read yet.
-    pub(crate) fn new(alloc: Global, reader: R) -> Result<Source<R>, ScriptFault>
+impl<R: Read + Drop> LineReader<R> {
+    /// Makes a source for all bytes of `reader`. None of them is read yet.
+    pub(crate) fn new(alloc: Global, reader: R) -> Result<LineReader<R>, ScriptFault>
         ensures ok { IfOk result (λ s. (s.left ≡ prepend_known [] (R.remaining reader)) × (s.room ≡ 16777216) × (s.number ≡ 0)) }
         ensures fault { IfErr result (λ f. f ≡ ScriptFault.NoMemory) }
     {
         let Ok(line) = Vec::with_capacity(alloc, MAX_LINE + 1) else {
             return Err(ScriptFault::NoMemory);
         };
-        Ok(Source {
+        Ok(LineReader {
             pieces: Pieces::new(reader),
             room: MAX_TEXT,
             number: 0,
@@ -156,26 +155,26 @@ impl<R: Read + Drop> Source<R> {
         })
     }
 
-    /// Returns the line that was given last, without its 0Ah.
+    /// Returns the current line, without its line feed.
     pub(crate) fn line(&self) -> &[u8]
         ensures { result.now ≡ self.now.line }
     {
         &self.line
     }
 
-    /// Returns the number of the line that was given last, counted from 1.
+    /// Returns the number of the current line, counted from 1.
     pub(crate) fn number(&self) -> u32
         ensures { result ≡ self.now.number }
     {
         self.number
     }
 
-    /// Moves to the next line. Returns true if there is one.
+    /// Reads the next line. Returns true if there is one.
     ///
     /// # Errors
     ///
-    /// BadLine if the line has over 65,536 bytes, TooLarge if the byte past the limit of the text comes before that and before its 0Ah,
-    /// Read if the reader fails.
+    /// BadLine if the line has over 65,536 bytes, TooLarge if the text exceeds its limit before that and before the line feed, Read if the
+    /// reader fails.
     pub(crate) fn next(&mut self) -> Result<bool, ScriptFault>
         ensures ok { IfOk result (λ more. NextLineOrEnd self.old more self.new) }
         ensures fault { IfErr result (λ f. (given : Option (List ℕ)) → SourceStops given self.old f) }

@@ -1,4 +1,4 @@
-//! The start of the device.
+//! Start of a script's device, on a medium that is formatted with its image.
 
 ghost use Rattle.std.specs.Prelude.{◌≡◌, ◌≢◌, ◌<◌, ◌+◌, ◌*◌, ◌%◌, IfOk, IfErr, true, false};
 ghost use Rattle.dfu_slots.specs.Units.{gate_room, IsMultiple};
@@ -19,7 +19,7 @@ use dfu_device::{Config, ConfigFault, Device, Pace};
 use dfu_slots::{FormatFault, SimMedium, Slots, Unit};
 use std::alloc::Global;
 
-/// Returns the bytes that a hexadecimal text spells.
+/// Returns the bytes of a hexadecimal text.
 pub(crate) fn bytes_of(alloc: Global, text: HexText<'_>) -> Result<Vec<u8>, ScriptFault>
     ensures ok { IfOk result (λ v. v.items ≡ hex_bytes text.entry) }
     ensures fault { IfErr result (λ f. f ≡ ScriptFault.NoMemory) }
@@ -33,7 +33,7 @@ pub(crate) fn bytes_of(alloc: Global, text: HexText<'_>) -> Result<Vec<u8>, Scri
     }
 }
 
-/// Returns the image that the device has at first.
+/// Returns the image of the device at the start.
 pub(crate) fn first_image<'s>(setup: &'s ScriptConfig<'_>) -> &'s [u8]
     ensures { result.now ≡ image_bytes setup.now.image }
 {
@@ -43,7 +43,7 @@ pub(crate) fn first_image<'s>(setup: &'s ScriptConfig<'_>) -> &'s [u8]
     }
 }
 
-/// Returns the length in bytes of a medium of two slots, by its unit, its sectors and its room for images.
+/// Returns the length in bytes of a medium of two slots, each with a gate, a header and `room` bytes for an image.
 fn medium_len(unit: Unit, sector: Sector, room: Room) -> u32
     ensures value { result ≡ 2 * (2 * gate_room (setup_grain unit sector) + room.bytes) }
     ensures whole { IsMultiple unit room.bytes → IsMultiple unit result }
@@ -51,7 +51,7 @@ fn medium_len(unit: Unit, sector: Sector, room: Room) -> u32
     2 * (2 * unit.size().max(16).max(sector.bytes) + room.bytes)
 }
 
-/// Returns whether the medium has sectors, and the room is no multiple of them.
+/// Returns true if the medium has sectors and the room is not a multiple of a sector.
 pub(crate) fn cuts_sector(sector: Sector, room: Room) -> bool
     ensures cuts { result ≡ true → (0 < sector.bytes) × (room.bytes % sector.bytes ≢ 0) }
     ensures whole { result ≡ false → 0 < sector.bytes → room.bytes % sector.bytes ≡ 0 }
@@ -59,8 +59,8 @@ pub(crate) fn cuts_sector(sector: Sector, room: Room) -> bool
     sector.bytes > 0 && room.bytes % sector.bytes != 0
 }
 
-/// Makes a medium in memory, formatted with the image; BadConfig if the room is no multiple of the unit or of the sector, or the image is
-/// longer than the room.
+/// Makes a medium in memory, formatted with the image. Returns BadConfig if the room is not a multiple of the unit or of the sector, or if
+/// the image is longer than the room.
 fn form(
     alloc: Global,
     unit: Unit,
@@ -138,7 +138,7 @@ fn start_device(alloc: Global, setup: &ScriptConfig<'_>) -> Result<Device<SimMed
     Ok(Device::start(config, slots))
 }
 
-/// Starts the device, in appIDLE on a formatted medium in memory. If none can be set up, the reason is noted.
+/// Starts the device, in appIDLE on a formatted medium in memory. If the settings have a fault, the reason is stored in `stopped`.
 pub(crate) fn start(
     alloc: Global,
     setup: &ScriptConfig<'_>,

@@ -1,4 +1,4 @@
-//! Words of a line: where they are and where they end, numbers, and keywords.
+//! Words of a line: their bounds, numbers, and keywords.
 
 ghost use Rattle.std.specs.Prelude.{◌≡◌, ◌≤◌, ◌+◌, ◌*◌, Some, None, IfSome};
 ghost use Rattle.std.specs.List.{position};
@@ -12,21 +12,21 @@ ghost use Rattle.dfu_link.specs.Keywords.{keyword_of, later_keyword_of, fate_key
 use crate::scripting::fault::LineFault;
 use crate::scripting::line::Line;
 
-/// Returns the place of the first space; None if there is none.
+/// Returns the index of the first space; None if there is none.
 fn space_at(line: &[u8]) -> Option<usize>
     ensures { result ≡ position is_space line.now }
 {
     line.iter().position(|byte| *byte == b' ')
 }
 
-/// Returns the place of the first byte that isn't a space; None if there is none.
+/// Returns the index of the first byte that isn't a space; None if there is none.
 fn start_at(line: &[u8]) -> Option<usize>
     ensures { result ≡ position is_no_space line.now }
 {
     line.iter().position(|byte| *byte != b' ')
 }
 
-/// Returns the first word, and the line after it; None if the line has no word.
+/// Returns the first word and the rest of the line; None if the line has no word.
 pub(crate) fn word_at(line: &[u8]) -> Option<(&[u8], &[u8])>
     ensures { ReadingMatches (λ x. (x.0.now, words_of x.1.now)) result (first_word (words_of line.now)) }
 {
@@ -38,7 +38,7 @@ pub(crate) fn word_at(line: &[u8]) -> Option<(&[u8], &[u8])>
     }
 }
 
-/// Returns the text behind the first word and one space; None if the line has no word, or no space after it.
+/// Returns the text after the first word and one space; None if the line has no word, or no space after it.
 #[tactic(auto, unfolding(crate::specs::Words::text_behind))]
 pub(crate) fn text_behind(line: &[u8]) -> Option<&[u8]>
     ensures { ReadingMatches (λ x. x.now) result (text_behind line.now) }
@@ -50,14 +50,14 @@ pub(crate) fn text_behind(line: &[u8]) -> Option<&[u8]>
     Some(text)
 }
 
-/// Returns whether a word is the text.
+/// Returns true if a word equals the text.
 pub(crate) fn is_word(word: &[u8], text: &[u8]) -> bool
     ensures { result ≡ bytes_eq word.now text.now }
 {
     word == text
 }
 
-/// Returns whether a line with `word` as its first word is a comment.
+/// Returns true if a line that begins with `word` is a comment.
 pub(crate) fn is_comment(word: &[u8]) -> bool
     ensures { result ≡ is_comment word.now }
 {
@@ -67,8 +67,8 @@ pub(crate) fn is_comment(word: &[u8]) -> bool
     }
 }
 
-/// Returns the meaning of a line that has no further word. Else its fault: a comment follows, or the line must
-/// have `of` words.
+/// Returns `said` if `rest` has no word. Otherwise returns Comment if a comment follows, or else Count, because the line must have `of`
+/// words.
 pub(crate) fn ended<'l, 'g>(
     said: Line<'l, 'g>,
     of: usize,
@@ -88,7 +88,7 @@ pub(crate) fn ended<'l, 'g>(
     }
 }
 
-/// Reads `word` as a number of 1 to 10 decimal digits, at most 4,294,967,295; None if it is anything else.
+/// Parses `word` as a number of 1 to 10 decimal digits, at most 4,294,967,295; None if it is anything else.
 pub(crate) fn number(word: &[u8]) -> Option<u32>
     ensures { ReadingMatches (λ n. n) result (number_of word.now) }
 {
@@ -108,28 +108,28 @@ pub(crate) fn number(word: &[u8]) -> Option<u32>
     }
 }
 
-/// Reads `word` as a number of at most `most`; None if it is anything else.
+/// Parses `word` as a number of at most `most`; None if it is anything else.
 #[tactic(auto, unfolding(crate::specs::Fields::number_at_most), using(std::proofs::lemmas::Bool::Decides::nat_tests))]
 pub(crate) fn small(word: &[u8], most: u32) -> Option<u32>
     ensures read { ReadingMatches (λ n. n) result (number_at_most most word.now) }
-    ensures most { IfSome result (λ n. n ≤ most) }
+    ensures within_limit { IfSome result (λ n. n ≤ most) }
 {
     let n = number(word)?;
     if n <= most { Some(n) } else { None }
 }
 
-/// Reads `word` as a number from 1 to `most`; None if it is anything else.
+/// Parses `word` as a number from 1 to `most`; None if it is anything else.
 #[tactic(auto, unfolding(crate::specs::Fields::count_of), using(std::proofs::lemmas::Bool::Decides::nat_tests))]
 pub(crate) fn count(word: &[u8], most: u32) -> Option<u32>
     ensures read { ReadingMatches (λ n. n) result (count_of most word.now) }
     ensures some { IfSome result (λ n. 1 ≤ n) }
-    ensures most { IfSome result (λ n. n ≤ most) }
+    ensures within_limit { IfSome result (λ n. n ≤ most) }
 {
     let n = small(word, most)?;
     if n > 0 { Some(n) } else { None }
 }
 
-/// Gives the first variant of the table whose text equals the word; `$none` if no text does.
+/// Evaluates to the first variant of the table whose text equals the word, or to `$none` if no text does.
 macro_rules! one_of {
     ($word:ident, $of:ident, $none:expr, { $text:literal => $variant:ident, $($texts:literal => $variants:ident,)* }) => {
         if is_word($word, $text) {
@@ -144,7 +144,7 @@ macro_rules! one_of {
 
 pub(crate) use one_of;
 
-/// The first word of a line.
+/// First word of a line.
 #[derive(Clone, Copy)]
 pub(crate) enum Keyword {
     Ids,
@@ -169,7 +169,7 @@ pub(crate) enum Keyword {
     Refuse,
 }
 
-/// The word after `go`.
+/// Word after `go`.
 #[derive(Clone, Copy)]
 pub(crate) enum FateKeyword {
     Pass,
@@ -184,7 +184,7 @@ pub(crate) enum FateKeyword {
     Until,
 }
 
-/// Returns the keyword that `word` is, if it is one from `limits` on; else None, as for `ids`.
+/// Returns the keyword of `word`, if it is one of `limits` to `refuse`, the later ones of the list; None for any other word.
 #[tactic(auto, unfolding(crate::specs::Keywords::later_keyword_of))]
 fn read_later_keyword(word: &[u8]) -> Option<Keyword>
     ensures { result ≡ later_keyword_of word.now }
@@ -206,7 +206,7 @@ fn read_later_keyword(word: &[u8]) -> Option<Keyword>
     })
 }
 
-/// Returns the keyword that `word` is, the first word of a line; None if it is no keyword.
+/// Returns the keyword of a line's first word; None if it is not a keyword.
 #[tactic(auto, unfolding(crate::specs::Keywords::keyword_of))]
 pub(crate) fn read_keyword(word: &[u8]) -> Option<Keyword>
     ensures { result ≡ keyword_of word.now }
@@ -222,7 +222,7 @@ pub(crate) fn read_keyword(word: &[u8]) -> Option<Keyword>
     })
 }
 
-/// Returns the keyword that `word` is, the word after `go`; None if it is no keyword.
+/// Returns the keyword of the word after `go`; None if it is not a keyword.
 #[tactic(auto, unfolding(crate::specs::Keywords::fate_keyword_of))]
 pub(crate) fn read_fate(word: &[u8]) -> Option<FateKeyword>
     ensures { result ≡ fate_keyword_of word.now }

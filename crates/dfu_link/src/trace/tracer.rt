@@ -1,4 +1,4 @@
-//! A trace of a script has a line for each action of the host. Its writer changes neither the run nor its printed text.
+//! The trace of a script, with a line for each action of the host. Its writer changes neither the run nor its printed text.
 
 use crate::trace::words::Words;
 use dfu_device::Answer;
@@ -10,7 +10,7 @@ use dfu_wire::{Request, Setup, State};
 use std::alloc::Global;
 use std::io::Write;
 
-/// Returns the milliseconds that pass in an action: those of a slip, or else of a wait; 0 for any other action.
+/// Returns the milliseconds that pass in an action: those of a slip, else those of a wait, else 0.
 fn time_of(action: Action<'_>, fate: Fate<'_>) -> u32 {
     match (action, fate) {
         (_, Fate::Slip(ms)) => ms,
@@ -19,7 +19,7 @@ fn time_of(action: Action<'_>, fate: Fate<'_>) -> u32 {
     }
 }
 
-/// Numbers of a line of the trace: the number of its action, from 1 on, and the milliseconds since the start.
+/// Numbers of a line of the trace: the number of its action, counted from 1, and the milliseconds since the start of the script.
 #[derive(Clone, Copy)]
 pub(crate) struct Count {
     pub number: u64,
@@ -32,11 +32,11 @@ pub(crate) struct Snapshot<'f> {
     pub phase: Phase,
     pub action: Action<'f>,
     pub state: State,
-    /// Number of writes that its medium had made.
+    /// Number of writes that the medium had made before the action.
     pub writes: u64,
 }
 
-/// Returns the request of `action`; NotDfu if it sends none.
+/// Returns the request of `action`, or NotDfu if it sends none.
 fn request_in(action: Action<'_>) -> Request {
     match action {
         Action::Send { setup, .. } => Setup::decode(&setup).request(),
@@ -44,7 +44,7 @@ fn request_in(action: Action<'_>) -> Request {
     }
 }
 
-/// Adds the bytes of an answer: a status for GETSTATUS, a state for GETSTATE, and only their number for any other request.
+/// Appends the bytes of an answer: a status for GETSTATUS, a state for GETSTATE, and only their number for any other request.
 fn push_bytes(line: &mut Words, request: Request, out: &[u8]) {
     match request {
         Request::GetStatus { .. } => line.push_status(out),
@@ -59,7 +59,7 @@ fn push_bytes(line: &mut Words, request: Request, out: &[u8]) {
     }
 }
 
-/// Adds the device's answer to an action: `ack`, `stall`, the bytes, or `-` for none.
+/// Appends the device's answer to an action: `ack`, `stall`, the bytes, or `-` for none.
 fn push_device_answer(line: &mut Words, action: Action<'_>, answered: Option<(Answer, &[u8])>) {
     match answered {
         Some((Answer::Ack, _)) => line.push("ack"),
@@ -69,7 +69,7 @@ fn push_device_answer(line: &mut Words, action: Action<'_>, answered: Option<(An
     }
 }
 
-/// Adds the answer of the device; after a cut of the power there is none.
+/// Appends the answer of the device, or `-` after a cut of the power.
 fn push_answer(
     line: &mut Words,
     action: Action<'_>,
@@ -82,13 +82,13 @@ fn push_answer(
     }
 }
 
-/// Adds `; ` and the name of a state.
+/// Appends `; ` and the name of a state.
 fn push_state_name(line: &mut Words, state: State) {
     line.push("; ");
     line.push(state.name());
 }
 
-/// Adds the action: its number, the phase of the host, its request, wait or reset, and the fate.
+/// Appends the action: its number, the phase of the host, the request, wait or reset, and the fate.
 fn push_asked_action(line: &mut Words, number: u64, before: &Snapshot<'_>, fate: Fate<'_>) {
     line.push_number("# ", number);
     line.push(" ");
@@ -99,8 +99,7 @@ fn push_asked_action(line: &mut Words, number: u64, before: &Snapshot<'_>, fate:
     line.push_fate(fate);
 }
 
-/// Adds the result of the action: the answer, the state of the device before and after, the writes of its medium, and
-/// the time.
+/// Appends the result of the action: the answer, the state of the device before and after, the writes of its medium, and the time.
 fn push_result(
     line: &mut Words,
     ms: u64,
@@ -119,7 +118,7 @@ fn push_result(
     line.push(" ms\n");
 }
 
-/// Returns the line of an action, from its number to the time, if there was memory for it.
+/// Returns the line of an action, from its number to the time, or None if there is no memory for it.
 fn step_line(
     alloc: Global,
     count: Count,
@@ -133,19 +132,19 @@ fn step_line(
     line.into_text()
 }
 
-/// Tracer of a run, which sees the link before and after each action of the host.
+/// Tracer of a run. It gets the link before and after each action of the host.
 pub(crate) trait Tracer<M: Faulty> {
     /// Returns the state of a link before an action of its host, if a session is live.
     fn snapshot<'f>(&self, world: &World<'f, M>) -> Option<Snapshot<'f>>;
 
-    /// Writes an action with its fate, and with the link after it.
+    /// Writes the line of an action, from the link before it, its fate, and the link after it.
     fn write_action(&mut self, before: &Snapshot<'_>, fate: Fate<'_>, world: &World<'_, M>);
 
-    /// Adds the milliseconds that passed between two actions.
+    /// Adds these milliseconds to the time since the start of the script.
     fn add_time(&mut self, ms: u32);
 }
 
-/// A tracer that writes no trace.
+/// Tracer that writes no trace.
 #[derive(Drop)]
 pub(crate) struct NoTrace;
 
@@ -159,7 +158,7 @@ impl<M: Faulty> Tracer<M> for NoTrace {
     fn add_time(&mut self, _: u32) {}
 }
 
-/// A tracer that writes a line for each action. Once a line could not be written, no further line is.
+/// Tracer that writes a line for each action. Once a line can't be written, it writes no more lines.
 #[derive(Drop)]
 pub(crate) struct TraceWriter<'n, N> {
     pub writer: &'n mut N,
@@ -169,7 +168,7 @@ pub(crate) struct TraceWriter<'n, N> {
 }
 
 impl<'n, N> TraceWriter<'n, N> {
-    /// Returns a trace to `writer`, before its first line.
+    /// Makes a tracer that writes to `writer`.
     pub(crate) fn new(alloc: Global, writer: &'n mut N) -> TraceWriter<'n, N> {
         TraceWriter {
             writer,

@@ -1,4 +1,4 @@
-//! The words of a line of a trace, put together.
+//! Builds a line of a trace from its words.
 
 use dfu_host::{Action, Phase};
 use dfu_sim::Fate;
@@ -14,7 +14,7 @@ fn request_text(request: Request) -> &'static str {
     }
 }
 
-/// Returns the text before a write: a comma if another write is in front of it, and `erased` if the write erases.
+/// Returns the text before a write: a comma if another write precedes it, and `erased` if the write erases.
 fn text_before_write(is_behind: bool, erases: bool) -> &'static str {
     match (is_behind, erases) {
         (false, false) => "",
@@ -33,7 +33,7 @@ fn end_text(end: WriteEnd) -> &'static str {
     }
 }
 
-/// Returns the word of `phase`.
+/// Returns the name of `phase` in a line of the trace.
 fn phase_text(phase: Phase) -> &'static str {
     match phase {
         Phase::Find => "Find",
@@ -77,7 +77,7 @@ fn part_of(phase: Phase) -> Option<u64> {
     }
 }
 
-/// Returns the word of `fate`, as a script has it.
+/// Returns the word for `fate` in a script.
 fn fate_text(fate: Fate<'_>) -> &'static str {
     match fate {
         Fate::Pass => "pass",
@@ -92,7 +92,7 @@ fn fate_text(fate: Fate<'_>) -> &'static str {
     }
 }
 
-/// Returns the state that the bytes spell, if they spell one.
+/// Returns the state of a one-byte answer; None if the byte is no state, or the answer has another length.
 fn state_in(bytes: &[u8]) -> Option<State> {
     match bytes {
         [byte] => State::from_byte(*byte).ok(),
@@ -100,7 +100,7 @@ fn state_in(bytes: &[u8]) -> Option<State> {
     }
 }
 
-/// The words of a line of a trace, in one text. Once a word found no memory, no further word is added.
+/// The words of a line of a trace, in one text. Once there is no memory for a word, no more words are added.
 #[derive(Drop)]
 pub(crate) struct Words {
     text: String,
@@ -123,7 +123,7 @@ impl Words {
         if self.is_whole { Some(self.text) } else { None }
     }
 
-    /// Adds a text.
+    /// Appends a text, or records that there was no memory for it.
     #[inline(never)]
     pub(crate) fn push(&mut self, text: &str) {
         if self.is_whole {
@@ -131,7 +131,7 @@ impl Words {
         }
     }
 
-    /// Adds digits, or notes that there was no memory for them.
+    /// Appends digits, or records that there was no memory for them.
     fn push_digits(&mut self, digits: Result<String, AllocError>) {
         match digits {
             Ok(digits) => self.push(&digits),
@@ -139,14 +139,14 @@ impl Words {
         }
     }
 
-    /// Adds a text, and a number after it.
+    /// Appends a text and then a number.
     #[inline(never)]
     pub(crate) fn push_number(&mut self, text: &str, number: u64) {
         self.push(text);
         self.push_digits(number.to_string(self.alloc));
     }
 
-    /// Adds a phase, with the number of its block or part, if it has one.
+    /// Appends a phase, with the number of its block or part, if it has one.
     pub(crate) fn push_phase(&mut self, phase: Phase) {
         self.push(phase_text(phase));
         if let Some(number) = part_of(phase) {
@@ -154,14 +154,14 @@ impl Words {
         }
     }
 
-    /// Adds a request, with wValue and wLength.
+    /// Appends a request, with wValue and wLength.
     fn push_request(&mut self, setup: &Setup) {
         self.push(request_text(setup.request()));
         self.push_number(" ", u64::from(setup.value));
         self.push_number(" ", u64::from(setup.length));
     }
 
-    /// Adds an action of the host: a request, a wait with its milliseconds, a reset, or `-` if it is done.
+    /// Appends an action of the host: a request, a wait with its milliseconds, a reset, or `-` if the host is done.
     pub(crate) fn push_action(&mut self, action: Action<'_>) {
         match action {
             Action::Send { setup, .. } => self.push_request(&Setup::decode(&setup)),
@@ -171,13 +171,13 @@ impl Words {
         }
     }
 
-    /// Adds a number of bytes.
+    /// Appends the number of bytes in `bytes`.
     pub(crate) fn push_count(&mut self, bytes: &[u8]) {
         self.push_number("", bytes.len() as u64);
         self.push(" bytes");
     }
 
-    /// Adds the status of bytes, or their number if they are no status.
+    /// Appends a status from its bytes, or the number of bytes if they are no status.
     pub(crate) fn push_status(&mut self, bytes: &[u8]) {
         let Ok(status) = Status::decode(bytes) else {
             self.push_count(bytes);
@@ -189,7 +189,7 @@ impl Words {
         self.push(status.state().name());
     }
 
-    /// Adds the state of bytes, or their number if they are no state.
+    /// Appends a state from its byte, or the number of bytes if they are no state.
     pub(crate) fn push_state(&mut self, bytes: &[u8]) {
         match state_in(bytes) {
             Some(state) => self.push(state.name()),
@@ -197,7 +197,7 @@ impl Words {
         }
     }
 
-    /// Adds bytes as a script spells them.
+    /// Appends bytes as hexadecimal digits, or `-` for none.
     fn push_hex(&mut self, bytes: &[u8]) {
         if bytes.is_empty() {
             self.push("-");
@@ -206,14 +206,14 @@ impl Words {
         self.push_digits(hex::encode(self.alloc, bytes));
     }
 
-    /// Adds a harmed write: the writes that work before it, and the tear.
+    /// Appends a harmed write: the number of successful writes before it, and the tear.
     fn push_harm(&mut self, writes: u32, tear: &[u8]) {
         self.push_number(" ", u64::from(writes));
         self.push(" ");
         self.push_hex(tear);
     }
 
-    /// Adds a fate as a script spells it.
+    /// Appends a fate as it is written in a script.
     pub(crate) fn push_fate(&mut self, fate: Fate<'_>) {
         self.push(fate_text(fate));
         match fate {
@@ -225,7 +225,7 @@ impl Words {
         }
     }
 
-    /// Adds a write; `is_behind` says that another write is before it.
+    /// Appends a write. `is_behind` is true if another write precedes it.
     fn push_write(&mut self, is_behind: bool, note: WriteNote) {
         self.push_number(
             text_before_write(is_behind, note.erases),
@@ -235,7 +235,8 @@ impl Words {
         self.push(end_text(note.end));
     }
 
-    /// Adds the writes that a medium made since its count was `since`: the last 16 of them, or `-` if it made none.
+    /// Appends the writes of a medium after its first `since` writes, or `-` for none. The medium notes only its last 16 writes. A leading
+    /// comma marks that earlier ones are missing.
     pub(crate) fn push_writes(&mut self, noted: &LastWrites, since: u64) {
         let made = noted.count.saturating_sub(since);
         if made == 0 {

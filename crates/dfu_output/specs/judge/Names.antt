@@ -6,14 +6,14 @@ use Rattle.dfu_conformance.specs.declared.row.EventKind.{EventKind}
 use Rattle.dfu_conformance.specs.declared.row.EventKind.TheVariants as asked
 use Rattle.dfu_conformance.specs.declared.row.Gives.{Gives}
 use Rattle.dfu_conformance.specs.declared.row.Gives.TheVariants as answer
-use Rattle.dfu_conformance.specs.declared.row.Source.{Source}
-use Rattle.dfu_conformance.specs.declared.row.Source.TheVariants as source
+use Rattle.dfu_conformance.specs.declared.row.RuleSource.{RuleSource}
+use Rattle.dfu_conformance.specs.declared.row.RuleSource.TheVariants as source
 use Rattle.dfu_conformance.specs.declared.row.Reading.{Reading}
 use Rattle.dfu_conformance.specs.declared.row.Reading.TheVariants as reading
 use Rattle.dfu_conformance.specs.declared.row.When.{When}
 use Rattle.dfu_conformance.specs.declared.row.When.TheVariants.{Always, CanDownload, CanUpload, Tolerant, NotTolerant, WillDetach, By}
 
--- Name of a place: that of its state in the standard.
+-- Name that the standard gives to this state. DfuIdle and Fresh are both the standard's state dfuIDLE.
 abbrev pub place_name : StandardState → List ℕ
 place_name place.AppIdle = codes "appIDLE"
 place_name place.AppDetach = codes "appDETACH"
@@ -28,7 +28,7 @@ place_name place.UploadIdle = codes "dfuUPLOAD-IDLE"
 place_name place.Error = codes "dfuERROR"
 place_name place.Fresh = codes "dfuIDLE"
 
--- Name of an event's kind: a request, a reset or a power cycle.
+-- Name of an event's kind: a request, `reset` or `power`.
 abbrev pub event_kind_name : EventKind → List ℕ
 event_kind_name asked.Detach = codes "DETACH"
 event_kind_name asked.Block = codes "DNLOAD"
@@ -53,8 +53,8 @@ answer_name answer.Full = codes "full"
 answer_name answer.Short = codes "short"
 answer_name answer.Silent = codes "nothing"
 
--- Name of the source of a row: appendix A, one way to read it (`open`), or a habit.
-abbrev pub source_name : Source → List ℕ
+-- Name of the source of a row: appendix A, a reading of an open question (`open`), or a habit.
+abbrev pub source_name : RuleSource → List ℕ
 source_name source.A = codes "appendix-A"
 source_name source.Open = codes "open"
 source_name source.Habit = codes "habit"
@@ -68,7 +68,7 @@ reading_name reading.DetachAtOnce = codes "detach-at-once"
 reading_name reading.DetachLeaves = codes "detach-leaves"
 reading_name reading.ErrorWithoutCode = codes "error-without-code"
 
--- Name of the devices to which a row applies, with a space before it; empty if the row applies to every device.
+-- Name of the devices to which a row applies, with a space before it; empty if it applies to every device.
 abbrev pub when_name : When → List ℕ
 when_name Always = []
 when_name CanDownload = codes " download"

@@ -5,20 +5,21 @@ ghost use Rattle.dfu_output.specs.FormatOptions.{IsUnknownFormat, fill_in};
 
 use dfu_formats::images::{Format, hex_digit};
 
-/// Choice of the format in which FILE is read.
+/// Format in which `dfu add` reads FILE.
 #[derive(Clone, Copy)]
 pub enum FormatChoice {
-    /// No `--format`: FILE is taken as it is, with a reason if it looks like a file of a format.
+    /// No `--format`: FILE is read as a raw image, and a hint is printed if it looks like a file of another kind.
     Unsaid,
-    /// FILE is taken as it is.
+    /// FILE is read as a raw image.
     Raw,
-    /// FILE is taken as a file of the format that it looks like, or as it is if nothing speaks against a raw image; else it is refused.
+    /// FILE is read as the image format that it looks like, and as a raw image if it looks like no known kind of file. It is refused if it
+    /// looks like a file that isn't an image.
     Auto,
-    /// FILE is taken as a file of this format.
+    /// FILE is read as a file of this format.
     As(Format),
 }
 
-/// Returns the byte that `word` spells in two hexadecimal digits of either case; None if `word` is anything else.
+/// Returns the byte that `word` specifies with two hexadecimal digits of either case, or None for any other text.
 #[tactic(auto, using(std::proofs::lemmas::Bool::Decides::nat_tests))]
 pub fn fill_in(word: &str) -> Option<u8>
     ensures { result ≡ fill_in word.now }
@@ -37,7 +38,7 @@ pub fn fill_in(word: &str) -> Option<u8>
     }
 }
 
-/// Returns the choice that `word`, the value of `--format`, names; None if it names none.
+/// Returns the choice for `word`, a value of `--format`, or None if there is no such value.
 pub fn format_choice_in(word: &str) -> Option<FormatChoice>
     ensures raw { word.now ≡ codes "raw" → result ≡ Some FormatChoice.Raw }
     ensures auto { word.now ≡ codes "auto" → result ≡ Some FormatChoice.Auto }

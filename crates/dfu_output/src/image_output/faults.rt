@@ -1,4 +1,4 @@
-//! Lines for files that give no image.
+//! Lines for files that don't contain an image.
 
 ghost use Rattle.std.specs.Prelude.{◌≡◌, ◌++◌, IfOk};
 ghost use Rattle.std.specs.String.{string_bytes};
@@ -11,7 +11,7 @@ use crate::image_output::lines::format_name;
 use dfu_formats::images::{Ending, ImageFault, ImageFileFault, LayFault, NotImage};
 use std::alloc::{AllocError, Global};
 
-/// Returns the field of `fault`: the name of the fault, with its line, block, segment or address, if it has one.
+/// Returns the name of `fault`, followed by the number or the address to which the fault refers, if there is one.
 #[tactic(auto, unfolding(crate::specs::ImageLines::image_fault_text))]
 fn image_fault_field(fault: ImageFault) -> Field<'static>
     ensures { result.0.now ++ value_text result.1 ≡ image_fault_text fault }
@@ -43,7 +43,8 @@ fn image_fault_field(fault: ImageFault) -> Field<'static>
     }
 }
 
-/// Returns the name of the fault that keeps elements from being one piece; for a gap its addresses follow.
+/// Returns the name of the fault because of which elements can't form one image. A `Gap` is followed by the addresses at which it begins
+/// and ends.
 #[tactic(auto, unfolding(crate::specs::ImageLines::lay_fault_text))]
 fn lay_fault_text(alloc: Global, fault: LayFault) -> Result<String, AllocError>
     ensures { IfOk result (λ t. string_bytes t ≡ lay_fault_text fault) }
@@ -55,7 +56,7 @@ fn lay_fault_text(alloc: Global, fault: LayFault) -> Result<String, AllocError>
     }
 }
 
-/// Returns the text of the fault that keeps a file from giving an image: its name, and its place or addresses, if it has them.
+/// Returns the name of the fault because of which no image can be read from a file, followed by its number or addresses if it has any.
 fn fault_text(alloc: Global, fault: ImageFileFault) -> Result<String, AllocError>
     ensures { IfOk result (λ t. string_bytes t ≡ fault_text fault) }
 {
@@ -66,8 +67,8 @@ fn fault_text(alloc: Global, fault: ImageFileFault) -> Result<String, AllocError
     }
 }
 
-/// Returns the line for a file that gives no image because of `fault`: `refused NAME`, and after some names a number or addresses in eight
-/// hexadecimal digits.
+/// Returns the line for a file from which no image can be read because of `fault`: `refused NAME`, followed by a number, or by addresses in
+/// eight hexadecimal digits, if the fault has any.
 ///
 /// # Errors
 ///
@@ -80,7 +81,7 @@ pub fn refused_line(alloc: Global, fault: ImageFileFault) -> Result<String, Allo
     line_of(alloc, "refused ", &[("", Text(&text))])
 }
 
-/// Returns the word for `ending`, that of a file's name: the name of its format, or `dfu`.
+/// Returns the word for the extension of a file's name: the name of its format, or `dfu`.
 pub(crate) fn ending_name(ending: Ending) -> &'static str
     ensures { result.now ≡ ending_name ending }
 {
@@ -103,8 +104,8 @@ fn not_image_field(other: NotImage) -> Field<'static>
     }
 }
 
-/// Returns the line for a file that isn't an image: `refused NotAnImage WORD`, with the word dfuse, zip, gzip, text, named-dfu, or named-
-/// and the name of a format.
+/// Returns the line for a file that isn't an image: `refused NotAnImage WORD`. The word is dfuse, zip, gzip, text, named-dfu, or named-
+/// followed by the name of a format.
 ///
 /// # Errors
 ///

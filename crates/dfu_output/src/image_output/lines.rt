@@ -1,4 +1,4 @@
-//! The line for an image that was taken out of a file.
+//! The line for an image that was read from a file.
 
 ghost use Rattle.std.specs.Prelude.{◌≡◌, IfOk};
 ghost use Rattle.std.specs.String.{string_bytes};
@@ -9,7 +9,7 @@ use crate::fields::line_of;
 use dfu_formats::images::Format;
 use std::alloc::{AllocError, Global};
 
-/// Returns the name of `format`, a word of `--format`.
+/// Returns the name of `format`, as a value of `--format`.
 pub fn format_name(format: Format) -> &'static str
     ensures { result.now ≡ format_name format }
 {
@@ -21,7 +21,7 @@ pub fn format_name(format: Format) -> &'static str
     }
 }
 
-/// Returns the line for an image: `format FORMAT address 0xAAAAAAAA`, with `address`, the address of its first byte.
+/// Returns the line for an image: `format FORMAT address 0xAAAAAAAA`, where `address` is that of the image's first byte.
 ///
 /// # Errors
 ///

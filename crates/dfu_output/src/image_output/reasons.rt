@@ -1,10 +1,10 @@
-//! Reasons for refusing image files, in words.
+//! Reasons for refusing image files, as sentences.
 
 use crate::image_output::lines::format_name;
 use dfu_formats::images::{Ending, Format, ImageFault, ImageFileFault, LayFault, NotImage, Place};
 use std::alloc::{AllocError, Global};
 
-/// Returns the advice on a file that gives no image; empty for NoMemory.
+/// Returns advice for a file from which no image can be read because of `fault`. It is empty if the fault is NoMemory.
 fn advice(fault: ImageFileFault) -> &'static str {
     match fault {
         ImageFileFault::Unread(ImageFault::NoMemory) | ImageFileFault::Unlaid(LayFault::NoMemory) =>
@@ -20,7 +20,7 @@ fn advice(fault: ImageFileFault) -> &'static str {
     }
 }
 
-/// Returns the reason for which a file gives no image, with the place of its first wrong character, if there is one, and what to do.
+/// Returns the reason why no image can be read from a file, the line and column of the first wrong character if there is one, and advice.
 pub fn why(alloc: Global, fault: ImageFileFault, bad: Option<Place>) -> Result<String, AllocError> {
     let advice = advice(fault);
     match bad {
@@ -31,7 +31,7 @@ pub fn why(alloc: Global, fault: ImageFileFault, bad: Option<Place>) -> Result<S
     }
 }
 
-/// Returns the reason for which a file isn't an image, and what to do.
+/// Returns the reason why a file isn't an image, and advice.
 pub fn why_not(alloc: Global, other: NotImage) -> Result<String, AllocError> {
     let said = match other {
         NotImage::DfuSe =>
@@ -51,7 +51,7 @@ pub fn why_not(alloc: Global, other: NotImage) -> Result<String, AllocError> {
     String::from_str(alloc, said)
 }
 
-/// Returns the hint that a file looks like one of `format`, and was taken as it is.
+/// Returns the hint that a file looks like a file of `format`, but was read as a raw image.
 pub fn looks_like_hint(alloc: Global, format: Format) -> Result<String, AllocError> {
     let name = format_name(format);
     format!(in alloc;
@@ -59,7 +59,7 @@ pub fn looks_like_hint(alloc: Global, format: Format) -> Result<String, AllocErr
     )
 }
 
-/// Returns the hint that a file isn't an image, and was taken as it is.
+/// Returns the hint that a file isn't an image, but was read as a raw image.
 pub fn not_image_hint(alloc: Global, other: NotImage) -> Result<String, AllocError> {
     let why = why_not(alloc, other)?;
     format!(in alloc; "it was taken as it is, though {why}")

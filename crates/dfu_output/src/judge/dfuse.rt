@@ -1,4 +1,4 @@
-//! Lines of a departure from DfuSe.
+//! Lines about a departure from DfuSe.
 
 ghost use Rattle.std.specs.Prelude.{◌≡◌, ◌++◌, IfOk, OnOk};
 ghost use Rattle.std.specs.String.{string_bytes};
@@ -15,7 +15,7 @@ use dfu_conformance::dfuse::{DFUSE, is_of_dfuse, is_told};
 use dfu_conformance::{Departure, HABITS, LogEvent, Row, STANDARD};
 use std::alloc::{AllocError, Global};
 
-/// Adds the line of a row, if the row is for a DfuSe device and gives an allowed answer.
+/// Adds the line of a row if the row applies to a DfuSe device and gives an allowed answer.
 fn push_if_dfuse(line: &mut String, departure: &Departure, row: &Row) -> Result<(), AllocError>
     ensures { OnOk result (string_bytes line.new ≡ string_bytes line.old ++ dfuse_allowed_text departure.now row.now) }
 {
@@ -25,7 +25,7 @@ fn push_if_dfuse(line: &mut String, departure: &Departure, row: &Row) -> Result<
     push_if_allowed(line, departure, row)
 }
 
-/// Adds to `line` a line for each of `rows` that is for a DfuSe device and gives an allowed answer.
+/// Adds to `line` a line for each of `rows` that applies to a DfuSe device and gives an allowed answer.
 fn push_rows(line: &mut String, departure: &Departure, rows: &[Row]) -> Result<(), AllocError>
     ensures { OnOk result (string_bytes line.new ≡ string_bytes line.old ++ texts_of_each (dfuse_allowed_text departure.now) rows.now) }
 {
@@ -35,7 +35,7 @@ fn push_rows(line: &mut String, departure: &Departure, rows: &[Row]) -> Result<(
     Ok(())
 }
 
-/// Returns the name of the request of `event`; `other` if the request deviates from section 3 of USB DFU 1.1.
+/// Returns the name of the event's request, or `other` if the request deviates from section 3 of USB DFU 1.1.
 fn request_name(event: &LogEvent) -> &'static str
     ensures { result.now ≡ event_request_name event.now }
 {
@@ -46,7 +46,7 @@ fn request_name(event: &LogEvent) -> &'static str
     }
 }
 
-/// Adds the line that allows the request of `event` to be stalled with no change.
+/// Adds the line that allows a device to stall the request of `event` and keep its state.
 fn push_may_stall(line: &mut String, event: &LogEvent) -> Result<(), AllocError>
     ensures { OnOk result (string_bytes line.new ≡ string_bytes line.old ++ may_stall_text event.now) }
 {
@@ -55,7 +55,7 @@ fn push_may_stall(line: &mut String, event: &LogEvent) -> Result<(), AllocError>
     Ok(())
 }
 
-/// Adds the line that allows the request of `event` to be stalled with no change, unless the request must be answered.
+/// Adds the line that allows a device to stall the request of `event` and keep its state, unless the device must answer the request.
 fn push_stalled(line: &mut String, event: &LogEvent) -> Result<(), AllocError>
     ensures { OnOk result (string_bytes line.new ≡ string_bytes line.old ++ stall_text_if_allowed event.now) }
 {
@@ -65,7 +65,7 @@ fn push_stalled(line: &mut String, event: &LogEvent) -> Result<(), AllocError>
     push_may_stall(line, event)
 }
 
-/// Adds the lines of all answers that a DfuSe device might have given at `departure`.
+/// Adds a line for each answer that a DfuSe device might have given at `departure`.
 fn push_dfuse(line: &mut String, departure: &Departure) -> Result<(), AllocError>
     ensures { OnOk result (string_bytes line.new ≡ string_bytes line.old ++ texts_of_each (dfuse_allowed_text departure.now) STANDARD
         ++ texts_of_each (dfuse_allowed_text departure.now) HABITS ++ texts_of_each (dfuse_allowed_text departure.now) DFUSE
@@ -78,7 +78,7 @@ fn push_dfuse(line: &mut String, departure: &Departure) -> Result<(), AllocError
     Ok(())
 }
 
-/// Returns the lines of `departure` from DfuSe at line `number` of a log.
+/// Returns the lines about `departure` from DfuSe at line `number` of a log.
 ///
 /// # Errors
 ///

@@ -1,4 +1,4 @@
-//! Fault at which judging a log stopped, and its line.
+//! Faults at which judging a log stops, and their lines.
 
 ghost use Rattle.std.specs.Prelude.{◌≡◌, IfOk};
 ghost use Rattle.std.specs.String.{string_bytes};
@@ -15,16 +15,16 @@ use std::io::Write;
 /// Fault at which judging a log stopped.
 #[derive(Clone, Copy)]
 pub enum LogFault {
-    /// A line is not valid in a log.
+    /// A line is invalid.
     BadLine {
         /// Number of the line, counted from 1.
         number: u64,
         /// Fault of the line.
         why: LineFault,
     },
-    /// The log has over 1,099,511,627,775 bytes.
+    /// The log has more than 1,099,511,627,775 bytes.
     TooLarge,
-    /// An allocation was refused.
+    /// An allocation failed.
     NoMemory,
     /// The reader failed.
     Read,
@@ -32,7 +32,7 @@ pub enum LogFault {
     Write,
 }
 
-/// Returns the line for a bad line of a log: `refused BadLine N`, N being `number`, that of the bad line.
+/// Returns the line for a bad line of a log: `refused BadLine N`, where N is the number of the bad line.
 #[tactic(auto, unfolding(crate::specs::judge::Judging::bad_line))]
 fn bad_line(alloc: Global, number: u64) -> Result<String, AllocError>
     ensures { IfOk result (λ t. string_bytes t ≡ bad_line number) }
@@ -40,7 +40,8 @@ fn bad_line(alloc: Global, number: u64) -> Result<String, AllocError>
     line_of(alloc, "refused BadLine ", &[("", Number(number))])
 }
 
-/// Writes the line for `fault`, at which judging a log stopped, and returns the exit; for Write, the writer's own fault, writes nothing.
+/// Writes the line for `fault`, at which judging a log stopped, and returns the exit. It writes nothing after Write, because the writer has
+/// failed.
 pub fn stop_text<W: Write>(alloc: Global, fault: LogFault, writer: &mut W) -> Exit
     ensures { WritesLineOfStop fault (W.contents writer.old) (W.contents writer.new) result }
 {

@@ -1,4 +1,4 @@
-//! Judging of a log, a byte at a time.
+//! Judging a log one byte at a time.
 
 ghost use Rattle.std.specs.Prelude.{◌≡◌, ◌+◌, ◌<◌, ◌≤◌, ◌++◌, ◌∷◌, [], IfErr, IfOk, IfSome, List, None, OnOk, length, take, ℕ};
 ghost use Rattle.dfu_conformance.specs.Verdict.{IsVerdict, ArePlacesAfter};
@@ -15,12 +15,12 @@ use std::marker::Model;
 
 /// State of judging a log.
 ///
-/// Contracts see it as a `JudgingState`.
+/// In contracts it is a `JudgingState`.
 #[derive(Drop)]
 pub(crate) struct Judging {
-    // Judge of the device.
+    // Judge of the device, after the events so far.
     judge: Judge,
-    // Reader of the lines.
+    // Reader of the log's lines.
     lines: LogLines,
     // Number of events.
     events: u64,
@@ -46,7 +46,7 @@ impl Model for Judging {
 }
 
 impl Judging {
-    /// Returns the state before the first byte of a log; None if an allocation was refused.
+    /// Returns the state before the first byte of a log, or None if an allocation failed.
     pub(crate) fn new(alloc: Global) -> Option<Judging>
         ensures { IfSome result (λ s. IsStateAfter s [] course_at_start) }
     {
@@ -66,7 +66,7 @@ impl Judging {
         self.lines.number()
     }
 
-    /// Takes `event`, the next of the log. Returns the departure if the device departs from the standard at it.
+    /// Judges `event`, the next event of the log. Returns the departure if the device departs from the standard at this event.
     fn come(&mut self, event: &LogEvent) -> Option<Departure>
         requires slack { self.old.events + self.old.lines.room < 1099511627776 }
         ensures came { (text : List ℕ) (c : LogCourse) → IsStateAfter self.old text c → LogEventResult text c event.now result self.new }
@@ -84,22 +84,23 @@ impl Judging {
         }
     }
 
-    /// Takes the bytes before the first 0Ah of `bytes`, as far as there is room for them. Returns the number of bytes taken.
+    /// Takes bytes of `bytes` until the next byte is 0Ah, or until the open line or the log has no room. Returns the number of bytes taken.
     pub(crate) fn take_inner(&mut self, bytes: &[u8]) -> usize
         ensures within { result ≤ length bytes.now }
-        ensures goes { (interface : ℕ) (text : List ℕ) (c : LogCourse) → IsStateAfter self.old text c → CourseOfText interface text c
+        ensures state_after_text { (interface : ℕ) (text : List ℕ) (c : LogCourse) →
+            IsStateAfter self.old text c → CourseOfText interface text c
             → JudgedText interface (text ++ take result bytes.now) c None self.new }
         ensures room { self.new.lines.room + result ≡ self.old.lines.room }
     {
         self.lines.take_inner(bytes)
     }
 
-    /// Takes `byte`, the next of the log of a device with DFU at `interface`. Returns the departure if `byte` ends a line at which the
-    /// device departs from the standard.
+    /// Takes `byte`, the next byte of the log of a device whose DFU interface is `interface`. If `byte` ends a line at which the device
+    /// departs from the standard, returns the departure.
     ///
     /// # Errors
     ///
-    /// TooLarge if 1,099,511,627,776 bytes came before `byte`; BadLine if `byte` makes a line too long, or ends a line that can't be read.
+    /// TooLarge if 1,099,511,627,776 bytes precede `byte`; BadLine if `byte` makes a line too long, or ends a line that isn't valid.
     pub(crate) fn take(&mut self, interface: u8, byte: u8) -> Result<Option<Departure>, LogFault>
         ensures ok { (text : List ℕ) (c : LogCourse) → IsStateAfter self.old text c → CourseOfText interface text c
             → IfOk result (λ o. JudgedText interface (text ++ byte ∷ []) c o self.new) }
@@ -118,7 +119,8 @@ impl Judging {
         }
     }
 
-    /// Returns the verdict on all events that were taken, and for each place, true if a device with the habits of the verdict may be there.
+    /// Returns the verdict on all events so far, and an array in which the element with the index of a state is true if a device with the
+    /// habits of the verdict may be in this state.
     pub(crate) fn verdict(&self) -> (Verdict, [bool; 12])
         ensures { (text : List ℕ) (c : LogCourse) → IsStateAfter self.now text c
             → IsVerdict result.0 c.events × ArePlacesAfter (readings_of result.0) c.events result.1 }

@@ -1,4 +1,4 @@
-//! Lines of a log, read a byte at a time.
+//! Lines of a log, read one byte at a time.
 
 ghost use Rattle.std.specs.Prelude.{◌≡◌, ◌≢◌, false, ◌+◌, ◌<◌, ◌≤◌, ◌++◌, ◌∷◌, [], IfErr, IfOk, IfSome, List, OnErr, OnOk, length, take, vec_capacity, ℕ};
 ghost use Rattle.std.specs.List.{list_any};
@@ -9,15 +9,15 @@ use dfu_conformance::{Line, LineFault, read_line, why_unread};
 use std::alloc::Global;
 use std::marker::Model;
 
-/// Largest number of bytes of a line, without its 0Ah. Of the valid lines, only a comment could have more.
+/// Largest number of bytes in a line, without its 0Ah. A longer line is refused, even if it is a comment.
 const MAX_LINE: usize = 262_158;
 
-/// Largest number of bytes of a log, with the end of its last line.
+/// Largest number of bytes in a log, including the 0Ah that is added to end its last line.
 const MAX_LOG: u64 = 1_099_511_627_776;
 
-/// Reader of a log's lines. It holds one line, in a buffer that is reserved once.
+/// Reader of a log's lines. It holds one line in a buffer that is allocated once.
 ///
-/// Contracts see it as a `LinesState`.
+/// In contracts it is a `LinesState`.
 #[derive(Drop)]
 pub struct LogLines {
     // Bytes of the open line.
@@ -68,10 +68,10 @@ fn put_all(line: &mut Vec<u8>, bytes: &[u8])
     };
 }
 
-/// Returns the number of `bytes` before the first 0Ah, at most `most`.
+/// Returns the number of bytes before the first 0Ah of `bytes`, but at most `most`.
 fn inner_length(bytes: &[u8], most: usize) -> usize
     ensures within { result ≤ length bytes.now }
-    ensures most { result ≤ most }
+    ensures within_limit { result ≤ most }
     ensures inner { list_any is_end (take result bytes.now) ≡ false }
 {
     let end = most.min(bytes.len());
@@ -84,7 +84,7 @@ fn inner_length(bytes: &[u8], most: usize) -> usize
 }
 
 impl LogLines {
-    /// Returns the reader before the first byte of a log; None if an allocation was refused.
+    /// Returns the reader before the first byte of a log, or None if an allocation failed.
     pub fn new(alloc: Global) -> Option<LogLines>
         ensures { IfSome result (λ s. s ≡ record { line = []; room = 1099511627776; number = 0 }) }
     {
@@ -105,7 +105,7 @@ impl LogLines {
         self.number
     }
 
-    /// Takes `byte`, which is not 0Ah, as the next of the line.
+    /// Adds `byte`, which is not 0Ah, to the open line.
     ///
     /// # Errors
     ///
@@ -129,10 +129,11 @@ impl LogLines {
         Ok(())
     }
 
-    /// Takes the bytes before the first 0Ah of `bytes`, as far as there is room for them. Returns the number of bytes taken.
+    /// Adds bytes of `bytes` to the open line until the next byte is 0Ah, or until the line or the log has no room. Returns the number of
+    /// bytes added.
     pub(crate) fn take_inner(&mut self, bytes: &[u8]) -> usize
         ensures within { result ≤ length bytes.now }
-        ensures goes { BytesInLine self.old self.new (take result bytes.now) }
+        ensures bytes_in_line { BytesInLine self.old self.new (take result bytes.now) }
         ensures room { self.new.room + result ≡ self.old.room }
     {
         let free = ((MAX_LINE - self.line.len()) as u64).min(self.room) as usize;
@@ -142,11 +143,11 @@ impl LogLines {
         count
     }
 
-    /// Ends the line. Returns the meaning of the line for a device at `interface`.
+    /// Ends the open line. Returns its meaning for a device whose DFU interface is `interface`.
     ///
     /// # Errors
     ///
-    /// BadLine if the line can't be read.
+    /// BadLine if the line isn't valid.
     fn end_line(&mut self, interface: u8) -> Result<Line, LogFault>
         requires some { 0 < self.old.room }
         ensures ok { IfOk result (λ says. ByteEndsLine interface self.old self.new 10 says) }
@@ -166,11 +167,11 @@ impl LogLines {
         Ok(line)
     }
 
-    /// Takes the next byte of the log. If `byte` ends a line, returns the meaning of the line for a device at `interface`.
+    /// Takes the next byte of the log. If `byte` ends a line, returns its meaning for a device whose DFU interface is `interface`.
     ///
     /// # Errors
     ///
-    /// TooLarge if 1,099,511,627,776 bytes came before `byte`; BadLine if `byte` makes a line too long, or ends a line that can't be read.
+    /// TooLarge if 1,099,511,627,776 bytes precede `byte`; BadLine if `byte` makes a line too long, or ends a line that isn't valid.
     pub fn take(&mut self, interface: u8, byte: u8) -> Result<Option<Line>, LogFault>
         ensures ok { IfOk result (λ o. ByteAccepted interface self.old self.new byte o) }
         ensures err { IfErr result (λ f. (tail : List ℕ) → ByteRefused interface self.old (byte ∷ tail) f) }

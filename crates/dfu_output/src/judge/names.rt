@@ -3,7 +3,7 @@
 ghost use Rattle.std.specs.Prelude.{◌≡◌};
 ghost use Rattle.dfu_output.specs.judge.Names.{answer_name, event_kind_name, place_name, reading_name, source_name, when_name};
 
-use dfu_conformance::{EventKind, Gives, Reading, Source, StandardState, When};
+use dfu_conformance::{EventKind, Gives, Reading, RuleSource, StandardState, When};
 
 /// States of the standard, in the order of their numbers.
 pub(crate) static STATES: [StandardState; 11] = [
@@ -30,7 +30,7 @@ pub(crate) static READINGS: [Reading; 6] = [
     Reading::ErrorWithoutCode,
 ];
 
-/// Returns the name of `place`: that of its state in the standard.
+/// Returns the name that the standard gives to the state `place`.
 pub(crate) fn place_name(place: StandardState) -> &'static str
     ensures { result.now ≡ place_name place }
 {
@@ -42,7 +42,7 @@ pub(crate) fn place_name(place: StandardState) -> &'static str
     )
 }
 
-/// Returns the name of a kind of event: of a request, `reset` or `power`.
+/// Returns the name of an event's kind: a request, `reset` or `power`.
 pub(crate) fn event_kind_name(asked: EventKind) -> &'static str
     ensures { result.now ≡ event_kind_name asked }
 {
@@ -63,11 +63,11 @@ pub(crate) fn answer_name(gives: Gives) -> &'static str
     )
 }
 
-/// Returns the name of the source of a row: appendix A, one way to read it (`open`), or a habit.
-pub(crate) fn source_name(source: Source) -> &'static str
+/// Returns the name of the source of a row: appendix A, a reading of an open question (`open`), or a habit.
+pub(crate) fn source_name(source: RuleSource) -> &'static str
     ensures { result.now ≡ source_name source }
 {
-    named!(source, Source, A "appendix-A", Open "open", Habit "habit")
+    named!(source, RuleSource, A "appendix-A", Open "open", Habit "habit")
 }
 
 /// Returns the name of the habit `reading`.
@@ -81,7 +81,7 @@ pub(crate) fn reading_name(reading: Reading) -> &'static str
     )
 }
 
-/// Returns the name of the devices to which a row with `when` applies, with a space before it; empty if it applies to every device.
+/// Returns the name of the devices to which a row applies, with a space before it; empty if it applies to every device.
 pub(crate) fn when_name(when: When) -> &'static str
     ensures { result.now ≡ when_name when }
 {

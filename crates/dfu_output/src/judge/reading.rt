@@ -15,7 +15,7 @@ use dfu_suffix::{READ_BYTES, SuffixFault, write_whole};
 use std::alloc::Global;
 use std::io::{Read, Write};
 
-/// Writes the lines of `departure`, at line `number` of a log.
+/// Writes the lines of `departure` at line `number` of a log.
 fn tell<W: Write>(
     alloc: Global,
     number: u64,
@@ -35,8 +35,8 @@ fn tell<W: Write>(
     }
 }
 
-/// Takes `byte`, the next of the log of a device with DFU at `interface`. If it ends a line at which the device departs from the standard,
-/// writes the departure to `writer`.
+/// Takes `byte`, the next byte of the log of a device whose DFU interface is `interface`. If `byte` ends a line at which the device departs
+/// from the standard, writes the departure to `writer`.
 fn step<W: Write>(
     alloc: Global,
     interface: u8,
@@ -60,8 +60,8 @@ fn step<W: Write>(
     }
 }
 
-/// Takes bytes of `rest`, the next bytes of the log, up to the first 0Ah and with it, and writes the departure at that line, if any, to
-/// `writer`. Returns the number of bytes taken, at least 1.
+/// Takes bytes of `rest`, the unjudged bytes of the log, up to and including the first 0Ah, or all of them if there is none. Writes the
+/// departure at that line, if any, to `writer`. Returns the number of bytes taken, at least 1.
 fn advance<W: Write>(
     alloc: Global,
     interface: u8,
@@ -87,7 +87,7 @@ fn advance<W: Write>(
     }
 }
 
-/// Takes all bytes of `piece`, the next bytes of the log, and writes the departures to `writer`.
+/// Takes all bytes of `piece`, the next piece of the log, and writes each departure in it to `writer`.
 fn feed<W: Write>(
     alloc: Global,
     interface: u8,
@@ -141,7 +141,7 @@ fn judge_all<R: Read + Drop, W: Write>(
     }
 }
 
-/// Returns the exit for `verdict`: Done for `Kept`, and Refused for any other.
+/// Returns the exit for `verdict`: Done for `Kept`, and Refused otherwise.
 fn exit_of(verdict: Verdict) -> Exit
     ensures { result ≡ exit_of verdict }
 {
@@ -184,13 +184,13 @@ pub fn judge_with_fault<R: Read + Drop, W: Write>(
     }
 }
 
-/// Judges the log of the reader, of a device whose DFU interface has the number `interface`; requests to other interfaces are ignored.
-/// Writes each departure as it comes, with the answers that were allowed, and the verdict at the end; docs/FILES.md has the lines. The exit
-/// is Done if the verdict is `kept` without habits, and Refused otherwise.
+/// Judges the reader's log of a device whose DFU interface is `interface`, and ignores requests to other interfaces. Each departure is
+/// written as soon as it is found, with the answers that were allowed, and the verdict is written at the end. docs/FILES.md describes the
+/// lines. The exit is Done if the verdict is `kept` without habits, and Refused otherwise.
 ///
-/// If judging stops early, the last line is `refused BadLine N` or `refused NAME` with Refused, or `fault Read` with Fault, after the lines
-/// of the departures before. Memory is allocated for a line of the log and for the lines written: if that is refused, the line is `refused
-/// NoMemory`. If the writer fails, the exit is Fault; a prefix of the text is written, not all of it, and nothing more.
+/// If judging stops early, the last line is `refused BadLine N` or `refused NAME` with Refused, or `fault Read` with Fault. It follows the
+/// departures that were found before. A line of the log and the printed lines need memory. If it runs out, the line is `refused NoMemory`.
+/// If the writer fails, the exit is Fault, and only a proper prefix of the text is written.
 pub fn judge_text<R: Read + Drop, W: Write>(
     alloc: Global,
     interface: u8,

@@ -15,7 +15,7 @@ use crate::judge::names::{
 use dfu_conformance::{Departure, LogEvent, Reading, Row, STANDARD, StandardState, Verdict};
 use std::alloc::{AllocError, Global};
 
-/// Returns true if a device may be in the state of `place`, by `at`, the places where it may be.
+/// Returns true if a device may be in the state `place`, where `at` lists the states in which it may be. Fresh is dfuIDLE in the standard.
 pub(crate) fn may_be_in_state(at: &[bool; 12], place: StandardState) -> bool
     ensures { result ≡ may_be_in_state at.now place }
 {
@@ -28,12 +28,12 @@ pub(crate) fn may_be_in_state(at: &[bool; 12], place: StandardState) -> bool
 /// Returns 1 if `yes` is true, and 0 otherwise.
 fn count_if(yes: bool) -> usize
     ensures value { result ≡ cond yes 1 0 }
-    ensures fits { result ≤ 1 }
+    ensures at_most_1 { result ≤ 1 }
 {
     if yes { 1 } else { 0 }
 }
 
-/// Returns true if there is exactly one state in which a device may be.
+/// Returns true if a device may be in exactly one state.
 #[tactic(auto, unfolding(crate::specs::judge::Texts::is_single))]
 pub fn is_single(at: &[bool; 12]) -> bool
     ensures { result ≡ is_single at.now }
@@ -45,7 +45,7 @@ pub fn is_single(at: &[bool; 12]) -> bool
     count == 1
 }
 
-/// Adds the name of the state of `place`, if a device may be in it.
+/// Adds the name of the state `place` if a device may be in it.
 fn push_state(line: &mut String, at: &[bool; 12], place: StandardState) -> Result<(), AllocError>
     ensures { OnOk result (string_bytes line.new ≡ string_bytes line.old ++ spaced_state at.now place) }
 {
@@ -65,7 +65,7 @@ fn push_states(line: &mut String, at: &[bool; 12]) -> Result<(), AllocError>
     Ok(())
 }
 
-/// Adds the name of a habit, if it is in the set.
+/// Adds the name of a habit if the set contains it.
 fn push_reading(line: &mut String, readings: u8, reading: Reading) -> Result<(), AllocError>
     ensures { OnOk result (string_bytes line.new ≡ string_bytes line.old ++ reading_text readings reading) }
 {
@@ -75,10 +75,10 @@ fn push_reading(line: &mut String, readings: u8, reading: Reading) -> Result<(),
     field(line, " ", reading_name(reading))
 }
 
-/// Returns the index, 0 to 5, of the bit of `reading` in the number of a set of habits.
+/// Returns the index of the habit's bit, 0 to 5, in the number of a set of habits.
 fn reading_bit(reading: Reading) -> u8
     ensures value { result ≡ reading_bit reading }
-    ensures fits { result < 6 }
+    ensures below_6 { result < 6 }
 {
     match reading {
         Reading::Bootloader => 0,
@@ -90,7 +90,7 @@ fn reading_bit(reading: Reading) -> u8
     }
 }
 
-/// Adds the names of the habits of the set `readings`.
+/// Adds the names of the habits in the set `readings`.
 fn push_readings(line: &mut String, readings: u8) -> Result<(), AllocError>
     ensures { OnOk result (string_bytes line.new ≡ string_bytes line.old ++ readings_text readings) }
 {
@@ -100,7 +100,6 @@ fn push_readings(line: &mut String, readings: u8) -> Result<(), AllocError>
     Ok(())
 }
 
-/// Adds the line of a row.
 #[tactic(auto, unfolding(crate::specs::judge::Texts::row_line))]
 fn push_row(line: &mut String, row: &Row) -> Result<(), AllocError>
     ensures { OnOk result (string_bytes line.new ≡ string_bytes line.old ++ row_line row.now) }
@@ -113,7 +112,7 @@ fn push_row(line: &mut String, row: &Row) -> Result<(), AllocError>
     field(line, when_name(row.when), "\n")
 }
 
-/// Adds the line of a row, if the row gives an allowed answer.
+/// Adds the line of a row if the row gives an allowed answer.
 pub(crate) fn push_if_allowed(
     line: &mut String,
     departure: &Departure,
@@ -137,7 +136,7 @@ fn push_allowed(line: &mut String, departure: &Departure) -> Result<(), AllocErr
     Ok(())
 }
 
-/// Adds the line that allows a request to be stalled with no change, if the request deviates from section 3 of USB DFU 1.1.
+/// Adds the line that allows a device to stall a request and keep its state, if the request deviates from section 3 of USB DFU 1.1.
 fn push_unchanged(line: &mut String, event: &LogEvent) -> Result<(), AllocError>
     ensures { OnOk result (string_bytes line.new ≡ string_bytes line.old ++ stall_unchanged_text event.now) }
 {
@@ -206,8 +205,8 @@ fn finish_kept_line(
     end_states(line, " states", at)
 }
 
-/// Returns the line of a device that keeps to the standard with the habits of `readings`: `first`, the habits, `counts`, and the states in
-/// which the device may be, by the places `at`.
+/// Returns the line of a `kept` verdict: `first`, the habits in `readings`, `counts`, and the states in which the device may be. An element
+/// of `at` is true if the device may be in the state with this index.
 fn kept_line(
     alloc: Global,
     first: &str,
@@ -223,7 +222,7 @@ fn kept_line(
     Ok(line)
 }
 
-/// Returns the line of `verdict`, with the places `at` where the device may be, and the counts `events` and `single`.
+/// Returns the line of `verdict` with the counts `events` and `single`, for a device that may be in the states that `at` lists.
 ///
 /// # Errors
 ///

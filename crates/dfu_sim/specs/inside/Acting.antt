@@ -1,4 +1,4 @@
--- Effects of the small functions of the link, each a part of a play.
+-- Effects of the functions that make up a play.
 use Rattle.std.specs.Prelude.{◌≡◌, ℕ, IsTrue, List, Option, Some, None, Result, Ok, Err}
 use Rattle.dfu_suffix.specs.Grammar.{Content}
 use Rattle.dfu_device.specs.Setting.{Setting}
@@ -25,29 +25,29 @@ use Rattle.dfu_sim.specs.Play.{silent, HostOutcome, settled_session}
 use Rattle.dfu_sim.specs.Bytes.{HeardOfResponse}
 use Rattle.dfu_sim.specs.Refusing.{IsOffered}
 
--- Delivery of the table for a delivery of the code.
+-- The specification's delivery for a delivery of the code.
 abbrev pub delivery_of_given : GivenDelivery → Delivery
 delivery_of_given g = record { handling = g.handling; refusing = g.refusing; back = g.back; harming = g.harming }
 
--- Harm to a write in a delivery of the code.
+-- The specification's harm to a write for a delivery of the code.
 abbrev pub harm_at : GivenDelivery → WriteHarm
 harm_at g = harmed g.writes g.tear.now
 
--- Result that a host sees after a wait or a reset: after a cut of the power, the restart.
+-- Result of a wait or a reset that a host receives: Restarted if the power was cut, otherwise the given result.
 abbrev pub seen_after_action : MediumFault → Seen → Seen
 seen_after_action NoWrite s = s
 seen_after_action CutsPower s = seen.Restarted
 seen_after_action FailsWrite s = s
 seen_after_action LiesInWrite s = s
 
--- A host took the response that came back. It hears NoRoom only if its phase needs memory.
+-- A host takes the response that reached it. It receives NoRoom only if its phase needs memory.
 pub record HostTakesResponse (h : HostState) (b : Response) (out : List ℕ) (h' : HostState) : Type 0 where
   pub heard : Heard
   pub hears : HeardOfResponse (deed h.task h.phase) b out heard
   pub room : heard ≡ NoRoom → IsTrue (wants_memory h.phase)
   pub same : h' ≡ after h heard
 
--- The report of a host that is done, or none.
+-- Report of a host that is done; None for any other host.
 abbrev pub report_of_phase : Phase → Option Report
 report_of_phase (Over report) = Some report
 report_of_phase (OverUploaded kept) = Some Uploaded
@@ -58,12 +58,12 @@ abbrev pub session_outcome : Session → HostOutcome
 session_outcome NoLiveSession = record { session = NoLiveSession; answer = silent }
 session_outcome (HostSession h) = settled_session h h.phase
 
--- Answer of an abort: no report, or NoHost if no session is live.
+-- Answer to an abort: no report, or NoHost if no session is live.
 abbrev pub abort_answer : Session → Result (Option Report) LinkFault
 abort_answer NoLiveSession = Err NoHost
 abort_answer (HostSession h) = Ok None
 
--- The host begins a session for the payload of a file that was offered for a purpose to a device with this setting, which takes the file.
+-- The host begins a session for the payload of a file that was offered for a purpose to a device with this setting, which accepts the file.
 pub record SessionOpened (s : Setting) (purpose : Purpose) (file : List ℕ) (limits : Limits) (h : HostState) : Type 0 where
   pub content : Content
   pub offered : IsOffered s purpose file content.payload

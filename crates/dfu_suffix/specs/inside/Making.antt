@@ -11,16 +11,16 @@ use Rattle.dfu_suffix.specs.declared.gathering.GatherFault.TheVariants as gather
 use Rattle.dfu_suffix.specs.declared.fault.SuffixFault.{SuffixFault}
 use Rattle.dfu_suffix.specs.declared.fault.SuffixFault.TheVariants.{AlreadySuffixed, TooLarge, NoMemory, Read}
 
--- Fields of an added suffix before dwCRC: bcdDFU is 0100h, and there are no extra bytes.
+-- Fields of an added suffix before dwCRC, with bcdDFU 0100h and no extra bytes.
 unfoldable pub added_fields : Ids → List ℕ
 added_fields ids = fields_before_crc ids 0x0100 []
 
--- The suffix of a payload: the fields, and then the register over the payload and the fields.
+-- The suffix of a payload: the fields, and the register over the payload and the fields.
 abbrev pub added_suffix : List ℕ → Ids → List ℕ
 added_suffix payload ids = added_fields ids ++ to_le_bytes w32 (register (payload ++ added_fields ids))
 
--- After `Ok` the bytes can get a suffix, and the file is in memory. `TooLarge` and `AlreadySuffixed` are faults of the bytes; `Read` and
--- `NoMemory` say nothing about them. No other fault is returned.
+-- After `Ok`, a suffix could be added, and the file is in memory. `TooLarge` and `AlreadySuffixed` mean that no suffix could be added.
+-- `Read` and `NoMemory` may be returned for any bytes, and no other fault is returned.
 abbrev pub MakeResult : List ℕ → Ids → Result (Vec ℕ Global) SuffixFault → Type 0
 MakeResult all ids (Ok v) = CanGetSuffix all × IsFileWithSuffix all ids v.items
 MakeResult all ids (Err TooLarge) = 16777200 < length all
@@ -29,7 +29,7 @@ MakeResult all ids (Err Read) = ⊤
 MakeResult all ids (Err NoMemory) = ⊤
 MakeResult all ids (Err fault) = ⊥
 
--- Fault of adding for a fault of gathering: the fault of the same name.
+-- Fault of `add` for a fault of gathering, which has the same name.
 abbrev pub gathering_fault : GatherFault → SuffixFault
 gathering_fault gather.TooLarge = TooLarge
 gathering_fault gather.NoMemory = NoMemory

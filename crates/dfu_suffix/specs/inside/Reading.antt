@@ -5,7 +5,7 @@ use Rattle.dfu_suffix.specs.Grammar.{Content, tail_of, has_fault, fault_order}
 use Rattle.dfu_wire.specs.declared.ids.Ids.{Ids}
 use Rattle.dfu_suffix.specs.declared.fault.SuffixFault.{SuffixFault}
 
--- Identifiers in the last 16 bytes.
+-- The identifiers in the last 16 bytes.
 abbrev pub tail_ids : List ℕ → Ids
 tail_ids tail = record {
   device = little_number 2 (drop 0 tail);
@@ -13,7 +13,7 @@ tail_ids tail = record {
   vendor = little_number 2 (drop 4 tail);
 }
 
--- Content of bytes without a fault, by their last 16.
+-- The content that the last 16 bytes of a file describe.
 abbrev pub content_of : List ℕ → Content
 content_of bytes = record {
   payload = take (length bytes - slice_index (tail_of bytes) 11) bytes;

@@ -1,4 +1,5 @@
-/* A thread of the tests that measure a stack: a call on a stack of its own, which is over when pthread_create is. */
+/* A substitute for threads, for the tests that measure a stack: pthread_create makes a call on a separate stack, and returns when that call
+ * is over. */
 #ifndef BARE_PTHREAD_H
 #define BARE_PTHREAD_H
 #include <stddef.h>

@@ -1,5 +1,5 @@
-/* Declarations of the Pico SDK that the listing of docs/PORTING.md for the RP2040 uses, for tests/c/porting. The SDK's own headers have
- * them in hardware/flash.h, hardware/sync.h and pico/platform. */
+/* Declarations of the Pico SDK that the listing of docs/PORTING.md for the RP2040 uses, for tests/c/porting. The SDK itself declares them
+ * in hardware/flash.h, hardware/sync.h and pico/platform. */
 #ifndef HARDWARE_FLASH_H
 #define HARDWARE_FLASH_H
 #include <stddef.h>

@@ -1,4 +1,4 @@
-/* As flash.h: the two calls that hold interrupts off, which the SDK has inline. */
+/* The two calls that disable and restore interrupts, as in flash.h; in the SDK they are inline. */
 #ifndef HARDWARE_SYNC_H
 #define HARDWARE_SYNC_H
 #include <stdint.h>

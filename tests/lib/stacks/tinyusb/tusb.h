@@ -1,4 +1,5 @@
-/* The calls of TinyUSB that the loops in the headers of examples/tinyusb make, written from memory, for tests/c/porting. */
+/* The calls of TinyUSB in the loops in the headers of examples/tinyusb. They were written without the original headers, for
+ * tests/c/porting. */
 #ifndef TUSB_H
 #define TUSB_H
 #include <stdbool.h>

@@ -1,11 +1,11 @@
-/* Asks the device of the stand-in at times of its own, by the calls of the bus: what does its clock say to who asks early, late or often?
+/* Tests the clock of the stand-in's device by requests that are early, late or frequent, through the calls of the bus.
  *
  * usage: asker busy|detach MS EACH    (the settings are those of the stand-in, in tests/lib/usb/settings.c)
  *
- * busy: a block, and a GETSTATUS, by which the device begins to write it. For MS milliseconds from its answer on the time is passed on to
- * the device each EACH microseconds; then comes a GETSTATUS. detach: a DETACH, and for MS milliseconds from its answer on a GETSTATE each
- * EACH microseconds, and one more after them. It prints the state that was answered last, or `stall`, and how many microseconds passed by
- * then. */
+ * busy: sends a block, and a GETSTATUS, by which the device begins to write it. For MS milliseconds after the answer it passes the time to
+ * the device every EACH microseconds; then it sends a GETSTATUS.
+ * detach: sends a DETACH, a GETSTATE every EACH microseconds for MS milliseconds after the answer, and one more.
+ * It prints the last state, or `stall`, and the microseconds until then. */
 #include "../abi.h"
 #include "../bus.h"
 
@@ -29,7 +29,7 @@ static void rest(unsigned us)
     nanosleep(&time, NULL);
 }
 
-/* As a program's transfer does it: the time is passed on first. */
+/* Makes a transfer as a program does: the elapsed time is passed to the device first. */
 static int transfer(uint8_t kind, uint8_t request, uint8_t value, uint8_t *data, uint16_t length)
 {
     const uint8_t setup[8] = {kind, request, value, 0, 0, 0, (uint8_t)length, (uint8_t)(length >> 8)};
@@ -45,7 +45,7 @@ static void demand(uint8_t request, uint8_t value, uint8_t *data, uint16_t lengt
     }
 }
 
-/* bState, or -1 for a stall. */
+/* Returns bState, or -1 for a stall. */
 static int state_by(uint8_t request)
 {
     uint8_t answer[6] = {0};

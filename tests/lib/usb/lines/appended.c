@@ -1,8 +1,8 @@
-/* appended FILE: sixteen processes add lines to FILE at once, by apps/flash/posix/append.c. The front of a line may be seen before its rest,
-   where a page of the file ends within it; none may take that for a line that was broken off, and end it. */
+/* `appended FILE`: sixteen processes append lines to FILE at the same time, by apps/flash/posix/append.c. If a page of the file ends in a
+ * line, a reader may see the first part of the line before the rest. No process may treat that as a truncated line and end it. */
 #include "../../../../apps/flash/append.h"
 #include "../../../../apps/flash/clock.h"
-#include "../../../../apps/flash/say.h"
+#include "../../../../apps/flash/messages.h"
 
 #include <stdio.h>
 #include <string.h>

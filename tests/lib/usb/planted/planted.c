@@ -1,7 +1,7 @@
 /* SPDX-License-Identifier: MIT OR Apache-2.0 */
-/* Stands between dfu-flash and what it calls, by the linker's --wrap: the call that PLANTED names answers a number that it never has.
- * PLANTED is a name and a number, for example `dfu_watch_after 1000`; of a report it is the number of the report, and a third word is the
- * number behind it. Every other call answers as it does. */
+/* Wraps calls of dfu-flash by the linker's --wrap: the call that PLANTED names returns a number that it never returns otherwise. PLANTED is
+ * a name and a number, for example `dfu_watch_after 1000`. For a report it is the number of the report, and a third word is its second
+ * number. All other calls are unchanged. */
 #include "device.h"
 
 #include <dfu_host.h>
@@ -13,7 +13,7 @@
 #include <stdlib.h>
 #include <string.h>
 
-/* The words of PLANTED, if they are for this call. */
+/* Returns 1 if PLANTED is for this call, with its numbers. */
 static int is_planted(const char *name, uint32_t *number, uint32_t *more)
 {
     const char *text = getenv("PLANTED");
@@ -30,7 +30,7 @@ static uint32_t planted(const char *name, uint32_t number)
     return number;
 }
 
-/* The front of a call's stand-in, whose own code is __real_NAME then. */
+/* Begins the wrapper of a call, whose own code is __real_NAME. */
 #define WRAP(type, name, words) \
     type __real_##name words; \
     type __wrap_##name words; \

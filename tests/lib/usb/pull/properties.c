@@ -1,5 +1,5 @@
-/* In place of apps/flash/linux/properties.c: libusb's answers mean what they mean over WinUSB, and a person has half a second to
-   pull the plug. With USB_NEW=untold they are those of macOS. */
+/* Replaces apps/flash/linux/properties.c: dfu-flash interprets libusb's results as on WinUSB, and gives a user half a second to unplug the
+ * device. With USB_NEW=untold it interprets them as on macOS. */
 #include "../../../../apps/flash/properties.h"
 
 #include <stdlib.h>

@@ -1,5 +1,6 @@
-/* twice PID: SIGTERM to a process twice at once, and once more 20 ms later, as timeout(1) and a shell send it. Ends with 0 if the process
- * took all within 60 ms of the first one, with 1 if the machine was too slow. Linux shows in /proc which signals a process hasn't taken. */
+/* `twice PID` sends a process SIGTERM twice in immediate succession, and once more 20 ms later, as timeout(1) and a shell do. The status is
+ * 0 if the process handled all signals within 60 ms of the first, and 1 if the machine was too slow. On Linux /proc shows which signals of
+ * a process are pending. */
 #define _POSIX_C_SOURCE 200809L
 #include <signal.h>
 #include <stdbool.h>

@@ -1,4 +1,4 @@
-/* In place of ../boards.c: one board. Several need memory that processes which are forked have in common. */
+/* Replaces ../boards.c with one board, because several need memory that forked processes share. */
 #include "../boards.h"
 #include "../bus.h"
 #include "posix.h"

@@ -1,4 +1,4 @@
-/* Calls that the stand-in makes and that Windows doesn't have. */
+/* Calls of the stand-in that Windows doesn't have. */
 #ifndef USB_WINDOWS_POSIX_H
 #define USB_WINDOWS_POSIX_H
 

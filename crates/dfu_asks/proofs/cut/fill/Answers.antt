@@ -32,5 +32,5 @@ returns-clause-step c =
     ∙ (λ i. (one i ++ other i) ++ rest i)
     ∙ ap (λ (n : ℕ). (r.front.now ++ r.back.now) ++ replicate n r.pad) (size ∙ omega (arith, len, c.runs_of-runs.ensures.size)))
 
-pub returns-clause-fits : goal.returns-clause-fits
-returns-clause-fits c = λ sector is. found_cut_has_piece_bounds sector c.args.cut.now _ is (returns-clause-step c)
+pub returns-clause-piece_bounds : goal.returns-clause-piece_bounds
+returns-clause-piece_bounds c = λ sector is. found_cut_has_piece_bounds sector c.args.cut.now _ is (returns-clause-step c)

@@ -15,14 +15,14 @@ use Rattle.dfu_asks.specs.Mapped.{UnseenState}
 use Rattle.dfu_asks.specs.Due.{due_plan, PlanWorks}
 use Rattle.dfu_asks.specs.Asks.{flash_store, device_in, device_with}
 use Rattle.dfu_asks.specs.Calls.{DueOutcome, outcome_asks, outcome_answered, DeviceCalled, call_answered, call_asks, piece_on_flash, piece_write_failed, piece_not_on_flash}
-use Rattle.dfu_asks.proofs.Unseen.{spare_ignores_unseen}
+use Rattle.dfu_asks.proofs.UnseenState.{spare_ignores_unseen}
 use Rattle.dfu_asks.proofs.laws.errors_follow_failures.Goals as goal
 
 -- Unseen state of a medium on which no write has failed and no write will fail.
 abbrev unseen_without_failures : UnseenState
 unseen_without_failures = record { failures = 0; fuse = Whole; tag = [] }
 
--- A device on a medium without failures is in the same stage as on any medium with these bytes.
+-- The stage of a device is the same on a medium without failures as on any other medium with these bytes.
 stage_is_same_on_each_medium : (a : LentDevice) (flash : List ℕ) → (device_with unseen_without_failures a flash).stage
     ≡ (device_in a flash).stage
 stage_is_same_on_each_medium a flash = ap (λ (spare : List ℕ). stage_of a.mode spare a.block) (spare_ignores_unseen unseen_without_failures
@@ -42,7 +42,7 @@ pub returns-clause-answered : goal.returns-clause-answered
 returns-clause-answered c = λ a now flash out out' cause x count called broken.
     error_answer_has_cause c.rows_keep.ensures.errors a now flash out out' cause (reply.Answered x count) called x count refl broken
 
--- A row whose writes all worked leads to no error.
+-- A row whose writes all succeeded doesn't lead to an error of the medium.
 worked_row_enters_no_error : (c : Profile) (st : Stage) (len : ℕ) (w : DeviceView) (a : Answer) (out : List ℕ) (w' : DeviceView)
     → PlanWorks (due_plan c st) len w a out w' → IsMediumError w'.stage → ⊥
 worked_row_enters_no_error c (InDownloadSync before block number) len w a out w' done broken = subst IsMediumError done.1.stage_is broken

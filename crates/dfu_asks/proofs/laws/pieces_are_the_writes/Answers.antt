@@ -2,7 +2,7 @@ use Rattle.std.proofs.Common.{arith}
 use Rattle.dfu_asks.specs.Steps.{step_writes}
 use Rattle.dfu_asks.specs.Carried.{total}
 use Rattle.dfu_asks.proofs.Bits.{piece_is_part_of_writes}
-use Rattle.dfu_asks.proofs.Carrying.{carried_series_is_all_writes, written_piece_carries_series, torn_piece_breaks_series}
+use Rattle.dfu_asks.proofs.SeriesBytes.{carried_series_is_all_writes, written_piece_carries_series, torn_piece_breaks_series}
 use Rattle.dfu_asks.proofs.laws.pieces_are_the_writes.Goals as goal
 
 pub returns-clause-all : goal.returns-clause-all

@@ -13,7 +13,7 @@ use Rattle.dfu_asks.proofs.LongSetups.{mode_after_long_needs_no_bytes, found_set
 use Rattle.dfu_asks.proofs.Refuses.{filled_mode_may_be_entered}
 use Rattle.dfu_asks.proofs.long.mode_after_long.Goals as goal
 
--- The row of a setup, with every fitting body, is a stall that leads from a device to the device in the mode `after`.
+-- For every body of the right length, the row of a setup is a stall that moves the device to the mode `after`.
 abbrev RowLeadsTo : List ℕ → LentDevice → List ℕ → DeviceState → Type 0
 RowLeadsTo setup a flash after = IsDevice (record a { mode = after }) flash × ((body : List ℕ) → IsBodyOf setup body → (u : UnseenState)
     → Handles setup body (device_with u a flash) Stall [] (device_with u (record a { mode = after }) flash))

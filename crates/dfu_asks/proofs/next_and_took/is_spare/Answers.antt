@@ -2,7 +2,7 @@ use Rattle.std.proofs.Common.{◌≡◌, ℕ, slice_index, sym, ◌∙◌, ap, s
 use Rattle.dfu_slots.specs.Medium.{MediumState}
 use Rattle.dfu_slots.specs.Image.{gate_of, spare_at, HasImage}
 use Rattle.dfu_asks.specs.Mapped.{mapped_medium}
-use Rattle.dfu_asks.proofs.Spared.{slot_begins_before_place, slot_of_place_is_one_of_two, slot_of_place_begins_in_flash, slot_of_place_is_unique, tested_equal_is_equal, tested_unequal_is_unequal, closed_slot_range_is_in_spare, range_at_spare_is_in_spare}
+use Rattle.dfu_asks.proofs.SpareRanges.{slot_begins_before_place, slot_of_place_is_one_of_two, slot_of_place_begins_in_flash, slot_of_place_is_unique, tested_equal_is_equal, tested_unequal_is_unequal, closed_slot_range_is_in_spare, range_at_spare_is_in_spare}
 use Rattle.dfu_asks.proofs.next_and_took.is_spare.Goals as goal
 
 pub flash_byte_at-requires : goal.flash_byte_at-requires

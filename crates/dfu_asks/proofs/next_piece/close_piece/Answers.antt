@@ -10,5 +10,5 @@ pub returns-then-close-clause-found : goal.returns-then-close-clause-found
 returns-then-close-clause-found c = λ yes.
     let before = c.args.cut.now in
     subst (λ (ss : List Step). IsStepPiece ss before.rest (step_of_cut c.sequence_piece.new.cut))
-    (close_ops_are_step before.stock before.front c.args.spare ∙ sym (cond-true c.args.close _ [] c.if-close.true))
+    (close_ops_are_step before.inputs before.front c.args.spare ∙ sym (cond-true c.args.close _ [] c.if-close.true))
     (c.sequence_piece.ensures.found yes)

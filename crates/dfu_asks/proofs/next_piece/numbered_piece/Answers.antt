@@ -8,7 +8,7 @@ use Rattle.dfu_asks.proofs.next_piece.numbered_piece.Goals as goal
 
 pub returns-in-Some-Program-clause-found : goal.returns-in-Some-Program-clause-found
 returns-in-Some-Program-clause-found c = λ yes.
-    let s = c.args.cut.now.stock in
+    let s = c.args.cut.now.inputs in
     let front = c.args.cut.now.front in
     let o = c.in-Some-Program in
     subst (λ (ss : List Step). IsStepPiece ss c.args.cut.now.rest (step_of_cut c.write_piece.new.cut))
@@ -17,7 +17,7 @@ returns-in-Some-Program-clause-found c = λ yes.
 
 pub returns-in-Some-Program-clause-behind : goal.returns-in-Some-Program-clause-behind
 returns-in-Some-Program-clause-behind c = λ no.
-    let s = c.args.cut.now.stock in
+    let s = c.args.cut.now.inputs in
     let front = c.args.cut.now.front in
     let o = c.in-Some-Program in
     subst (λ (ss : List Step). total (step_writes ss) + c.write_piece.new.cut.rest ≡ c.args.cut.now.rest)

@@ -11,5 +11,6 @@ returns-then-numbered_piece-clause-found c = λ yes.
 pub loop-index-preserved : goal.loop-index-preserved
 loop-index-preserved c =
     let no = ap not c.if-numbered_piece.false in
-    search_passes_next_op c.loop-index.invariant c.numbered_piece.new.cut c.numbered_piece.ensures.same (c.numbered_piece.ensures.behind no)
+    search_passes_next_op c.loop-index.invariant c.numbered_piece.new.cut c.numbered_piece.ensures.same_inputs
+    (c.numbered_piece.ensures.behind no)
     (c.numbered_piece.ensures.past no)

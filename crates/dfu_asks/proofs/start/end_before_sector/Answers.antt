@@ -1,7 +1,7 @@
 use Rattle.std.proofs.Common.{◌≡◌, ℕ, ◌+◌, ◌-◌, ◌%◌, min, sym, ◌∙◌, subst, arith}
 use Rattle.std.proofs.lemmas.Nat.{mod_below}
 use Rattle.dfu_asks.specs.Ahead.{ReachesSectorAt}
-use Rattle.dfu_asks.proofs.Clear.{range_at_edge_is_at_sector, range_reaches_sector}
+use Rattle.dfu_asks.proofs.BytesBeforeSector.{range_at_edge_is_at_sector, range_reaches_sector}
 use Rattle.dfu_asks.proofs.start.end_before_sector.Goals as goal
 
 pub returns-then-behind-eq0 : goal.returns-then-behind-eq0

@@ -1,6 +1,6 @@
 use Rattle.std.proofs.Common.{◌≡◌, ◌↔◌, ◌≤◌, ◌<◌, IsTrue, ℕ, min, length, slice_index, refl, subst, arith}
 use Rattle.dfu_asks.specs.Ahead.{IsErasedAhead}
-use Rattle.dfu_asks.proofs.Clear.{erased_ahead_iff_front_clear}
+use Rattle.dfu_asks.proofs.BytesBeforeSector.{erased_ahead_iff_front_clear}
 use Rattle.dfu_asks.proofs.start.is_erased_to_sector.Goals as goal
 
 pub returns-then-size-eq0 : goal.returns-then-size-eq0

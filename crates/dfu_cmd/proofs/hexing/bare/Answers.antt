@@ -6,7 +6,7 @@ use Rattle.std.proofs.lemmas.List.Sums.{fold_more}
 use Rattle.dfu_cmd.specs.HexWords.{digits_after_word}
 use Rattle.dfu_cmd.proofs.hexing.bare.Goals as goal
 
--- The digits of the first `i` words, after the next word, are those of the first `i + 1`.
+-- Adding the next word to the digits of the first `i` words gives the digits of the first `i + 1` words.
 next_word_extends_digits : {X : Type 0} (text : X → List ℕ) (words : List X) (i : ℕ) (d : X) (old new w : List ℕ) → i < length words →
     d ≡ get_or words i d → w ≡ text d → old ≡ fold digits_after_word [] (take i (map text words)) → new ≡ digits_after_word old w →
     new ≡ fold digits_after_word [] (take (i + 1) (map text words))

@@ -1,7 +1,7 @@
 use Rattle.std.specs.Prelude.{ℕ, false, slice_index_or}
 use Rattle.std.proofs.Common.{sym, ap, ◌∙◌}
 use Rattle.dfu_conformance.proofs.Places.{place_number_below_12}
-use Rattle.dfu_conformance.proofs.Untaken.{false_adds_nothing, second_false_falsifies_three, third_false_falsifies_four}
+use Rattle.dfu_conformance.proofs.UntakenRows.{false_adds_nothing, second_false_falsifies_three, third_false_falsifies_four}
 use Rattle.dfu_conformance.proofs.held.go.Goals.{else-at-number-via-then-at-number+else-row_fits_event, else-at-number-via-else-at-number}
 use Rattle.dfu_conformance.proofs.held.go.Goals as goal
 

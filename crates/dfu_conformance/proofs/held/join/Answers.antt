@@ -1,7 +1,7 @@
 use Rattle.std.specs.Prelude.{◌≢◌, ℕ}
 use Rattle.std.proofs.Common.{arith, ◌∙◌, get_or-set_other, length-set}
 use Rattle.dfu_conformance.specs.Candidates.{applies_to}
-use Rattle.dfu_conformance.proofs.Joined.{next_word_is_joined}
+use Rattle.dfu_conformance.proofs.JoinedBits.{next_word_is_joined}
 use Rattle.dfu_conformance.proofs.held.join.Goals as goal
 
 pub loop-a-preserved : goal.loop-a-preserved

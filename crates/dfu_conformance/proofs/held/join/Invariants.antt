@@ -2,7 +2,7 @@ use Rattle.std.specs.Prelude.{◌≡◌, ℕ, ◌<◌, ◌≤◌, ◌||◌, ◌&
 use Rattle.dfu_conformance.specs.Candidates.{applies_to, holds_device}
 use Rattle.dfu_conformance.proofs.held.join.Given as goal
 
--- The words before index `a` are joined, and the words from `a` on are those of `to`.
+-- The words before index `a` are joined, and the words from `a` on are still those of `to`.
 abbrev pub invariant-loop-a : goal.invariant-loop-a
 invariant-loop-a l = record {
   size : length l.after ≡ 16;

@@ -2,7 +2,7 @@ use Rattle.std.specs.Prelude.{◌≡◌, ℕ, ◌<◌, length, slice_index_or, [
 use Rattle.dfu_conformance.specs.inside.Stepped.{has_candidate}
 use Rattle.dfu_conformance.proofs.held.places_of.Given as goal
 
--- For each place with a number below `n`, the list is true exactly if a device with the habits is held there.
+-- The list contains a state with an index below `n` exactly if a device with these habits is a candidate in this state.
 abbrev pub invariant-loop-n : goal.invariant-loop-n
 invariant-loop-n l = record {
   size : length l.at ≡ 12;

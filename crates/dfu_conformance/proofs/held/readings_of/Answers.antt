@@ -2,7 +2,7 @@ use Rattle.std.specs.Prelude.{◌≡◌, ◌||◌, ℕ, Bool}
 use Rattle.std.proofs.Common.{ap, sym, ◌∙◌, arith, add-one}
 use Rattle.dfu_conformance.specs.Candidates.{holds_device}
 use Rattle.dfu_conformance.specs.inside.Stepped.{passes_below, has_candidate}
-use Rattle.dfu_conformance.proofs.Joined.{or_has_bit_of_either_word}
+use Rattle.dfu_conformance.proofs.JoinedBits.{or_has_bit_of_either_word}
 use Rattle.dfu_conformance.proofs.Words.{none}
 use Rattle.dfu_conformance.proofs.held.readings_of.Goals as goal
 

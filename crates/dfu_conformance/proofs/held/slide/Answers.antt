@@ -1,7 +1,7 @@
 use Rattle.std.specs.Prelude.{ℕ, false, slice_index_or}
 use Rattle.std.proofs.Common.{sym, ap, ◌∙◌}
 use Rattle.dfu_conformance.proofs.Places.{place_number_below_12}
-use Rattle.dfu_conformance.proofs.Untaken.{false_adds_nothing, second_false_falsifies_three}
+use Rattle.dfu_conformance.proofs.UntakenRows.{false_adds_nothing, second_false_falsifies_three}
 use Rattle.dfu_conformance.proofs.held.slide.Goals as goal
 
 pub returns-else-at-number : goal.returns-else-at-number

@@ -2,7 +2,7 @@ use Rattle.std.specs.Prelude.{◌≡◌, ◌<◌, ℕ, [], false, length, slice_
 use Rattle.dfu_conformance.specs.Candidates.{holds_device}
 use Rattle.dfu_conformance.proofs.held.taken.Given as goal
 
--- For each place with a number below `n`, the list is false only if no device is held there.
+-- If the list lacks a state with an index below `n`, no device is a candidate in this state.
 abbrev pub invariant-loop-n : goal.invariant-loop-n
 invariant-loop-n l = record {
   size : length l.at ≡ 12;

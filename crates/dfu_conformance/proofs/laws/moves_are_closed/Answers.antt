@@ -4,5 +4,5 @@ use Rattle.dfu_conformance.proofs.laws.moves_are_closed.Goals as goal
 pub returns-clause-twice : goal.returns-clause-twice
 returns-clause-twice c = two_moves_are_one
 
-pub returns-clause-first : goal.returns-clause-first
-returns-clause-first c = move_begins_run
+pub returns-clause-moved_run : goal.returns-clause-moved_run
+returns-clause-moved_run c = move_begins_run

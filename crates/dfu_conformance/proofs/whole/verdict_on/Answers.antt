@@ -14,6 +14,6 @@ loop-event-preserved c =
 pub returns : goal.returns
 returns c =
     let all : length c.args.events.now ≡ c.loop-event.event-index = omega arith in
-    c.verdict.ensures.is c.args.events.now
+    c.verdict.ensures.verdict c.args.events.now
     (subst (λ (es : List LogEvent). CandidatesExact c.loop-event.judge.whole es) (take_all c.loop-event.event-index c.args.events.now (omega arith))
     c.loop-event.invariant)

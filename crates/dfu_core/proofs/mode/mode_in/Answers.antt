@@ -1,7 +1,7 @@
 use Rattle.std.proofs.Common.{◌≡◌, Option, Some, None, sym, ap, ◌∙◌}
 use Rattle.dfu_core.proofs.mode.mode_in.Goals as goal
 
--- The value in an option, or `m` if the option is None.
+-- Value of an option, or `m` if the option is None.
 abbrev value_or_default : {A : Type 0} → A → Option A → A
 value_or_default m (Some x) = x
 value_or_default m None = m

@@ -5,7 +5,7 @@ use Rattle.dfu_wire.specs.Request.{SetupAsksFor}
 use Rattle.dfu_device.specs.Rows.{is_close}
 use Rattle.dfu_device.proofs.objection.is_close.Goals as goal
 
--- The eight bytes of a setup have one reading, which encodes one request.
+-- The eight bytes of a setup packet encode exactly one request.
 pub returns : goal.returns
 returns c = (
   λ yes. (c.decode.result, c.request.result, c.decode.ensures.fields, c.request.ensures.asks, sym c.closes.ensures ∙ yes),

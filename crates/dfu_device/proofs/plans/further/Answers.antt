@@ -1,5 +1,5 @@
 use Rattle.std.proofs.Common.{inr}
-use Rattle.dfu_device.proofs.Carried.{idle_download_has_put}
+use Rattle.dfu_device.proofs.PlanRows.{idle_download_has_put}
 use Rattle.dfu_device.proofs.plans.further.Goals as goal
 
 pub returns-then-size-gt0-clause-possible : goal.returns-then-size-gt0-clause-possible

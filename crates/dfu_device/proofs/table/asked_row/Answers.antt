@@ -1,5 +1,5 @@
 use Rattle.std.proofs.Common.{sym, ◌∙◌, refl}
-use Rattle.dfu_device.proofs.Before.{served_body_length_fits}
+use Rattle.dfu_device.proofs.BodyLengths.{served_body_length_fits}
 use Rattle.dfu_device.proofs.table.asked_row.Goals as goal
 
 pub returns-then-not-is_served : goal.returns-then-not-is_served

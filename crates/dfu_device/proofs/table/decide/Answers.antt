@@ -1,4 +1,4 @@
-use Rattle.dfu_device.proofs.Carried.{allowed_in_equal_mode}
+use Rattle.dfu_device.proofs.PlanRows.{allowed_in_equal_mode}
 use Rattle.dfu_device.proofs.table.decide.Goals as goal
 
 pub returns-in-AppIdle-clause-possible : goal.returns-in-AppIdle-clause-possible

@@ -1,6 +1,6 @@
 use Rattle.std.proofs.Common.{length}
 use Rattle.dfu_device.specs.declared.device_state.DeviceState.TheVariants as device_state
-use Rattle.dfu_device.proofs.Carried.{dnload_allows_decision}
+use Rattle.dfu_device.proofs.PlanRows.{dnload_allows_decision}
 use Rattle.dfu_device.proofs.table.in_dfu_idle.Goals as goal
 
 pub returns-in-Dnload-clause-possible : goal.returns-in-Dnload-clause-possible

@@ -1,7 +1,7 @@
 use Rattle.std.proofs.Common.{sym, subst}
 use Rattle.dfu_device.specs.declared.device_state.DeviceState.{DeviceState}
 use Rattle.dfu_device.specs.Decision.{DecidesTime}
-use Rattle.dfu_device.proofs.Carried.{equal_mode_allows_time_decision}
+use Rattle.dfu_device.proofs.PlanRows.{equal_mode_allows_time_decision}
 use Rattle.dfu_device.proofs.time_table.decide_time.Goals as goal
 
 pub returns-in-AppDetach-clause-row : goal.returns-in-AppDetach-clause-row

@@ -7,7 +7,7 @@ use Rattle.dfu_device.specs.DeviceView.{profile_of}
 use Rattle.dfu_device.specs.Parts.{stage_of, wait_ms_of_mode}
 use Rattle.dfu_device.proofs.time_table.poll_ms.Goals as goal
 
--- A host must wait only in dfuDNBUSY and in dfuMANIFEST.
+-- The poll time is 0 except in dfuDNBUSY and dfuMANIFEST.
 no_poll_unless_busy : (c : Profile) (m : DeviceState) (spare block : List ℕ)
     → ((written number passed : ℕ) → m ≡ device_state.DownloadBusy written number passed → ⊥)
     → ((written passed : ℕ) → m ≡ device_state.Manifest written passed → ⊥) → 0 ≡ poll_of_stage c (stage_of m spare block)
@@ -27,5 +27,5 @@ returns-in_default c = record {
       no_poll_unless_busy (profile_of c.args.config.now room) c.args.mode spare block c.in_default.not-DownloadBusy
       c.in_default.not-Manifest;
   time = no_time c.args.config.now c.args.mode c.args.block_len c.in_default.not-DownloadBusy c.in_default.not-Manifest;
-  fits = omega arith;
+  in_24_bits = omega arith;
 }

@@ -11,7 +11,7 @@ use Rattle.dfu_core.specs.Config.{config_grain}
 use Rattle.dfu_core.specs.Numbers.{yes_no_number}
 use Rattle.dfu_device_c.proofs.blank.dfu_core_is_blank.Goals as goal
 
--- The returned number says if the flash is blank.
+-- The result is 1 if the gates and the headers of both slots are erased, and 0 if they are not.
 number_says_if_blank : (c : DfuConfig) (flash : List ℕ) (m : MediumState) (said : Bool) (n : ℤ) → m ≡ mapped_medium (config_grain c) flash
     → n ≡ yes_no_number said
     → (IsTrue said ↔ AreSlotFrontsErased m.grain m.bytes) → (IsTrue said → ¬ HasImage m) → BlankResult c flash n

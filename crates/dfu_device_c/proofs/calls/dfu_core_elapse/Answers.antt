@@ -21,14 +21,14 @@ elapse-requires c = has_room (found_device_has_split_memory _ _ _ _ c.split_at_m
     c.found.ensures.config
     c.found.ensures.room c.split_at_mut-front.ensures.value (omega (arith, c.split_at_mut-front.ensures.front_len, c.from.ensures)))
 
--- The record's device, with its memory split in two.
+-- The record represents the device that was found, and the device's memory is split in two.
 record_device_is_split : (c : After-elapse) → IsDeviceOfSplitMemory c.args.config.now c.args.device.now c.in-Ok.asking c.args.block.now
     c.split_at_mut-front.result.0.now c.split_at_mut-front.result.1.now
 record_device_is_split c = found_device_has_split_memory _ _ _ _ _ _ _ c.in-Ok.is c.found.ensures.ok c.found.ensures.config
     c.found.ensures.room
     c.split_at_mut-front.ensures.value (omega (arith, c.split_at_mut-front.ensures.front_len, c.from.ensures))
 
--- Time passed, or writes are due; in both cases the record was written for the device after the call.
+-- The record that the call leaves represents the device after the call, both if time passed and if writes are pending.
 elapsed_device_is_kept : (c : After-elapse) (reply : Reply) (r' : DfuRecord) {n : ℤ} → c.elapse.result ≡ Ok reply → n
     ≡ time_reply_number reply →
     let k = c.args.config.now in
@@ -43,8 +43,8 @@ elapsed_device_is_kept c reply r' is number_is kept =
     let p = record_device_is_split c in
     let done = c.elapse.ensures in
     let flash = c.args.flash.now in
-    let after = memory_is_split_after_call p _ _ _ done.same refl c.elapse.auto.block in
-    goes p done.same kept (λ _. front_fits_transfer_size p _ c.elapse.auto.block (IfOk-at_ok _ is done.fits)) (record {
+    let after = memory_is_split_after_call p _ _ _ done.same_config refl c.elapse.auto.block in
+    goes p done.same_config kept (λ _. front_fits_transfer_size p _ c.elapse.auto.block (IfOk-at_ok _ is done.block_fits)) (record {
       idle = (IfOk-at_ok _ is done.served).work;
       reply = reply;
       number_is = number_is;

@@ -6,7 +6,7 @@ use Rattle.dfu_asks.specs.Carried.{IsStepPiece, ErasesSectorOrPrograms}
 use Rattle.dfu_asks.specs.Asks.{steps_in}
 use Rattle.dfu_asks.specs.Lent.{LentDevice, lent}
 use Rattle.dfu_core.specs.Writes.{HasRowPending, device_is_not_found, piece_is_refused}
-use Rattle.dfu_device_c.proofs.Handed.{kind_is_erase_or_program, program_kind_does_not_erase, step_by_kind, step_by_kind_is_by_flag, handed_write_is_step}
+use Rattle.dfu_device_c.proofs.HandedWrites.{kind_is_erase_or_program, program_kind_does_not_erase, step_by_kind, step_by_kind_is_by_flag, handed_write_is_step}
 use Rattle.dfu_device_c.proofs.Split.{memory_is_front_and_rest, parts_make_same_device, IsDeviceOfSplitMemory, found_device_has_split_memory, device_memory_is_split}
 use Rattle.dfu_device_c.proofs.calls.dfu_core_next.Goals.{After-split_at}
 use Rattle.dfu_device_c.proofs.calls.dfu_core_next.Goals as goal
@@ -24,7 +24,7 @@ returns-in-Err-clause-outcome c = inr (
 pub returns-in-Err-clause-step : goal.returns-in-Err-clause-step
 returns-in-Err-clause-step c = handed_write_is_step _ _ _ _ _ _ _ _ (returns-in-Err-clause-outcome c)
 
--- The record's device, with its memory split in two.
+-- The record represents the device that was found, and the device's memory is split in two.
 record_device_is_split : (c : After-split_at) → IsDeviceOfSplitMemory c.args.config.now c.args.device.now c.in-Ok.asking c.args.block.now
     c.split_at.result.0.now c.split_at.result.1.now
 record_device_is_split c = found_device_has_split_memory _ _ _ _ _ _ _ c.in-Ok.is c.found.ensures.ok c.found.ensures.config
@@ -40,7 +40,7 @@ returns-in_default-clause-outcome c =
           p.config p.room p.kept
           (inl (λ at.
           let there = subst (λ (l : LentDevice). HasRowPending l c.args.flash.now) (parts_make_same_device (device_memory_is_split p)) at in
-          c.in_default.ensures.goes there.0 there.1 there.2 there.3)),
+          c.in_default.ensures.none_pending there.0 there.1 there.2 there.3)),
       λ i. record c.args.ask.now { bytes = c.in_default.ensures.unchanged i },
     )
 
@@ -80,8 +80,8 @@ returns-clause-outcome c =
           (step_by_kind c.kind_of-ask.result piece.at piece.len c.next.new.out))
           (sym (parts_make_same_device (device_memory_is_split p)))
           (subst (λ (s : Step). IsStepPiece (steps_in l due.0) due.0.done s) (sym same) (says.piece due.0 due.1.work_is));
-      some = says.most.some;
-      most = λ is. says.most.programs (program_kind_does_not_erase piece.erases c.kind_of-ask.result c.kind_of-ask.ensures is);
+      some = says.piece_bounds.some;
+      most = λ is. says.piece_bounds.programs (program_kind_does_not_erase piece.erases c.kind_of-ask.result c.kind_of-ask.ensures is);
       sector =
           subst (λ (n : ℕ). ErasesSectorOrPrograms n (step_by_kind c.kind_of-ask.result piece.at piece.len c.next.new.out))
           p.kept.set_up.sector_is

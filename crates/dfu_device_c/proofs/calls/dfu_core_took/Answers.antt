@@ -17,7 +17,7 @@ use Rattle.dfu_core.specs.Numbers.{reply_number}
 use Rattle.dfu_core.specs.Calls.{RecordAfterCall, ReportOutcome}
 use Rattle.dfu_core.specs.Further.{PiecesAdvance}
 use Rattle.dfu_core.specs.Writes.{IsPendingOnSomeFlash, device_is_not_found, piece_is_refused}
-use Rattle.dfu_device_c.proofs.Found.{refused_report_has_no_write}
+use Rattle.dfu_device_c.proofs.CallRefusals.{refused_report_has_no_write}
 use Rattle.dfu_device_c.proofs.Split.{parts_make_same_device, call_same_on_parts, IsDeviceOfSplitMemory, found_device_has_split_memory, has_room, device_memory_is_split, memory_is_split_after_call, unchanged, front_is_same_with_other_tail, goes}
 use Rattle.dfu_device_c.proofs.calls.dfu_core_took.Goals.{After-took}
 use Rattle.dfu_device_c.proofs.calls.dfu_core_took.Goals as goal
@@ -43,17 +43,17 @@ returns-in-Err c = record {
     )),
   );
   block = refl;
-  short = λ less. absurd (omega (arith, less, c.if-out-lt6.false));
+  no_room = λ less. absurd (omega (arith, less, c.if-out-lt6.false));
 }
 
--- The record's device, with its memory split in two.
+-- The record represents the device that was found, and the device's memory is split in two.
 record_device_is_split : (c : After-took) → IsDeviceOfSplitMemory c.args.config.now c.args.device.now c.in-Ok.asking c.args.block.now
     c.split_at_mut-front.result.0.now c.split_at_mut-front.result.1.now
 record_device_is_split c = found_device_has_split_memory _ _ _ _ _ _ _ c.in-Ok.is c.found.ensures.ok c.found.ensures.config
     c.found.ensures.room
     c.split_at_mut-front.ensures.value (omega (arith, c.split_at_mut-front.ensures.front_len, c.from.ensures))
 
--- The report was taken; with any reply, the record was written for the device after the call.
+-- The record that the call leaves represents the device after the call, for any reply to the report.
 reported_device_is_kept : (c : After-took) (reply : Reply) (r' : DfuRecord) {n : ℤ} → c.took.result ≡ Ok reply → n ≡ reply_number reply →
     let k = c.args.config.now in
     let a' = c.took.new.self in
@@ -64,12 +64,12 @@ reported_device_is_kept : (c : After-took) (reply : Reply) (r' : DfuRecord) {n :
 reported_device_is_kept c reply r' is number_is kept =
     let p = record_device_is_split c in
     let done = c.took.ensures in
-    let after = memory_is_split_after_call p _ _ _ done.same refl refl in
+    let after = memory_is_split_after_call p _ _ _ done.same_config refl refl in
     let taken = IfOk-at_ok _ is done.taken in
-    goes p done.same kept
+    goes p done.same_config kept
     (λ fits. record {
       block = omega (arith, fits.block, done.block);
-      transfer = omega (arith, fits.transfer, ap (λ (s : Setting). s.functional.transfer) done.same.config);
+      transfer = omega (arith, fits.transfer, ap (λ (s : Setting). s.functional.transfer) done.same_config.config);
     })
     (record {
       work = taken.work;
@@ -83,7 +83,7 @@ reported_device_is_kept c reply r' is number_is kept =
           → DevicePieceReported (device_of l s) len s was piece.write
           (not (c.args.failed == 0)) c.args.flash.now c.args.out.now l' c.took.new.out reply)
           (device_memory_is_split p) after (IfOk-at_ok _ is done.outcome);
-      further = call_same_on_parts (λ l l'. PiecesAdvance l reply l') (device_memory_is_split p) after (IfOk-at_ok _ is done.further);
+      further = call_same_on_parts (λ l l'. PiecesAdvance l reply l') (device_memory_is_split p) after (IfOk-at_ok _ is done.piece_advances);
     })
 
 pub returns-in-Ok-Asks : goal.returns-in-Ok-Asks
@@ -96,7 +96,7 @@ returns-in-Ok-Asks c =
             c.args.config.now)),
       );
       block = front_is_same_with_other_tail (record_device_is_split at) c.took.new.held;
-      short = λ less. absurd (omega (arith, less, c.if-out-lt6.false));
+      no_room = λ less. absurd (omega (arith, less, c.if-out-lt6.false));
     }
 
 pub returns-in-Ok-Answered : goal.returns-in-Ok-Answered
@@ -110,7 +110,7 @@ returns-in-Ok-Answered c =
             (c.keep-in-Ok-Answered.ensures c.args.config.now)),
       );
       block = front_is_same_with_other_tail (record_device_is_split at) c.took.new.held;
-      short = λ less. absurd (omega (arith, less, c.if-out-lt6.false));
+      no_room = λ less. absurd (omega (arith, less, c.if-out-lt6.false));
     }
 
 pub returns-in-Err-took : goal.returns-in-Err-took
@@ -131,5 +131,5 @@ returns-in-Err-took c =
         )),
       );
       block = front_is_same_with_other_tail p c.took.new.held;
-      short = λ less. absurd (omega (arith, less, c.if-out-lt6.false));
+      no_room = λ less. absurd (omega (arith, less, c.if-out-lt6.false));
     }

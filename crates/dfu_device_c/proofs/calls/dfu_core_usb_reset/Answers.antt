@@ -10,7 +10,7 @@ use Rattle.dfu_device_c.proofs.calls.dfu_core_usb_reset.Goals as goal
 pub split_at-requires : goal.split_at-requires
 split_at-requires c = omega (arith, IfOk-at_ok _ c.in-Ok.is c.found.ensures.room, c.from.ensures)
 
--- The record's device, with its memory split in two.
+-- The record represents the device that was found, and the device's memory is split in two.
 record_device_is_split : (c : After-split_at) → IsDeviceOfSplitMemory c.args.config.now c.args.device.now c.in-Ok.asking c.args.block.now
     c.split_at.result.0.now c.split_at.result.1.now
 record_device_is_split c = found_device_has_split_memory _ _ _ _ _ _ _ c.in-Ok.is c.found.ensures.ok c.found.ensures.config
@@ -26,17 +26,17 @@ returns-in-Ok-usb_reset c =
     let p = record_device_is_split (goal.at.returns-in-Ok-usb_reset c).After-split_at in
     let done = c.in-Ok-usb_reset.ensures in
     let flash = c.args.flash.now in
-    let after = memory_is_split_after_call p c.args.block.now _ _ done.same p.parts refl in
+    let after = memory_is_split_after_call p c.args.block.now _ _ done.same_config p.parts refl in
     record {
       step = (
         record { config = refl; flash = refl },
-        inl (goes p done.same (c.keep.ensures c.args.config.now) (λ _. front_fits_transfer_size p _ refl done.fits) (
+        inl (goes p done.same_config (c.keep.ensures c.args.config.now) (λ _. front_fits_transfer_size p _ refl done.block_fits) (
           done.served.work,
           refl,
           done.work,
           call_same_on_parts (λ l l'. device_in l' flash ≡ record (device_in l flash) { stage = reset_stage (device_in l flash).stage })
               (device_memory_is_split p) after done.row,
-          λ is. intact after flash (done.is (whole (device_memory_is_split p) flash is)),
+          λ is. intact after flash (done.stays_device (whole (device_memory_is_split p) flash is)),
         )),
       );
     }

@@ -4,7 +4,7 @@ use Rattle.dfu_core.specs.Closes.{CloseResult}
 use Rattle.dfu_asks.specs.Addressed.{addressed_setup}
 use Rattle.dfu_core.specs.Idle.{IsIdleRecord, RefusesUnlessIdle}
 use Rattle.dfu_core.specs.Numbers.{yes_no_number}
-use Rattle.dfu_device_c.proofs.Told.{yes_no_number_is_0_or_1, record_device_is_in_mode}
+use Rattle.dfu_device_c.proofs.RecordAnswers.{yes_no_number_is_0_or_1, record_device_is_in_mode}
 use Rattle.dfu_device_c.proofs.closes.dfu_core_closes.Goals as goal
 
 pub returns : goal.returns

@@ -3,7 +3,7 @@ use Rattle.dfu_asks.specs.Steps.{Step}
 use Rattle.dfu_asks.specs.Carried.{IsStepPiece, ErasesSectorOrPrograms}
 use Rattle.dfu_asks.specs.Phases.{remaining_steps}
 use Rattle.dfu_core.specs.Formatting.{IsFormatRecord}
-use Rattle.dfu_device_c.proofs.Handed.{kind_is_erase_or_program, program_kind_does_not_erase, step_by_kind, step_by_kind_is_by_flag}
+use Rattle.dfu_device_c.proofs.HandedWrites.{kind_is_erase_or_program, program_kind_does_not_erase, step_by_kind, step_by_kind_is_by_flag}
 use Rattle.dfu_device_c.proofs.format.dfu_core_format_next.Goals.{After-next}
 use Rattle.dfu_device_c.proofs.format.dfu_core_format_next.Goals as goal
 
@@ -15,7 +15,7 @@ returns-in_default-formatting_of c = record {
   );
 }
 
--- The record stands for the format whose next write is handed out.
+-- The record represents the format whose next write the call returns.
 record_has_format : (c : After-next) → IsFormatRecord c.args.config.now c.args.device.now c.in-Some-formatting_of.formatting
 record_has_format c = c.in-Some-formatting_of.ensures.some c.args.config.now (record {
   config_is = c.in-Some.ensures.config;
@@ -28,7 +28,7 @@ returns-in_default-next c =
     let is = record_has_format (goal.at.returns-in_default-next c).After-next in
     record {
       outcome = inr (
-        inr (refl, c.in-Some.ensures.allowed, inr (c.in-Some-formatting_of.formatting, is, λ was k. c.in_default-next.ensures.goes was k)),
+        inr (refl, c.in-Some.ensures.allowed, inr (c.in-Some-formatting_of.formatting, is, λ was k. c.in_default-next.ensures.none_pending was k)),
         λ i. record c.args.ask.now { bytes = c.in_default-next.ensures.unchanged i },
       );
     }
@@ -50,8 +50,8 @@ returns c =
         is = is;
         kind = kind_is_erase_or_program p.erases c.kind_of-ask.result c.kind_of-ask.ensures;
         piece = subst (λ (s : Step). IsStepPiece (remaining_steps f (length flash) image) f.done s) (sym same) says.piece;
-        some = says.most.some;
-        most = λ two. says.most.programs (program_kind_does_not_erase p.erases c.kind_of-ask.result c.kind_of-ask.ensures two);
+        some = says.piece_bounds.some;
+        most = λ two. says.piece_bounds.programs (program_kind_does_not_erase p.erases c.kind_of-ask.result c.kind_of-ask.ensures two);
         sector = subst (λ (n : ℕ). ErasesSectorOrPrograms n (step_by_kind c.kind_of-ask.result p.at p.len c.next.new.out)) is.sector
             (subst (λ (s : Step). ErasesSectorOrPrograms f.sector.size s) (sym same) says.sector);
         within = says.within.0;

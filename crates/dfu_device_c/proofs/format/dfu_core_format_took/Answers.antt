@@ -18,7 +18,7 @@ returns-in_default-formatting_of c = record {
   );
 }
 
--- The record stands for the format that asked for the write.
+-- The record represents the format whose write is reported.
 record_has_format : (c : After-took) → IsFormatRecord c.args.config.now c.args.device.now c.in-Some-formatting_of.formatting
 record_has_format c = c.in-Some-formatting_of.ensures.some c.args.config.now (record {
   config_is = c.in-Some.ensures.config;
@@ -26,7 +26,7 @@ record_has_format c = c.in-Some-formatting_of.ensures.some c.args.config.now (re
   sector_is = c.in-Some.ensures.sector;
 })
 
--- The report was taken with the outcome `came`. The record stands for the format after it while a write is due, and has no work afterwards.
+-- After the report the record represents the format while a write is pending, and no work afterwards.
 reported_format_is_kept : (c : After-took) (came : FormatProgress) (r' : DfuRecord) {n : ℤ} → c.took.result ≡ Some came → n
     ≡ progress_number came
     → (came ≡ format_progress.Asks → IsFormatRecord c.args.config.now r' c.took.new.self) → (came ≢ format_progress.Asks → r'.work ≡ 0)
@@ -43,7 +43,7 @@ reported_format_is_kept c came r' is number_is on over rest = record {
   over = over;
   rest = rest;
   took = λ was mid asks p piece torn. MatchOption-at_some _ _ _ is c.took.ensures.outcome was mid asks p piece torn;
-  further = MatchOption-at_some _ _ _ is c.took.ensures.further;
+  further = MatchOption-at_some _ _ _ is c.took.ensures.piece_advances;
 }
 
 pub returns-in-None : goal.returns-in-None
@@ -57,7 +57,7 @@ pub returns-in-Some-Asks : goal.returns-in-Some-Asks
 returns-in-Some-Asks c =
     let at = (goal.at.returns-in-Some-Asks c).After-took in
     let is = record_has_format at in
-    let same = c.in-Some-Asks.ensures.same in
+    let same = c.in-Some-Asks.ensures.same_format in
     let kept = c.keep_format.ensures in
     record {
       outcome = inl (reported_format_is_kept at format_progress.Asks _ (c.in-Some-Asks.is ∙ ap Some c.in-Some-Asks.field-0-is) refl

@@ -2,7 +2,7 @@ use Rattle.std.proofs.Common.{inl, inr, refl, ap, ◌∙◌, w32, arith}
 use Rattle.std.proofs.lemmas.Int.{to_z-of_z}
 use Rattle.std.proofs.lemmas.Option.{MatchOption-at_some, MatchOption-at_none}
 use Rattle.std.proofs.lemmas.Result.{IfOk-at_ok}
-use Rattle.dfu_core.specs.declared.numbers.Refusal.{Refusal}
+use Rattle.dfu_core.specs.declared.numbers.CoreRefusal.{CoreRefusal}
 use Rattle.dfu_core.specs.RecordMeaning.{block_in_memory, held_memory}
 use Rattle.dfu_core.specs.Numbers.{refusal_number}
 use Rattle.dfu_device_c.proofs.image.dfu_core_candidate.Goals as goal
@@ -42,7 +42,7 @@ returns-in-Err-candidate c = record {
       IfOk-at_ok _ c.in-Ok.is c.found.ensures.ok,
       c.in-Err-candidate.refusal,
       to_z-of_z w32 _ (omega (arith, c.number-in-Err-candidate.type_inv)) ∙ c.number-in-Err-candidate.ensures
-          ∙ ap (λ (e : Refusal). refusal_number e) c.refused.ensures,
+          ∙ ap (λ (e : CoreRefusal). refusal_number e) c.refused.ensures,
       λ block. c.in-Err-candidate.ensures.refused (block_in_memory c.in-Ok.asking block) (held_memory c.in-Ok.asking block),
     )),
   );

@@ -8,4 +8,4 @@ returns c =
     let restart = power_number_is_restart_call c.args.config.now false c.args.flash.now _ c.start.result c.args.device.now
     c.start.new.device
     (to_z-of_z w32 _ (omega (arith, c.start.type_inv))) (c.start.ensures.app refl) in
-    record { outcome = restart.outcome; step = restart.step; on = restart.on }
+    record { outcome = restart.outcome; step = restart.step; powered_on = restart.on }

@@ -3,7 +3,7 @@ use Rattle.dfu_device.specs.declared.answer.Answer.TheVariants as answer
 use Rattle.dfu_device.specs.declared.objection.Objection.{Objection}
 use Rattle.dfu_device.specs.Rows.{Refusing}
 use Rattle.dfu_core.specs.Refuse.{RecordTakesRow, RefuseOutcome}
-use Rattle.dfu_device_c.proofs.Moved.{record_takes_cause_row}
+use Rattle.dfu_device_c.proofs.ModeChanges.{record_takes_cause_row}
 use Rattle.dfu_device_c.proofs.Refusals.{refused_image_takes_row}
 use Rattle.dfu_device_c.proofs.refuse.dfu_core_refuse.Goals as goal
 

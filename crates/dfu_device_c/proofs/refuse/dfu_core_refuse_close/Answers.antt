@@ -7,8 +7,8 @@ use Rattle.dfu_asks.specs.Addressed.{addressed_setup}
 use Rattle.dfu_core.specs.RecordMeaning.{with_memory}
 use Rattle.dfu_core.specs.Numbers.{STALL_NUMBER, NO_CLOSE_NUMBER}
 use Rattle.dfu_core.specs.Refuse.{objection_of_status, RecordTakesRow, ClosesNoDownload, RefuseCloseOutcome}
-use Rattle.dfu_device_c.proofs.Told.{record_device_is_in_mode}
-use Rattle.dfu_device_c.proofs.Moved.{record_takes_cause_row}
+use Rattle.dfu_device_c.proofs.RecordAnswers.{record_device_is_in_mode}
+use Rattle.dfu_device_c.proofs.ModeChanges.{record_takes_cause_row}
 use Rattle.dfu_device_c.proofs.Refusals.{refused_close_takes_row}
 use Rattle.dfu_device_c.proofs.refuse.dfu_core_refuse_close.Goals as goal
 

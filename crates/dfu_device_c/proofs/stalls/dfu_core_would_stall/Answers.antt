@@ -4,7 +4,7 @@ use Rattle.dfu_asks.specs.Addressed.{addressed_setup}
 use Rattle.dfu_core.specs.Idle.{IsIdleRecord, RefusesUnlessIdle}
 use Rattle.dfu_core.specs.Numbers.{yes_no_number}
 use Rattle.dfu_core.specs.Stalls.{StallResult}
-use Rattle.dfu_device_c.proofs.Told.{yes_no_number_is_0_or_1, record_device_is_in_mode, record_device_has_grain}
+use Rattle.dfu_device_c.proofs.RecordAnswers.{yes_no_number_is_0_or_1, record_device_is_in_mode, record_device_has_grain}
 use Rattle.dfu_device_c.proofs.stalls.dfu_core_would_stall.Goals as goal
 
 pub returns : goal.returns

@@ -3,10 +3,10 @@ use Rattle.std.proofs.lemmas.Int.{to_z-of_z}
 use Rattle.dfu_asks.specs.Times.{due_of}
 use Rattle.dfu_core.specs.Due.{LONGEST_DUE}
 use Rattle.dfu_core.specs.Idle.{RefusesConfigOrRecord}
-use Rattle.dfu_device_c.proofs.Told.{record_changes_when_due}
+use Rattle.dfu_device_c.proofs.RecordAnswers.{record_changes_when_due}
 use Rattle.dfu_device_c.proofs.tells.dfu_core_due.Goals as goal
 
--- The returned number is the due time in milliseconds, at most LONGEST_DUE, or 0 if no time is due.
+-- The result is the time until the state changes, at most LONGEST_DUE milliseconds, or 0 if the state doesn't change with time.
 due_number_is_milliseconds : (o : Option ℕ) (n : ℤ) (due : ℕ) → IfSome o (λ ms. n ≡ pos (min LONGEST_DUE ms)) → IfNone o (n ≡ pos 0) →
     IfSome o (λ ms. ms ≡ due)
     → IfNone o (due ≡ 0) → n ≡ pos (min LONGEST_DUE due)

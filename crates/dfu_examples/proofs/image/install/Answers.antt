@@ -2,18 +2,18 @@ use Rattle.std.proofs.Common.{◌≡◌, ◌⊎◌, inl, inr, ⊎_elim, ℕ, ◌
 use Rattle.dfu_slots.specs.StoreView.{SlotsState, image_of, spare_of}
 use Rattle.dfu_examples.proofs.image.install.Goals as goal
 
--- After an image was put at the front, the image is read back from there.
+-- After an image was put at offset 0, the data begins with the image.
 front_is_image : (old mid image : List ℕ) → take (0 + length image) mid ≡ take 0 old ++ image → take (length image) mid ≡ image
 front_is_image old mid image front =
     let same : length image ≡ 0 + length image = omega arith in ap (λ (n : ℕ). take n mid) same ∙ front
 
--- If an image was put, and the commit succeeded, the active image is that image.
+-- If an image was put and the commit succeeded, that image is active.
 image_is_active : {T E : Type 0} (mid now : SlotsState) (image : List ℕ) (result : Result T E) → take (length image) (spare_of mid) ≡ image
     → OnOk result (image_of now ≡ take (length image) (spare_of mid)) → OnOk result (image_of now ≡ image)
 image_is_active mid now image (Ok x) put done = done ∙ put
 image_is_active mid now image (Err e) put done = tt
 
--- If an image was put, and the commit failed, the active image is that image, or the one before.
+-- If an image was put and the commit failed, that image or the one before is active.
 commit_leaves_old_or_new : {T E : Type 0} (was mid now : SlotsState) (image : List ℕ) (result : Result T E) →
     take (length image) (spare_of mid) ≡ image
     → image_of mid ≡ image_of was

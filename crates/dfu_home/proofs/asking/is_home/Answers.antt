@@ -1,5 +1,5 @@
 use Rattle.std.proofs.Common.{arith}
-use Rattle.dfu_home.proofs.Away.{test_finds_second_slot}
+use Rattle.dfu_home.proofs.SecondSlotImage.{test_finds_second_slot}
 use Rattle.dfu_home.proofs.asking.is_home.Goals as goal
 
 pub returns-else-places-eq0-clause-away : goal.returns-else-places-eq0-clause-away

@@ -1,8 +1,8 @@
 use Rattle.std.proofs.Common.{◌*◌, ◌+◌, ℕ, length, sym, ◌∙◌, ap, subst, arith}
 use Rattle.dfu_slots.specs.Medium.{MediumState}
 use Rattle.dfu_boot.specs.declared.install.due.Due.TheVariants.{Refuse, Start}
-use Rattle.dfu_boot.specs.declared.install.due.Refusal.{Refusal}
-use Rattle.dfu_boot.specs.declared.install.due.Refusal.TheVariants.{NoImage}
+use Rattle.dfu_boot.specs.declared.install.due.InstallRefusal.{InstallRefusal}
+use Rattle.dfu_boot.specs.declared.install.due.InstallRefusal.TheVariants.{NoImage}
 use Rattle.dfu_boot.specs.install.Next.{IsNextDue}
 use Rattle.dfu_home.specs.Places.{last_in_data}
 use Rattle.dfu_home.specs.Next.{program_bytes}
@@ -30,7 +30,7 @@ returns-in-Refuse-NoImage-clause-due g c =
     let m : MediumState = g.M.Medium.state c.args.medium.now in
     let found = c.in-Refuse-NoImage in
     let does : IsNextDue c.away_image-image.result.now c.first_data-run.result.now c.sector.result c.last_in_data.result (Refuse NoImage) =
-    subst (λ (r : Refusal). IsNextDue c.away_image-image.result.now c.first_data-run.result.now c.sector.result c.last_in_data.result (Refuse r))
+    subst (λ (r : InstallRefusal). IsNextDue c.away_image-image.result.now c.first_data-run.result.now c.sector.result c.last_in_data.result (Refuse r))
     found.field-0-is found.ensures in
     header_due_is_copy_due m c.args.last c.head-in-Refuse-NoImage.result
     (empty_image_has_copied_bytes m (omega (arith, does.1, ap length c.away_image-image.ensures))) c.head-in-Refuse-NoImage.ensures.due

@@ -4,7 +4,7 @@ use Rattle.dfu_slots.specs.Image.{gate_of}
 use Rattle.dfu_home.specs.Places.{first_of}
 use Rattle.dfu_home.proofs.copying.has_header.Goals as goal
 
--- The 16 bytes of flash behind the gate of the first slot are the slot's header.
+-- The 16 bytes of flash after the gate of the first slot are the slot's header.
 flash_shows_first_header : (m : MediumState) (flash : List ℕ) (at : ℕ) → flash ≡ m.bytes → at ≡ gate_of m
     → slice_range flash at (at + 16) ≡ (first_of m).header
 flash_shows_first_header m flash at is here =

@@ -9,4 +9,4 @@ returns-clause-bytes g c =
       arith,
       c.requires.few,
       size.least,
-    )) size.most
+    )) size.at_most_256

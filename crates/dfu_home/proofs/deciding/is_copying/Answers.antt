@@ -4,7 +4,7 @@ use Rattle.dfu_slots.specs.Medium.{MediumState}
 use Rattle.dfu_slots.specs.Layout.{header_length}
 use Rattle.dfu_slots.specs.Image.{slot_of}
 use Rattle.dfu_home.specs.Places.{second_slot_of}
-use Rattle.dfu_home.proofs.Away.{long_second_image_is_not_active}
+use Rattle.dfu_home.proofs.SecondSlotImage.{long_second_image_is_not_active}
 use Rattle.dfu_home.proofs.deciding.is_copying.Goals as goal
 
 pub returns-then-length_in-capacity_of-clause-none : goal.returns-then-length_in-capacity_of-clause-none

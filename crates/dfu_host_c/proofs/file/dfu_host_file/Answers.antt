@@ -1,10 +1,10 @@
 use Rattle.std.proofs.Common.{rules, ◌≡◌, ◌∙◌, sym, ap, subst, refl, ℤ, pos, Result, Ok, Err}
 use Rattle.dfu_suffix.specs.declared.fault.SuffixFault.{SuffixFault}
 use Rattle.dfu_host_c.specs.Refusals.{refused_number}
-use Rattle.dfu_host_c.specs.declared.refusals.Refusal.TheVariants as refusal
+use Rattle.dfu_host_c.specs.declared.refusals.HostRefusal.TheVariants as refusal
 use Rattle.dfu_host_c.proofs.file.dfu_host_file.Goals as goal
 
--- Number that the call returns to C for the result of reading a file: 0, or the number of the fault.
+-- Number that the call returns to C after reading a file: 0, or the number of the fault.
 abbrev answer : {T : Type 0} → Result T SuffixFault → ℤ
 answer (Ok read) = pos 0
 answer (Err fault) = refused_number (refusal.File fault)

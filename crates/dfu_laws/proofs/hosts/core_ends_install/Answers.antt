@@ -1,5 +1,5 @@
 use Rattle.dfu_laws.proofs.ends.Played.{sessions_of_ends_have_hosts, ends_report_means_in_place, ends_upload_is_active_image, ends_active_image_is_known, ends_active_image_known_within, ends_sessions_go_on}
-use Rattle.dfu_laws.proofs.ends.Stays.{ends_reported_trial_stays}
+use Rattle.dfu_laws.proofs.ends.TrialPayloads.{ends_reported_trial_stays}
 use Rattle.dfu_laws.proofs.hosts.core_ends_install.Goals as goal
 
 pub returns : goal.returns

@@ -1,4 +1,4 @@
-use Rattle.dfu_laws.proofs.board.Fewer.{run_operations_bounded}
+use Rattle.dfu_laws.proofs.board.SeriesLimits.{run_operations_bounded}
 use Rattle.dfu_laws.proofs.laws.boards_ask_few_times.Goals as goal
 
 pub returns : goal.returns

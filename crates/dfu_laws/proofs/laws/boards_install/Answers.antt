@@ -1,7 +1,7 @@
-use Rattle.dfu_laws.proofs.link.Ran.{plays_are_runs}
+use Rattle.dfu_laws.proofs.link.TrialRuns.{plays_are_runs}
 use Rattle.dfu_laws.proofs.link.Premises.{link_laws}
-use Rattle.dfu_laws.proofs.link.Told.{report_means_payload_in_place, upload_is_active_image, active_image_is_known, active_image_is_known_within}
-use Rattle.dfu_laws.proofs.link.Stays.{reported_trial_stays}
+use Rattle.dfu_laws.proofs.link.SessionLaws.{report_means_payload_in_place, upload_is_active_image, active_image_is_known, active_image_is_known_within}
+use Rattle.dfu_laws.proofs.link.TrialPayloads.{reported_trial_stays}
 use Rattle.dfu_laws.proofs.laws.boards_install.Goals as goal
 
 pub returns : goal.returns

@@ -1,7 +1,7 @@
 use Rattle.dfu_laws.proofs.in_c.Played.{core_report_means_in_place, core_upload_is_active_image, core_active_image_is_known, core_active_image_known_within}
-use Rattle.dfu_laws.proofs.in_c.Marked.{core_joined_steps_are_run}
-use Rattle.dfu_laws.proofs.in_c.Stays.{core_reported_trial_stays}
-use Rattle.dfu_laws.proofs.in_c.GoesOn.{core_plays_continue}
+use Rattle.dfu_laws.proofs.in_c.TrialMarks.{core_joined_steps_are_run}
+use Rattle.dfu_laws.proofs.in_c.TrialPayloads.{core_reported_trial_stays}
+use Rattle.dfu_laws.proofs.in_c.ContinuedSessions.{core_plays_continue}
 use Rattle.dfu_laws.proofs.laws.core_boards_install.Goals as goal
 
 pub returns : goal.returns

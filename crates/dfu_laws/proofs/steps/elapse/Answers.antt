@@ -1,7 +1,7 @@
 use Rattle.std.specs.Prelude.{replicate}
 use Rattle.std.proofs.Common.{refl}
 use Rattle.dfu_laws.specs.board.Steps.{board_of_parts}
-use Rattle.dfu_laws.proofs.board.Served.{weaken_on_error, elapse_result_is_served}
+use Rattle.dfu_laws.proofs.board.DeviceCalls.{weaken_on_error, elapse_result_is_served}
 use Rattle.dfu_laws.proofs.steps.elapse.Goals as goal
 
 pub returns-clause-step : goal.returns-clause-step

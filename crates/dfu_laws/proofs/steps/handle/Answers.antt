@@ -3,7 +3,7 @@ use Rattle.std.proofs.Common.{refl}
 use Rattle.dfu_device.specs.Rows.{Transfer}
 use Rattle.dfu_device.specs.Borrowed.{answer_room}
 use Rattle.dfu_laws.specs.board.Steps.{board_of_parts}
-use Rattle.dfu_laws.proofs.board.Served.{weaken_on_error, handle_result_is_served}
+use Rattle.dfu_laws.proofs.board.DeviceCalls.{weaken_on_error, handle_result_is_served}
 use Rattle.dfu_laws.proofs.steps.handle.Goals as goal
 
 pub returns-clause-step : goal.returns-clause-step

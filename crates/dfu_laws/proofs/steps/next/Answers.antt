@@ -10,7 +10,7 @@ use Rattle.dfu_asks.specs.Jobs.{step_of_piece}
 use Rattle.dfu_laws.specs.board.Board.{Write, Nothing}
 use Rattle.dfu_laws.specs.board.Happens.{EventOutcome}
 use Rattle.dfu_laws.specs.board.Steps.{board_of_parts}
-use Rattle.dfu_laws.proofs.board.Served.{weaken_on_some_by_two}
+use Rattle.dfu_laws.proofs.board.DeviceCalls.{weaken_on_some_by_two}
 use Rattle.dfu_laws.proofs.steps.next.Goals as goal
 
 pub returns-clause-written : goal.returns-clause-written

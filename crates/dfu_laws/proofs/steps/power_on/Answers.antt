@@ -5,13 +5,13 @@ use Rattle.dfu_slots.specs.Image.{HasImage}
 use Rattle.dfu_laws.specs.board.Board.{Restart, Nothing}
 use Rattle.dfu_laws.specs.board.Happens.{BoardStarts, EventOutcome}
 use Rattle.dfu_laws.specs.board.Steps.{board_of_parts}
-use Rattle.dfu_laws.proofs.board.Served.{power_on_result_starts_board, result_is_some, weaken_on_some}
+use Rattle.dfu_laws.proofs.board.DeviceCalls.{power_on_result_starts_board, result_is_some, weaken_on_some}
 use Rattle.dfu_laws.proofs.steps.power_on.Goals as goal
 
-pub returns-clause-on : goal.returns-clause-on
-returns-clause-on c = λ block held.
+pub returns-clause-board_starts : goal.returns-clause-board_starts
+returns-clause-board_starts c = λ block held.
     power_on_result_starts_board c.power_on.result block held c.args.flash.now c.args.config c.args.unit c.args.sector
-    (c.power_on.ensures.device block held) (c.power_on.ensures.is block held) c.power_on.ensures.work c.power_on.ensures.sector
+    (c.power_on.ensures.device block held) (c.power_on.ensures.is_device block held) c.power_on.ensures.work c.power_on.ensures.sector
 
 pub returns-clause-step : goal.returns-clause-step
 returns-clause-step c = λ b block held same.
@@ -19,7 +19,7 @@ returns-clause-step c = λ b block held same.
     (λ a. EventOutcome b (Restart false) Nothing (board_of_parts a block held c.args.flash.now)) c.power_on.result
     (λ a on. (refl, sym same, on))
     (power_on_result_starts_board c.power_on.result block held c.args.flash.now c.args.config c.args.unit c.args.sector
-    (c.power_on.ensures.device block held) (c.power_on.ensures.is block held) c.power_on.ensures.work c.power_on.ensures.sector)
+    (c.power_on.ensures.device block held) (c.power_on.ensures.is_device block held) c.power_on.ensures.work c.power_on.ensures.sector)
 
 pub returns-clause-starts : goal.returns-clause-starts
 returns-clause-starts c = λ b b' steps on run same.

@@ -1,7 +1,7 @@
 use Rattle.std.proofs.Common.{rules}
 use Rattle.std.specs.String.{string_bytes}
 use Rattle.dfu_output.specs.Configuration.{fewer_than_nine, not_a_configuration, wrong_own_length, short, long}
-use Rattle.dfu_output.proofs.Behind.{configuration_can_be_read, descriptor_fault_is_of_whole}
+use Rattle.dfu_output.proofs.SuccessiveDescriptors.{configuration_can_be_read, descriptor_fault_is_of_whole}
 use Rattle.dfu_output.proofs.configuration.configuration_text.Goals as goal
 
 pub returns-then-bytes-lt9-clause-fault : goal.returns-then-bytes-lt9-clause-fault

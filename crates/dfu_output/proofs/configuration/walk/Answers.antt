@@ -2,7 +2,7 @@ use Rattle.std.proofs.Common.{rules}
 use Rattle.std.proofs.lemmas.List.{nil_from_length}
 use Rattle.std.specs.String.{string_bytes}
 use Rattle.dfu_output.specs.Configuration.{descriptor_without_length, short}
-use Rattle.dfu_output.proofs.Behind.{descriptors_text_begins_empty, descriptor_grows_text, descriptor_stops_text, line_has_all_text_at_end}
+use Rattle.dfu_output.proofs.SuccessiveDescriptors.{descriptors_text_begins_empty, descriptor_grows_text, descriptor_stops_text, line_has_all_text_at_end}
 use Rattle.dfu_output.proofs.configuration.walk.Goals as goal
 
 pub loop-rest-init : goal.loop-rest-init

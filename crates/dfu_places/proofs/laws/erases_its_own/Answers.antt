@@ -1,4 +1,4 @@
-use Rattle.dfu_places.proofs.Own.{erase_keeps_other_bytes}
+use Rattle.dfu_places.proofs.VirtualErases.{erase_keeps_other_bytes}
 use Rattle.dfu_places.proofs.laws.erases_its_own.Goals as goal
 
 pub returns : goal.returns

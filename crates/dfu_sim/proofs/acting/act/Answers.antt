@@ -1,6 +1,6 @@
 use Rattle.dfu_host.specs.Table.{deed}
 use Rattle.dfu_sim.specs.inside.Acting.{delivery_of_given}
-use Rattle.dfu_sim.proofs.Acts.{row_request_is_delivered, send_action_delivered, wait_action_delivered, reset_action_delivered}
+use Rattle.dfu_sim.proofs.ActionClauses.{row_request_is_delivered, send_action_delivered, wait_action_delivered, reset_action_delivered}
 use Rattle.dfu_sim.proofs.acting.act.Goals as goal
 
 pub returns-in-Send : goal.returns-in-Send

@@ -1,5 +1,5 @@
 use Rattle.std.proofs.Common.{sym}
-use Rattle.dfu_sim.proofs.Acts.{unarmed_device_stays}
+use Rattle.dfu_sim.proofs.ActionClauses.{unarmed_device_stays}
 use Rattle.dfu_sim.proofs.acting.arm.Goals as goal
 
 pub returns-in-NoWrite : goal.returns-in-NoWrite

@@ -1,4 +1,4 @@
-use Rattle.dfu_sim.proofs.Acts.{armed_action_follows_fate}
+use Rattle.dfu_sim.proofs.ActionClauses.{armed_action_follows_fate}
 use Rattle.dfu_sim.proofs.acting.carry_out.Goals as goal
 
 pub returns : goal.returns

@@ -1,5 +1,5 @@
 use Rattle.dfu_sim.specs.inside.Acting.{delivery_of_given}
-use Rattle.dfu_sim.proofs.Acts.{bus_reset_is_delivered}
+use Rattle.dfu_sim.proofs.ActionClauses.{bus_reset_is_delivered}
 use Rattle.dfu_sim.proofs.acting.reset_bus.Goals as goal
 
 pub returns-clause-hears : goal.returns-clause-hears

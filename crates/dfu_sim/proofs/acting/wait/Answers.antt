@@ -1,5 +1,5 @@
 use Rattle.dfu_sim.specs.inside.Acting.{delivery_of_given}
-use Rattle.dfu_sim.proofs.Acts.{elapsed_wait_is_delivered}
+use Rattle.dfu_sim.proofs.ActionClauses.{elapsed_wait_is_delivered}
 use Rattle.dfu_sim.proofs.acting.wait.Goals as goal
 
 pub returns-clause-hears : goal.returns-clause-hears

@@ -1,4 +1,4 @@
-use Rattle.dfu_sim.proofs.Agreeing.{sessions_go_on}
+use Rattle.dfu_sim.proofs.AgreeingMachines.{sessions_go_on}
 use Rattle.dfu_sim.proofs.laws.sessions_go_on.Goals as goal
 
 pub returns : goal.returns

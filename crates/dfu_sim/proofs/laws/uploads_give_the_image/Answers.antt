@@ -1,4 +1,4 @@
-use Rattle.dfu_sim.proofs.Steady.{uploads_are_active, rest_is_steady}
+use Rattle.dfu_sim.proofs.EventFacts.{uploads_are_active, rest_is_steady}
 use Rattle.dfu_sim.proofs.laws.uploads_give_the_image.Goals as goal
 
 pub returns : goal.returns

@@ -7,7 +7,8 @@ use Rattle.dfu_slots.proofs.Newest.{tested_places_are_slots}
 use Rattle.dfu_slots.proofs.both.spare_len.Goals.{then-spare-eq0, else-spare-eq0}
 use Rattle.dfu_slots.proofs.both.spare_len.Goals as goal
 
--- The test of the slot at the spare place is the test of the first slot or of the second.
+-- If `counted` is slot_counts of the first slot for a spare at offset 0, and of the second slot for any other spare, it is slot_counts of
+-- the spare.
 spare_test_of_its_slot : (m : MediumState) (spare : ℕ) (counted : Bool) → spare ≡ spare_at (gate_of m) m.bytes
     → ((spare ≡ 0) × (counted ≡ slot_counts (slot_of m 0))) ⊎ ((¬ (spare ≡ 0)) × (counted ≡ slot_counts (slot_of m (slot_size m.bytes))))
     → counted ≡ slot_counts (slot_of m spare)

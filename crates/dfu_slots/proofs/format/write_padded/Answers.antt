@@ -1,7 +1,7 @@
 use Rattle.std.proofs.Common.{List, ℕ, subst}
 use Rattle.dfu_slots.specs.Writes.{write_some}
 use Rattle.dfu_slots.specs.inside.Series.{Series}
-use Rattle.dfu_slots.proofs.Filled.{copied_buffer_is_padded, buffer_front_is_bytes_and_zeros}
+use Rattle.dfu_slots.proofs.FilledBuffers.{copied_buffer_is_padded, buffer_front_is_bytes_and_zeros}
 use Rattle.dfu_slots.proofs.format.write_padded.Goals as goal
 
 pub returns : goal.returns

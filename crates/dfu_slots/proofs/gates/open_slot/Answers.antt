@@ -1,7 +1,7 @@
 use Rattle.std.proofs.Common.{List, [], subst}
 use Rattle.dfu_slots.specs.Medium.{Write}
 use Rattle.dfu_slots.specs.inside.Series.{Series}
-use Rattle.dfu_slots.proofs.MayCarry.{may_carry_commit}
+use Rattle.dfu_slots.proofs.AllowedOperations.{may_carry_commit}
 use Rattle.dfu_slots.proofs.Sequences.{commit_ops_make_writes}
 use Rattle.dfu_slots.proofs.gates.open_slot.Goals as goal
 

@@ -1,5 +1,5 @@
 use Rattle.dfu_slots.proofs.Refused.{faulty_medium_has_no_image}
-use Rattle.dfu_slots.proofs.Seeing.{seen_image_is_active, image_is}
+use Rattle.dfu_slots.proofs.VisibleStores.{seen_image_is_active, image_is}
 use Rattle.dfu_slots.proofs.Unique.{active_image_is_unique}
 use Rattle.dfu_slots.proofs.laws.active_image_is_one.Goals as goal
 

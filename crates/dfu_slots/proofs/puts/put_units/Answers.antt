@@ -4,13 +4,13 @@ use Rattle.dfu_slots.specs.Medium.{Write, AllWrites, BrokenWrites}
 use Rattle.dfu_slots.specs.Writes.{put_writes}
 use Rattle.dfu_slots.specs.Operations.{ops_writes, held_from, operations}
 use Rattle.dfu_slots.specs.inside.Carry.{MayCarryAll}
-use Rattle.dfu_slots.proofs.MayCarry.{may_carry_put}
+use Rattle.dfu_slots.proofs.AllowedOperations.{may_carry_put}
 use Rattle.dfu_slots.proofs.Sequences.{put_ops_make_writes}
 use Rattle.dfu_slots.proofs.puts.put_units.Given as given
 use Rattle.dfu_slots.proofs.puts.put_units.Goals.{After-carry_out}
 use Rattle.dfu_slots.proofs.puts.put_units.Goals as goal
 
--- The operations of the put make its writes.
+-- The operations of this Put sequence make the writes of the put.
 are : (g : given.Over) (c : goal.After-carry_out g) → let m = g.M.Medium.state c.args.medium.now in
     let block = c.args.bytes.now in
     let held = c.args.held.now.items in

@@ -6,7 +6,7 @@ use Rattle.dfu_slots.proofs.read.stands_at.Given as given
 use Rattle.dfu_slots.proofs.read.stands_at.Goals.{After-are_same}
 use Rattle.dfu_slots.proofs.read.stands_at.Goals as goal
 
--- The range after the bytes read back before holds the bytes that were read.
+-- The bytes that were read are those of the medium in the range of the next piece.
 there : (g : given.Over) (c : goal.After-are_same g) → let m = (g.M.Medium.state c.args.medium.now).bytes in
     let place = length m - c.loop-rest.ahead in
     slice_range m place (place + length c.split_at.result.0.now) ≡ c.read.new.out

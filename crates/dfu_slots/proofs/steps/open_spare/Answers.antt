@@ -1,7 +1,7 @@
 use Rattle.std.proofs.Common.{ℕ, sym, subst}
 use Rattle.dfu_slots.proofs.Sectors.{IsSectorEdge}
 use Rattle.dfu_slots.proofs.Edges.{spare_begins_at_edge}
-use Rattle.dfu_slots.proofs.SpareOpened.{held_bytes_within_medium, spare_opened_by_commit}
+use Rattle.dfu_slots.proofs.SpareOpening.{held_bytes_within_medium, spare_opened_by_commit}
 use Rattle.dfu_slots.proofs.steps.open_spare.Goals as goal
 
 pub open_slot-requires-clause-sector : goal.open_slot-requires-clause-sector

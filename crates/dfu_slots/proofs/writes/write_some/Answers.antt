@@ -5,7 +5,7 @@ use Rattle.dfu_slots.specs.Writes.{sector_erases}
 use Rattle.dfu_slots.specs.inside.Series.{Series}
 use Rattle.dfu_slots.proofs.Series.{first_part_may_break, series_extends, one_write_is_series}
 use Rattle.dfu_slots.proofs.SizedOn.{erases_keep_size, write_some_with_sectors}
-use Rattle.dfu_slots.proofs.Ahead.{erases_make_range_writable}
+use Rattle.dfu_slots.proofs.ErasesAhead.{erases_make_range_writable}
 use Rattle.dfu_slots.proofs.writes.write_some.Goals as goal
 
 pub write-requires-in-Ok : goal.write-requires-in-Ok

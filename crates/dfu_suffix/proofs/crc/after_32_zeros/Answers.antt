@@ -1,6 +1,6 @@
 use Rattle.std.proofs.Common.{ℕ, ◌∙◌, get_or, arith}
 use Rattle.dfu_suffix.specs.Laws.{AreBytes}
-use Rattle.dfu_suffix.proofs.Fours.{shifts_of_number_in_four_bytes}
+use Rattle.dfu_suffix.proofs.FourBytes.{shifts_of_number_in_four_bytes}
 use Rattle.dfu_suffix.proofs.Tables.{eight_tables_are_right, equal_tables_equal_entries}
 use Rattle.dfu_suffix.proofs.crc.after_32_zeros.Goals as goal
 

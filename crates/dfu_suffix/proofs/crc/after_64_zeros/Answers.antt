@@ -1,5 +1,5 @@
 use Rattle.std.proofs.Common.{ℕ, ◌∙◌, ◌/◌, ◌^◌, bit_and, arith}
-use Rattle.dfu_suffix.proofs.Fours.{shifts_of_four_bytes}
+use Rattle.dfu_suffix.proofs.FourBytes.{shifts_of_four_bytes}
 use Rattle.dfu_suffix.proofs.Tables.{low_byte_entry_is_shift, eight_tables_are_right, equal_tables_equal_entries, table_after_zeros}
 use Rattle.dfu_suffix.proofs.crc.after_64_zeros.Goals as goal
 

@@ -1,4 +1,4 @@
-use Rattle.dfuse_host.proofs.Takes.{session_over_within_actions, over_session_never_changes}
+use Rattle.dfuse_host.proofs.SpentActions.{session_over_within_actions, over_session_never_changes}
 use Rattle.dfuse_host.proofs.laws.sessions_end.Goals as goal
 
 pub returns : goal.returns

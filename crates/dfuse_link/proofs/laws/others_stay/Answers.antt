@@ -1,4 +1,4 @@
-use Rattle.dfuse_link.proofs.OwnTurns.{others_stay}
+use Rattle.dfuse_link.proofs.UntouchedTurns.{others_stay}
 use Rattle.dfuse_link.proofs.laws.others_stay.Goals as goal
 
 pub returns : goal.returns

@@ -1,4 +1,4 @@
-/* The type of a class driver of TinyUSB, of which the headers of examples/tinyusb name one. */
+/* TinyUSB's type of a class driver, which the headers of examples/tinyusb use. */
 typedef struct {
     char const *name;
 } usbd_class_driver_t;

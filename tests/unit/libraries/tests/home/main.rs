@@ -1,7 +1,7 @@
 //! Two areas, row by row: slots of a gate, a header and three sectors of 512 bytes each, and images of which byte i is i modulo 251.
 
 use fustrelan::asks::Mapped;
-use fustrelan::home::{Due, Progress, Refusal, is_home, next, took};
+use fustrelan::home::{CopyRefusal, Due, Progress, is_home, next, took};
 use fustrelan::memory::Global;
 use fustrelan::slots::{SimMedium, Slots, Unit};
 
@@ -193,22 +193,22 @@ fn what_is_refused() {
     let refused = |refusal| Due::Refuse(refusal);
     assert_eq!(
         next(&in_place, &board.flash, BEGINS, &mut bytes),
-        refused(Refusal::NoSectors)
+        refused(CopyRefusal::NoSectors)
     );
     let short = &board.flash[..4608];
     let medium = Mapped::with_sectors(short, Unit::U16, SECTOR).unwrap();
     assert_eq!(
         next(&medium, short, BEGINS, &mut bytes),
-        refused(Refusal::NoImage)
+        refused(CopyRefusal::NoImage)
     );
     let mut board = Board::away(600);
     board.progress.count = 5120 / 128;
-    board.does(&[refused(Refusal::NotWritten)]);
+    board.does(&[refused(CopyRefusal::NotWritten)]);
     board.progress.count -= 1;
-    board.does(&[CLOSES, refused(Refusal::NotWritten)]);
+    board.does(&[CLOSES, refused(CopyRefusal::NotWritten)]);
     board.progress.count = 1;
     board.flash[HALF as usize] = 0;
-    board.does(&[refused(Refusal::NoImage)]);
+    board.does(&[refused(CopyRefusal::NoImage)]);
     assert_eq!(board.is_home(), None);
     assert_eq!(bytes, [7; 256]);
 }

@@ -1,7 +1,7 @@
 //! Images of other sizes, pieces of FFh, and numbers that are no place of an operation.
 
 use crate::board::{Board, SECTOR};
-use fustrelan::boot::install::{Due, Refusal, took};
+use fustrelan::boot::install::{Due, InstallRefusal, took};
 
 /// What fills the whole run area if nothing is in place.
 static WHOLE: [Due; 6] = [
@@ -76,7 +76,7 @@ static CARRIED_OUT: [(Due, Option<u32>); 7] = [
     (Due::Program(1024), None),
     (Due::Program(0xffff_ff00), None),
     (Due::Start, None),
-    (Due::Refuse(Refusal::NoImage), None),
+    (Due::Refuse(InstallRefusal::NoImage), None),
 ];
 
 #[test]

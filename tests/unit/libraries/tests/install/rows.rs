@@ -1,7 +1,7 @@
 //! An image of 600 bytes, from a blank run area to the start; what comes to it then; and refusals.
 
 use crate::board::{Board, SECTOR, bytes};
-use fustrelan::boot::install::{Due, Refusal, next, piece};
+use fustrelan::boot::install::{Due, InstallRefusal, next, piece};
 
 #[test]
 fn from_blank_to_the_start() {
@@ -50,16 +50,16 @@ fn another_image() {
 }
 
 /// The sizes of an image, of a blank run area and of its sectors, and why they are refused.
-static REFUSED: [(usize, usize, u32, Refusal); 9] = [
-    (0, 1024, SECTOR, Refusal::NoImage),
-    (1025, 1024, SECTOR, Refusal::TooLarge),
-    (600, 1024, 500, Refusal::WrongSize),
-    (600, 1000, SECTOR, Refusal::WrongSize),
-    (0, 1024, 0, Refusal::WrongSize),
-    (1025, 1000, SECTOR, Refusal::WrongSize),
-    (0, 0, 262_144, Refusal::NoImage),
-    (1, 0, 262_144, Refusal::TooLarge),
-    (1, 0, 262_400, Refusal::WrongSize),
+static REFUSED: [(usize, usize, u32, InstallRefusal); 9] = [
+    (0, 1024, SECTOR, InstallRefusal::NoImage),
+    (1025, 1024, SECTOR, InstallRefusal::TooLarge),
+    (600, 1024, 500, InstallRefusal::WrongSize),
+    (600, 1000, SECTOR, InstallRefusal::WrongSize),
+    (0, 1024, 0, InstallRefusal::WrongSize),
+    (1025, 1000, SECTOR, InstallRefusal::WrongSize),
+    (0, 0, 262_144, InstallRefusal::NoImage),
+    (1, 0, 262_144, InstallRefusal::TooLarge),
+    (1, 0, 262_400, InstallRefusal::WrongSize),
 ];
 
 #[test]

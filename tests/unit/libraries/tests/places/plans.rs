@@ -1,7 +1,7 @@
 //! Plans: the largest image of each part behind a bootloader of 32 KiB.
 
 use super::{F407, F407_NEEDS, F407_TWO, KIB, needs, numbers, region, span};
-use fustrelan::places::{Areas, Needs, Refusal, Region, check, plan};
+use fustrelan::places::{Areas, Needs, PlacementRefusal, Region, check, plan};
 use fustrelan::slots::Unit;
 
 /// A part, its regions, and KiB of the largest image in two areas and with a run area; 0: there is no placement.
@@ -172,6 +172,6 @@ fn regions_out_of_order() {
     let regions = [region(0x0802_0000, 128, 7), region(0x0800_0000, 16, 4)];
     assert!(matches!(
         plan(&regions, F407_NEEDS, Areas::Two),
-        Err(Refusal::BadRegions)
+        Err(PlacementRefusal::BadRegions)
     ));
 }

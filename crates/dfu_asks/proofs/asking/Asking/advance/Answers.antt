@@ -5,11 +5,11 @@ use Rattle.dfu_asks.specs.Carried.{total, bytes_after_writes, EndsAtPiece}
 use Rattle.dfu_asks.specs.Asks.{IsWorkingForRow, writes_in, steps_in}
 use Rattle.dfu_device.specs.declared.answer.Answer.{Answer}
 use Rattle.dfu_asks.specs.Calls.{CallCompleted, outcome_asks, outcome_answered}
-use Rattle.dfu_asks.proofs.Calling.{kept_work_is_unique, work_with_piece_has_bytes_left, answer_same_in_equal_setting}
+use Rattle.dfu_asks.proofs.CallResults.{kept_work_is_unique, work_with_piece_has_bytes_left, answer_same_in_equal_setting}
 use Rattle.dfu_asks.proofs.Ended.{carried_writes_end_row, empty_work_ends_row}
 use Rattle.dfu_asks.proofs.asking.Asking.advance.Goals as goal
 
--- A call that is complete with an answer is complete with an equal answer.
+-- A call that is complete with an answer is also complete with any equal answer.
 equal_answer_completes_call : (flash out out' : List ℕ) (now : LentDevice) (Row : Answer → List ℕ → Type 0) (x y : Answer) (count n : ℕ) →
     x ≡ y → count ≡ n
     → CallCompleted flash y n out out' now Row → CallCompleted flash x count out out' now Row
@@ -46,7 +46,7 @@ returns-clause-outcome c = λ work len s was kept working is reached.
     same is)
     le c.finish.ensures.finished
     (answer_same_in_equal_setting c.args.self.now.config c.finish.new.self.config c.finish.new.self.mode v.asked c.answer-answer.result.0
-    c.answer-answer.result.1 c.args.out.now c.answer-answer.new.out c.finish.ensures.same.config c.answer-answer.ensures))
+    c.answer-answer.result.1 c.args.out.now c.answer-answer.new.out c.finish.ensures.same_config.config c.answer-answer.ensures))
 
 pub returns-clause-begun : goal.returns-clause-begun
 returns-clause-begun c = λ work len s x count kept working none is.
@@ -64,7 +64,7 @@ returns-clause-begun c = λ work len s x count kept working none is.
     c.finish.ensures.notes c.answer-answer.result.0 c.answer-answer.result.1
     c.args.out.now c.answer-answer.new.out (omega (arith, le, none, ap (λ (y : PendingWrites). y.done) same)) c.finish.ensures.finished
     (answer_same_in_equal_setting c.args.self.now.config c.finish.new.self.config c.finish.new.self.mode v.asked c.answer-answer.result.0
-    c.answer-answer.result.1 c.args.out.now c.answer-answer.new.out c.finish.ensures.same.config c.answer-answer.ensures))
+    c.answer-answer.result.1 c.args.out.now c.answer-answer.new.out c.finish.ensures.same_config.config c.answer-answer.ensures))
 
 pub returns-then-len-gt0-clause-more : goal.returns-then-len-gt0-clause-more
 returns-then-len-gt0-clause-more c = λ work kept.

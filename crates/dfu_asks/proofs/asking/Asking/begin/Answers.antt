@@ -10,8 +10,8 @@ pub returns-clause-device : goal.returns-clause-device
 returns-clause-device c block held =
     ap (λ (d : DeviceView). record d { stage = InDfuIdle }) (c.in_ok-device.ensures.device block held)
 
-pub returns-clause-is : goal.returns-clause-is
-returns-clause-is c block held =
+pub returns-clause-is_device : goal.returns-clause-is_device
+returns-clause-is_device c block held =
     filled_mode_may_be_entered (lent c.in_ok-device.device block held) device_state.DfuIdle c.args.flash.now
-    (c.in_ok-device.ensures.is block held)
+    (c.in_ok-device.ensures.is_device block held)
     refl

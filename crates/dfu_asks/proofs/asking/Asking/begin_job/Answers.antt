@@ -31,7 +31,7 @@ returns-in-DownloadBusy-clause-due c = λ block xs ys asked len is due.
     subst (λ (m : DeviceState). IsJobOfMode m s job.result.0 job.result.2 (take job.result.1 c.args.held.now))
     (sym c.in-DownloadBusy.is) (job.ensures.job block c.args.held.now is (unwritten_block_may_be_written n (length l.block) s sound).before)
 
--- The job that commits all bytes put is the job that commits n bytes, if n bytes were put.
+-- If n bytes were put into the slot, the job that commits all of them is the job that commits n bytes.
 all_puts_job_commits_n_bytes : (n : ℕ) (s : SlotsState) (j : SlotWrite) (held : List ℕ) → is_begun s && (s.put_end == n) ≡ true
     → IsCommitJob s.put_end s j s.put_end held → IsCommitJob n s j s.put_end held
 all_puts_job_commits_n_bytes n s j held put is =
@@ -57,5 +57,5 @@ returns-in_default c = record {
       let l = lent c.args.self.now block c.args.held.now in
       due_commit_job l.mode (length l.block) xs ys asked len (flash_store l c.args.medium.now.bytes.now) c.commit_job.result l.held
       c.in_default.not-DownloadSync c.in_default.not-DownloadBusy is.sound due (c.commit_job.ensures block is);
-  few = c.args.self.now.few;
+  at_most_256 = c.args.self.now.few;
 }

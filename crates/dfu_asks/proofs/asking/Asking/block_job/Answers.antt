@@ -6,8 +6,8 @@ use Rattle.dfu_slots.specs.StoreView.{is_begun}
 use Rattle.dfu_asks.specs.declared.pending_writes.SlotWrite.TheVariants.{Block}
 use Rattle.dfu_asks.specs.Lent.{lent}
 use Rattle.dfu_asks.specs.Asks.{flash_store}
-use Rattle.dfu_asks.proofs.Calling.{equal_grains_make_equal_media}
-use Rattle.dfu_asks.proofs.Noting.{slot_beside_noted_is_spare, gate_open_exactly_if_not_begun}
+use Rattle.dfu_asks.proofs.CallResults.{equal_grains_make_equal_media}
+use Rattle.dfu_asks.proofs.ImageNotes.{slot_beside_noted_is_spare, gate_open_exactly_if_not_begun}
 use Rattle.dfu_asks.proofs.asking.Asking.block_job.Goals as goal
 
 pub returns-then-written-eq0-clause-job : goal.returns-then-written-eq0-clause-job

@@ -1,14 +1,14 @@
 use Rattle.std.proofs.Common.{◌≡◌, ℕ, ◌+◌, ◌-◌, ◌*◌, ◌%◌, ◌≤◌, length, Option, Some, refl, sym, ◌∙◌, ap, subst, arith}
 use Rattle.dfu_slots.specs.Medium.{MediumState}
 use Rattle.dfu_slots.specs.Image.{gate_of, spare_at, capacity_of}
-use Rattle.dfu_slots.proofs.Seeing.{room_is_capacity}
+use Rattle.dfu_slots.proofs.VisibleStores.{room_is_capacity}
 use Rattle.dfu_device.specs.Candidate.{candidate_length}
 use Rattle.dfu_device.proofs.Candidates.{IsPutLength, candidate_length_was_put, candidate_is}
 use Rattle.dfu_asks.specs.Lent.{lent}
 use Rattle.dfu_asks.specs.Asks.{flash_store, device_in}
 use Rattle.dfu_asks.specs.Noted.{NotedIsOnFlash, other_slot_place}
-use Rattle.dfu_asks.proofs.Calling.{no_work_if_is_some_is_false}
-use Rattle.dfu_asks.proofs.Noting.{slot_beside_noted_is_spare}
+use Rattle.dfu_asks.proofs.CallResults.{no_work_if_is_some_is_false}
+use Rattle.dfu_asks.proofs.ImageNotes.{slot_beside_noted_is_spare}
 use Rattle.dfu_asks.proofs.asking.Asking.candidate.Goals as goal
 
 -- The length of a candidate is at most the room for an image.

@@ -12,12 +12,12 @@ use Rattle.dfu_device.specs.DeviceView.{profile}
 use Rattle.dfu_device.specs.Parts.{view_of_parts, is_filled}
 use Rattle.dfu_device.specs.Rows.{Done}
 use Rattle.dfu_device.specs.Decision.{plan_of, IsPossibleDecision, HasTimeInputs}
-use Rattle.dfu_device.proofs.Carried.{parts_have_time_inputs, filled_mode_is_device_part}
+use Rattle.dfu_device.proofs.PlanRows.{parts_have_time_inputs, filled_mode_is_device_part}
 use Rattle.dfu_asks.specs.Lent.{lent}
 use Rattle.dfu_asks.specs.Due.{plan_of_decision, wanted_status_length, IsStorelessPlan, SendsWithin}
 use Rattle.dfu_asks.specs.Asks.{flash_store, store_with_unseen, device_with, IsReplyInMode}
-use Rattle.dfu_asks.proofs.Unseen.{image_ignores_unseen, spare_ignores_unseen}
-use Rattle.dfu_asks.proofs.Calling.{equal_grains_make_equal_media, call_setting_mode_is_complete, call_begins_due_row}
+use Rattle.dfu_asks.proofs.UnseenState.{image_ignores_unseen, spare_ignores_unseen}
+use Rattle.dfu_asks.proofs.CallResults.{equal_grains_make_equal_media, call_setting_mode_is_complete, call_begins_due_row}
 use Rattle.dfu_asks.specs.Mapped.{mapped_medium}
 use Rattle.dfu_asks.proofs.Sending.{image_is_active_data_front, active_data_holds_image, prefix_bytes_are_list_bytes, counted_bytes_are_image_bytes, count_is_sent_length, IsModeAfterUpload, mode_after_upload_needs_no_bytes, sent_bytes_are_upload_row}
 use Rattle.dfu_asks.proofs.asking.Asking.carry_out.Goals as goal

@@ -6,8 +6,8 @@ use Rattle.dfu_slots.specs.StoreView.{spare_of, active_slot}
 use Rattle.dfu_asks.specs.Lent.{lent}
 use Rattle.dfu_asks.specs.Asks.{flash_store}
 use Rattle.dfu_asks.specs.declared.pending_writes.SlotWrite.TheVariants.{Commit}
-use Rattle.dfu_asks.proofs.Calling.{equal_grains_make_equal_media}
-use Rattle.dfu_asks.proofs.Noting.{slot_beside_noted_is_spare}
+use Rattle.dfu_asks.proofs.CallResults.{equal_grains_make_equal_media}
+use Rattle.dfu_asks.proofs.ImageNotes.{slot_beside_noted_is_spare}
 use Rattle.dfu_asks.proofs.Room.{held_memory_has_held_length}
 use Rattle.dfu_device.proofs.Candidates.{put_bytes_are_medium_and_held}
 use Rattle.dfu_asks.proofs.asking.Asking.commit_job.Goals as goal

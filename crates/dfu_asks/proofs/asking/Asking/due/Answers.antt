@@ -10,10 +10,10 @@ use Rattle.dfu_asks.proofs.DueTimes.{each_mode_changes_when_due}
 use Rattle.dfu_asks.proofs.asking.Asking.due.Goals as goal
 use Rattle.std.proofs.lemmas.List.{length-take}
 use Rattle.dfu_device.specs.Decision.{HasTimeInputs}
-use Rattle.dfu_device.proofs.Carried.{parts_have_time_inputs}
+use Rattle.dfu_device.proofs.PlanRows.{parts_have_time_inputs}
 use Rattle.dfu_asks.specs.Refused.{IsDeviceOn}
 
--- If P implies Q of each value, then P of the value in an option implies Q of it.
+-- If P implies Q for every value, Q holds for the value in an option if P does.
 implied_for_some : {X : Type 0} (P Q : X → Type 0) (o : Option X) → ((x : X) → P x → Q x) → IfSome o P → IfSome o Q
 implied_for_some P Q (Some x) follows is = follows x is
 implied_for_some P Q None follows is = tt
@@ -22,7 +22,7 @@ implied_for_none : {X A B : Type 0} (o : Option X) → (A → B) → IfNone o A 
 implied_for_none (Some x) follows is = tt
 implied_for_none None follows is = follows is
 
--- The state of a device changes after the time that its mode gives.
+-- The state of a device changes once the time that is due in its mode has elapsed, and not before.
 state_changes_by_mode_time : (a : Asking) (block held flash : List ℕ) (ms : ℕ) (d' : DeviceView) → IsDeviceOn a block held flash
     → Elapses ms (device_in (lent a block held) flash) d'
     → ChangesOnceDue (due_of a.config a.mode a.block_len) ms (device_in (lent a block held) flash) d'

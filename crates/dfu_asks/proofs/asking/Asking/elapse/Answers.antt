@@ -1,23 +1,23 @@
 use Rattle.std.proofs.Common.{◌≡◌, ℕ, List, [], ◌∷◌, length, None, refl, sym, ◌∙◌, ap, subst, arith}
 use Rattle.std.proofs.lemmas.List.{length-take}
 use Rattle.dfu_slots.specs.StoreView.{image_of, room_of}
-use Rattle.dfu_slots.proofs.Seeing.{room_is_capacity}
+use Rattle.dfu_slots.proofs.VisibleStores.{room_is_capacity}
 use Rattle.dfu_device.specs.declared.answer.Answer.{Answer}
 use Rattle.dfu_device.specs.declared.answer.Answer.TheVariants as answer
 use Rattle.dfu_device.specs.Table.{Plan, time_plan}
 use Rattle.dfu_device.specs.DeviceView.{DeviceView, profile, profile_of}
 use Rattle.dfu_device.specs.Rows.{Done, Elapses}
 use Rattle.dfu_device.specs.Decision.{IsPossibleDecision, DecidesTime}
-use Rattle.dfu_device.proofs.Carried.{parts_have_mode_bytes}
+use Rattle.dfu_device.proofs.PlanRows.{parts_have_mode_bytes}
 use Rattle.dfu_asks.specs.Lent.{lent}
 use Rattle.dfu_asks.specs.Mapped.{UnseenState}
 use Rattle.dfu_asks.specs.Due.{plan_of_decision, IsStorelessOrDue}
 use Rattle.dfu_asks.specs.Asks.{flash_store, device_with}
 use Rattle.dfu_asks.specs.Calls.{PlansAreStorelessOrDue, DeviceCalled}
 use Rattle.dfu_asks.specs.Refused.{IsDeviceOn}
-use Rattle.dfu_asks.proofs.Calling.{call_answered_by_implied_row}
-use Rattle.dfu_asks.proofs.Quiet.{time_plan_is_storeless_or_due, time_plan_acknowledges, decision_on_time_is_row}
-use Rattle.dfu_asks.proofs.Unseen.{room_with_unseen, parts_stay_with_unseen}
+use Rattle.dfu_asks.proofs.CallResults.{call_answered_by_implied_row}
+use Rattle.dfu_asks.proofs.WritingRows.{time_plan_is_storeless_or_due, time_plan_acknowledges, decision_on_time_is_row}
+use Rattle.dfu_asks.proofs.UnseenState.{room_with_unseen, parts_stay_with_unseen}
 use Rattle.dfu_asks.proofs.Sending.{time_decision_sends_nothing}
 use Rattle.dfu_asks.proofs.asking.Asking.elapse.Goals as goal
 

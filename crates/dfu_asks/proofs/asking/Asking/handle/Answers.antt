@@ -3,7 +3,7 @@ use Rattle.dfu_device.specs.Rows.{Handles}
 use Rattle.dfu_asks.specs.Lent.{lent}
 use Rattle.dfu_asks.specs.Calls.{DeviceCalled}
 use Rattle.dfu_asks.specs.Refused.{IsDeviceOn}
-use Rattle.dfu_asks.proofs.Calling.{no_work_if_is_some_is_false}
+use Rattle.dfu_asks.proofs.CallResults.{no_work_if_is_some_is_false}
 use Rattle.dfu_asks.proofs.asking.Asking.handle.Goals as goal
 
 pub returns-clause-outcome : goal.returns-clause-outcome
@@ -19,5 +19,5 @@ returns-clause-served c = record {
   work = no_work_if_is_some_is_false c.args.self.now.work (sym c.is_some.ensures ∙ c.if-is_some.false);
   enough = search rules;
   there = c.in_ok-medium.ensures.there;
-  fits = c.in_ok-medium.ensures.fits;
+  fits = c.in_ok-medium.ensures.block_fits;
 }

@@ -3,8 +3,8 @@ use Rattle.dfu_slots.specs.Image.{gate_of, spare_at}
 use Rattle.dfu_slots.specs.StoreView.{data_place, held_data_place}
 use Rattle.dfu_asks.specs.Lent.{lent}
 use Rattle.dfu_asks.specs.Asks.{flash_store}
-use Rattle.dfu_asks.proofs.Calling.{equal_grains_make_equal_media}
-use Rattle.dfu_asks.proofs.Noting.{slot_beside_noted_is_spare}
+use Rattle.dfu_asks.proofs.CallResults.{equal_grains_make_equal_media}
+use Rattle.dfu_asks.proofs.ImageNotes.{slot_beside_noted_is_spare}
 use Rattle.dfu_asks.proofs.Room.{held_memory_has_held_length}
 use Rattle.dfu_asks.proofs.asking.Asking.is_ahead.Goals as goal
 

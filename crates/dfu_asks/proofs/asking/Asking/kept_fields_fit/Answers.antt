@@ -3,13 +3,13 @@ use Rattle.dfu_slots.specs.Units.{unit_size}
 use Rattle.std.proofs.lemmas.List.{length-take-le}
 use Rattle.dfu_slots.specs.Layout.{OPEN}
 use Rattle.dfu_slots.specs.Image.{gate_of, slot_of, spare_at}
-use Rattle.dfu_slots.proofs.Seeing.{room_is_capacity}
+use Rattle.dfu_slots.proofs.VisibleStores.{room_is_capacity}
 use Rattle.dfu_device.specs.Parts.{is_filled}
-use Rattle.dfu_device.proofs.Carried.{parts_have_mode_bytes}
+use Rattle.dfu_device.proofs.PlanRows.{parts_have_mode_bytes}
 use Rattle.dfu_asks.specs.Lent.{lent}
 use Rattle.dfu_asks.specs.Asks.{flash_store}
-use Rattle.dfu_asks.proofs.Calling.{not_true_if_false, equal_grains_make_equal_media}
-use Rattle.dfu_asks.proofs.Noting.{slot_beside_noted_is_spare, begun_exactly_if_gate_closed}
+use Rattle.dfu_asks.proofs.CallResults.{not_true_if_false, equal_grains_make_equal_media}
+use Rattle.dfu_asks.proofs.ImageNotes.{slot_beside_noted_is_spare, begun_exactly_if_gate_closed}
 use Rattle.dfu_asks.proofs.Room.{held_memory_has_held_length}
 use Rattle.dfu_asks.proofs.asking.Asking.kept_fields_fit.Goals as goal
 

@@ -17,8 +17,8 @@ returns-clause-closes c block held flash is =
     let told = c.mode_closes.ensures l flash (record { config_is = refl; mode_is = refl; device = is }) in
     (λ yes. told.closes.0 c.if-not-mode_closes.false, λ closes. refl)
 
-pub returns-clause-is : goal.returns-clause-is
-returns-clause-is c block held flash is =
+pub returns-clause-is_device : goal.returns-clause-is_device
+returns-clause-is_device c block held flash is =
     let l = lent c.args.self.now block held in
     filled_mode_may_be_entered l c.after_refused_close-self.result flash is
     (c.after_refused_close-self.ensures.filled (length l.block) (flash_store l flash))

@@ -1,19 +1,19 @@
 use Rattle.std.proofs.Common.{◌≡◌, ℕ, length, Some, refl, sym, ◌∙◌, ap, subst, arith}
 use Rattle.dfu_slots.specs.StoreView.{spare_of, room_of}
-use Rattle.dfu_slots.proofs.Seeing.{room_is_capacity}
+use Rattle.dfu_slots.proofs.VisibleStores.{room_is_capacity}
 use Rattle.dfu_device.specs.Table.{Plan}
 use Rattle.dfu_device.specs.DeviceView.{profile, profile_of}
 use Rattle.dfu_device.specs.Rows.{Done, Handles, setup_plan, asked_length}
 use Rattle.dfu_device.specs.Decision.{table_profile_of, IsPossibleDecision}
-use Rattle.dfu_device.proofs.Carried.{parts_have_mode_bytes, setup_decision_means_row, handled}
+use Rattle.dfu_device.proofs.PlanRows.{parts_have_mode_bytes, setup_decision_means_row, handled}
 use Rattle.dfu_asks.specs.Lent.{lent}
 use Rattle.dfu_asks.specs.Mapped.{UnseenState}
 use Rattle.dfu_asks.specs.Due.{plan_of_decision, IsStorelessOrDue}
 use Rattle.dfu_asks.specs.Asks.{flash_store, device_in, device_with}
 use Rattle.dfu_asks.specs.Calls.{PlansAreStorelessOrDue}
-use Rattle.dfu_asks.proofs.Calling.{call_answered_by_implied_row}
-use Rattle.dfu_asks.proofs.Quiet.{setup_plan_is_storeless_or_due}
-use Rattle.dfu_asks.proofs.Unseen.{unseen_of_mapped, room_with_unseen, parts_stay_with_unseen}
+use Rattle.dfu_asks.proofs.CallResults.{call_answered_by_implied_row}
+use Rattle.dfu_asks.proofs.WritingRows.{setup_plan_is_storeless_or_due}
+use Rattle.dfu_asks.proofs.UnseenState.{unseen_of_mapped, room_with_unseen, parts_stay_with_unseen}
 use Rattle.dfu_asks.proofs.Sending.{setup_decision_sends_within}
 use Rattle.dfu_asks.proofs.asking.Asking.respond.Goals as goal
 

@@ -14,25 +14,25 @@ use Rattle.dfu_asks.specs.Carried.{total, bytes_after_writes, EndsAtPiece}
 use Rattle.dfu_asks.specs.Asks.{writes_in, steps_in, device_in, device_of, IsWorkingForRow}
 use Rattle.dfu_asks.specs.Calls.{CallCompleted, DevicePieceReported, piece_on_flash, piece_write_failed, piece_not_on_flash}
 use Rattle.dfu_asks.proofs.Pieces.{next_piece_ends_at_piece}
-use Rattle.dfu_asks.proofs.Calling.{kept_work_is_unique, true_test_holds, not_true_if_false, asked_piece_is_unique, asked_piece_has_next_size, report_of_piece_is_accepted, failed_piece_ends_row, stored_piece_advances_series}
+use Rattle.dfu_asks.proofs.CallResults.{kept_work_is_unique, true_test_holds, not_true_if_false, asked_piece_is_unique, asked_piece_has_next_size, report_of_piece_is_accepted, failed_piece_ends_row, stored_piece_advances_series}
 use Rattle.dfu_asks.proofs.asking.Asking.took.Goals as goal
 
--- The bytes of a piece that did not go well, and did not fail, are not on the flash.
+-- If `went_well` is false although the operation didn't fail, the bytes of the piece are not on the flash.
 unfailed_bad_piece_is_not_there : (failed stands : Bool) → not failed && stands ≡ false → failed ≡ false → stands ≡ false
 unfailed_bad_piece_is_not_there true stands e works = cc
 unfailed_bad_piece_is_not_there false stands e works = e
 
--- A piece that went well did not fail.
+-- If `went_well` is true, the operation of the piece didn't fail.
 works : (failed stands : Bool) → not failed && stands ≡ true → failed ≡ false
 works true stands e = cc
 works false stands e = refl
 
--- The bytes of a piece that went well are on the flash.
+-- If `went_well` is true, the bytes of the piece are on the flash.
 well_piece_is_on_flash : (failed stands : Bool) → not failed && stands ≡ true → stands ≡ true
 well_piece_is_on_flash true stands e = cc
 well_piece_is_on_flash false stands e = e
 
--- The row is broken off by the fault of a piece that failed, or whose bytes are not on the flash.
+-- A piece that failed, or whose bytes are not on the flash, breaks off the row with its fault.
 bad_piece_ends_row : (d : DeviceView) (len : ℕ) (s : SlotsState) (was : List ℕ) (p : Write) (failed : Bool) (flash out : List ℕ) (now :
     LentDevice)
     (out' : List ℕ) (x : Answer) (count : ℕ) (fault : WriteFault) → fault ≡ (if failed then Failed else NotVerified)
@@ -106,8 +106,8 @@ returns-then-not-went_well-clause-taken c =
     report_of_piece_is_accepted (lent c.args.self.now c.args.block.now c.args.held.now) w nx.piece (length c.args.out.now)
     (omega (arith, c.if-out-lt6.false)) c.in-Some.is nx.is
 
-pub returns-then-not-went_well-clause-on : goal.returns-then-not-went_well-clause-on
-returns-then-not-went_well-clause-on c = λ w p is piece.
+pub returns-then-not-went_well-clause-another_piece : goal.returns-then-not-went_well-clause-another_piece
+returns-then-not-went_well-clause-another_piece c = λ w p is piece.
     let a = lent c.args.self.now c.args.block.now c.args.held.now in
     let v = c.in-Some.work in
     let nx = c.look_at-len.ensures.next (omega (arith, c.if-len-eq0.false)) in
@@ -120,8 +120,8 @@ returns-then-not-went_well-clause-on c = λ w p is piece.
           one on.stands))),
     )
 
-pub returns-clause-on : goal.returns-clause-on
-returns-clause-on c = λ w p is piece.
+pub returns-clause-another_piece : goal.returns-clause-another_piece
+returns-clause-another_piece c = λ w p is piece.
     let a = lent c.args.self.now c.args.block.now c.args.held.now in
     let v = c.in-Some.work in
     let nx = c.look_at-len.ensures.next (omega (arith, c.if-len-eq0.false)) in
@@ -141,8 +141,8 @@ returns-clause-on c = λ w p is piece.
       λ on. (c.advance.ensures.more further refl).1 (omega (arith, on.more, size, all, done)),
     )
 
-pub returns-clause-further : goal.returns-clause-further
-returns-clause-further c = λ asks w p is piece.
+pub returns-clause-piece_advances : goal.returns-clause-piece_advances
+returns-clause-piece_advances c = λ asks w p is piece.
     let same = kept_work_is_unique w c.in-Some.work (sym is ∙ c.in-Some.is) in
     let size : length p.write.bytes ≡ c.look_at-len.result.0 =
     asked_piece_has_next_size (lent c.args.self.now c.args.block.now c.args.held.now) c.in-Some.work w p c.args.flash.now _ _ same piece

@@ -4,8 +4,8 @@ use Rattle.dfu_asks.specs.Asks.{flash_store}
 use Rattle.dfu_asks.proofs.Refuses.{filled_mode_may_be_entered}
 use Rattle.dfu_asks.proofs.asking.Asking.usb_reset.Goals as goal
 
-pub returns-clause-is : goal.returns-clause-is
-returns-clause-is c = λ kept.
+pub returns-clause-stays_device : goal.returns-clause-stays_device
+returns-clause-stays_device c = λ kept.
     let l = lent c.args.self.now c.args.block.now c.args.held.now in
     record {
       fits = record { block = kept.fits.block; transfer = kept.fits.transfer };

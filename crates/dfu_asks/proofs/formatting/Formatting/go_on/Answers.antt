@@ -23,8 +23,8 @@ returns-in_default-clause-outcome c = λ was flash way ended.
       left = c.part_after-behind.ensures.some (format_grain f) (length was / 2) f.register image refl refl c.in_default.not-Ended;
     }
 
-pub returns-in_default-clause-further : goal.returns-in_default-clause-further
-returns-in_default-clause-further c = λ size asks ended.
+pub returns-in_default-clause-piece_follows : goal.returns-in_default-clause-piece_follows
+returns-in_default-clause-piece_follows c = λ size asks ended.
     let f = c.args.self.now in
     let image = c.args.image.now in
     record {

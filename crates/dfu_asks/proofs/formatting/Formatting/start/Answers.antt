@@ -4,7 +4,7 @@ use Rattle.dfu_asks.specs.Mapped.{grain_of, mapped_medium}
 use Rattle.dfu_asks.specs.Steps.{step_writes}
 use Rattle.dfu_asks.specs.Phases.{format_steps_from, format_steps}
 use Rattle.dfu_asks.proofs.Pieces.{zero_bytes_end_at_piece}
-use Rattle.dfu_asks.proofs.Carrying.{no_bytes_carried}
+use Rattle.dfu_asks.proofs.SeriesBytes.{no_bytes_carried}
 use Rattle.dfu_asks.proofs.FormatGoing.{close_step_has_bytes}
 use Rattle.dfu_asks.proofs.formatting.Formatting.start.Goals as goal
 

@@ -3,7 +3,7 @@ use Rattle.dfu_slots.specs.Medium.{MediumState}
 use Rattle.dfu_slots.specs.Image.{gate_of, slot_of, HasImage}
 use Rattle.dfu_asks.specs.Mapped.{mapped_medium}
 use Rattle.dfu_asks.specs.Noted.{IsNoteOfMedium}
-use Rattle.dfu_asks.proofs.Noting.{noted_slot_is_active}
+use Rattle.dfu_asks.proofs.ImageNotes.{noted_slot_is_active}
 use Rattle.dfu_asks.proofs.noted.Noted.find.Goals as goal
 
 pub returns-in-Ok-clause-some : goal.returns-in-Ok-clause-some

@@ -1,5 +1,5 @@
 use Rattle.std.proofs.Common.{◌-◌}
-use Rattle.dfu_boot.proofs.Looking.{IsBlankUpTo}
+use Rattle.dfu_boot.proofs.ComparedBytes.{IsBlankUpTo}
 use Rattle.dfu_boot.proofs.install.area.are_blank.Given as goal
 
 abbrev pub invariant-loop-at : goal.invariant-loop-at

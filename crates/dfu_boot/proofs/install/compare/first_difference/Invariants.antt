@@ -1,5 +1,5 @@
 use Rattle.std.proofs.Common.{◌-◌}
-use Rattle.dfu_boot.proofs.Looking.{MatchesImageUpTo}
+use Rattle.dfu_boot.proofs.ComparedBytes.{MatchesImageUpTo}
 use Rattle.dfu_boot.proofs.install.compare.first_difference.Given as goal
 
 abbrev pub invariant-loop-at : goal.invariant-loop-at

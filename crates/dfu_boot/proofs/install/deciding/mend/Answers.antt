@@ -1,6 +1,6 @@
 use Rattle.std.proofs.Common.{length, arith}
 use Rattle.dfu_boot.proofs.WholeStarts.{sectors_are_whole_parts, part_of_place_ends_by_edge}
-use Rattle.dfu_boot.proofs.Nexts.{next_byte_in_image}
+use Rattle.dfu_boot.proofs.NextDifference.{next_byte_in_image}
 use Rattle.dfu_boot.proofs.install.deciding.mend.Goals as goal
 
 pub may_program-requires-clause-inside : goal.may_program-requires-clause-inside

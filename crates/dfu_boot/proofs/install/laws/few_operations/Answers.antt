@@ -1,4 +1,4 @@
-use Rattle.dfu_boot.proofs.Few.{few_operations}
+use Rattle.dfu_boot.proofs.OperationCounts.{few_operations}
 use Rattle.dfu_boot.proofs.install.laws.few_operations.Goals as goal
 
 pub returns : goal.returns

@@ -1,4 +1,4 @@
-use Rattle.dfu_boot.proofs.Holding.{held_is_started}
+use Rattle.dfu_boot.proofs.RunAreas.{held_is_started}
 use Rattle.dfu_boot.proofs.install.laws.held_is_started.Goals as goal
 
 pub returns : goal.returns

@@ -1,4 +1,4 @@
-use Rattle.dfu_boot.proofs.Beside.{leaves_what_is_beside}
+use Rattle.dfu_boot.proofs.BytesBesideImage.{leaves_what_is_beside}
 use Rattle.dfu_boot.proofs.install.laws.leaves_what_is_beside.Goals as goal
 
 pub returns : goal.returns

@@ -1,4 +1,4 @@
-use Rattle.dfu_boot.proofs.Filling.{buffer_is_filled_with_ff}
+use Rattle.dfu_boot.proofs.PieceBytes.{buffer_is_filled_with_ff}
 use Rattle.dfu_boot.proofs.install.pieces.fill_up.Goals as goal
 
 pub returns : goal.returns

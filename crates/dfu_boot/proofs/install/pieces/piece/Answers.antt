@@ -1,4 +1,4 @@
-use Rattle.dfu_boot.proofs.Filling.{filled_rest_is_piece}
+use Rattle.dfu_boot.proofs.PieceBytes.{filled_rest_is_piece}
 use Rattle.dfu_boot.proofs.install.pieces.piece.Goals as goal
 
 pub returns : goal.returns

@@ -10,7 +10,7 @@ use Rattle.dfu_boot.proofs.Closing.{marks_exclude_trial}
 use Rattle.dfu_boot.proofs.trial.again.look_again.Goals.{then-is_confirmed-via-then-is_confirmed, then-is_confirmed-via-else-is_confirmed+then-not-is_open, then-is_confirmed-via-else-is_confirmed+else-not-is_open+then-not-is_set}
 use Rattle.dfu_boot.proofs.trial.again.look_again.Goals as goal
 
--- The active image is whole.
+-- If the images that `look` found are whole, the active image is whole.
 active_image_is_whole : (m : MediumState) (at : ℕ) (base : Option ℕ) → ImagesAreWhole m at base → IsImageWholeAt m at
 active_image_is_whole m at None whole = whole
 active_image_is_whole m at (Some place) whole = whole.0

@@ -5,12 +5,12 @@ use Rattle.dfu_boot.specs.trial.Calls.{MediumAccepts, MarkIsWithin, trial_start,
 use Rattle.dfu_boot.specs.trial.Laws.{AskedResult, StartOutcome, OperationReportedOk, OperationReportedFailed}
 use Rattle.dfu_boot.specs.declared.trial.operation.Operation.{Operation}
 use Rattle.dfu_boot.specs.declared.trial.starting.Starting.{Starting}
-use Rattle.dfu_boot.proofs.Tried.{start_runs_image_on_trial, start_on_trial_asks_mark}
+use Rattle.dfu_boot.proofs.WorkingStarts.{start_runs_image_on_trial, start_on_trial_asks_mark}
 use Rattle.dfu_boot.proofs.Starts.{start_has_result, image_active_after_start, mark_stays_within_medium}
 use Rattle.dfu_boot.proofs.Fitting.{standing_fits_slots}
 use Rattle.dfu_boot.proofs.trial.booting.boot.Goals as goal
 
--- An operation was reported to work or to fail.
+-- If an operation was carried out, the medium reported its success or its failure.
 operation_worked_or_failed : (m now : MediumState) (o : Operation) (r : Result (Unit {0}) Failed) → OnOk r (OperationReportedOk m o now)
     → OnErr r (OperationReportedFailed m o now)
     → OperationReportedOk m o now ⊎ OperationReportedFailed m o now

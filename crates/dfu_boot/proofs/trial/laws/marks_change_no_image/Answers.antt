@@ -1,4 +1,4 @@
-use Rattle.dfu_boot.proofs.Unread.{marks_are_unread, unread_change_keeps_images}
+use Rattle.dfu_boot.proofs.UnreadMarks.{marks_are_unread, unread_change_keeps_images}
 use Rattle.dfu_boot.proofs.trial.laws.marks_change_no_image.Goals as goal
 
 pub returns : goal.returns

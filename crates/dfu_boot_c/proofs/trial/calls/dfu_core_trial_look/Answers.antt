@@ -5,7 +5,7 @@ use Rattle.dfu_boot_c.specs.declared.trial.told.DfuStanding.{DfuStanding}
 use Rattle.dfu_boot_c.specs.trial.Tries.{trial_medium_state}
 use Rattle.dfu_boot_c.specs.trial.TrialRecords.{standing_told}
 use Rattle.dfu_boot_c.specs.trial.Again.{base_of_trial}
-use Rattle.dfu_boot_c.proofs.Whole.{recorded_images_are_whole}
+use Rattle.dfu_boot_c.proofs.WholeImages.{recorded_images_are_whole}
 use Rattle.dfu_boot_c.proofs.trial.calls.dfu_core_trial_look.Goals as goal
 
 pub returns-in-Ok-clause-whole : goal.returns-in-Ok-clause-whole

@@ -5,7 +5,7 @@ use Rattle.dfu_boot_c.specs.trial.Tries.{grain_of_tries}
 use Rattle.dfu_boot_c.specs.trial.TrialCalls.{RefusesTrial, TrialStartResult}
 use Rattle.dfu_boot_c.proofs.trial.calls.dfu_core_trial_start.Goals as goal
 
--- No image begins at 0, because two gates of at least 16 bytes each come before it.
+-- No image begins at offset 0, because the gate and the header of its slot come before it, and each takes at least 16 bytes.
 pub returns : goal.returns
 returns c =
     let t = c.args.tries.now in

@@ -1,6 +1,6 @@
 use Rattle.std.specs.Prelude.{length}
 use Rattle.dfu_conformance.proofs.captures.joining.exchanges_of.Given as goal
 
--- Fewer bytes are left after each record.
+-- Each record removes at least one byte from the rest.
 abbrev pub decreases-loop-rest : goal.decreases-loop-rest
 decreases-loop-rest l = length l.rest

@@ -5,7 +5,7 @@ use Rattle.dfu_conformance.specs.dfuse.Verdicts.{has_place}
 use Rattle.dfu_conformance.specs.inside.DfuseStep.{drift_leads_to}
 use Rattle.dfu_conformance.proofs.dfuse.stands.drift.Given as goal
 
--- `after` has the places of `before`, and those to which the moves before the next one lead from them.
+-- `after` contains the states of `before`, and those to which the moves so far lead from them.
 abbrev pub invariant-loop-one : goal.invariant-loop-one
 invariant-loop-one l = (n : StandardState)
     → has_place l.after n ≡ (has_place l.before n || list_any (drift_leads_to l.before n) (take l.one-index l.moves))

@@ -1,4 +1,4 @@
-use Rattle.dfu_conformance.proofs.Everywhere.{all_devices_are_exact_at_first, plain_devices_are_exact_at_first}
+use Rattle.dfu_conformance.proofs.FirstPlaces.{all_devices_are_exact_at_first, plain_devices_are_exact_at_first}
 use Rattle.dfu_conformance.proofs.judge.Judge.new.Goals as goal
 
 pub returns-clause-whole : goal.returns-clause-whole

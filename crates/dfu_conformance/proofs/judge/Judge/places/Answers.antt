@@ -5,7 +5,7 @@ use Rattle.dfu_conformance.specs.Candidates.{JudgedDevices}
 use Rattle.dfu_conformance.specs.MayAnswer.{CandidatesExact}
 use Rattle.dfu_conformance.specs.inside.Stepped.{has_candidate}
 use Rattle.dfu_conformance.proofs.Places.{place_number_below_12}
-use Rattle.dfu_conformance.proofs.Somewhere.{held_place_is_possible}
+use Rattle.dfu_conformance.proofs.HeldPlaces.{held_place_is_possible}
 use Rattle.dfu_conformance.proofs.Verdicts.{candidates_are_exact_for_each}
 use Rattle.dfu_conformance.proofs.judge.Judge.places.Goals as goal
 

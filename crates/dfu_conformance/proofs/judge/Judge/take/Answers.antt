@@ -4,7 +4,7 @@ use Rattle.dfu_conformance.specs.declared.judge.TheConstants.{EVERY}
 use Rattle.dfu_conformance.specs.Candidates.{JudgedDevices, devices_since}
 use Rattle.dfu_conformance.specs.MayAnswer.{CandidatesExact, PlainCandidatesExact}
 use Rattle.dfu_conformance.specs.Verdict.{EventDeparts}
-use Rattle.dfu_conformance.proofs.Everywhere.{plain_devices_are_exact_at_first}
+use Rattle.dfu_conformance.proofs.FirstPlaces.{plain_devices_are_exact_at_first}
 use Rattle.dfu_conformance.proofs.Verdicts.{candidates_stay_exact, plain_device_can_answer, event_without_devices_departs}
 use Rattle.dfu_conformance.proofs.judge.Judge.take.Goals as goal
 

@@ -1,5 +1,5 @@
 use Rattle.std.proofs.Common.{length}
-use Rattle.dfu_device.proofs.Carried.{parts_have_mode_bytes, filled_mode_is_device_part}
+use Rattle.dfu_device.proofs.PlanRows.{parts_have_mode_bytes, filled_mode_is_device_part}
 use Rattle.dfu_device.proofs.device.Device.refuse.Goals as goal
 
 pub invariant_of-self-inside : goal.invariant_of-self-inside

@@ -3,7 +3,7 @@ use Rattle.std.proofs.Common.{◌++◌, [], take}
 use Rattle.dfu_device.specs.Decision.{written_stage}
 use Rattle.dfu_device.specs.Parts.{stage_of}
 use Rattle.dfu_device.specs.inside.View.{view_of_core}
-use Rattle.dfu_device.proofs.Carried.{block_write_carries_out_plan, commit_carried_out}
+use Rattle.dfu_device.proofs.PlanRows.{block_write_carries_out_plan, commit_carried_out}
 use Rattle.dfu_device.proofs.device_core.DeviceCore.carry_out.Goals as goal
 
 pub returns-in-Writes-clause-row : goal.returns-in-Writes-clause-row

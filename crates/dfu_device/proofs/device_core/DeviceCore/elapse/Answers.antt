@@ -1,7 +1,7 @@
 use Rattle.std.proofs.Common.{ℕ, List, length, refl, sym, subst}
 use Rattle.dfu_device.specs.Decision.{IsPossibleDecision, DecidesTime}
 use Rattle.dfu_device.specs.inside.View.{view_of_core}
-use Rattle.dfu_device.proofs.Carried.{parts_have_mode_bytes, time_decision_is_row}
+use Rattle.dfu_device.proofs.PlanRows.{parts_have_mode_bytes, time_decision_is_row}
 use Rattle.dfu_device.proofs.device_core.DeviceCore.elapse.Goals as goal
 
 pub carry_out-requires : goal.carry_out-requires

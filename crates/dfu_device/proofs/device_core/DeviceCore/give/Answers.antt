@@ -6,7 +6,7 @@ use Rattle.dfu_device.specs.DeviceView.{profile}
 use Rattle.dfu_device.specs.Rows.{ReplyAnswer}
 use Rattle.dfu_device.specs.inside.View.{view_of_core}
 use Rattle.dfu_device.specs.Decision.{HasTimeInputs}
-use Rattle.dfu_device.proofs.Carried.{parts_have_time_inputs}
+use Rattle.dfu_device.proofs.PlanRows.{parts_have_time_inputs}
 use Rattle.dfu_device.proofs.StatusBytes.{status_front_fits_vector, vector_is_front}
 use Rattle.dfu_device.proofs.device_core.DeviceCore.give.Goals as goal
 

@@ -3,7 +3,7 @@ use Rattle.dfu_device.specs.Decision.{IsPossibleDecision}
 use Rattle.dfu_device.specs.inside.PendingAnswer.{HandledPending}
 use Rattle.dfu_device.specs.inside.View.{view_of_core}
 use Rattle.dfu_device.proofs.AnswersFit.{handled_answer_fits_room}
-use Rattle.dfu_device.proofs.Carried.{parts_have_mode_bytes, handled}
+use Rattle.dfu_device.proofs.PlanRows.{parts_have_mode_bytes, handled}
 use Rattle.dfu_device.proofs.device_core.DeviceCore.pending_answer.Goals as goal
 
 pub carry_out-requires : goal.carry_out-requires
@@ -22,4 +22,4 @@ returns g c =
     c.asked_row-decision.result.1 (view_of_core d) c.profile.ensures.profile d.sound refl c.asked_row-decision.ensures.row a out
     (view_of_core c.carry_out.new.self)
     (c.carry_out.ensures.row a out says) in
-    record { row = row; fits = λ a sent says. handled_answer_fits_room _ _ _ _ _ _ (row a sent says) }
+    record { row = row; answer_fits = λ a sent says. handled_answer_fits_room _ _ _ _ _ _ (row a sent says) }

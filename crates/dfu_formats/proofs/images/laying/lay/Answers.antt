@@ -45,7 +45,7 @@ loop-element-preserved c =
     ∙ ap (λ (q : Piece). q ∷ drop (i + 1) all) (sym c.element-item.is) in
     let on = laid_part_makes_whole _ _ _ c.in-Ok.next.items _ p (drop (i + 1) all) _ e c.loop-element.invariant.on c.in-Ok.ensures.value in
     record {
-      few = c.in-Ok.ensures.few;
+      few = c.in-Ok.ensures.at_most_16_mib;
       on =
           subst (λ (end : ℕ). LaidRestMakesWhole (laid_bytes c.args.fill 0 (lowest_address all) all) c.args.fill c.in-Ok.next.items end
           (drop (i + 1) all))

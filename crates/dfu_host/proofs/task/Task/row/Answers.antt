@@ -1,7 +1,6 @@
 use Rattle.std.proofs.Common.{◌⊎◌, inl, inr}
 use Rattle.dfu_host.proofs.task.Task.row.Goals as goal
 
--- C follows from A or B, if it follows from each of them.
 either_case_follows : {A B C : Type 0} → A ⊎ B → (A → C) → (B → C) → C
 either_case_follows (inl a) first second = first a
 either_case_follows (inr b) first second = second b

@@ -1,7 +1,7 @@
 use Rattle.std.proofs.Common.{refl}
 use Rattle.dfu_link.specs.inside.Expected.{expectation_of}
 use Rattle.dfu_link.proofs.Spending.{silent_action_leaves_fewer}
-use Rattle.dfu_link.proofs.PassingOn.{no_passes_are_silent, silent_pass_is_added, until_report_ends_as_text}
+use Rattle.dfu_link.proofs.ReportPasses.{no_passes_are_silent, silent_pass_is_added, until_report_ends_as_text}
 use Rattle.dfu_link.proofs.scripting.playing.pass_on.Goals as goal
 
 pub passes-init : goal.passes-init

@@ -9,7 +9,7 @@ use Rattle.dfu_link.proofs.PlayLaws.{check_keeps_offer}
 use Rattle.dfu_link.proofs.StepLaws.{event_line_is_done}
 use Rattle.dfu_link.proofs.scripting.playing.play_events.Goals as goal
 
--- The one event of an offer's line is the offer of its bytes.
+-- A line that offers a file has one event: the offer of its bytes.
 offer_is_one_event : {event : Happening} {purpose : Purpose} {file text : List ℕ} {limits : Limits} → event ≡ Offers purpose file limits
     → file ≡ text
     → event ∷ [] ≡ Offers purpose text limits ∷ []

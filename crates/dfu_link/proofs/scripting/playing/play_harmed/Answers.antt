@@ -9,7 +9,7 @@ use Rattle.dfu_link.proofs.FallLaws.{tear_without_memory_fails}
 use Rattle.dfu_link.proofs.StepLaws.{event_line_is_done}
 use Rattle.dfu_link.proofs.scripting.playing.play_harmed.Goals as goal
 
--- The one event of a harmed action's line is that action.
+-- A line that harms a write has one event: the action of the host.
 harmed_is_one_event : {fate given : Fate} {harm : WriteHarm} {writes : ℕ} {tear text : List ℕ} → fate ≡ given → harm
     ≡ harmed writes tear → tear ≡ text
     → Goes fate harm ∷ [] ≡ Goes given (harmed writes text) ∷ []

@@ -19,7 +19,7 @@ returns-then-taken-clause-ok g c =
     let taken = c.take_piece-taken in
     let takes = subst (λ (t : Bool). PieceRead c.fill.new.self.left c.pieces.line.items taken.result.bytes t taken.new.pieces.left
     taken.new.line.items) c.if-taken.true taken.ensures.takes in
-    newline_gives_line c.args.before c.args.line.now.items line takes taken.ensures.most
+    newline_gives_line c.args.before c.args.line.now.items line takes taken.ensures.within_limit
 
 pub returns-then-len-gt-MAX_LINE-clause-fault : goal.returns-then-len-gt-MAX_LINE-clause-fault
 returns-then-len-gt-MAX_LINE-clause-fault g c =
@@ -27,7 +27,7 @@ returns-then-len-gt-MAX_LINE-clause-fault g c =
     let taken = c.take_piece-taken in
     let takes = subst (λ (t : Bool). PieceRead c.fill.new.self.left c.pieces.line.items taken.result.bytes t taken.new.pieces.left
     taken.new.line.items) c.if-taken.false taken.ensures.takes in
-    source_stops_at_too_long_line c.args.before c.args.line.now.items line takes taken.ensures.most
+    source_stops_at_too_long_line c.args.before c.args.line.now.items line takes taken.ensures.within_limit
     (omega (arith, c.len.ensures, c.if-len-gt-MAX_LINE.true))
 
 pub pieces-preserved : goal.pieces-preserved
@@ -37,6 +37,6 @@ pieces-preserved g c =
     let takes = subst (λ (t : Bool). PieceRead c.fill.new.self.left c.pieces.line.items taken.result.bytes t taken.new.pieces.left
     taken.new.line.items) c.if-taken.false taken.ensures.takes in
     record {
-      line = piece_extends_line line takes taken.ensures.most (omega (arith, c.len.ensures, c.if-len-gt-MAX_LINE.false));
+      line = piece_extends_line line takes taken.ensures.within_limit (omega (arith, c.len.ensures, c.if-len-gt-MAX_LINE.false));
       capacity = omega (arith, c.pieces.invariant.capacity, taken.ensures.capacity);
     }

@@ -4,7 +4,7 @@ use Rattle.dfu_output.specs.judge.Texts.{texts_of_each}
 use Rattle.dfu_output.specs.judge.Dfuse.{dfuse_allowed_text}
 use Rattle.dfu_output.proofs.judge.dfuse.push_rows.Given as goal
 
--- The line has grown by the texts of the rows before the next one.
+-- The texts of all rows before the next one have been added to the line.
 abbrev pub invariant-loop-row : goal.invariant-loop-row
 invariant-loop-row l =
     string_bytes l.line ≡ string_bytes l.fn.line ++ texts_of_each (dfuse_allowed_text l.departure) (take l.row-index l.rows)

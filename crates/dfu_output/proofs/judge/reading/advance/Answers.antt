@@ -11,4 +11,4 @@ returns-in-Err-clause-err g c old text at tail =
     (piece_splits_at_byte text rest tail k _ (omega (arith, c.take_inner-count.ensures.within, c.if-count-rest.false)))
     (c.in-Err.ensures.err old (text ++ take k rest)
     (no_departure_keeps_output _ old _ (text ++ take k rest) at.course None _ at.out refl
-    (c.take_inner-count.ensures.goes c.args.interface text at.course at.at at.judged)) (drop (k + 1) rest ++ tail))
+    (c.take_inner-count.ensures.state_after_text c.args.interface text at.course at.at at.judged)) (drop (k + 1) rest ++ tail))

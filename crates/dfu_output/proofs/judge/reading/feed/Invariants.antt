@@ -2,7 +2,7 @@ use Rattle.std.specs.Prelude.{◌≡◌, ◌≤◌, ◌+◌, ◌-◌, ◌++◌, 
 use Rattle.dfu_output.specs.judge.inside.JudgeState.{JudgedSoFar}
 use Rattle.dfu_output.proofs.judge.reading.feed.Given as goal
 
--- The bytes of the piece before index `at` were judged, and the log has room for as many less.
+-- The bytes of the piece before index `at` were judged, and the log's room has decreased by their number.
 abbrev pub invariant-loop-at : goal.invariant-loop-at
 invariant-loop-at g l = record {
   within : l.at ≤ length l.piece;
@@ -11,6 +11,6 @@ invariant-loop-at g l = record {
   room : l.judging.lines.room + l.at ≡ l.fn.judging.lines.room;
 }
 
--- Fewer bytes of the piece are left after each step.
+-- Each step leaves fewer bytes of the piece.
 abbrev pub decreases-loop-at : goal.decreases-loop-at
 decreases-loop-at g l = length l.piece - l.at

@@ -11,13 +11,12 @@ use Rattle.dfu_output.specs.judge.inside.JudgeState.{JudgedSoFar, JudgingState}
 use Rattle.dfu_output.specs.judge.Texts.{verdict_text}
 use Rattle.dfu_output.proofs.judge.reading.verdict_out.Goals as goal
 
--- If bytes are written with an exit, an equal text is written with an equal exit.
 told : (old new : Option (List ℕ)) (bytes text : List ℕ) (x y r : Exit) → bytes ≡ text → x ≡ y → TextIsOut old new bytes x r
     → TextIsOut old new text y r
 told old new bytes text x y r same exit wrote =
     subst (λ (e : Exit). TextIsOut old new text e r) exit (subst (λ (xs : List ℕ). TextIsOut old new xs x r) same wrote)
 
--- After the lines of the departures, the line of the verdict is written, or `refused NoMemory`.
+-- After the lines of the departures, the command writes the line of the verdict or `refused NoMemory`.
 written : (interface : ℕ) (old mid new : Option (List ℕ)) (text : List ℕ) (s : JudgingState) (going : JudgedSoFar interface old mid text s)
     (verdict : Verdict) (at : List Bool) (result : Exit)
     → IsVerdict verdict going.course.events × ArePlacesAfter (readings_of verdict) going.course.events at

@@ -13,7 +13,7 @@ loop-place-preserved c =
     let more = length-filter_more (may_be_in_state c.args.at.now) STATES i _ (omega arith) in
     let one = c.count_if-count.ensures.value ∙ ap (λ b. cond b 1 0) c.may_be_in_state.ensures in (
       (λ k. c.loop-place.invariant.0 k + one k) ∙ sym more,
-      omega (arith, c.loop-place.invariant.1, c.count_if-count.ensures.fits),
+      omega (arith, c.loop-place.invariant.1, c.count_if-count.ensures.at_most_1),
     )
 
 pub returns : goal.returns

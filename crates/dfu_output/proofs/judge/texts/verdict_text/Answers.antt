@@ -2,7 +2,7 @@ use Rattle.std.proofs.Common.{◌≡◌, [], refl, append_assoc}
 use Rattle.dfu_output.specs.judge.Texts.{texts_of_each, readings_text, verdict_text}
 use Rattle.dfu_output.proofs.judge.texts.verdict_text.Goals as goal
 
--- The text of the habits of set 0, which has none, is empty.
+-- The set 0 contains no habits, so its text is empty.
 empty_set_has_no_text : readings_text 0 ≡ []
 unfolding texts_of_each
 empty_set_has_no_text = refl

@@ -1,6 +1,6 @@
-use Rattle.dfu_slots.proofs.Seeing.{seen_image_is_active, image_is}
+use Rattle.dfu_slots.proofs.VisibleStores.{seen_image_is_active, image_is}
 use Rattle.dfu_sim.specs.Understood.{BenchImageIsActive}
-use Rattle.dfu_sim.proofs.Steady.{world_event_is_steady, machines_follow_world_event, each_event_is_sure, event_gives_bytes}
+use Rattle.dfu_sim.proofs.EventFacts.{world_event_is_steady, machines_follow_world_event, each_event_is_sure, event_gives_bytes}
 use Rattle.dfu_sim.proofs.HeadlineKept.{step_keeps_headline}
 use Rattle.dfu_sim.proofs.world.World.step.Goals as goal
 

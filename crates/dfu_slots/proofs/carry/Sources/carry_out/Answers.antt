@@ -1,7 +1,7 @@
 use Rattle.std.proofs.Common.{◌≡◌, ◌∙◌, sym, ap}
 use Rattle.dfu_slots.specs.Units.{Grain}
 use Rattle.dfu_slots.specs.Operations.{op_at, operations}
-use Rattle.dfu_slots.proofs.Carried.{next_op_may_be_carried, next_op_carried, next_op_broke_off}
+use Rattle.dfu_slots.proofs.SuccessiveOperations.{next_op_may_be_carried, next_op_carried, next_op_broke_off}
 use Rattle.dfu_slots.proofs.carry.Sources.carry_out.Goals as goal
 
 pub carry_op-requires : goal.carry_op-requires

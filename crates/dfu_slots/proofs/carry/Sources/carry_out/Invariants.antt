@@ -1,5 +1,5 @@
 use Rattle.dfu_slots.specs.Operations.{operations}
-use Rattle.dfu_slots.proofs.Carried.{FirstOpsCarried}
+use Rattle.dfu_slots.proofs.SuccessiveOperations.{FirstOpsCarried}
 use Rattle.dfu_slots.proofs.carry.Sources.carry_out.Given as goal
 
 abbrev pub invariant-loop-index : goal.invariant-loop-index

@@ -1,6 +1,6 @@
 use Rattle.std.proofs.Common.{length}
 use Rattle.dfu_slots.proofs.Unique.{active_slot_counts, active_slot_has_its_header, active_header_fits}
-use Rattle.dfu_slots.proofs.Stays.{image_at_kept_places_active}
+use Rattle.dfu_slots.proofs.UnchangedSlots.{image_at_kept_places_active}
 use Rattle.dfu_slots.proofs.slots.Slots.active_len.Goals as goal
 
 pub header_len-requires-clause-counts : goal.header_len-requires-clause-counts

@@ -1,7 +1,7 @@
 use Rattle.std.proofs.Common.{take}
 use Rattle.dfu_slots.specs.Medium.Fuse.{Armed}
-use Rattle.dfu_slots.proofs.Seeing.{fuse_leaves_store}
-use Rattle.dfu_slots.proofs.Stays.{places_kept_with_other_fuse}
+use Rattle.dfu_slots.proofs.VisibleStores.{fuse_leaves_store}
+use Rattle.dfu_slots.proofs.UnchangedSlots.{places_kept_with_other_fuse}
 use Rattle.dfu_slots.proofs.slots.Slots.arm.Goals as goal
 
 pub invariant_of-self : goal.invariant_of-self

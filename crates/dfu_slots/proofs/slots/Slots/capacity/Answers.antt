@@ -1,5 +1,5 @@
-use Rattle.dfu_slots.proofs.Seeing.{capacity_is_room, store_has_shape}
-use Rattle.dfu_slots.proofs.Stays.{image_at_kept_places_active}
+use Rattle.dfu_slots.proofs.VisibleStores.{capacity_is_room, store_has_shape}
+use Rattle.dfu_slots.proofs.UnchangedSlots.{image_at_kept_places_active}
 use Rattle.dfu_slots.proofs.slots.Slots.capacity.Goals as goal
 
 pub returns-clause-room : goal.returns-clause-room

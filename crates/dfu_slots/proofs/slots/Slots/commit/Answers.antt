@@ -8,7 +8,7 @@ invariant_of-self g c =
     let now : SlotsState = store_of (g.M.Medium.state done.new.medium) done.new.puts.held.items done.new.puts.end in
     record {
       store = (commit_result_holds c.self.view_is c.self.invariant.store now c.args.len c.requires done.result done.ensures.not_begun
-          done.ensures.fits done.ensures.changes).common.store;
+          done.ensures.not_too_large done.ensures.changes).common.store;
       active_there = c.look-self-inside.ensures.active;
       spare_there = c.look-self-inside.ensures.spare;
     }
@@ -18,11 +18,11 @@ look-self-inside-requires g c =
     let done = c.commit-done in
     let now : SlotsState = store_of (g.M.Medium.state done.new.medium) done.new.puts.held.items done.new.puts.end in
     (commit_result_holds c.self.view_is c.self.invariant.store now c.args.len c.requires done.result done.ensures.not_begun
-    done.ensures.fits done.ensures.changes).common.store.has_image.active.sized
+    done.ensures.not_too_large done.ensures.changes).common.store.has_image.active.sized
 
 pub returns : goal.returns
 returns g c =
     let done = c.commit-done in
     let now : SlotsState = store_of (g.M.Medium.state done.new.medium) done.new.puts.held.items done.new.puts.end in
     commit_result_holds c.self.view_is c.self.invariant.store now c.args.len c.requires done.result done.ensures.not_begun
-    done.ensures.fits done.ensures.changes
+    done.ensures.not_too_large done.ensures.changes

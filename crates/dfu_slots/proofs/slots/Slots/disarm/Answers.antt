@@ -1,6 +1,6 @@
 use Rattle.dfu_slots.specs.Medium.Fuse.{Whole}
-use Rattle.dfu_slots.proofs.Seeing.{fuse_leaves_store}
-use Rattle.dfu_slots.proofs.Stays.{places_kept_with_other_fuse}
+use Rattle.dfu_slots.proofs.VisibleStores.{fuse_leaves_store}
+use Rattle.dfu_slots.proofs.UnchangedSlots.{places_kept_with_other_fuse}
 use Rattle.dfu_slots.proofs.slots.Slots.disarm.Goals as goal
 
 pub invariant_of-self : goal.invariant_of-self

@@ -7,12 +7,11 @@ use Rattle.dfu_slots.proofs.slots.Slots.format.Given as given
 use Rattle.dfu_slots.proofs.slots.Slots.format.Goals.{Else-image-from, After-nothing}
 use Rattle.dfu_slots.proofs.slots.Slots.format.Goals as goal
 
--- The medium can be formatted.
 can : (g : given.Over) (c : goal.Else-image-from g) → CanFormat (g.M.Medium.state c.args.medium) c.args.image.now
 can g c = tested_can_be_formatted c.args.image.now (c.is_sized.ensures.0 c.if-not-is_sized.false) c.if-image-from.false c.from.ensures
     c.capacity_of.ensures
 
--- After the format the store has the image, and nothing was put on it.
+-- After the format the store shows the image, and no bytes were put yet.
 left : (g : given.Over) (c : goal.After-nothing g) → StoreAfterFormat
     (store_of (g.M.Medium.state c.write_image.new.medium) c.nothing.result.held.items c.nothing.result.end) c.args.image.now
 left g c = format_leaves_its_store (g.M.Medium.state c.write_image.new.medium)

@@ -1,7 +1,7 @@
 use Rattle.std.proofs.Common.{◌≡◌, ℕ, ◌+◌, length, slice_range, subst, sym, arith}
 use Rattle.dfu_slots.specs.StoreView.{SlotsState, store_of, image_of}
 use Rattle.dfu_slots.proofs.Unique.{image_at_its_place_on_medium, image_end}
-use Rattle.dfu_slots.proofs.Stays.{image_at_kept_places_active}
+use Rattle.dfu_slots.proofs.UnchangedSlots.{image_at_kept_places_active}
 use Rattle.dfu_slots.proofs.slots.Slots.image_at.Goals as goal
 
 pub returns-clause-within : goal.returns-clause-within

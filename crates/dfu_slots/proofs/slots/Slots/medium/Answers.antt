@@ -1,4 +1,4 @@
-use Rattle.dfu_slots.proofs.Stays.{image_at_kept_places_active}
+use Rattle.dfu_slots.proofs.UnchangedSlots.{image_at_kept_places_active}
 use Rattle.dfu_slots.proofs.slots.Slots.medium.Goals as goal
 
 pub returns-clause-active : goal.returns-clause-active

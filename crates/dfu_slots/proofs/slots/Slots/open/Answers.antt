@@ -1,5 +1,5 @@
 use Rattle.dfu_slots.proofs.Refused.{faulty_medium_has_no_image}
-use Rattle.dfu_slots.proofs.Seeing.{medium_makes_fresh_store}
+use Rattle.dfu_slots.proofs.VisibleStores.{medium_makes_fresh_store}
 use Rattle.dfu_slots.proofs.slots.Slots.open.Goals as goal
 
 pub invariant_of-result : goal.invariant_of-result

@@ -1,4 +1,4 @@
-use Rattle.dfu_slots.proofs.Seeing.{put_end_within_room}
+use Rattle.dfu_slots.proofs.VisibleStores.{put_end_within_room}
 use Rattle.dfu_slots.proofs.slots.Slots.put_end.Goals as goal
 
 pub returns-clause-room : goal.returns-clause-room

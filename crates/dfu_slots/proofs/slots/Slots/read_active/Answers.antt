@@ -1,7 +1,7 @@
 use Rattle.std.proofs.Common.{◌+◌, length, ◌≤◌, ◌∙◌, subst, sym, arith}
 use Rattle.dfu_slots.specs.StoreView.{SlotsState, image_of}
 use Rattle.dfu_slots.proofs.Unique.{active_data_range_is_of_image, active_image_fits}
-use Rattle.dfu_slots.proofs.Stays.{image_at_kept_places_active}
+use Rattle.dfu_slots.proofs.UnchangedSlots.{image_at_kept_places_active}
 use Rattle.dfu_slots.proofs.slots.Slots.read_active.Goals as goal
 
 pub read_data-requires-clause-within : goal.read_data-requires-clause-within

@@ -1,7 +1,7 @@
 use Rattle.std.proofs.Common.{ap, ◌∙◌}
 use Rattle.dfu_slots.specs.StoreView.{image_of}
 use Rattle.dfu_slots.proofs.Refused.{faulty_medium_has_no_image}
-use Rattle.dfu_slots.proofs.Seeing.{medium_makes_fresh_store, reopening_keeps_image}
+use Rattle.dfu_slots.proofs.VisibleStores.{medium_makes_fresh_store, reopening_keeps_image}
 use Rattle.dfu_slots.proofs.slots.Slots.reopen.Goals as goal
 
 pub unreachable-requires : goal.unreachable-requires

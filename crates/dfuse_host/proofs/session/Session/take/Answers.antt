@@ -1,7 +1,7 @@
 use Rattle.std.proofs.Common.{◌≡◌, ◌-◌, ◌≤◌, sym, subst}
 use Rattle.dfuse_host.specs.declared.session.Session.{Session}
 use Rattle.dfuse_host.specs.Sessions.{remaining_dfuse_inputs}
-use Rattle.dfuse_host.proofs.Takes.{live_session_uses_up_one_input, over_session_takes_any_result}
+use Rattle.dfuse_host.proofs.SpentActions.{live_session_uses_up_one_input, over_session_takes_any_result}
 use Rattle.dfuse_host.proofs.RunLaws.{heard_step_keeps_plan}
 use Rattle.dfuse_host.proofs.session.Session.take.Goals as goal
 

@@ -14,7 +14,7 @@ mark_at-mark-requires g c =
     let stands = subst (λ (s : Standing). MatchesMedium m c.args.tries s) c.in-OnTrial.is c.requires.stands in
     omega (arith, start_mark_ends_within m c.args.tries c.in-OnTrial.trial c.requires.tries stands c.if-trial-tries.true)
 
--- The medium takes the mark of the next start, and it lies within the medium.
+-- The medium accepts the mark of the next start, and the mark lies within the medium.
 next_mark_is_accepted : (g : given.Over) (c : After-mark_size g) → let m = g.M.Medium.state c.args.medium.now in
     let mark = Mark c.mark_at-mark.result c.mark_size.result in MediumAccepts m mark × MarkIsWithin m mark
 next_mark_is_accepted g c =

@@ -11,6 +11,6 @@ returns-clause-image c =
       number = omega (arith, listed.0);
       within = omega (arith, listed.1, c.sort.ensures.size);
       same = subst (λ (xs : List Piece). IsPermutation xs (map piece_of (take c.in-Ok.count c.sort.new.room))) listed.2
-          (IsPermutation-map piece_of (take c.in-Ok.count c.listed.new.room) (take c.in-Ok.count c.sort.new.room) c.sort.ensures.same);
+          (IsPermutation-map piece_of (take c.in-Ok.count c.listed.new.room) (take c.in-Ok.count c.sort.new.room) c.sort.ensures.permutation);
       sorted = c.sort.ensures.sorted;
     }
