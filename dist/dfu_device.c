@@ -133,7 +133,7 @@ static _Alignas(1) const uint8_t static_2[1] = {
 static _Alignas(1) const uint8_t static_3[1] = {
     0xa5
 };
-static const uint32_t switch_table_dfu_core_numbers_Refusal_number[5] = {
+static const uint32_t switch_table_dfu_core_numbers_CoreRefusal_number[5] = {
     0xfffffffe, 0xfffffff6, 0xfffffff4, 0xfffffffd, 0xfffffffc
 };
 static const uint16_t switch_table_dfu_asks_next_piece_numbered_piece[4] = {
@@ -3907,7 +3907,7 @@ int32_t dfu_core_too_long(const struct dfu_config *config, struct dfu_record *re
     uint8_t r18 = *r8;
     if (r18 != 0) {
         uint8_t r4_0_0_copyload = r8[1];
-        uint32_t switch_load = (uint32_t)switch_table_dfu_core_numbers_Refusal_number[(size_t)r4_0_0_copyload];
+        uint32_t switch_load = (uint32_t)switch_table_dfu_core_numbers_CoreRefusal_number[(size_t)r4_0_0_copyload];
         common_ret_op = switch_load;
     }
     else {
@@ -4001,7 +4001,7 @@ int32_t dfu_core_due(const struct dfu_config *config, const struct dfu_record *r
     uint8_t r12 = *r7;
     if (r12 != 0) {
         uint8_t r4_0_0_copyload = r7[1];
-        uint32_t switch_load = (uint32_t)switch_table_dfu_core_numbers_Refusal_number[(size_t)r4_0_0_copyload];
+        uint32_t switch_load = (uint32_t)switch_table_dfu_core_numbers_CoreRefusal_number[(size_t)r4_0_0_copyload];
         common_ret_op = switch_load;
     }
     else {
@@ -4344,7 +4344,7 @@ int32_t dfu_core_next(const struct dfu_config *config, const struct dfu_record *
     uint8_t r32 = *r5;
     if (r32 != 0) {
         uint8_t r17_0_0_copyload = *r26;
-        uint32_t switch_load = (uint32_t)switch_table_dfu_core_numbers_Refusal_number[(size_t)r17_0_0_copyload];
+        uint32_t switch_load = (uint32_t)switch_table_dfu_core_numbers_CoreRefusal_number[(size_t)r17_0_0_copyload];
         common_ret_op = switch_load;
     }
     else {
@@ -4456,7 +4456,7 @@ int32_t dfu_core_next(const struct dfu_config *config, const struct dfu_record *
     uint8_t r32 = *r5;
     if (r32 != 0) {
         uint8_t r17_0_0_copyload = *r26;
-        uint32_t switch_load = (uint32_t)switch_table_dfu_core_numbers_Refusal_number[(size_t)r17_0_0_copyload];
+        uint32_t switch_load = (uint32_t)switch_table_dfu_core_numbers_CoreRefusal_number[(size_t)r17_0_0_copyload];
         common_ret_op = switch_load;
     }
     else {
@@ -4573,7 +4573,7 @@ int32_t dfu_core_took(const struct dfu_config *config, struct dfu_record *record
         uint8_t r56 = *r7;
         if (r56 != 0) {
             uint8_t r22_0_0_copyload = *r49;
-            uint32_t switch_load = (uint32_t)switch_table_dfu_core_numbers_Refusal_number[(size_t)r22_0_0_copyload];
+            uint32_t switch_load = (uint32_t)switch_table_dfu_core_numbers_CoreRefusal_number[(size_t)r22_0_0_copyload];
             common_ret_op = switch_load;
         }
         else {
@@ -4654,7 +4654,7 @@ int32_t dfu_core_refuse(const struct dfu_config *config, struct dfu_record *reco
     uint8_t r13 = *r6;
     if (r13 != 0) {
         uint8_t r3_0_0_copyload = r6[1];
-        uint32_t switch_load = (uint32_t)switch_table_dfu_core_numbers_Refusal_number[(size_t)r3_0_0_copyload];
+        uint32_t switch_load = (uint32_t)switch_table_dfu_core_numbers_CoreRefusal_number[(size_t)r3_0_0_copyload];
         common_ret_op = switch_load;
     }
     else {
@@ -4722,7 +4722,7 @@ int32_t dfu_core_refuse_close(const struct dfu_config *config, struct dfu_record
     uint8_t r21 = *r8;
     if (r21 != 0) {
         uint8_t r4_0_0_copyload = r8[1];
-        uint32_t switch_load = (uint32_t)switch_table_dfu_core_numbers_Refusal_number[(size_t)r4_0_0_copyload];
+        uint32_t switch_load = (uint32_t)switch_table_dfu_core_numbers_CoreRefusal_number[(size_t)r4_0_0_copyload];
         common_ret_op = switch_load;
     }
     else {
@@ -4828,7 +4828,7 @@ int32_t dfu_core_candidate(const struct dfu_config *config, const struct dfu_rec
         }
         r13_0_0_copyload_sink = r2_0_0;
     }
-    uint32_t switch_load_3 = (uint32_t)switch_table_dfu_core_numbers_Refusal_number[(size_t)r13_0_0_copyload_sink];
+    uint32_t switch_load_3 = (uint32_t)switch_table_dfu_core_numbers_CoreRefusal_number[(size_t)r13_0_0_copyload_sink];
     common_ret_op = switch_load_3;
 dfu_device_c_image_dfu_core_candidate_exit:
     return signed32(common_ret_op);
@@ -4911,7 +4911,7 @@ int32_t dfu_core_candidate(const struct dfu_config *config, const struct dfu_rec
         }
         r13_0_0_copyload_sink = r2_0_0;
     }
-    uint32_t switch_load_3 = (uint32_t)switch_table_dfu_core_numbers_Refusal_number[(size_t)r13_0_0_copyload_sink];
+    uint32_t switch_load_3 = (uint32_t)switch_table_dfu_core_numbers_CoreRefusal_number[(size_t)r13_0_0_copyload_sink];
     common_ret_op = switch_load_3;
 dfu_device_c_image_dfu_core_candidate_exit:
     return signed32(common_ret_op);
@@ -5085,7 +5085,7 @@ int32_t dfu_core_elapse(const struct dfu_config *config, struct dfu_record *reco
             r18_0_0_copyload_sink = (uint8_t)((uint32_t)0x4040302U >> (((uint32_t)r1_3_1_copyload << 3) & 31));
         }
     }
-    uint32_t switch_load = (uint32_t)switch_table_dfu_core_numbers_Refusal_number[(size_t)r18_0_0_copyload_sink];
+    uint32_t switch_load = (uint32_t)switch_table_dfu_core_numbers_CoreRefusal_number[(size_t)r18_0_0_copyload_sink];
     common_ret_op = switch_load;
 dfu_device_c_calls_dfu_core_elapse_exit:
     return signed32(common_ret_op);
@@ -5258,7 +5258,7 @@ int32_t dfu_core_elapse(const struct dfu_config *config, struct dfu_record *reco
             r18_0_0_copyload_sink = (uint8_t)((uint32_t)0x4040302U >> (((uint32_t)r1_3_1_copyload << 3) & 31));
         }
     }
-    uint32_t switch_load = (uint32_t)switch_table_dfu_core_numbers_Refusal_number[(size_t)r18_0_0_copyload_sink];
+    uint32_t switch_load = (uint32_t)switch_table_dfu_core_numbers_CoreRefusal_number[(size_t)r18_0_0_copyload_sink];
     common_ret_op = switch_load;
 dfu_device_c_calls_dfu_core_elapse_exit:
     return signed32(common_ret_op);
@@ -5312,7 +5312,7 @@ int32_t dfu_core_usb_reset(const struct dfu_config *config, struct dfu_record *r
             r18_0_0_copyload_sink = (uint8_t)((uint32_t)0x4040302U >> (((uint32_t)r1_3_1_copyload << 3) & 31));
         }
     }
-    uint32_t switch_load = (uint32_t)switch_table_dfu_core_numbers_Refusal_number[(size_t)r18_0_0_copyload_sink];
+    uint32_t switch_load = (uint32_t)switch_table_dfu_core_numbers_CoreRefusal_number[(size_t)r18_0_0_copyload_sink];
     common_ret_op = switch_load;
 dfu_device_c_calls_dfu_core_usb_reset_exit:
     return signed32(common_ret_op);
@@ -5484,7 +5484,7 @@ arm_8:
                 }
             }
         }
-        uint32_t switch_load = (uint32_t)switch_table_dfu_core_numbers_Refusal_number[(size_t)r27_0_0_copyload_sink];
+        uint32_t switch_load = (uint32_t)switch_table_dfu_core_numbers_CoreRefusal_number[(size_t)r27_0_0_copyload_sink];
         common_ret_op = switch_load;
     }
 dfu_device_c_calls_dfu_core_handle_exit:
@@ -5525,7 +5525,7 @@ int32_t dfu_core_closes(const struct dfu_config *config, const struct dfu_record
     uint8_t r14 = *r7;
     if (r14 != 0) {
         uint8_t r4_0_0_copyload = r7[1];
-        uint32_t switch_load = (uint32_t)switch_table_dfu_core_numbers_Refusal_number[(size_t)r4_0_0_copyload];
+        uint32_t switch_load = (uint32_t)switch_table_dfu_core_numbers_CoreRefusal_number[(size_t)r4_0_0_copyload];
         common_ret_op = switch_load;
     }
     else {
@@ -5664,7 +5664,7 @@ int32_t dfu_core_would_stall(const struct dfu_config *config, const struct dfu_r
     uint8_t r16 = *r7;
     if (r16 != 0) {
         uint8_t r4_0_0_copyload = r7[1];
-        uint32_t switch_load_2 = (uint32_t)switch_table_dfu_core_numbers_Refusal_number[(size_t)r4_0_0_copyload];
+        uint32_t switch_load_2 = (uint32_t)switch_table_dfu_core_numbers_CoreRefusal_number[(size_t)r4_0_0_copyload];
         common_ret_op = switch_load_2;
     }
     else {

@@ -114698,7 +114698,7 @@ dfu_cmd.scripts.run_script._736597f3bed37626_:
 107:
 	leaq	176(%rsp), %rdi
 	leaq	14880(%rsp), %rsi
-	callq	dfu_link.scripting.source.Source.next._c4c356f83814e01c_
+	callq	dfu_link.scripting.source.LineReader.next._c4c356f83814e01c_
 	cmpb	$0, 176(%rsp)
 	jne	142f
 	testb	$1, 177(%rsp)
@@ -115093,7 +115093,7 @@ dfu_cmd.scripts.run_script._736597f3bed37626_:
 79:
 	leaq	192(%rsp), %rdi
 	leaq	14880(%rsp), %rsi
-	callq	dfu_link.scripting.source.Source.next._c4c356f83814e01c_
+	callq	dfu_link.scripting.source.LineReader.next._c4c356f83814e01c_
 	cmpb	$0, 192(%rsp)
 	jne	141f
 	testb	$1, 193(%rsp)
@@ -116492,7 +116492,7 @@ dfu_link.scripting.run_script.configure._c4c356f83814e01c_:
 	movq	$0, (%rsp)
 	movq	%rsp, %rdi
 	movq	%rdx, %rsi
-	callq	dfu_link.scripting.source.Source.next._c4c356f83814e01c_
+	callq	dfu_link.scripting.source.LineReader.next._c4c356f83814e01c_
 	cmpb	$0, (%rsp)
 	je	1f
 31:
@@ -116516,7 +116516,7 @@ dfu_link.scripting.run_script.configure._c4c356f83814e01c_:
 30:
 	movq	%rsp, %rdi
 	movq	%r14, %rsi
-	callq	dfu_link.scripting.source.Source.next._c4c356f83814e01c_
+	callq	dfu_link.scripting.source.LineReader.next._c4c356f83814e01c_
 	cmpb	$0, (%rsp)
 	jne	31b
 2:
@@ -116695,10 +116695,10 @@ dfu_link.scripting.run_script.configure._c4c356f83814e01c_:
 	.long	16b-10001b
 	.long	21b-10001b
 
-	.section	.text.dfu_link.scripting.source.Source.next._c4c356f83814e01c_,"ax",@progbits
+	.section	.text.dfu_link.scripting.source.LineReader.next._c4c356f83814e01c_,"ax",@progbits
 	.p2align	4
-	.type	dfu_link.scripting.source.Source.next._c4c356f83814e01c_,@function
-dfu_link.scripting.source.Source.next._c4c356f83814e01c_:
+	.type	dfu_link.scripting.source.LineReader.next._c4c356f83814e01c_,@function
+dfu_link.scripting.source.LineReader.next._c4c356f83814e01c_:
 	pushq	%rbp
 	pushq	%r15
 	pushq	%r14
@@ -117073,7 +117073,7 @@ dfu_link.scripting.source.Source.next._c4c356f83814e01c_:
 	jmp	67b
 72:
 	ud2
-	.size	dfu_link.scripting.source.Source.next._c4c356f83814e01c_, .-dfu_link.scripting.source.Source.next._c4c356f83814e01c_
+	.size	dfu_link.scripting.source.LineReader.next._c4c356f83814e01c_, .-dfu_link.scripting.source.LineReader.next._c4c356f83814e01c_
 
 	.section	.text.dfu_link.scripting.reading.read_line,"ax",@progbits
 	.p2align	4
@@ -163120,7 +163120,7 @@ main:
 	callq	__sysv_signal@PLT
 	movl	$2, %edi
 	callq	isatty@PLT
-	movl	%eax, 40(%rsp)
+	movl	%eax, 32(%rsp)
 	leaq	8(%rsp), %rax
 	movq	%rax, 112(%rsp)
 	pxor	%xmm0, %xmm0
@@ -163335,7 +163335,7 @@ main:
 	jmp	32f
 36:
 	movq	%r15, 64(%rsp)
-	cmpl	$1, 40(%rsp)
+	cmpl	$1, 32(%rsp)
 	sete	%al
 	movq	%rcx, 304(%rsp)
 	movaps	800(%rsp), %xmm0
@@ -163386,7 +163386,7 @@ main:
 	movq	%rsi, %rbp
 	jmp	85f
 38:
-	movq	%r12, 40(%rsp)
+	movq	%r12, 32(%rsp)
 	movzbl	808(%rsp), %eax
 	movzbl	800(%rsp), %ecx
 	movb	%cl, 496(%rsp)
@@ -163673,7 +163673,7 @@ main:
 	movq	%rdx, %rax
 	subq	%r15, %rax
 	cmpq	%rbx, %rax
-	movq	%rdx, 32(%rsp)
+	movq	%rdx, 40(%rsp)
 	jae	303f
 	movq	%rdx, %rax
 	subq	%r15, %rax
@@ -163698,7 +163698,7 @@ main:
 	jmpq	*%rax
 86:
 	movq	%rbp, 16(%rsp)
-	movq	%r12, 40(%rsp)
+	movq	%r12, 32(%rsp)
 	movq	312(%rsp), %rax
 	movq	%rax, 72(%rsp)
 	movq	320(%rsp), %rbp
@@ -163906,7 +163906,7 @@ main:
 	callq	dfu_output.exit.write_out._cdc8ff12022c16a2_
 	jmp	121f
 122:
-	cmpl	$1, 40(%rsp)
+	cmpl	$1, 32(%rsp)
 	je	124f
 	testb	$1, %r14b
 	je	35f
@@ -164023,7 +164023,7 @@ main:
 	jmp	34f
 139:
 	movq	%rbp, 16(%rsp)
-	movq	%r12, 40(%rsp)
+	movq	%r12, 32(%rsp)
 	cmpq	$0, 328(%rsp)
 	je	141f
 	movq	312(%rsp), %rdi
@@ -164057,7 +164057,7 @@ main:
 	movq	72(%rsp), %rdi
 	callq	rattle_dealloc@PLT
 148:
-	movq	40(%rsp), %r12
+	movq	32(%rsp), %r12
 	jmp	453f
 149:
 	cmpq	$0, 328(%rsp)
@@ -164123,7 +164123,7 @@ main:
 	movq	72(%rsp), %rdi
 	callq	rattle_dealloc@PLT
 175:
-	movq	40(%rsp), %r12
+	movq	32(%rsp), %r12
 	movq	16(%rsp), %rbp
 	jmp	453f
 176:
@@ -164140,7 +164140,7 @@ main:
 	jmp	452f
 181:
 	movq	%rbp, 16(%rsp)
-	movq	%r12, 40(%rsp)
+	movq	%r12, 32(%rsp)
 	movq	312(%rsp), %rax
 	movq	%rax, 72(%rsp)
 	movq	320(%rsp), %rbp
@@ -164175,7 +164175,7 @@ main:
 	callq	rattle_dealloc@PLT
 190:
 	cmpq	$0, 376(%rsp)
-	movq	40(%rsp), %r12
+	movq	32(%rsp), %r12
 	je	453f
 	movq	360(%rsp), %rdi
 	jmp	452f
@@ -164559,7 +164559,7 @@ main:
 	movq	%r15, %rsi
 	movq	%rcx, %rdx
 	callq	memmove@PLT
-	movq	32(%rsp), %rdx
+	movq	40(%rsp), %rdx
 	movq	%rbx, %rcx
 	jmp	318f
 304:
@@ -164809,7 +164809,7 @@ main:
 	movq	16(%rsp), %r12
 	subq	%r12, %rcx
 	cmpq	$1, %rcx
-	movq	32(%rsp), %r10
+	movq	40(%rsp), %r10
 	jbe	379f
 353:
 	movw	$2570, (%r10,%r12)
@@ -164818,7 +164818,7 @@ main:
 354:
 	movq	16(%rsp), %r12
 	cmpq	%r12, %rax
-	movq	32(%rsp), %r10
+	movq	40(%rsp), %r10
 	je	381f
 355:
 	movb	$10, (%r10,%r12)
@@ -164836,7 +164836,7 @@ main:
 	movq	%rdi, %rcx
 	subq	%r13, %rcx
 	cmpq	%rbp, %rcx
-	movq	%r10, 32(%rsp)
+	movq	%r10, 40(%rsp)
 	jae	360f
 	cmpq	$32, %rcx
 	jae	361f
@@ -164850,7 +164850,7 @@ main:
 	movq	%r11, 24(%rsp)
 	callq	memmove@PLT
 	movq	24(%rsp), %r11
-	movq	32(%rsp), %r10
+	movq	40(%rsp), %r10
 	movq	%rbx, %rsi
 	movq	%r12, %rax
 	movq	16(%rsp), %r12
@@ -165030,7 +165030,7 @@ main:
 	jne	394b
 	jmp	298b
 395:
-	movl	$21, %eax
+	movl	$27, %eax
 	movq	%rax, 24(%rsp)
 	leaq	.Lstatic.731(%rip), %rax
 	movq	%rax, 48(%rsp)
@@ -165065,7 +165065,7 @@ main:
 	movq	216(%rsp), %rax
 	movq	224(%rsp), %rcx
 	movq	%rcx, 96(%rsp)
-	movq	%rdx, 32(%rsp)
+	movq	%rdx, 40(%rsp)
 	leaq	(%rdx,%rax), %rcx
 	addq	$10, %rax
 	leaq	.Lstatic.712(%rip), %rdx
@@ -165083,7 +165083,7 @@ main:
 402:
 	movq	16(%rsp), %rdx
 	leaq	(%rax,%rdx), %rbp
-	movq	32(%rsp), %rcx
+	movq	40(%rsp), %rcx
 	leaq	(%rcx,%rax), %rdi
 	movq	%rdi, %rcx
 	subq	%r13, %rcx
@@ -165117,7 +165117,7 @@ main:
 	jb	422f
 	leaq	(%r12,%r15), %rdx
 	addq	$3, %rdx
-	movq	32(%rsp), %rsi
+	movq	40(%rsp), %rsi
 	addq	%rsi, %rax
 	addq	$3, %rax
 421:
@@ -165138,7 +165138,7 @@ main:
 	movq	16(%rsp), %rdx
 	callq	memmove@PLT
 422:
-	movq	32(%rsp), %rax
+	movq	40(%rsp), %rax
 	movq	%rax, 208(%rsp)
 	movq	%rbp, 216(%rsp)
 	movq	96(%rsp), %rax
@@ -165150,7 +165150,7 @@ main:
 	leaq	216(%rsp), %rax
 	pxor	%xmm0, %xmm0
 	movdqu	%xmm0, (%rax)
-	movq	32(%rsp), %rax
+	movq	40(%rsp), %rax
 	addq	%rbp, %rax
 	addq	$18, %rbp
 	leaq	.Lstatic.713(%rip), %rcx
@@ -165165,7 +165165,7 @@ main:
 426:
 	movdqu	%xmm0, (%rax)
 	movw	$8294, 16(%rax)
-	movq	32(%rsp), %rax
+	movq	40(%rsp), %rax
 	movq	%rax, 208(%rsp)
 	movq	%rbp, 216(%rsp)
 	movq	96(%rsp), %rax
@@ -165176,7 +165176,7 @@ main:
 427:
 	movq	24(%rsp), %rcx
 	leaq	(%rcx,%rbp), %rbx
-	movq	32(%rsp), %rax
+	movq	40(%rsp), %rax
 	leaq	(%rax,%rbp), %rdi
 	movq	%rdi, %rax
 	subq	48(%rsp), %rax
@@ -165206,7 +165206,7 @@ main:
 	subl	%esi, %eax
 	cmpl	$-4, %eax
 	ja	438f
-	movq	32(%rsp), %rax
+	movq	40(%rsp), %rax
 	addq	%rbp, %rax
 	addq	$3, %rax
 436:
@@ -165227,7 +165227,7 @@ main:
 	movq	24(%rsp), %rdx
 	callq	memmove@PLT
 438:
-	movq	32(%rsp), %rax
+	movq	40(%rsp), %rax
 	movq	%rax, 208(%rsp)
 	movq	%rbx, 216(%rsp)
 	movq	96(%rsp), %rax
@@ -165276,7 +165276,7 @@ main:
 	movq	%r15, %rdi
 	callq	rattle_dealloc@PLT
 445:
-	movq	40(%rsp), %r12
+	movq	32(%rsp), %r12
 	movb	$3, 80(%rsp)
 	testb	%bl, %bl
 	jne	447f
@@ -165571,7 +165571,7 @@ main:
 	cmpq	$8, %r8
 	jae	489f
 	cmpq	$6, %r8
-	movq	40(%rsp), %r12
+	movq	32(%rsp), %r12
 	leaq	-2(%r14), %r13
 	je	461b
 	cmpq	$5, %r8
@@ -165617,7 +165617,7 @@ main:
 	jmp	448b
 489:
 	cmpq	$33, %r8
-	movq	40(%rsp), %r12
+	movq	32(%rsp), %r12
 	leaq	-2(%r14), %r13
 	jb	448b
 	xorl	%r10d, %r10d
@@ -165754,14 +165754,14 @@ main:
 	xorl	%r15d, %r15d
 	xorl	%ebx, %ebx
 	xorl	%r13d, %r13d
-	movq	40(%rsp), %r12
+	movq	32(%rsp), %r12
 	jmp	449b
 515:
 	movq	120(%rsp), %r15
 	movq	128(%rsp), %rbp
 	movb	$1, %r13b
 	movq	136(%rsp), %rbx
-	movq	40(%rsp), %r12
+	movq	32(%rsp), %r12
 	jmp	449b
 516:
 	movq	208(%rsp), %r12
@@ -165777,16 +165777,13 @@ main:
 517:
 	movq	24(%rsp), %rax
 	andl	$-8, %eax
-	movq	32(%rsp), %rcx
-	addq	%rbp, %rcx
-	addq	$4, %rcx
-	xorl	%edx, %edx
+	xorl	%ecx, %ecx
 	movq	48(%rsp), %r8
 518:
-	movq	(%r8,%rdx), %rsi
-	movq	%rsi, -4(%rcx,%rdx)
-	addq	$8, %rdx
-	cmpq	%rdx, %rax
+	movq	(%r8,%rcx), %rdx
+	movq	%rdx, (%rdi,%rcx)
+	addq	$8, %rcx
+	cmpq	%rcx, %rax
 	jne	518b
 	movq	24(%rsp), %rdx
 	cmpl	%eax, %edx
@@ -165797,7 +165794,7 @@ main:
 	andq	$-32, %rcx
 	leaq	(%r12,%r15), %rdx
 	addq	$16, %rdx
-	movq	32(%rsp), %rsi
+	movq	40(%rsp), %rsi
 	addq	%rax, %rsi
 	addq	$16, %rsi
 	xorl	%r8d, %r8d
@@ -165834,7 +165831,7 @@ main:
 	testb	%al, %al
 	je	441b
 	movq	208(%rsp), %rax
-	movq	%rax, 32(%rsp)
+	movq	%rax, 40(%rsp)
 	movq	216(%rsp), %rax
 	movq	224(%rsp), %rcx
 	movq	%rcx, 96(%rsp)
@@ -165846,7 +165843,7 @@ main:
 	testb	%al, %al
 	je	441b
 	movq	208(%rsp), %rax
-	movq	%rax, 32(%rsp)
+	movq	%rax, 40(%rsp)
 	movq	216(%rsp), %rbp
 	movq	224(%rsp), %rax
 	movq	%rax, 96(%rsp)
@@ -165858,7 +165855,7 @@ main:
 	testb	%al, %al
 	je	441b
 	movq	208(%rsp), %rax
-	movq	%rax, 32(%rsp)
+	movq	%rax, 40(%rsp)
 	movq	216(%rsp), %rbp
 	movq	224(%rsp), %rax
 	movq	%rax, 96(%rsp)
@@ -170350,8 +170347,8 @@ main:
 	.type	.Lstatic.731,@object
 	.section	.rodata..Lstatic.731,"a",@progbits
 .Lstatic.731:
-	.ascii	"check, show and judge"
-	.size	.Lstatic.731, 21
+	.ascii	"check, show, judge and plan"
+	.size	.Lstatic.731, 27
 
 	.type	.Lstatic.732,@object
 	.section	.rodata..Lstatic.732,"a",@progbits

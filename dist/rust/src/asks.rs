@@ -1,6 +1,6 @@
 // Of crates/dfu_asks/src/lib.rt, whose contracts are taken away.
 
-//! A device that asks for each write of its medium, which its caller carries out.
+//! A device that requests each write of its medium from the caller, who carries it out.
 
 mod asking;
 mod blank;

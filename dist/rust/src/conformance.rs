@@ -1,9 +1,9 @@
 // Of crates/dfu_conformance/src/lib.rt, whose contracts are taken away.
 
-//! Checks whether a device that keeps USB DFU 1.1 could have given the answers in a log: tables of all answers that the standard allows,
-//! and a judge that follows all possible devices at once.
+//! Checks that a device that keeps USB DFU 1.1 could have given the answers in a log. Tables contain all answers that the standard allows,
+//! and a judge follows all possible devices at once.
 
-// Row of a table: the place, the event, the devices, the answer, the place after the event, and the source.
+// Row of a table: the state before the event, the event, the devices, the answer, the state after the event, and the source.
 macro_rules! row {
     ($from:ident, $asked:ident, $when:expr, $gives:ident, $next:ident, $source:ident) => {
         $crate::conformance::Row {
@@ -17,7 +17,7 @@ macro_rules! row {
     };
 }
 
-// Move of a device by itself: the place, the devices, the place after the move, and the source.
+// Move of a device by itself: the state before the move, the devices, the state after the move, and the source.
 macro_rules! drift {
     ($from:ident, $when:expr, $next:ident, $source:ident) => {
         $crate::conformance::Drift {
@@ -48,7 +48,7 @@ pub use habits::HABITS;
 pub use judge::Judge;
 pub use log::{Line, LineFault, read_line, why_unread};
 pub use marks::MARKS;
-pub use row::{Drift, EventKind, Gives, Reading, Row, Source, StandardState, When};
+pub use row::{Drift, EventKind, Gives, Reading, Row, RuleSource, StandardState, When};
 pub use standard::STANDARD;
 pub use verdict::{Departure, Verdict};
 pub use whole::verdict_on;

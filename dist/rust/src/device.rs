@@ -1,8 +1,7 @@
 // Of crates/dfu_device/src/lib.rt, whose contracts are taken away.
 
-//! The device's side of USB device firmware upgrade (USB DFU 1.1): a machine that answers every
-//! setup with every body, allocates no memory, and never fails. Each of its steps is a row of the
-//! device table, `crates/dfu_device/specs/Table.antt`.
+//! The device's side of USB Device Firmware Upgrade (USB DFU 1.1). The state machine answers every setup packet with every body, allocates
+//! no memory, and never fails. Each of its steps is a row of the device table, `crates/dfu_device/specs/Table.antt`.
 
 mod answer;
 mod candidate;

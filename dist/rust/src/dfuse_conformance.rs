@@ -1,7 +1,7 @@
 // Of crates/dfu_conformance/src/dfuse.rt, whose contracts are taken away.
 
-//! Checks whether a DfuSe device could have given the answers in a log: rows that DfuSe adds to the tables of USB DFU 1.1, and a judge that
-//! follows all places of such a device at once.
+//! Checks that a DfuSe device could have given the answers in a log. DfuSe adds rows to the tables of USB DFU 1.1, and a judge follows all
+//! possible states of such a device at once.
 
 mod judge;
 mod rows;

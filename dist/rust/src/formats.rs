@@ -1,10 +1,10 @@
 // Of crates/dfu_formats/src/images.rt, whose contracts are taken away.
 
-//! Images in the files that builds produce: bytes at addresses.
+//! Images in the files that builds produce: bytes with addresses.
 //!
-//! Bytes that begin at the end of the bytes of the record before them join its element; all others begin an element. For example, two
-//! elements may touch if other records lie between theirs in the file. A file has up to 16,777,216 bytes of data and 1,024 elements.
-//! Overlaps are checked once the whole file is read.
+//! If the bytes of a record begin where those of the record before it end, they extend its element. Otherwise they begin a new element, so
+//! two elements may touch if other records are between theirs in the file. A file may have at most 16,777,216 bytes of data and 1,024
+//! elements. Overlaps are checked after the whole file is read.
 
 mod digits;
 mod element;

@@ -1,6 +1,7 @@
 // Of crates/dfu_home/src/lib.rt, whose contracts are taken away.
 
-//! Two areas: an image is linked for the first slot's data, and the active image is brought there before it starts.
+//! Copying of the active image into the first slot, from which it runs. Images are linked for the first slot's data, so the active image
+//! must be in the first slot before it starts.
 
 mod asking;
 mod bytes;
@@ -11,5 +12,5 @@ mod outcome;
 
 pub use asking::is_home;
 pub use deciding::next;
-pub use due::{Due, Progress, Refusal};
+pub use due::{CopyRefusal, Due, Progress};
 pub use outcome::took;

@@ -1,9 +1,9 @@
 // Of crates/dfu_host/src/lib.rt, whose contracts are taken away.
 
-//! The host of USB device firmware upgrade (USB DFU 1.1): a machine that says which request, wait or reset comes
-//! next, and how a session ended.
+//! The host of USB device firmware upgrade (USB DFU 1.1): a state machine that returns the next request, wait or reset of a session, and at
+//! the end its report.
 //!
-//! The machine sends nothing itself. Only the calls that begin a session can refuse, and only `take` of an upload takes memory.
+//! The state machine does no I/O. Only the calls that begin a session can fail, and only `take` of an upload takes memory.
 
 mod action;
 mod comparing;

@@ -1,6 +1,6 @@
 // Of crates/dfu_places/src/lib.rt, whose contracts are taken away.
 
-//! Placements: where the gates, headers and data of two slots lie on a part whose sectors are unequal.
+//! Placements: the addresses of the gates, headers and data of two slots on a part with sectors of different sizes.
 
 mod checking;
 mod finding;
@@ -14,5 +14,5 @@ pub use checking::check;
 pub use finding::{erased, find, virtual_len};
 pub use placement::{Needs, Placement, SlotPlaces};
 pub use planning::{Areas, plan};
-pub use refusal::{Refusal, Thing};
+pub use refusal::{PlacementRefusal, Thing};
 pub use region::{Region, Span};

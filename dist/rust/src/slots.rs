@@ -1,7 +1,7 @@
 // Of crates/dfu_slots/src/lib.rt, whose contracts are taken away.
 
-//! A store that keeps one whole firmware image active on a medium whose writes may fail or be torn,
-//! while the next image is written beside it.
+//! A store with two image slots on a medium whose writes may fail or be torn. One slot keeps a whole firmware image active while the next
+//! image is written into the other.
 
 mod both;
 mod carry;
@@ -25,7 +25,7 @@ mod slots;
 mod steps;
 mod writes;
 
-// For callers that read a medium directly and know which slot is active.
+// `check_both` and `check` are for callers that read a medium without a store.
 pub use both::{Both, check_both};
 pub use fault::{FormatFault, OpenFault, PutFault, WriteFault};
 pub use layout::{

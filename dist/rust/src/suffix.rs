@@ -2,9 +2,9 @@
 
 //! The DFU file: a payload and its suffix (USB DFU 1.1, appendix B).
 //!
-//! `read` and `read_small` parse a whole file, `check` checks all bytes that a reader gives, `add` writes a file of a payload, and `Crc` is
-//! the register that becomes the dwCRC of a suffix. `gather` and `write_whole` are loops over streams, shared with other crates. The crate
-//! opens no file and prints nothing.
+//! `read` and `read_small` parse a whole file, and `check` checks the bytes of a reader. `add` writes a file with a payload and its suffix.
+//! `Crc` is the register whose value becomes dwCRC. `gather` and `write_whole` are loops over streams, which other crates use too. The
+//! crate opens no file and prints nothing.
 
 #[cfg(feature = "std")]
 mod adding;

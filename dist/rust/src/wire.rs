@@ -1,14 +1,13 @@
 // Of crates/dfu_wire/src/lib.rt, whose contracts are taken away.
 
-//! The wire formats of USB device firmware upgrade (USB DFU 1.1): the functional descriptor (read also
-//! in the form of DFU 1.0), the setups of the seven requests, the answer to GETSTATUS, the states and
-//! the status codes, and the identifiers of a device.
+//! The wire formats of USB device firmware upgrade (USB DFU 1.1): the functional descriptor, also in the form of DFU 1.0, the setups of the
+//! seven requests, the answer to GETSTATUS, the states and status codes, and the identifiers of a device.
 //!
-//! No call allocates memory. Only `decode` of `Functional` and `Status`, `from_byte` of `State` and
-//! `Code`, and `Status::new` return a fault.
+//! No call allocates memory. Only `decode` of `Functional` and `Status`, `from_byte` of `State` and `Code`, and `Status::new` return a
+//! fault.
 
-/// The body of a `name` function. `variant_name!(self, Type: Variant, ..)` returns the name of the variant of `self` as text, and
-/// `variant_name!(self, Type: Variant "text", ..)` returns the text beside the variant.
+/// Body of a `name` function. `variant_name!(self, Type: Variant, ..)` returns the name of the variant of `self` as text, and
+/// `variant_name!(self, Type: Variant "text", ..)` returns the text after the variant.
 #[cfg(feature = "host")]
 macro_rules! variant_name {
     ($value:expr, $type:ident: $($variant:ident $(($field:tt))?),+) => {
@@ -26,7 +25,7 @@ macro_rules! variant_name {
 #[cfg(feature = "host")]
 pub(crate) use variant_name;
 
-// The body of a `from_byte` function: returns the variant whose number equals the byte, or else the fault.
+// Body of a `from_byte` function. It returns the variant whose number equals the byte, or the fault if there is none.
 macro_rules! variant_numbered {
     ($byte:expr, $fault:expr, $type:ident: $($number:literal $variant:ident),+) => {
         match $byte {

@@ -1,13 +1,13 @@
 // Of crates/dfu_asks/src/asking.rt, whose contracts are taken away.
 
-//! A device that asks for its writes.
+//! A device that requests its flash writes from the caller.
 
 use crate::asks::{Noted, PendingWrites, Sector};
 use crate::device::{Config, DeviceState};
 use crate::slots::Unit;
 
-/// A device that asks for its writes, as it is kept between two calls. Each call gets the flash, which is mapped, the memory of the block
-/// that is not written, and the memory of the bytes put that are held back, fewer than a unit has.
+/// A device that requests its flash writes from the caller. It owns no memory: each call passes the mapped flash, the memory of the block
+/// that is not written yet, and the memory of the held-back bytes, which are fewer than a write unit.
 #[derive(Clone, Copy, Debug, PartialEq, Eq)]
 pub struct Asking {
     /// Settings of the device.
@@ -16,16 +16,16 @@ pub struct Asking {
     pub unit: Unit,
     /// The sectors in which the flash is erased before a write, if any.
     pub sector: Sector,
-    /// The state of the device, with what the device keeps there.
+    /// The state of the device, and the values that belong to that state.
     pub mode: DeviceState,
-    /// Length of the block that is not written, at the front of its memory.
+    /// Length in bytes of the block that is not written yet. The block lies at the front of the memory that is passed for it.
     pub block_len: usize,
-    /// Number of bytes that are held back, at the front of their memory.
+    /// Number of bytes that are held back. They lie at the front of the memory that is passed for them.
     pub held_len: usize,
-    /// Place at which the puts end in the spare slot.
+    /// Number of bytes put into the spare slot, including those held back.
     pub put_end: u32,
-    /// Notes of the active image.
+    /// Note of the active image.
     pub noted: Noted,
-    /// Pending writes of a row, if any are pending.
+    /// Pending writes of the row that the device is executing; None if no write is pending.
     pub work: Option<PendingWrites>,
 }

@@ -6,7 +6,7 @@ use crate::asks::Mapped;
 use crate::asks::gates::gate_room;
 use crate::slots::{flash_byte_at, is_sized};
 
-// Returns whether the `len` bytes from `at` on are FFh.
+// Returns true if the `len` bytes from `at` on are FFh.
 fn is_erased(flash: &[u8], at: usize, len: usize) -> bool {
     let mut rest = &flash[at..at + len];
     while !rest.is_empty() {
@@ -19,8 +19,8 @@ fn is_erased(flash: &[u8], at: usize, len: usize) -> bool {
 }
 
 impl<'m> Mapped<'m> {
-    /// Returns whether the flash reads as if it was never written: true if every byte that the gates and the headers of both slots take up
-    /// is FFh, in which case there is no active image; false if another byte is found. The data of the slots does not matter.
+    /// Returns true if the flash reads as if it was never written, which means that every byte of the gates and the headers of both slots
+    /// is FFh; there is no active image then. The data of the slots is not checked.
     ///
     /// None exactly if the size of the flash cannot be divided into two slots.
     pub fn is_blank(&self) -> Option<bool> {

@@ -1,16 +1,16 @@
 // Of crates/dfu_asks/src/calls.rt, whose contracts are taken away.
 
-//! The calls for a device that asks for its writes.
+//! The calls of a device that requests its flash writes from the caller.
 
 use crate::asks::noted::{View, look};
 use crate::asks::{Asking, Mapped, Refusal, Reply};
 use crate::device::{asked_row, decide_time};
 use crate::wire::{Code, State};
 
-/// Returns `setup` for a device whose interface has number `interface` (bInterfaceNumber): with wIndex 0 if the setup has that number as
-/// its wIndex (USB DFU 1.1, section 3), and else with another wIndex, so that the device stalls the request and stays as it is.
-/// A program whose interface is not number 0 must pass each setup through this call before it hands the setup to `handle` or to the calls
-/// that ask or refuse beforehand.
+/// Returns `setup` rewritten for a device whose interface has number `interface` (bInterfaceNumber). wIndex of the result is 0 if wIndex of
+/// `setup` is `interface` (USB DFU 1.1, section 3). Otherwise it isn't 0, so that the device stalls the request and its state is unchanged.
+/// A program whose interface is not number 0 must pass each setup through this call before it passes the setup to `handle`, `closes`,
+/// `would_stall`, `too_long` or `refuse_close`.
 pub fn addressed(interface: u8, setup: &[u8; 8]) -> [u8; 8] {
     let mut own = *setup;
     own[4] = u8::from(setup[4] != interface);
@@ -18,17 +18,17 @@ pub fn addressed(interface: u8, setup: &[u8; 8]) -> [u8; 8] {
 }
 
 impl Asking {
-    /// Returns the state of the standard (USB DFU 1.1, section 6.1.2, bState).
+    /// Returns the device's state, as the standard names it (USB DFU 1.1, section 6.1.2, bState).
     pub fn state(&self) -> State {
         self.mode.state()
     }
 
-    /// Returns the status code (USB DFU 1.1, section 6.1.2, bStatus).
+    /// Returns the device's status code (USB DFU 1.1, section 6.1.2, bStatus).
     pub fn code(&self) -> Code {
         self.mode.code()
     }
 
-    // Returns the flash as a medium with its view, if the kept fields fit the flash.
+    // Returns the flash as a medium, and the view of this medium, if the kept fields can be those of a device on this flash.
     fn see<'f>(&self, room: usize, flash: &'f [u8]) -> Result<(Mapped<'f>, View), Refusal> {
         let Some(medium) = Mapped::with_sector(flash, self.unit, self.sector) else {
             return Err(Refusal::NoMedium);
@@ -42,7 +42,7 @@ impl Asking {
         Ok((medium, view))
     }
 
-    // Answers a setup with its body: by its row if the table serves it, else with a stall. If the row writes, asks for the first write.
+    // Answers a setup and its body as `asked_row` decides. If flash must be written for this, returns `Asks` to request the first write.
     fn respond(
         &mut self,
         block: &mut [u8],
@@ -58,13 +58,15 @@ impl Asking {
         self.carry_out(decision, Some(asked), body, block, held, medium, view, out)
     }
 
-    /// Answers `setup` with its `body`, as `Device::handle`; or if the row writes, asks for the first write.
+    /// Answers `setup` and its `body` as `Device::handle` does. If flash must be written for this, returns `Asks` to request the first
+    /// write instead.
     ///
     /// # Errors
     ///
-    /// `Asked` if writes are due; `NoRoom` if `out` has less room than an answer may need, which is 6 bytes or the transfer size,
-    /// whichever is more; `NoMedium` if the noted header is not in an open slot of the flash; `NoDevice` if the kept state is not a device
-    /// on the flash, or `block` has less room than the transfer size. They are checked in this order, and nothing changes then.
+    /// `Asked` if writes are pending; `NoRoom` if `out` has less room than an answer may need, which is 6 bytes or the transfer size,
+    /// whichever is more; `NoMedium` if the noted slot of the flash is not open or doesn't have the noted header; `NoDevice` if the kept
+    /// state is not a device on the flash, or `block` has less room than the transfer size. They are checked in this order, and nothing
+    /// changes if one is returned.
     pub fn handle(
         &mut self,
         block: &mut [u8],
@@ -84,11 +86,12 @@ impl Asking {
         Ok(self.respond(block, held, &medium, &view, setup, body, out))
     }
 
-    /// Lets `ms` milliseconds pass, as `Device::elapse`; or if the row writes, asks for the first write.
+    /// Lets `ms` milliseconds elapse, as `Device::elapse` does. If flash must be written for this, returns `Asks` to request the first
+    /// write instead.
     ///
     /// # Errors
     ///
-    /// As `handle`, but for `NoRoom`.
+    /// The errors of `handle`, except `NoRoom`.
     ///
     /// # What the caller must keep to
     ///
@@ -111,11 +114,11 @@ impl Asking {
         Ok(self.carry_out(decision, None, &[], block, held, &medium, &view, &mut out))
     }
 
-    /// Takes a reset of the bus, as `Device::usb_reset`.
+    /// Handles a reset of the bus, as `Device::usb_reset` does.
     ///
     /// # Errors
     ///
-    /// As `elapse`.
+    /// The errors of `elapse`.
     ///
     /// # What the caller must keep to
     ///

@@ -1,6 +1,6 @@
 // Of crates/dfu_asks/src/candidate.rt, whose contracts are taken away.
 
-//! Place of a received image that is not active yet, in the flash of a device that asks for its writes.
+//! Location of a received image that is not active yet, in the flash of a device that requests its writes from the caller.
 
 use crate::asks::noted::look;
 use crate::asks::{Asking, Mapped, Refusal};
@@ -8,12 +8,12 @@ use crate::device::Candidate;
 use crate::slots::data_at;
 
 impl Asking {
-    /// Returns the place of the received image, as `Device::candidate`. The bytes after those in the flash are the `held_len` ones that are
-    /// held back.
+    /// Returns the location of the received image, as `Device::candidate` does. The flash contains the image's first bytes; its last
+    /// `held_len` bytes are held back.
     ///
     /// # Errors
     ///
-    /// As `elapse`, except that the memory of the block is not checked.
+    /// The errors of `elapse`, except that the memory of the block is not checked.
     pub fn candidate(&self, flash: &[u8]) -> Result<Option<Candidate>, Refusal> {
         if self.work.is_some() {
             return Err(Refusal::Asked);

@@ -1,13 +1,13 @@
 // Of crates/dfu_asks/src/carry.rt, whose contracts are taken away.
 
-//! Performs the decisions of a device, or begins the writes that they need.
+//! Execution of a device's decisions, and the start of the writes that they need.
 
 use crate::asks::noted::View;
 use crate::asks::{Asking, Mapped, Reply};
 use crate::device::{Answer, Decision, DeviceState, status_in};
 use crate::slots::read_data;
 
-// Returns the number of bytes of a status that are asked for: wLength of the GETSTATUS, or 0 without one.
+// Returns the number of bytes that the host requests of the answer, or 0 if elapsed time caused the row.
 fn wanted(asked: Option<u16>) -> u16 {
     match asked {
         Some(len) => len,
@@ -15,14 +15,15 @@ fn wanted(asked: Option<u16>) -> u16 {
     }
 }
 
-// Copies the first `asked` of `bytes`, or all if there are fewer, to the front of `out`, and returns their number.
+// Copies the first `asked` bytes of `bytes`, or all if there are fewer, to the front of `out`, and returns the number of copied bytes.
 fn put_front(bytes: &[u8], asked: u16, out: &mut [u8]) -> usize {
     let count = usize::from(asked).min(bytes.len());
     out[..count].copy_from_slice(&bytes[..count]);
     count
 }
 
-// Copies the bytes of the active image from `place` on, at most `size`, to the front of `out`, and returns their number.
+// Copies at most `size` bytes of the active image, from offset `place` on, to the front of `out`, and returns the number of copied bytes.
+// It is less than `size` if the image or `out` ends earlier.
 fn put_image(medium: &Mapped<'_>, view: &View, place: u32, size: u16, out: &mut [u8]) -> usize {
     let rest = view.len.saturating_sub(place);
     let count = (rest as usize).min(usize::from(size)).min(out.len());
@@ -33,7 +34,7 @@ fn put_image(medium: &Mapped<'_>, view: &View, place: u32, size: u16, out: &mut 
 }
 
 impl Asking {
-    /// Writes the bytes of `reply` to the front of `out`, at most `asked`, and returns the answer and their number.
+    /// Writes at most `asked` bytes of `reply` to the front of `out`, and returns the answer and the number of written bytes.
     pub(crate) fn give(
         &self,
         reply: crate::device::Reply,
@@ -54,8 +55,8 @@ impl Asking {
         }
     }
 
-    /// Performs `decision`, on a request with `body` that asks for `asked` bytes of a status or of a state, or on elapsed time; or if the
-    /// decision writes, asks for its first write.
+    /// Executes `decision`, which belongs to a request with `body`, or to elapsed time if `asked` is None. For a request, `asked` is
+    /// wLength of GETSTATUS and GETSTATE, and 0 otherwise. If the decision writes, returns `Asks` to request the first write.
     pub(crate) fn carry_out(
         &mut self,
         decision: Decision,
@@ -74,7 +75,7 @@ impl Asking {
                 Reply::Answered(answer, count)
             }
             Decision::Holds { mode } => {
-                // The body of a block always fits; the limits keep the slices within bounds.
+                // The body of a block is never longer than the block's memory. The limits only keep the slices within bounds.
                 let len = body.len().min(block.len()).min(4096);
                 block[..len].copy_from_slice(&body[..len]);
                 self.block_len = len;

@@ -1,6 +1,6 @@
 // Of crates/dfu_asks/src/cut.rt, whose contracts are taken away.
 
-//! The piece that a search finds, and its bytes: as runs of memory, copied to a buffer, and compared with the flash.
+//! The next piece of a series of writes. Its bytes are located as runs of memory, copied to a buffer, and compared with the flash.
 
 use crate::asks::next_piece::{MAX_PROGRAM, next_piece};
 use crate::asks::pending_writes::WriteInputs;
@@ -10,24 +10,23 @@ use crate::slots::{OPEN_GATE, Source, flash_byte_at};
 /// A search for the next piece of a series of writes, and the piece once it is found.
 #[derive(Clone, Copy, Debug, PartialEq, Eq)]
 pub(crate) struct Cut<'a> {
-    /// Inputs of the writes.
-    pub(crate) stock: WriteInputs<'a>,
-    /// Number of carried-out bytes that belong to the writes not searched yet.
+    pub(crate) inputs: WriteInputs<'a>,
+    /// Number of bytes that are already written, counted from the first write that the search hasn't passed yet.
     pub(crate) rest: usize,
-    /// The header, if one is written.
+    /// Bytes of the header, if the writes include one.
     pub(crate) front: [u8; 16],
     /// The piece, once it is found.
     pub(crate) piece: FlashOp,
-    /// Source of its bytes, if it programs.
+    /// Source of the bytes that the piece programs. It has no meaning for an erase.
     pub(crate) source: Source,
-    /// Number of bytes of the source before the piece.
+    /// Offset of the piece in its source.
     pub(crate) from: usize,
 }
 
-/// Returns a search for the next piece after `done` bytes of the writes with the inputs `stock`.
-pub(crate) fn cut_at<'a>(stock: WriteInputs<'a>, done: u32) -> Cut<'a> {
+/// Returns a search for the next piece after `done` bytes of the writes with the inputs `inputs`.
+pub(crate) fn cut_at<'a>(inputs: WriteInputs<'a>, done: u32) -> Cut<'a> {
     Cut {
-        stock,
+        inputs,
         rest: done as usize,
         front: [0; 16],
         piece: FlashOp {
@@ -40,27 +39,25 @@ pub(crate) fn cut_at<'a>(stock: WriteInputs<'a>, done: u32) -> Cut<'a> {
     }
 }
 
-/// Bytes that lie in two slices, and bytes of one value after them.
+/// Bytes in two slices, followed by bytes of a single value.
 #[derive(Clone, Copy, Debug, PartialEq, Eq)]
 struct Runs<'a> {
-    /// The bytes of the first slice.
     front: &'a [u8],
-    /// The bytes of the second slice.
     back: &'a [u8],
-    /// Number of bytes of one value after the slices.
+    /// Number of bytes after the two slices.
     rest: usize,
-    /// Value of each of these bytes.
+    /// Value of each byte after the two slices.
     pad: u8,
 }
 
-// Returns at most `most` bytes of a slice, after its first `skip`.
+// Returns at most `most` bytes of a slice, after its first `skip` bytes.
 fn run<'a>(bytes: &'a [u8], skip: usize, most: usize) -> &'a [u8] {
     let skip = skip.min(bytes.len());
     let len = most.min(bytes.len() - skip);
     &bytes[skip..skip + len]
 }
 
-// Returns `len` bytes of two slices, one after the other, and of zeros after both, after the first `skip`.
+// Joins two slices and 256 zeros after them, and returns `len` bytes of the result, after its first `skip` bytes.
 fn runs_in<'a>(front: &'a [u8], back: &'a [u8], skip: usize, len: usize) -> Runs<'a> {
     let first = run(front, skip, len);
     let left = len - first.len();
@@ -76,8 +73,8 @@ fn runs_in<'a>(front: &'a [u8], back: &'a [u8], skip: usize, len: usize) -> Runs
 // Returns the two slices that make up the source of a piece, in order; `gate` is the byte of an open gate.
 fn source_slices<'a>(cut: &'a Cut<'_>, gate: &'a [u8; 1]) -> (&'a [u8], &'a [u8]) {
     match cut.source {
-        Source::Joined => (cut.stock.held, cut.stock.block),
-        Source::Held => (cut.stock.held, &[]),
+        Source::Joined => (cut.inputs.held, cut.inputs.block),
+        Source::Held => (cut.inputs.held, &[]),
         Source::Header => (&cut.front, &[]),
         Source::Opened => (gate, &[]),
         Source::Closed => (&[], &[]),
@@ -99,7 +96,7 @@ fn runs_of<'a>(cut: &'a Cut<'_>, gate: &'a [u8; 1]) -> Runs<'a> {
     runs_in(front, back, cut.from, len)
 }
 
-// Returns whether bytes of flash equal those of a slice. A loop takes less code than `==`.
+// Returns true if bytes of flash equal those of a slice. A loop takes less code than `==`.
 fn are_same(one: &[u8], other: &[u8]) -> bool {
     for i in 0..one.len() {
         if flash_byte_at(one, i) != other[i] {
@@ -109,7 +106,7 @@ fn are_same(one: &[u8], other: &[u8]) -> bool {
     true
 }
 
-// Returns whether each of these bytes of flash is `byte`.
+// Returns true if each of these bytes of flash is `byte`.
 fn are_all(bytes: &[u8], byte: u8) -> bool {
     for i in 0..bytes.len() {
         if flash_byte_at(bytes, i) != byte {
@@ -134,7 +131,7 @@ impl Runs<'_> {
     }
 }
 
-/// Writes the bytes of the piece that `cut` found to the front of `out`; of an erase at most 256, each FFh.
+/// Writes the bytes of the piece that `cut` found to the front of `out`. For an erase, writes at most 256 bytes FFh.
 pub(crate) fn fill(cut: &Cut<'_>, out: &mut [u8; MAX_PROGRAM]) {
     let runs = runs_of(cut, &[OPEN_GATE]);
     let middle = runs.front.len();
@@ -145,7 +142,7 @@ pub(crate) fn fill(cut: &Cut<'_>, out: &mut [u8; MAX_PROGRAM]) {
     out[end..len].fill(runs.pad);
 }
 
-/// Returns true if the bytes of the piece that `cut` found are on `flash`; after an erase they are FFh.
+/// Returns true if `flash` contains the bytes of the piece that `cut` found, which are FFh for an erase.
 pub(crate) fn stands(flash: &[u8], cut: &Cut<'_>) -> bool {
     let piece = cut.piece;
     if piece.at + piece.len as u64 > flash.len() as u64 {
@@ -161,8 +158,8 @@ impl Asking {
         &held[..self.held_len.min(held.len())]
     }
 
-    /// Returns the inputs of the writes of a job.
-    pub(crate) fn stock<'a>(&self, block: &'a [u8], held: &'a [u8]) -> WriteInputs<'a> {
+    /// Returns the inputs from which the writes of a job are computed.
+    pub(crate) fn inputs<'a>(&self, block: &'a [u8], held: &'a [u8]) -> WriteInputs<'a> {
         WriteInputs {
             unit: self.unit,
             sector: self.sector,
@@ -172,7 +169,7 @@ impl Asking {
         }
     }
 
-    /// Returns the number of bytes of the next piece of `work`, and true if the bytes are on `flash`; or 0 if no piece is left.
+    /// Returns the number of bytes of the next piece of `work`, and true if `flash` contains them; 0 and false if no piece is left.
     pub(crate) fn look_at(
         &self,
         work: &PendingWrites,
@@ -180,7 +177,7 @@ impl Asking {
         held: &[u8],
         flash: &[u8],
     ) -> (usize, bool) {
-        let mut cut = cut_at(self.stock(block, held), work.done);
+        let mut cut = cut_at(self.inputs(block, held), work.done);
         if !next_piece(work.job, &mut cut) {
             return (0, false);
         }

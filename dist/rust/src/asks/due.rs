@@ -1,6 +1,6 @@
 // Of crates/dfu_asks/src/due.rt, whose contracts are taken away.
 
-//! The time after which the state of a device changes by itself.
+//! The time after which the state of a device changes without a request.
 
 use crate::asks::Asking;
 use crate::device::{Config, DeviceState, poll_ms};
@@ -31,12 +31,12 @@ pub fn mode_due(config: &Config, mode: DeviceState, block_len: usize) -> Option<
 }
 
 impl Asking {
-    /// Returns the number of milliseconds, at least 1, after which `elapse` changes the state: fewer leave it as it is, and that many or
-    /// more change it. In appDETACH it is the rest of wDetachTimeOut or of the host's time, whichever is less, or 1 with bitWillDetach
-    /// (USB DFU 1.1, section 5.1); in dfuDNBUSY and dfuMANIFEST the rest of the time that the host was asked to wait (section 6.1.2,
-    /// bwPollTimeout).
+    /// Returns the number of milliseconds, at least 1, after which `elapse` changes the state. Fewer milliseconds don't change it; that
+    /// many or more do. In appDETACH, it is the rest of wDetachTimeOut or of the host's time, whichever is less, or 1 with bitWillDetach
+    /// (USB DFU 1.1, section 5.1). In dfuDNBUSY and dfuMANIFEST, it is the rest of the time that the device told the host to wait (section
+    /// 6.1.2, bwPollTimeout).
     ///
-    /// None if no time changes the device: in every other state.
+    /// None in every other state, because no time changes it.
     pub fn due(&self) -> Option<u32> {
         mode_due(&self.config, self.mode, self.block_len)
     }

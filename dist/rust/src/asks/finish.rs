@@ -7,7 +7,7 @@ use crate::device::{Answer, Config, DeviceState};
 use crate::slots::{Unit, WriteFault};
 use crate::wire::Code;
 
-// Returns whether the row that is due in a mode writes a block.
+// Returns true if the due row of a mode writes a block.
 fn is_block(mode: DeviceState) -> bool {
     match mode {
         DeviceState::DownloadSync { .. } | DeviceState::DownloadBusy { .. } => true,
@@ -15,7 +15,7 @@ fn is_block(mode: DeviceState) -> bool {
     }
 }
 
-// Returns the mode of a device after all writes of a row worked; `len` is the length of its block.
+// Returns the mode of a device after a row whose writes all succeeded; `len` is the length of the device's block.
 fn done_mode(config: Config, mode: DeviceState, len: u32) -> DeviceState {
     match mode {
         DeviceState::DownloadSync { written, number } => DeviceState::DownloadIdle {
@@ -42,7 +42,7 @@ fn done_mode(config: Config, mode: DeviceState, len: u32) -> DeviceState {
     }
 }
 
-// Returns the mode of a device after a write of a row had this fault: dfuERROR with the fault's code.
+// Returns the mode of a device after a row with this fault in a write: dfuERROR with the fault's code.
 fn failed_mode(mode: DeviceState, fault: WriteFault) -> DeviceState {
     let block = is_block(mode);
     let code = match fault {
@@ -52,7 +52,7 @@ fn failed_mode(mode: DeviceState, fault: WriteFault) -> DeviceState {
     DeviceState::Error { code }
 }
 
-// Keeps the last bytes of `held` followed by `block` that fill no whole unit, and returns their number.
+// Joins `held` and `block`, and moves the last bytes, which don't fill a unit, to the front of `held`. Returns the number of these bytes.
 fn keep_rest(unit: Unit, held: &mut [u8], held_len: usize, block: &[u8]) -> usize {
     let size = unit.size() as usize;
     let all = held_len + block.len();
@@ -69,7 +69,7 @@ fn keep_rest(unit: Unit, held: &mut [u8], held_len: usize, block: &[u8]) -> usiz
     rest
 }
 
-// Updates the note of the active image after a row in this mode: a commit reads the images, and a block keeps the note.
+// Updates the note of the active image after a row in this mode. A commit reads the images; a block leaves the note unchanged.
 fn note(noted: &mut Noted, mode: DeviceState, flash: &[u8], unit: Unit, sector: Sector) {
     if is_block(mode) {
         return;
@@ -80,7 +80,8 @@ fn note(noted: &mut Noted, mode: DeviceState, flash: &[u8], unit: Unit, sector: 
 }
 
 impl Asking {
-    // Keeps the bytes that are held back after a row whose writes worked. Returns their number, and the place at which the puts end.
+    // Moves the bytes that stay held back after a successful row to the front of `held`. Returns their number, and the number of bytes put
+    // into the spare slot so far. Both are 0 unless the row wrote a block.
     fn rest_after(&self, block: &[u8], held: &mut [u8]) -> (usize, u32) {
         if !is_block(self.mode) {
             return (0, 0);
@@ -91,7 +92,7 @@ impl Asking {
         (rest, self.put_end.saturating_add(len as u32))
     }
 
-    /// Ends a row whose writes all worked.
+    /// Ends a row whose writes all succeeded.
     pub(crate) fn finish(&mut self, block: &[u8], held: &mut [u8], flash: &[u8]) {
         note(&mut self.noted, self.mode, flash, self.unit, self.sector);
         let (held_len, put_end) = self.rest_after(block, held);
@@ -102,7 +103,7 @@ impl Asking {
         self.work = None;
     }
 
-    /// Ends a row of which a write had `fault`.
+    /// Ends a row because one of its writes had `fault`.
     pub(crate) fn break_off(&mut self, fault: WriteFault, flash: &[u8]) {
         note(&mut self.noted, self.mode, flash, self.unit, self.sector);
         self.held_len = 0;
@@ -111,8 +112,8 @@ impl Asking {
         self.work = None;
     }
 
-    /// Returns the answer at the end of a row, and the number of its bytes, which are at the front of `out`: the status if a GETSTATUS
-    /// asked for `asked` bytes of it, else an acknowledgement.
+    /// Returns the answer at the end of a row, and the number of its bytes, which are at the front of `out`. The answer is the status if a
+    /// GETSTATUS requested `asked` bytes of it, else an acknowledgement.
     pub(crate) fn answer(&self, asked: Option<u16>, out: &mut [u8]) -> (Answer, usize) {
         match asked {
             None => self.give(crate::device::Reply::Ack, 0, out),
@@ -120,7 +121,7 @@ impl Asking {
         }
     }
 
-    /// Asks for the next write of the row, or ends the row if no write is left.
+    /// Requests the next write of the row, or ends the row if no write is left.
     pub(crate) fn advance(
         &mut self,
         block: &[u8],
@@ -131,7 +132,7 @@ impl Asking {
         let Some(work) = self.work else {
             return Reply::Answered(Answer::Ack, 0);
         };
-        // (An empty flash is enough to learn whether a piece is left.)
+        // An empty flash suffices here, because only the number of bytes of the next piece matters.
         let (len, _) = self.look_at(&work, block, held, &[]);
         if len > 0 {
             return Reply::Asks;

@@ -8,14 +8,14 @@ use crate::asks::pending_writes::WriteInputs;
 use crate::asks::{FormatStep, Formatting};
 use crate::slots::{Sequence, Unit, VERSION, make_header};
 
-/// Returns the number of bytes of an image of `len` bytes, filled up to whole units of `unit`.
+/// Returns the length of an image of `len` bytes after it is filled up to whole units of `unit`.
 pub(crate) fn filled_len(unit: Unit, len: usize) -> usize {
     let size = unit.size() as usize;
     len + (size - len % size) % size
 }
 
-/// Returns the inputs of the writes of a format: the image takes the place of the block.
-pub(crate) fn stock_for<'a>(formatting: &Formatting, image: &'a [u8]) -> WriteInputs<'a> {
+/// Returns the inputs from which the writes of a format are computed, with the image as the block.
+pub(crate) fn inputs_for<'a>(formatting: &Formatting, image: &'a [u8]) -> WriteInputs<'a> {
     WriteInputs {
         unit: formatting.unit,
         sector: formatting.sector,
@@ -25,9 +25,10 @@ pub(crate) fn stock_for<'a>(formatting: &Formatting, image: &'a [u8]) -> WriteIn
     }
 }
 
-// Returns whether the next piece is one of the header, or of the gate that is opened after it.
+// Returns true if the next piece belongs to the header of the first slot (`index` 1), or to the open gate that is written after the header
+// (`index` 2). `cut` then contains that piece.
 fn open_piece(index: usize, register: u32, cut: &mut Cut<'_>) -> bool {
-    cut.front = make_header(VERSION, 0, cut.stock.block.len() as u32, register);
+    cut.front = make_header(VERSION, 0, cut.inputs.block.len() as u32, register);
     let sequence = Sequence::Commit {
         slot: 0,
         end: 0,
@@ -36,7 +37,7 @@ fn open_piece(index: usize, register: u32, cut: &mut Cut<'_>) -> bool {
     numbered_piece(sequence, index, cut)
 }
 
-/// Returns true if a piece of the current part of a format is left, on a flash of `size` bytes. `cut` has found the next piece then.
+/// Returns true if a piece of the current part of a format is left, on a flash of `size` bytes. `cut` then contains the next piece.
 pub(crate) fn part_piece(formatting: &Formatting, size: usize, cut: &mut Cut<'_>) -> bool {
     match formatting.phase {
         FormatStep::CloseSecond => sequence_piece(
@@ -47,7 +48,7 @@ pub(crate) fn part_piece(formatting: &Formatting, size: usize, cut: &mut Cut<'_>
         ),
         FormatStep::CloseFirst => sequence_piece(Sequence::Close { slot: 0 }, cut),
         FormatStep::Image { from } => {
-            let image = cut.stock.block.len() as u32;
+            let image = cut.inputs.block.len() as u32;
             sequence_piece(Sequence::Image { from, image }, cut)
         }
         FormatStep::Header => open_piece(1, formatting.register, cut),

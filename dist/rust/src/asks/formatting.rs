@@ -1,40 +1,40 @@
 // Of crates/dfu_asks/src/formatting.rt, whose contracts are taken away.
 
-//! A format that asks for its writes.
+//! A format that requests its writes from the caller.
 
 use crate::asks::Sector;
 use crate::slots::{Unit, WriteFault};
 
-/// A format that asks for its writes, as it is kept between two calls. Each call gets the flash, which is mapped, and the image.
+/// State of a format that requests its writes from the caller. Each call passes the mapped flash and the image.
 #[derive(Clone, Copy, Debug, PartialEq, Eq)]
 pub struct Formatting {
     /// The unit in which the flash is written.
     pub unit: Unit,
     /// The sectors in which the flash is erased before a write, if any.
     pub sector: Sector,
-    /// The register over the image.
+    /// The CRC register over the image.
     pub register: u32,
-    /// Progress of the format.
+    /// Current part of the format.
     pub phase: FormatStep,
-    /// Number of bytes of the part's writes that are carried out.
+    /// Number of bytes already written of the current part.
     pub done: u32,
 }
 
-/// Progress of a format: which of its parts is being carried out.
+/// Part of a format, in the order in which the parts are written.
 #[derive(Clone, Copy, Debug, PartialEq, Eq)]
 pub enum FormatStep {
-    /// The gate of the second slot is closed.
+    /// Closing of the second slot's gate.
     CloseSecond,
-    /// The gate of the first slot is closed.
+    /// Closing of the first slot's gate.
     CloseFirst,
-    /// The image is written into the first slot, up to 4096 bytes of it from `from` on.
+    /// Up to 4096 bytes of the image, written into the first slot.
     Image {
-        /// Number of bytes of the image before the bytes that are written.
+        /// Offset of these bytes in the image.
         from: u32,
     },
-    /// The header of the first slot is written.
+    /// The header of the first slot.
     Header,
-    /// The gate of the first slot is opened.
+    /// Opening of the first slot's gate.
     Gate,
     /// No part is left.
     Ended,
@@ -43,10 +43,10 @@ pub enum FormatStep {
 /// Progress of a format after the report of a piece.
 #[derive(Clone, Copy, Debug, PartialEq, Eq)]
 pub enum FormatProgress {
-    /// More writes are due: call `next`, carry the piece out, call `took`, until `took` answers otherwise.
+    /// More writes are pending. Call `next`, carry the piece out, and call `took`, until `took` returns another result.
     Asks,
-    /// All is written: the image is the active one.
+    /// All parts are written, and the image is the active one.
     Formatted,
-    /// A write failed, or other bytes were read back: the format has ended, and begins again with `start`.
+    /// A write failed, or other bytes were read back. The format has ended, and the program must call `start` to begin it again.
     Broken(WriteFault),
 }

@@ -5,8 +5,8 @@
 use crate::asks::Sector;
 use crate::slots::Unit;
 
-/// Returns the number of bytes that the gate of a slot takes up, and its header as many, in flash that is written in units of `unit` and
-/// erased in sectors of `sector`: the largest of 16, the unit and the sector.
+/// Returns the number of bytes that the gate of a slot occupies in flash with this unit and sector: the largest of 16, the unit and the
+/// sector. The header occupies as many.
 pub(crate) fn gate_room(unit: Unit, sector: Sector) -> u32 {
     unit.size().max(16).max(sector.size())
 }

@@ -1,28 +1,29 @@
 // Of crates/dfu_asks/src/image.rt, whose contracts are taken away.
 
-//! Place of the active image, which a program runs.
+//! Location of the active image, which a program runs.
 
 use crate::asks::gates::gate_room;
 use crate::asks::{Asking, Noted, Sector};
 use crate::slots::{Unit, length_in};
 
-/// Place of an image in the flash.
+/// Location of an image in the flash.
 #[derive(Clone, Copy, Debug, PartialEq, Eq)]
 pub struct ImagePlace {
-    /// Place of its first byte.
+    /// Offset of the image's first byte in the flash.
     pub at: u32,
     /// Length of the image in bytes, 0 to 16,777,216.
     pub len: u32,
 }
 
-// Returns the place at which a slot begins in flash of `size` bytes.
+// Returns the offset of the first slot, or of the second if `second` is true, in flash of `size` bytes.
 fn slot_at(second: bool, size: usize) -> usize {
     if second { size / 2 } else { 0 }
 }
 
 impl ImagePlace {
-    /// Returns the place of the active image in `flash`, which is written in units of `unit` and erased in sectors of `sector`: after the
-    /// gate and the header of its slot, within the flash. The call reads the image of each open slot, and needs no device.
+    /// Returns the location of the active image in `flash`, which is written in units of `unit` and erased in sectors of `sector`. The
+    /// image lies after the gate and the header of its slot, within the flash. The call reads the image of each open slot, and needs no
+    /// device.
     ///
     /// None exactly if the flash has no active image, or 2^32 bytes or more.
     pub fn find(flash: &[u8], unit: Unit, sector: Sector) -> Option<ImagePlace> {
@@ -36,7 +37,7 @@ impl ImagePlace {
 }
 
 impl Asking {
-    /// Returns the place of the active image in `flash`, as `ImagePlace::find`, regardless of the device's note.
+    /// Returns the location of the active image in `flash`, as `ImagePlace::find` does, regardless of the device's note.
     ///
     /// None exactly if the flash has no active image, or 2^32 bytes or more.
     pub fn image(&self, flash: &[u8]) -> Option<ImagePlace> {

@@ -6,7 +6,7 @@ use crate::asks::{Asking, Refusal};
 use crate::device::{Config, DeviceState};
 use crate::wire::{Code, Setup};
 
-// Returns the mode of a device after a setup in this mode whose body is longer than the transfer size.
+// Returns the mode of a device in `mode` after a setup whose body is longer than the transfer size.
 fn after_long(mode: DeviceState) -> DeviceState {
     match mode {
         DeviceState::AppIdle | DeviceState::AppDetach { .. } => DeviceState::AppIdle,
@@ -18,13 +18,13 @@ fn after_long(mode: DeviceState) -> DeviceState {
     }
 }
 
-// Returns whether the host sends more bytes with this setup than the transfer size.
+// Returns true if the setup announces more bytes from the host than the transfer size.
 fn is_long(setup: &Setup, transfer: u16) -> bool {
     setup.kind == 0x21 && setup.length > transfer
 }
 
 /// Returns the mode to which `setup` leads a device with `config` in `mode`, if the host sends more bytes with it than the transfer size,
-/// as `Asking::too_long`; None exactly if the host sends no more.
+/// as `Asking::too_long` does; None exactly if the host sends no more.
 pub fn mode_after_long(config: &Config, mode: DeviceState, setup: &[u8; 8]) -> Option<DeviceState> {
     let setup = Setup::decode(setup);
     if !is_long(&setup, config.functional().transfer) {
@@ -38,13 +38,13 @@ pub fn mode_after_long(config: &Config, mode: DeviceState, setup: &[u8; 8]) -> O
 }
 
 impl Asking {
-    /// Handles `setup`, as `handle`, if its body is longer than the transfer size, so that no memory must hold the body. Returns true if
-    /// the body is longer; the caller must then stall the request (USB DFU 1.1, section 6.1.1). Returns false if it is not; nothing changes
-    /// then. The call needs neither the flash nor the memory of the block.
+    /// Handles `setup`, as `handle` does, if its body is longer than the transfer size, so that no memory must hold the body. Returns true
+    /// if the body is longer; the caller must then stall the request (USB DFU 1.1, section 6.1.1). Returns false if it is not; nothing
+    /// changes then. The call needs neither the flash nor the memory of the block.
     ///
     /// # Errors
     ///
-    /// `Asked` if writes are due; nothing changes then.
+    /// `Asked` if writes are pending; nothing changes then.
     pub fn too_long(&mut self, setup: &[u8; 8]) -> Result<bool, Refusal> {
         if self.work.is_some() {
             return Err(Refusal::Asked);

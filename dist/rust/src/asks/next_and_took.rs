@@ -1,6 +1,6 @@
 // Of crates/dfu_asks/src/next_and_took.rt, whose contracts are taken away.
 
-//! The calls for the writes that are due: `next` returns the next piece, and `took` takes the report of its outcome.
+//! The calls for pending writes: `next` returns the next piece, and `took` reports its outcome.
 
 use crate::asks::cut::{cut_at, fill};
 use crate::asks::next_piece::next_piece;
@@ -8,12 +8,12 @@ use crate::asks::sector::offset_in_sector;
 use crate::asks::{Asking, FlashOp, MAX_PROGRAM, Mapped, PendingWrites, Refusal, Reply, Sector};
 use crate::slots::{OPEN_GATE, Unit, WriteFault, check, flash_byte_at};
 
-// Returns the start of the slot that a place lies in, of two slots of this size.
+// Returns the offset of the slot that contains offset `at`, if the flash has two slots of `size` bytes each.
 fn slot_start(at: u64, size: u64) -> u64 {
     if at < size { 0 } else { size }
 }
 
-// Returns whether a range lies within a slot whose gate is not open, or within the spare slot of an active image.
+// Returns true if a range lies within a slot whose gate is not open, or within the spare slot of an active image.
 fn is_spare(flash: &[u8], unit: Unit, sector: Sector, at: u64, len: u64) -> bool {
     let half = flash.len() as u64 / 2;
     let slot = slot_start(at, half);
@@ -34,7 +34,7 @@ fn is_spare(flash: &[u8], unit: Unit, sector: Sector, at: u64, len: u64) -> bool
     }
 }
 
-/// Returns true if `piece` programs, or erases one whole sector of `sector`.
+/// Returns true if `piece` programs bytes, or erases one whole sector.
 pub(crate) fn is_sound(sector: Sector, piece: FlashOp) -> bool {
     if !piece.erases {
         return true;
@@ -43,12 +43,12 @@ pub(crate) fn is_sound(sector: Sector, piece: FlashOp) -> bool {
     size > 0 && piece.len == size as usize && offset_in_sector(size, piece.at) == 0
 }
 
-// Returns whether a piece did not fail, and its bytes are on the flash.
+// Returns true if the piece didn't fail and the flash contains its bytes.
 fn went_well(failed: bool, stands: bool) -> bool {
     !failed && stands
 }
 
-// Returns the fault of a piece that failed, or whose bytes are not on the flash.
+// Returns `Failed` for a piece that failed, else `NotVerified`, because the flash doesn't contain its bytes.
 fn fault_of(failed: bool) -> WriteFault {
     if failed {
         WriteFault::Failed
@@ -58,13 +58,12 @@ fn fault_of(failed: bool) -> WriteFault {
 }
 
 impl Asking {
-    /// Returns the next piece that is asked for: at most 256 bytes to be programmed, or one sector to be erased. The piece lies within the
-    /// spare slot of the flash as it is now, if that has an active image, even if the kept state was damaged. The bytes of a program are
-    /// at the front of `out` then.
+    /// Returns the next piece to carry out: at most 256 bytes to program, or one sector to erase. If the flash has an active image now, the
+    /// piece lies within the spare slot, even if the kept state was damaged. The bytes of a program are at the front of `out`.
     ///
-    /// None if no write is due, if its range is not within that slot, if the slot's gate is open and no image is active, or if the kept
-    /// state would erase less than a sector. Then `out` is unchanged. It is Some if a call answered `Asks` and the pieces before this one
-    /// are on the flash.
+    /// None if no write is pending, if the range of the piece is not within the spare slot, if the gate of the piece's slot is open and no
+    /// image is active, or if the kept state would erase less than a sector; `out` is unchanged then. After a call returned `Asks`, the
+    /// result is Some if the pieces before this one are on the flash.
     pub fn next(
         &self,
         block: &[u8],
@@ -73,7 +72,7 @@ impl Asking {
         out: &mut [u8; MAX_PROGRAM],
     ) -> Option<FlashOp> {
         let work = self.work?;
-        let mut cut = cut_at(self.stock(block, held), work.done);
+        let mut cut = cut_at(self.inputs(block, held), work.done);
         if !next_piece(work.job, &mut cut) {
             return None;
         }
@@ -89,14 +88,14 @@ impl Asking {
         }
     }
 
-    /// Takes the report that the piece that `next` gave was carried out, or that it `failed`. Its range is read back on the flash; after
-    /// an erase the whole sector is FFh.
+    /// Reports that the program carried out the piece that `next` returned, or that the piece `failed`. The call reads the piece's range
+    /// back from the flash; after an erase, the whole sector must be FFh.
     ///
-    /// The call asks for the next piece, or returns the answer of the row, which has ended.
+    /// Returns `Asks` to request the next piece, or the answer of the row, which has ended.
     ///
     /// # Errors
     ///
-    /// `NoRoom` if `out` has fewer than 6 bytes; else `NoDevice` if no write is due. Nothing changes then.
+    /// `NoRoom` if `out` has fewer than 6 bytes; else `NoDevice` if no write is pending. Nothing changes then.
     ///
     /// # What the caller must keep to
     ///

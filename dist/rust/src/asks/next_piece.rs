@@ -1,6 +1,6 @@
 // Of crates/dfu_asks/src/next_piece.rt, whose contracts are taken away.
 
-//! The next piece of the writes of a job: the operations of slots, each cut into its erases and pieces of at most 256 bytes.
+//! The next piece of the writes of a job. The operations of slots are cut into erases of a sector and programs of at most 256 bytes.
 
 use crate::asks::cut::Cut;
 use crate::asks::sector::{Position, locate};
@@ -10,7 +10,7 @@ use crate::slots::{MAX_OPERATIONS, Op, Sequence, Source, VERSION, make_header};
 /// Largest number of bytes that are programmed at a time.
 pub const MAX_PROGRAM: usize = 256;
 
-// Makes an erase of `len` bytes at `at` the found piece.
+// Sets the piece of `cut` to an erase of `len` bytes at offset `at`.
 fn find_erase(at: u64, len: usize, cut: &mut Cut<'_>) {
     cut.piece = FlashOp {
         erases: true,
@@ -19,10 +19,10 @@ fn find_erase(at: u64, len: usize, cut: &mut Cut<'_>) {
     };
 }
 
-// Returns whether the next piece is one of the erase of the sector at `at`. `cut` has found it then; else the search goes on after the
-// erase.
+// Returns true if the next piece belongs to the erase of the sector at `at`. `cut` then contains the piece; else the search continues after
+// the erase.
 fn erase_piece(at: u64, cut: &mut Cut<'_>) -> bool {
-    let sector = cut.stock.sector.size() as usize;
+    let sector = cut.inputs.sector.size() as usize;
     if cut.rest < sector {
         find_erase(at + cut.rest as u64, sector - cut.rest, cut);
         return true;
@@ -31,10 +31,10 @@ fn erase_piece(at: u64, cut: &mut Cut<'_>) -> bool {
     false
 }
 
-// Returns whether the next piece is one of a write of `len` bytes at `at`, or of its erases. The write has the bytes of `source` after the
-// first `skip`. `cut` has found the piece then; else the search goes on after the write.
+// Returns true if the next piece belongs to a write of `len` bytes at `at`, or to its erases. The write's bytes are those of `source` after
+// its first `skip` bytes. `cut` then contains the piece; else the search continues after the write.
 fn write_piece(at: u64, source: Source, skip: usize, len: usize, cut: &mut Cut<'_>) -> bool {
-    match locate(cut.stock.sector, at, len, cut.rest) {
+    match locate(cut.inputs.sector, at, len, cut.rest) {
         Position::Erase { place, len } => {
             find_erase(place, len, cut);
             true
@@ -56,10 +56,10 @@ fn write_piece(at: u64, source: Source, skip: usize, len: usize, cut: &mut Cut<'
     }
 }
 
-/// Returns true if the next piece is one of operation number `index` of `sequence`. `cut` has found the piece then; else the search goes
-/// on after the operation, if there is one.
+/// Returns true if the next piece belongs to operation number `index` of `sequence`. `cut` then contains the piece; else the search
+/// continues after that operation, if there is one.
 pub(crate) fn numbered_piece(sequence: Sequence, index: usize, cut: &mut Cut<'_>) -> bool {
-    match sequence.operation(cut.stock.unit, cut.stock.sector.size(), index) {
+    match sequence.operation(cut.inputs.unit, cut.inputs.sector.size(), index) {
         None => false,
         Some(Op::Erase { at }) => erase_piece(at, cut),
         Some(
@@ -73,8 +73,8 @@ pub(crate) fn numbered_piece(sequence: Sequence, index: usize, cut: &mut Cut<'_>
     }
 }
 
-/// Returns true if the next piece is one of the operations of `sequence`. `cut` has found the piece then; else the search goes on after
-/// the operations.
+/// Returns true if the next piece belongs to an operation of `sequence`. `cut` then contains the piece; else the search continues after the
+/// operations.
 pub(crate) fn sequence_piece(sequence: Sequence, cut: &mut Cut<'_>) -> bool {
     for index in 0..MAX_OPERATIONS {
         if numbered_piece(sequence, index, cut) {
@@ -84,38 +84,39 @@ pub(crate) fn sequence_piece(sequence: Sequence, cut: &mut Cut<'_>) -> bool {
     false
 }
 
-// Returns whether the next piece is one that closes the gate of the slot at `spare`; false if `close` is false.
+// Returns true if `close` is true and the next piece belongs to the closing of the gate of the slot at `spare`. `cut` then contains the
+// piece.
 fn close_piece(spare: u32, close: bool, cut: &mut Cut<'_>) -> bool {
     close && sequence_piece(Sequence::Close { slot: spare }, cut)
 }
 
-// Returns whether the next piece is one of the writes of a block.
+// Returns true if the next piece belongs to the writes of a block. `cut` then contains the piece.
 fn block_piece(spare: u32, close: bool, cut: &mut Cut<'_>) -> bool {
     if close_piece(spare, close, cut) {
         return true;
     }
     let sequence = Sequence::Put {
         slot: spare,
-        end: cut.stock.put_end,
-        held: cut.stock.held.len() as u16,
-        block: cut.stock.block.len() as u16,
+        end: cut.inputs.put_end,
+        held: cut.inputs.held.len() as u16,
+        block: cut.inputs.block.len() as u16,
     };
     sequence_piece(sequence, cut)
 }
 
-// Returns whether the next piece is one of the writes of a commit.
+// Returns true if the next piece belongs to the writes of a commit. `cut` then contains the piece.
 fn commit_piece(spare: u32, generation: u8, register: u32, cut: &mut Cut<'_>) -> bool {
-    let end = cut.stock.put_end;
+    let end = cut.inputs.put_end;
     cut.front = make_header(VERSION, generation, end, register);
     let sequence = Sequence::Commit {
         slot: spare,
         end,
-        held: cut.stock.held.len() as u16,
+        held: cut.inputs.held.len() as u16,
     };
     sequence_piece(sequence, cut)
 }
 
-/// Returns true if a piece of the writes of `job` is left. `cut` has found the next one then.
+/// Returns true if a piece of the writes of `job` is left. `cut` then contains the next piece.
 pub(crate) fn next_piece(job: SlotWrite, cut: &mut Cut<'_>) -> bool {
     match job {
         SlotWrite::Block { spare, close } => block_piece(spare, close, cut),

@@ -9,8 +9,8 @@ use crate::slots::{
     length_in, read_flash,
 };
 
-/// Flash that is mapped into memory, where it is read; every write or erase through this type fails. Its owner writes it, in its unit,
-/// in place or in sectors that it erases before.
+/// Flash that is mapped into memory, where it is read; every write or erase through this type fails. Its owner writes it in units, either
+/// in place or after it has erased the sectors.
 #[derive(Debug, PartialEq, Eq)]
 pub struct Mapped<'m> {
     pub(crate) bytes: &'m [u8],
@@ -24,15 +24,16 @@ impl<'m> Mapped<'m> {
         Mapped::with_sector(bytes, unit, Sector::none())
     }
 
-    /// Returns the medium of `bytes`, which is written in units of `unit`, in sectors of `sector` bytes that are erased before, or in place
-    /// if `sector` is 0.
+    /// Returns the medium of `bytes`, which is written in units of `unit`: after an erase of its sectors of `sector` bytes, or in place if
+    /// `sector` is 0.
     ///
     /// None if `sector` is neither 0 nor a multiple of 256 up to 262,144, or if there are 2^32 bytes or more.
     pub fn with_sectors(bytes: &'m [u8], unit: Unit, sector: u32) -> Option<Mapped<'m>> {
         Mapped::with_sector(bytes, unit, Sector::new(sector)?)
     }
 
-    /// Returns the medium of `bytes`, as `with_sectors` does, for a `sector` that is allowed; None if there are 2^32 bytes or more.
+    /// Returns the medium of `bytes`, as `with_sectors` does, for a `sector` that is known to be valid; None if there are 2^32 bytes or
+    /// more.
     pub(crate) fn with_sector(bytes: &'m [u8], unit: Unit, sector: Sector) -> Option<Mapped<'m>> {
         if bytes.len() > 0xffff_ffff {
             return None;
@@ -58,7 +59,7 @@ impl<'m> Medium for Mapped<'m> {
         self.sector.size()
     }
 
-    // True, because a library in a bootloader must be small.
+    // The CRC of a mapped flash uses small tables, because a library in a bootloader must be small.
     fn has_small_tables(&self) -> bool {
         true
     }
@@ -77,12 +78,12 @@ impl<'m> Medium for Mapped<'m> {
     }
 }
 
-/// Note of the active image: its slot, and that slot's header. A call that finds the header unchanged in that slot reads no image.
+/// Note of the active image: its slot, and that slot's header. A call that finds this header in that slot doesn't need to read the image.
 #[derive(Clone, Copy, Debug, PartialEq, Eq)]
 pub struct Noted {
-    /// True if the second slot has the image.
+    /// True if the active image is in the second slot, false if it is in the first.
     pub second: bool,
-    /// The header.
+    /// Header of the active image's slot.
     pub header: [u8; 16],
 }
 
@@ -104,20 +105,20 @@ impl Noted {
     }
 }
 
-/// View of a call's flash: places and lengths that follow from the note of the active image.
+/// View of a call's flash: offsets and lengths that follow from the note of the active image.
 #[derive(Clone, Copy, Debug, PartialEq, Eq)]
 pub(crate) struct View {
-    /// Place at which the active slot begins.
+    /// Offset of the active slot.
     pub(crate) active: u32,
-    /// Place at which the spare slot begins.
+    /// Offset of the spare slot.
     pub(crate) spare: u32,
-    /// Largest number of bytes of an image.
+    /// Largest number of bytes of an image that a slot can hold.
     pub(crate) room: u32,
     /// Length of the active image.
     pub(crate) len: u32,
 }
 
-// Returns whether a header of flash equals `other`. A loop takes less code than `==`.
+// Returns true if a header of flash equals `other`. A loop takes less code than `==`.
 fn are_same(one: &[u8], other: &[u8; 16]) -> bool {
     for i in 0..16 {
         if flash_byte_at(one, i) != other[i] {
@@ -127,7 +128,8 @@ fn are_same(one: &[u8], other: &[u8; 16]) -> bool {
     true
 }
 
-/// Returns the view of `medium` if the header of `noted` is in an open slot of it; None exactly if it is not.
+/// Returns the view of `medium` if it consists of two slots, and the noted slot is open, has the noted header, and is large enough for the
+/// image length in that header; else None.
 #[inline(never)]
 pub(crate) fn look(medium: &Mapped<'_>, noted: &Noted) -> Option<View> {
     if !is_sized(medium) {
@@ -154,13 +156,13 @@ pub(crate) fn look(medium: &Mapped<'_>, noted: &Noted) -> Option<View> {
     })
 }
 
-// Returns whether puts that end at `end` fit in `room`, and leave `held` bytes held back. Reads no flash.
+// Returns true if `end` is at most `room`, and `held` is the number of bytes by which `end` exceeds a multiple of the unit.
 fn puts_may_end_at(unit: Unit, held: usize, end: u32, room: u32) -> bool {
     end <= room && held == (end % unit.size()) as usize
 }
 
 impl Asking {
-    /// Returns true if the kept fields fit `medium` and `view`, and a block memory of `room` bytes.
+    /// Returns true if the kept fields agree with `medium` and `view`, and a block memory of `room` bytes is large enough.
     #[inline(never)]
     pub(crate) fn kept_fields_fit(&self, room: usize, medium: &Mapped<'_>, view: &View) -> bool {
         if self.block_len > room

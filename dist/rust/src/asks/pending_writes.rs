@@ -1,43 +1,44 @@
 // Of crates/dfu_asks/src/pending_writes.rt, whose contracts are taken away.
 
-//! Writes that are left of a row, and their inputs.
+//! Pending writes of a row, and their inputs.
 
 use crate::asks::Sector;
 use crate::slots::Unit;
 
-/// Writes that are left of a row, and the request that is answered after them.
+/// Pending writes of a row, and the request that is answered after them.
 #[derive(Clone, Copy, Debug, PartialEq, Eq)]
 pub struct PendingWrites {
-    /// The change that is written.
+    /// The block or the commit that the writes carry out.
     pub job: SlotWrite,
-    /// wLength of the GETSTATUS that is answered after the writes; None if elapsed time caused the row, which has no answer.
+    /// wLength of the GETSTATUS that is answered after the writes; None if elapsed time caused the row, so that no request is answered.
     pub asked: Option<u16>,
-    /// Number of bytes of the writes that are carried out.
+    /// Number of bytes already written.
     pub done: u32,
 }
 
-/// Job of a row: the inputs of its writes that can no longer be read from the flash once some writes are carried out.
+/// Job of a row: those inputs of its writes that can no longer be read from the flash once some writes are made.
 #[derive(Clone, Copy, Debug, PartialEq, Eq)]
 pub enum SlotWrite {
-    /// Writes a block after the bytes that were put.
+    /// Writes a block into the spare slot, after the bytes that are already there.
     Block {
-        /// Place at which the spare slot begins.
+        /// Offset of the spare slot.
         spare: u32,
         /// True if the gate of the slot is closed first.
         close: bool,
     },
-    /// Makes the bytes that were put the active image.
+    /// Makes the bytes in the spare slot the active image.
     Commit {
-        /// Place at which the spare slot begins.
+        /// Offset of the spare slot.
         spare: u32,
-        /// The generation of the new image.
+        /// Generation of the new image.
         generation: u8,
-        /// The register over the new image.
+        /// CRC register over the new image.
         register: u32,
     },
 }
 
-/// Inputs of writes beside their `SlotWrite`: the unit, the sectors, the place at which the puts end, the bytes held back, and the block.
+/// Inputs of writes in addition to their `SlotWrite`: the unit, the sectors, the number of bytes put into the spare slot so far, the bytes
+/// held back, and the block.
 #[derive(Clone, Copy, Debug, PartialEq, Eq)]
 pub(crate) struct WriteInputs<'a> {
     pub(crate) unit: Unit,

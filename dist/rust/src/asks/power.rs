@@ -7,8 +7,8 @@ use crate::device::{Config, DeviceState};
 use crate::slots::Unit;
 
 impl Asking {
-    /// Returns a device that is powered on: in appIDLE, with no block, on `flash`. The call reads the images, to find the active one. The
-    /// flash is written in units of `unit`, and erased before in sectors of `sector`, or overwritten in place if there are none.
+    /// Returns a device after power-on: in appIDLE, with no block, on `flash`. The call reads the images to find the active one. The flash
+    /// is written in units of `unit`: after an erase of its sectors `sector`, or in place if there are none.
     ///
     /// None exactly if the flash has no active image, or 2^32 bytes or more.
     pub fn power_on(config: Config, unit: Unit, sector: Sector, flash: &[u8]) -> Option<Asking> {
@@ -26,8 +26,8 @@ impl Asking {
         })
     }
 
-    /// Returns a device that is powered on and begins in dfuIDLE, as by `power_on`, a DETACH and a reset of the bus (USB DFU 1.1, section
-    /// 5.1). A bootloader that was entered to take a download must start this way.
+    /// Returns a device that begins in dfuIDLE, as if after `power_on`, a DETACH and a reset of the bus (USB DFU 1.1, section 5.1). A
+    /// bootloader that was entered to receive a download must start this way.
     ///
     /// None exactly if the flash has no active image, or 2^32 bytes or more.
     pub fn begin(config: Config, unit: Unit, sector: Sector, flash: &[u8]) -> Option<Asking> {

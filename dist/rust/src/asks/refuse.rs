@@ -7,12 +7,13 @@ use crate::asks::{Asking, Refusal};
 use crate::device::{DeviceState, Objection};
 
 impl Asking {
-    /// Refuses the image that `setup` closes, for `objection` of the program, as `Device::refuse_close`. Returns true if the setup closes
-    /// an image, and then the caller must stall the request. The call needs neither the flash nor the memory of the block.
+    /// Refuses the image whose download `setup` would close, because of the program's `objection`, as `Device::refuse_close` does. Returns
+    /// true if the setup closes a download, and then the caller must stall the request. The call needs neither the flash nor the memory of
+    /// the block.
     ///
     /// # Errors
     ///
-    /// `Asked` if writes are due; nothing changes then.
+    /// `Asked` if writes are pending; nothing changes then.
     pub fn refuse_close(&mut self, setup: &[u8; 8], objection: Objection) -> Result<bool, Refusal> {
         if self.work.is_some() {
             return Err(Refusal::Asked);
@@ -24,12 +25,12 @@ impl Asking {
         Ok(true)
     }
 
-    /// Refuses the image that was closed, for `objection` of the program, as `Device::refuse`. The call needs neither the flash nor the
-    /// memory of the block.
+    /// Refuses the image whose download was closed, because of the program's `objection`, as `Device::refuse` does. The call needs neither
+    /// the flash nor the memory of the block.
     ///
     /// # Errors
     ///
-    /// `Asked` if writes are due; nothing changes then.
+    /// `Asked` if writes are pending; nothing changes then.
     pub fn refuse(&mut self, objection: Objection) -> Result<(), Refusal> {
         if self.work.is_some() {
             return Err(Refusal::Asked);

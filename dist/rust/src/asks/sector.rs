@@ -1,6 +1,6 @@
 // Of crates/dfu_asks/src/sector.rt, whose contracts are taken away.
 
-//! Sectors of a flash, and the position that a search reaches in a write and the erases before it.
+//! Sectors of a flash, and the position of a search in a write and the erases before it.
 
 use crate::slots::{MAX_SECTOR, PAGE};
 
@@ -11,7 +11,7 @@ pub struct Sector {
 }
 
 impl Sector {
-    /// Returns the sector of a flash that is overwritten in place, and never erased.
+    /// Returns the sector of a flash that is overwritten in place and never erased.
     pub fn none() -> Sector {
         Sector { size: 0 }
     }
@@ -34,27 +34,26 @@ impl Sector {
 /// The position after a number of bytes of a write and of the erases before the write.
 #[derive(Clone, Copy, Debug, PartialEq, Eq)]
 pub(crate) enum Position {
-    /// In the erase of a sector, of which `len` bytes are still to be erased, from `place` on.
+    /// Within the erase of a sector. The rest of the sector is still to be erased.
     Erase {
-        /// Place of the first byte that is still to be erased.
+        /// Offset of the first byte that is still to be erased.
         place: u64,
-        /// Number of bytes.
+        /// Number of bytes that are still to be erased.
         len: usize,
     },
-    /// In the write, `from` bytes after its first one.
+    /// Within the write.
     Program {
-        /// Number of bytes of the write that are written already.
+        /// Number of bytes already written.
         from: usize,
     },
-    /// Behind the write, `rest` bytes into what comes after it.
+    /// After the end of the write.
     Behind {
-        /// Number of bytes behind the end of the write.
+        /// Number of bytes after the end of the write.
         rest: usize,
     },
 }
 
-/// Returns the offset of a place in its sector. Two divisions of 32 bits replace one of 64 bits, for which a small processor needs a
-/// library call.
+/// Returns the offset of `at` in its sector. Two 32-bit divisions replace a 64-bit one, which a small processor makes by a library call.
 pub(crate) fn offset_in_sector(sector: u32, at: u64) -> u32 {
     let high = (at / 16_384) as u32 % sector;
     (high * 16_384 + (at % 16_384) as u32) % sector
@@ -86,7 +85,7 @@ fn locate_erase(sector: u32, at: u64, len: usize, done: usize) -> Position {
     }
 }
 
-// Returns the position after `rest` bytes of a write of `len` bytes, behind its erases.
+// Returns the position after `rest` bytes of a write of `len` bytes without erases.
 fn locate_write(len: usize, rest: usize) -> Position {
     if rest < len {
         Position::Program { from: rest }

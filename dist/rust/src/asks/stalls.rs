@@ -1,6 +1,6 @@
 // Of crates/dfu_asks/src/stalls.rt, whose contracts are taken away.
 
-//! The calls that tell whether a device will stall a setup, before the body of the setup arrives.
+//! The calls that predict if a device will stall a setup, before the body of the setup arrives.
 
 use crate::asks::gates::gate_room;
 use crate::asks::{Asking, Refusal, Sector};
@@ -8,7 +8,7 @@ use crate::device::{Config, Decision, DeviceState, Profile, Reply, decide};
 use crate::slots::Unit;
 use crate::wire::{Request, Setup};
 
-// Returns whether a decision answers with a stall.
+// Returns true if a decision stalls its request.
 fn stalls(decision: Decision) -> bool {
     match decision {
         Decision::Sure { reply, .. }
@@ -18,7 +18,7 @@ fn stalls(decision: Decision) -> bool {
     }
 }
 
-// Returns whether a device of this profile stalls this request of the class in this mode, with every body of the right length.
+// Returns true if a device of this profile stalls this class request in this mode, with every body of the right length.
 fn will_stall(profile: &Profile, mode: DeviceState, request: Request) -> bool {
     stalls(decide(profile, mode, request))
 }
@@ -28,8 +28,8 @@ fn room_in(unit: Unit, sector: Sector, size: usize) -> u64 {
     (size as u64 / 2).saturating_sub(2 * u64::from(gate_room(unit, sector)))
 }
 
-/// Returns true if a device with `config` in `mode` stalls `setup`, as `Asking::would_stall`, on a flash of `size` bytes that is written
-/// in units of `unit` and erased in sectors of `sector`.
+/// Returns true if a device with `config` in `mode` stalls `setup`, as `Asking::would_stall` does, on a flash of `size` bytes that is
+/// written in units of `unit` and erased in sectors of `sector`.
 pub fn mode_stalls(
     config: &Config,
     unit: Unit,
@@ -43,12 +43,12 @@ pub fn mode_stalls(
 }
 
 impl Asking {
-    /// Returns true exactly if `handle` will stall `setup`, whatever body of wLength bytes comes with it (USB DFU 1.1, appendix A). `size`
-    /// is the number of bytes of the flash. A stack that stalls a request before its data stage must ask by this call first.
+    /// Returns true exactly if `handle` will stall `setup` for every body of wLength bytes (USB DFU 1.1, appendix A). `size` is the number
+    /// of bytes of the flash. A stack that stalls a request before its data stage must make this call first.
     ///
     /// # Errors
     ///
-    /// `Asked` if writes are due.
+    /// `Asked` if writes are pending.
     pub fn would_stall(&self, size: usize, setup: &[u8; 8]) -> Result<bool, Refusal> {
         if self.work.is_some() {
             return Err(Refusal::Asked);

@@ -1,7 +1,7 @@
 // Of crates/dfu_boot/src/install.rt, whose contracts are taken away.
 
-//! A run area beside a slot store: flash of its own, for which images are linked. Operations that the caller carries out one by one bring
-//! the image to be started to it. These calls write nothing and allocate nothing.
+//! A run area is flash outside the slot store, and images are linked for its addresses. The calls here return the operations that copy an
+//! image to the run area, one by one, and the caller carries out each operation. The calls do not write to flash or allocate memory.
 
 mod area;
 mod compare;
@@ -12,6 +12,6 @@ mod pieces;
 
 pub use area::are_blank;
 pub use deciding::next;
-pub use due::{Due, Refusal};
+pub use due::{Due, InstallRefusal};
 pub use outcome::took;
 pub use pieces::piece;

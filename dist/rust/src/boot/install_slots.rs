@@ -1,13 +1,13 @@
 // Of crates/dfu_boot/src/install_slots.rt, whose contracts are taken away.
 
-//! The next operation that brings the active image of a slot store to a run area.
+//! Next operation that copies the active image of a slot store to a run area.
 
 use crate::boot::install::{Due, next};
 use crate::slots::{Medium, Slots};
 
-/// Returns the next operation that brings the active image of the store to the run area: `install::next` with that image.
+/// Returns the next operation that copies the active image of the store to the run area: the result of `install::next` for that image.
 ///
-/// `memory` has the bytes of the store's medium, as it is mapped for reading. The store is not changed.
+/// `memory` is the store's medium, mapped for reading. The store is not changed.
 ///
 /// # What the caller must keep to
 ///

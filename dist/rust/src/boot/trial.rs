@@ -1,6 +1,7 @@
 // Of crates/dfu_boot/src/trial.rt, whose contracts are taken away.
 
-//! A new image of a slot store runs on trial until it is confirmed; otherwise the image before it becomes active again.
+//! A new image of a slot store runs on trial until it is confirmed. If the new image is not confirmed, the image that was confirmed before
+//! becomes active again.
 
 mod again;
 mod booting;

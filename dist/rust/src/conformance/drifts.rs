@@ -8,11 +8,11 @@ use crate::conformance::StandardState::{
     AppDetach, AppIdle, DfuIdle, DownloadBusy, DownloadSync, Error, Fresh, Manifest, ManifestSync,
     ManifestWaitReset,
 };
-use crate::conformance::row::Source::{A, Habit};
+use crate::conformance::row::RuleSource::{A, Habit};
 use crate::conformance::row::When::{Always, By, NotTolerant, Tolerant, WillDetach};
 
-/// Moves that a device makes by itself: an enumeration ends, a timer ends, the device detaches, or a block or an image was written or
-/// failed. One move, or none, reaches every place that two moves in a row reach.
+/// Moves that a device makes by itself: its enumeration ends, a timer expires, the device detaches, or writing a block or the image
+/// succeeds or fails. One move reaches every state that two moves in sequence reach.
 #[rustfmt::skip]
 pub static DRIFTS: [Drift; 12] = [
     drift!(Fresh, Always, DfuIdle, A),

@@ -1,45 +1,46 @@
 // Of crates/dfu_conformance/src/event.rt, whose contracts are taken away.
 
-//! Events at a device, and the answers that a log has for them.
+//! The events of a device, and the logged answers.
 
 use crate::conformance::{EventKind, Gives, Row, StandardState};
 use crate::wire::{Request, Setup};
 
-/// Answer of a device to a request, as a log has it.
+/// Answer of a device to a request, as the log contains it.
 #[derive(Clone, Copy, Debug, PartialEq, Eq)]
 pub enum Response {
     /// The device stalled the request.
     Stall,
-    /// No answer was seen, so the request may not have reached the device.
+    /// The log has no answer, so the request may not have reached the device.
     Nothing,
-    /// The device sent bytes, or acknowledged the request (a count of 0).
+    /// The device sent bytes. For an acknowledgement, the count is 0.
     Bytes {
-        /// Number of bytes of the answer.
+        /// Number of bytes in the answer.
         count: u32,
-        /// The first byte of the answer, or 0 if the answer has none.
+        /// First byte of the answer, or 0 if the answer is empty.
         first: u8,
-        /// The fifth byte of the answer, or 0 if the answer has fewer.
+        /// Fifth byte of the answer, or 0 if the answer is shorter.
         fifth: u8,
     },
 }
 
-/// Event at a device, and the answer that was seen. A reset and a return of power have no answer.
+/// An event of a device, and the logged answer. A bus reset and a return of power have no answer.
 #[derive(Clone, Copy, Debug, PartialEq, Eq)]
 pub struct LogEvent {
     /// Kind of the event.
     pub asked: EventKind,
-    /// True if the request is well-formed: its wValue and wLength, and the size of its body, are those of section 3. True without a
-    /// request.
+    /// True if the request is well-formed: its wValue, its wLength and the size of its body are those of section 3. Also true for an event
+    /// without a request.
     pub is_plain: bool,
-    /// wLength of the request: the number of bytes of its body, or the most bytes that the host asks for; 0 without a request.
+    /// wLength of the request, which is the number of bytes in its body or the largest number that the host accepts. 0 for an event without
+    /// a request.
     pub length: u16,
-    /// The answer that was seen.
+    /// The logged answer.
     pub answer: Response,
 }
 
 impl LogEvent {
-    /// Returns the event of a request with `setup` and a body of `body` bytes that was answered with `answer`. None if the request is no
-    /// class request to interface 0.
+    /// Returns the event of a request with `setup`, a body of `body` bytes, and `answer`. Returns None if the request is not a class
+    /// request to interface 0.
     pub fn exchange(setup: &Setup, body: usize, answer: Response) -> Option<LogEvent> {
         let request = setup.request();
         match request {
@@ -54,7 +55,7 @@ impl LogEvent {
     }
 }
 
-/// Returns the kind of event of `request` in the tables. A DNLOAD of no bytes has its own kind, `Close`.
+/// Returns the kind of the request's event in the tables. A DNLOAD without bytes has a kind of its own, `Close`.
 fn event_kind_of(request: &Request) -> EventKind {
     match *request {
         Request::Detach { .. } => EventKind::Detach,
@@ -81,7 +82,8 @@ fn is_told(setup: &Setup, request: &Request, body: usize) -> bool {
     body == wanted && has_standard_numbers(request, value)
 }
 
-/// Returns true if `request` has the wLength of section 3, and `value` is the wValue of section 3.
+/// Returns true if wLength of `request` and `value`, its wValue, are those of section 3. DETACH, DNLOAD and requests other than the seven
+/// of DFU may have any values.
 fn has_standard_numbers(request: &Request, value: u16) -> bool {
     match *request {
         Request::Upload { length, .. } => length != 0,
@@ -92,18 +94,18 @@ fn has_standard_numbers(request: &Request, value: u16) -> bool {
     }
 }
 
-/// Returns true if `row` fits `event`: the row applies to the kind of event, and allows the answer that was seen.
+/// Returns true if `row` fits `event`: it is for this kind of event, and allows the logged answer.
 pub fn row_fits_event(row: &Row, event: &LogEvent) -> bool {
     is_asked(row.asked, event) && is_shown(row, event)
 }
 
-/// Returns true if a row for `asked` applies to `event`. A device may take a request that is not well-formed as `Other`, too.
+/// Returns true if a row for `asked` applies to `event`. A device may also treat a request that is not well-formed as `Other`.
 pub(crate) fn is_asked(asked: EventKind, event: &LogEvent) -> bool {
     asked.number() == event.asked.number()
         || !event.is_plain && asked.number() == EventKind::Other.number()
 }
 
-/// Returns true if `row` allows the answer that was seen in `event`.
+/// Returns true if `row` allows the logged answer of `event`.
 fn is_shown(row: &Row, event: &LogEvent) -> bool {
     let length = event.length as u32;
     match event.answer {
@@ -136,7 +138,7 @@ fn is_shown(row: &Row, event: &LogEvent) -> bool {
     }
 }
 
-/// Returns bState (section 6.1.2) of a device at `place`.
+/// Returns the bState (section 6.1.2) that a device in state `place` reports.
 fn state_of(place: StandardState) -> usize {
     match place {
         StandardState::Fresh => 2,
@@ -144,7 +146,7 @@ fn state_of(place: StandardState) -> usize {
     }
 }
 
-/// Returns true if a device that enters `place` may report the status code `code`: OK outside dfuERROR, and 1 to 15 in dfuERROR.
+/// Returns true if a device that enters state `place` may report the status code `code`: OK outside dfuERROR, and 1 to 15 in dfuERROR.
 fn may_place_report_code(place: StandardState, code: u8) -> bool {
     match place {
         StandardState::Error => 0 < code && code < 16,
@@ -152,8 +154,8 @@ fn may_place_report_code(place: StandardState, code: u8) -> bool {
     }
 }
 
-/// Returns true if a device may stay at its place at `event`, without a row: no answer was seen, or it stalled a request that is not
-/// well-formed.
+/// Returns true if a device may stay in its state at `event` without a row: if the log has no answer, or if the device stalled a request
+/// that is not well-formed.
 pub(crate) fn may_stay(event: &LogEvent) -> bool {
     match event.answer {
         Response::Nothing => true,

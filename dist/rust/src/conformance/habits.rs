@@ -1,6 +1,6 @@
 // Of crates/dfu_conformance/src/habits.rt, whose contracts are taken away.
 
-//! Habits of devices that the standard doesn't allow.
+//! Habits: common deviations of devices from the standard.
 
 use crate::conformance::EventKind::{Detach, GetState, GetStatus, Power, Reset};
 use crate::conformance::Reading::{Bootloader, DetachAtOnce, DetachLeaves, ErrorWithoutCode, RuntimeMute};
@@ -10,13 +10,13 @@ use crate::conformance::StandardState::{
     ManifestSync, ManifestWaitReset, UploadIdle,
 };
 use crate::conformance::row::Gives::{Ack, NoCode, Silent, Stall};
-use crate::conformance::row::Source::Habit;
+use crate::conformance::row::RuleSource::Habit;
 use crate::conformance::row::When::By;
 
-/// Rows that habits add to the table of the standard. SelfReset adds no row, but moves, in `DRIFTS`.
+/// Rows that habits add to the table of the standard. SelfReset adds moves instead, which are in `DRIFTS`.
 #[rustfmt::skip]
 pub static HABITS: [Row; 28] = [
-    // Bootloader: a reset and a return of power lead to dfuIDLE.
+    // Bootloader: the device is in dfuIDLE after a bus reset and after a return of power.
     row!(AppIdle, Reset, By(Bootloader), Silent, Fresh, Habit),
     row!(DfuIdle, Reset, By(Bootloader), Silent, Fresh, Habit),
     row!(DownloadSync, Reset, By(Bootloader), Silent, Fresh, Habit),
@@ -43,10 +43,10 @@ pub static HABITS: [Row; 28] = [
     row!(AppIdle, GetState, By(RuntimeMute), Stall, AppIdle, Habit),
     row!(AppDetach, GetStatus, By(RuntimeMute), Stall, AppDetach, Habit),
     row!(AppDetach, GetState, By(RuntimeMute), Stall, AppDetach, Habit),
-    // DetachAtOnce: DETACH leads to dfuIDLE, with no reset.
+    // DetachAtOnce: DETACH leads to dfuIDLE without a reset.
     row!(AppIdle, Detach, By(DetachAtOnce), Ack, DfuIdle, Habit),
     // DetachLeaves: DETACH leads from dfuIDLE to the application.
     row!(DfuIdle, Detach, By(DetachLeaves), Ack, AppIdle, Habit),
-    // ErrorWithoutCode: in dfuERROR the status has the code OK.
+    // ErrorWithoutCode: GETSTATUS returns the code OK in dfuERROR.
     row!(Error, GetStatus, By(ErrorWithoutCode), NoCode, Error, Habit),
 ];

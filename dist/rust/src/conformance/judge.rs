@@ -1,26 +1,26 @@
 // Of crates/dfu_conformance/src/judge.rt, whose contracts are taken away.
 
-//! The judge of one device, by the tables of the standard and of the habits.
+//! The judge of one device, which uses the tables of the standard and of the habits.
 
 use crate::conformance::held::{Places, is_any_held, least_held, places_of, step};
 use crate::conformance::{Departure, LogEvent, Verdict};
 
-/// Candidates before the first event: every device, at every place.
+/// Candidates before the first event: every device, in every state.
 const EVERY: Places = [[u64::MAX; 16]; 12];
 
-/// A judge of one device, about which nothing is known at first: it follows every possible device at once, with each set of habits, and
-/// allocates no memory beyond its own 3,080 bytes.
+/// A judge of one device, about which nothing is known at first. It follows all possible devices at once, with each set of habits. It has
+/// 3,080 bytes, and allocates no memory.
 #[derive(Debug, PartialEq, Eq)]
 pub struct Judge {
-    // True after the first departure. Until then `since` is not used, because `whole` has the candidates since the start.
+    // True after the first departure. Before that, `since` is not used, because `whole` contains the same candidates.
     has_departed: bool,
-    // Candidates by the events since the last departure.
+    // Candidates for the events since the last departure.
     since: Places,
-    // Candidates by all events.
+    // Candidates for all events.
     whole: Places,
 }
 
-/// Returns the departure at `event`, if no device without habits is left in `after`; else None.
+/// Returns the departure at `event` if `after` has no candidate without habits, or None.
 fn departure(before: &Places, after: &Places, event: &LogEvent) -> Option<Departure> {
     if is_any_held(after, 0) {
         return None;
@@ -32,7 +32,7 @@ fn departure(before: &Places, after: &Places, event: &LogEvent) -> Option<Depart
 }
 
 impl Judge {
-    /// Returns a judge before the first event: nothing is known about the device, which may be at any place.
+    /// Returns a judge before the first event. The device may be in any state.
     pub fn new() -> Judge {
         Judge {
             has_departed: false,
@@ -41,8 +41,8 @@ impl Judge {
         }
     }
 
-    /// Takes the next event. Returns a departure if no device that keeps the standard could have answered all events since the last
-    /// departure and `event`. The search for departures then starts again from every place; the verdict remains on all events.
+    /// Processes the next event. If no device that keeps the standard could have given the answers of all events since the last departure,
+    /// including this one, returns a departure, and restarts its search with every state. The verdict still covers all events.
     pub fn take(&mut self, event: &LogEvent) -> Option<Departure> {
         let whole = step(&self.whole, event);
         if self.has_departed {
@@ -75,7 +75,7 @@ impl Judge {
         }
     }
 
-    /// Returns the verdict on all events that the judge took.
+    /// Returns the verdict on all events that the judge has processed.
     pub fn verdict(&self) -> Verdict {
         if is_any_held(&self.whole, 0) {
             return Verdict::Kept;
@@ -86,14 +86,14 @@ impl Judge {
         }
     }
 
-    /// Returns, for each place, true if a device with the set of habits `readings`, 0 to 63, may be there after all events. The places are
-    /// in the order of `StandardState`.
+    /// Returns, for each state in the order of `StandardState`, true if a device with the set of habits `readings`, 0 to 63, may
+    /// be in it after all events.
     pub fn places(&self, readings: u8) -> [bool; 12] {
         places_of(&self.whole, readings)
     }
 
-    /// Returns, for each place, true if a device without habits may be there, by the events since the last departure. The places are in the
-    /// order of `StandardState`.
+    /// Returns, for each state in the order of `StandardState`, true if a device without habits may be in it after the events
+    /// since the last departure.
     pub fn standing(&self) -> [bool; 12] {
         if self.has_departed {
             places_of(&self.since, 0)

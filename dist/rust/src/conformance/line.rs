@@ -5,12 +5,12 @@
 use crate::conformance::Response;
 use crate::wire::Setup;
 
-/// Returns the index of the first space of `line`; None if it has none.
+/// Returns the index of the first space in `line`, or None.
 fn first_space(line: &[u8]) -> Option<usize> {
     line.iter().position(|byte| *byte == b' ')
 }
 
-/// Returns the end of the first field of `line`: its first space, or the line's end.
+/// Returns the index at which the first field of `line` ends: its first space, or the end of the line.
 pub(crate) fn field_end(line: &[u8]) -> usize {
     match first_space(line) {
         Some(at) => at,
@@ -18,7 +18,7 @@ pub(crate) fn field_end(line: &[u8]) -> usize {
     }
 }
 
-/// Returns the value of hexadecimal digit `byte`, of either case, and 16 for any other byte.
+/// Returns the value of hexadecimal digit `byte`, of either case, or 16 for any other byte.
 fn value_of(byte: u8) -> u8 {
     match byte {
         b'0'..=b'9' => byte - b'0',
@@ -33,7 +33,7 @@ fn are_digits(text: &[u8]) -> bool {
     text.iter().all(|byte| value_of(*byte) < 16)
 }
 
-/// Returns true if `text` is pairs of hexadecimal digits, for at most 65,535 bytes.
+/// Returns true if `text` consists of at most 65,535 pairs of hexadecimal digits.
 fn is_bytes(text: &[u8]) -> bool {
     if text.len() > 131_070 {
         return false;
@@ -44,7 +44,7 @@ fn is_bytes(text: &[u8]) -> bool {
     are_digits(text)
 }
 
-/// Returns the byte that pair `n` of hexadecimal digits in `text` makes, or 0 if `text` ends before the pair does.
+/// Returns the byte that pair `n` of hexadecimal digits encodes, or 0 if `text` ends before this pair does.
 fn byte_at(text: &[u8], n: usize) -> u8 {
     if 2 * n + 1 >= text.len() {
         return 0;
@@ -54,12 +54,12 @@ fn byte_at(text: &[u8], n: usize) -> u8 {
     ((16 * high + low) % 256) as u8
 }
 
-/// Returns the number that pairs `n` and `n` + 1 of `text` make, the low byte first.
+/// Returns the number that pairs `n` and `n + 1` of hexadecimal digits encode, the low byte first.
 fn number_at(text: &[u8], n: usize) -> u16 {
     byte_at(text, n) as u16 + 256 * byte_at(text, n + 1) as u16
 }
 
-/// Returns the setup that `text` encodes in sixteen hexadecimal digits; None for any other text.
+/// Returns the setup that the sixteen hexadecimal digits of `text` encode, or None for any other text.
 pub(crate) fn setup_of(text: &[u8]) -> Option<Setup> {
     if !is_bytes(text) || text.len() != 16 {
         return None;
@@ -73,7 +73,8 @@ pub(crate) fn setup_of(text: &[u8]) -> Option<Setup> {
     })
 }
 
-/// Returns the number of bytes of the body `text`: half the number of its hexadecimal digits, or 0 for a dash; None for any other text.
+/// Returns the number of bytes of the body `text`: half the number of its hexadecimal digits, or 0 for `-`. Returns None for any other
+/// text.
 pub(crate) fn body_of(text: &[u8]) -> Option<usize> {
     if text == b"-".as_slice() {
         return Some(0);
@@ -84,7 +85,7 @@ pub(crate) fn body_of(text: &[u8]) -> Option<usize> {
     Some(text.len() / 2)
 }
 
-/// Reads `text` as an answer: `ack`, `stall`, `nothing`, or the bytes of the device; None for any other text.
+/// Returns the answer in `text`: `ack`, `stall`, `nothing`, or the bytes that the device sent. Returns None for any other text.
 pub(crate) fn answer_of(text: &[u8]) -> Option<Response> {
     if text == b"ack".as_slice() {
         return Some(Response::Bytes {

@@ -11,33 +11,33 @@ use crate::wire::Setup;
 pub enum Line {
     /// An empty line, or a comment, which begins with `#`.
     Blank,
-    /// A request that is no class request, or a request to another interface.
+    /// A request that is not a class request, or is to another interface.
     Elsewhere,
-    /// An event at the device.
+    /// An event of the device.
     Came(LogEvent),
 }
 
-/// Reason why a line is no valid line of a log.
+/// Reason why a line of a log is not valid.
 #[derive(Clone, Copy, Debug, PartialEq, Eq)]
 pub enum LineFault {
-    /// The line has over 262,158 bytes, more than any valid line but a comment.
+    /// The line has over 262,158 bytes. Only a comment may be longer.
     Long,
-    /// The first field is no setup.
+    /// The first field is not a setup.
     Setup,
-    /// The second field is no body.
+    /// The second field is not a body.
     Body,
-    /// The text behind the second field is no answer.
+    /// The text after the second field is not an answer.
     Answer,
 }
 
-/// Answer in the event of a reset or power: no bytes.
+/// Answer of a reset or power event, which has no bytes.
 const SILENT: Response = Response::Bytes {
     count: 0,
     first: 0,
     fifth: 0,
 };
 
-/// Returns the first field of `line`, and the bytes after the space that ends it; none if no space does.
+/// Returns the first field of `line`, and the bytes after the space that ends it. These are empty if there is no space.
 fn parts(line: &[u8]) -> (&[u8], &[u8]) {
     let end = field_end(line);
     let rest = if end < line.len() {
@@ -48,14 +48,15 @@ fn parts(line: &[u8]) -> (&[u8], &[u8]) {
     (&line[..end], rest)
 }
 
-/// Returns the content of `line`, for a device whose DFU interface has the number `interface`, the wIndex of its requests:
+/// Returns the content of `line`. The DFU interface of the device has number `interface`, which is the wIndex of its requests. A line is
+/// one of these:
 ///
 /// - `SETUP BODY ANSWER`, with one space between them: the sixteen hexadecimal digits of a setup; the bytes of its body in such digits, or
 ///   `-`; and `ack`, `stall`, `nothing`, or the bytes of the answer in such digits;
 /// - `reset` and `power`;
 /// - an empty line, or one that begins with `#`.
 ///
-/// `None` for any other line. A body and an answer have at most 65,535 bytes each.
+/// Returns None for any other line. A body and an answer may have 65,535 bytes each.
 pub fn read_line(interface: u8, line: &[u8]) -> Option<Line> {
     if begins_blank(line) {
         return Some(Line::Blank);
@@ -71,7 +72,7 @@ pub fn read_line(interface: u8, line: &[u8]) -> Option<Line> {
     request_of(interface, setup_of(setup), body_of(body), answer_of(answer))
 }
 
-/// Returns the first wrong field of `line`, which `read_line` can't read.
+/// Returns the first wrong field of a line for which `read_line` returns None.
 pub fn why_unread(line: &[u8]) -> LineFault {
     let (setup, rest) = parts(line);
     let (body, _) = parts(rest);
@@ -92,7 +93,7 @@ fn begins_blank(line: &[u8]) -> bool {
     }
 }
 
-/// Returns the event of kind `asked` of a `reset` or `power` line.
+/// Returns the event of kind `asked`, for a `reset` or `power` line.
 fn mark(asked: EventKind) -> LogEvent {
     LogEvent {
         asked,
@@ -102,7 +103,7 @@ fn mark(asked: EventKind) -> LogEvent {
     }
 }
 
-/// Returns the line of a request with the fields `setup`, `body` and `answer`, for a device at `interface`; None if a field is None.
+/// Returns the content of a request's line with these three fields, for a device at `interface`. Returns None if a field is None.
 fn request_of(
     interface: u8,
     setup: Option<Setup>,
@@ -121,7 +122,8 @@ fn request_of(
     }
 }
 
-/// Returns the line of a request with `setup`, a body of `body` bytes and `answer`: Elsewhere if it is no class request to interface 0.
+/// Returns the content of the line of a request with `setup`, a body of `body` bytes and `answer`. It is Elsewhere unless the request is a
+/// class request to interface 0.
 fn line_of(setup: &Setup, body: usize, answer: Response) -> Line {
     match LogEvent::exchange(setup, body, answer) {
         Some(event) => Line::Came(event),

@@ -1,6 +1,6 @@
 // Of crates/dfu_conformance/src/marks.rt, whose contracts are taken away.
 
-//! Rows of a reset of the bus and of a return of power (USB DFU 1.1, appendix A).
+//! Rows for a bus reset and for a return of power (USB DFU 1.1, appendix A).
 
 use crate::conformance::EventKind::{Power, Reset};
 use crate::conformance::Row;
@@ -9,20 +9,21 @@ use crate::conformance::StandardState::{
     ManifestSync, ManifestWaitReset, UploadIdle,
 };
 use crate::conformance::row::Gives::Silent;
-use crate::conformance::row::Source::{A, Open};
+use crate::conformance::row::RuleSource::{A, Open};
 use crate::conformance::row::When::Always;
 
-// Expands each line, for one place and for a reset or power, to a row for each place in which the device may come up.
+// Expands each line, for one state and a bus reset or a return of power, to a row for each state in which the device may start.
 macro_rules! marks {
     ($($from:ident, $asked:ident => $($next:ident)|+, $source:ident;)+) => {
         [$($(row!($from, $asked, Always, Silent, $next, $source),)+)+]
     };
 }
 
-/// Places to which a reset of the bus and a return of power lead.
+/// Rows for a bus reset and a return of power. Each row leads to a state in which the device may be afterwards.
 #[rustfmt::skip]
 pub static MARKS: [Row; 43] = marks!(
-    // A reset of the bus: a device that detaches comes up in dfuIDLE, any other in its application, or in dfuERROR if that is corrupt.
+    // After a bus reset, a detaching device is in dfuIDLE, and a second reset doesn't change that. Any other device is in its application,
+    // or in dfuERROR if its application is corrupt.
     AppIdle, Reset => AppIdle, A;
     AppDetach, Reset => Fresh, A;
     Fresh, Reset => Fresh, Open;
@@ -35,7 +36,7 @@ pub static MARKS: [Row; 43] = marks!(
     ManifestWaitReset, Reset => AppIdle | Error, A;
     UploadIdle, Reset => AppIdle | Error, A;
     Error, Reset => AppIdle | Error, A;
-    // A return of power: the device comes up in its application, or in dfuERROR if that is corrupt.
+    // After a return of power, the device is in its application, or in dfuERROR if its application is corrupt.
     AppIdle, Power => AppIdle | Error, A;
     AppDetach, Power => AppIdle | Error, A;
     DfuIdle, Power => AppIdle | Error, A;

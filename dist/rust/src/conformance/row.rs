@@ -2,7 +2,7 @@
 
 //! Rows of the tables, and the types of their fields.
 
-/// Place at which a device may be: a state of the standard (USB DFU 1.1, section 6.1.2), or dfuIDLE right after a reset of the bus.
+/// State of a device: one of the standard (USB DFU 1.1, section 6.1.2), or dfuIDLE right after a bus reset.
 #[derive(Clone, Copy, Debug, PartialEq, Eq)]
 pub enum StandardState {
     /// appIDLE, state 0.
@@ -27,25 +27,25 @@ pub enum StandardState {
     UploadIdle,
     /// dfuERROR, state 10.
     Error,
-    /// dfuIDLE right after a reset: a second reset may belong to the same enumeration.
+    /// dfuIDLE right after a reset, when a second reset may be part of the same enumeration.
     Fresh,
 }
 
 impl StandardState {
-    /// Returns the index of the place in a list of all twelve, 0 to 11.
+    /// Returns the index of the state in a list of all twelve, 0 to 11.
     pub fn number(self) -> usize {
         self as usize
     }
 }
 
-/// Kind of an event at a device: a request of the class (USB DFU 1.1, section 3), a reset of the bus, or a return of power.
+/// Kind of an event: a request of the class (USB DFU 1.1, section 3), a bus reset, or a return of power.
 #[derive(Clone, Copy, Debug, PartialEq, Eq)]
 pub enum EventKind {
     /// A DETACH request.
     Detach,
-    /// A DNLOAD request with wLength over 0: a block.
+    /// A DNLOAD request whose wLength isn't 0: a block of the image.
     Block,
-    /// A DNLOAD request with wLength 0: the end of the image.
+    /// A DNLOAD request whose wLength is 0: the end of the image.
     Close,
     /// An UPLOAD request.
     Upload,
@@ -72,25 +72,25 @@ impl EventKind {
     }
 }
 
-/// A habit of some devices that the standard doesn't allow. The verdict of a judge has the smallest set of habits with which a device may
+/// A habit: a common deviation of devices from the standard. A judge's verdict contains the smallest set of habits with which a device may
 /// have given the answers.
 #[derive(Clone, Copy, Debug, PartialEq, Eq)]
 pub enum Reading {
-    /// 0: after a reset or a return of power the device is in dfuIDLE, like a bootloader without an application.
+    /// 0: after a bus reset or a return of power, the device is in dfuIDLE, like a bootloader without an application.
     Bootloader,
-    /// 1: in appIDLE and appDETACH the device stalls GETSTATUS and GETSTATE.
+    /// 1: in appIDLE and appDETACH, the device stalls GETSTATUS and GETSTATE.
     RuntimeMute,
     /// 2: the device leaves dfuMANIFEST and dfuMANIFEST-WAIT-RESET for appIDLE by itself.
     SelfReset,
     /// 3: DETACH leads from appIDLE to dfuIDLE at once.
     DetachAtOnce,
-    /// 4: DETACH is acknowledged in dfuIDLE, and leads to appIDLE.
+    /// 4: in dfuIDLE, the device acknowledges DETACH, and enters appIDLE.
     DetachLeaves,
-    /// 5: in dfuERROR GETSTATUS answers the code OK.
+    /// 5: in dfuERROR, GETSTATUS returns the code OK.
     ErrorWithoutCode,
 }
 
-/// Devices to which a row applies, by a bit of bmAttributes (USB DFU 1.1, section 4.1.3) or by a habit.
+/// Devices to which a row applies, according to a bit of bmAttributes (USB DFU 1.1, section 4.1.3) or to a habit.
 #[derive(Clone, Copy, Debug, PartialEq, Eq)]
 pub enum When {
     /// Every device.
@@ -105,7 +105,7 @@ pub enum When {
     NotTolerant,
     /// Devices whose bitWillDetach is 1.
     WillDetach,
-    /// Devices with this habit, for which the standard has no such row.
+    /// Devices with this habit. The standard has no such row.
     By(Reading),
 }
 
@@ -116,36 +116,36 @@ pub enum Gives {
     Ack,
     /// The device stalls.
     Stall,
-    /// Six bytes, or as many of them as were asked for (section 6.1.2): the code is OK outside dfuERROR, and another code in it; the state
-    /// is the one that the device enters.
+    /// Six bytes, or as many of them as were requested (section 6.1.2). The code is OK outside dfuERROR, and another one in dfuERROR. The
+    /// state is the one that the device enters.
     Status,
-    /// As `Status`, but with the code OK in dfuERROR.
+    /// Like `Status`, but with the code OK in dfuERROR.
     NoCode,
-    /// One byte, or none if none was asked for: the state of the device before the request.
+    /// One byte, or none if none was requested: the state of the device before the request.
     State,
-    /// As many bytes of an image as were asked for.
+    /// As many bytes of the image as were requested.
     Full,
-    /// Fewer bytes of an image than were asked for; also no bytes if none were asked for.
+    /// Fewer bytes of the image than were requested, or none if none were requested.
     Short,
-    /// No answer, because a reset or a return of power has none.
+    /// No answer, because a bus reset and a return of power have none.
     Silent,
 }
 
 /// Source of a row in the standard.
 #[derive(Clone, Copy, Debug, PartialEq, Eq)]
-pub enum Source {
-    /// Appendix A, in the table of the state where the row begins; section 6.1.2 defines the bytes of the answer.
+pub enum RuleSource {
+    /// Appendix A, in the table of the state in which the row begins. Section 6.1.2 defines the bytes of the answer.
     A,
-    /// Appendix A is ambiguous here: each way to read it has a row.
+    /// Appendix A is ambiguous, and each interpretation has a row.
     Open,
     /// The standard has no such row.
     Habit,
 }
 
-/// A row of a table: the place of a device, an event, the answer that the device may give, and the place that it enters.
+/// A row of a table: the state of a device, an event, the answer that the device may give, and the state that it enters.
 #[derive(Clone, Copy, Debug, PartialEq, Eq)]
 pub struct Row {
-    /// Place of the device before the event.
+    /// State of the device before the event.
     pub from: StandardState,
     /// Kind of the event.
     pub asked: EventKind,
@@ -153,21 +153,21 @@ pub struct Row {
     pub when: When,
     /// Answer of the device.
     pub gives: Gives,
-    /// Place of the device after the event.
+    /// State of the device after the event.
     pub next: StandardState,
     /// Source of the row in the standard.
-    pub source: Source,
+    pub source: RuleSource,
 }
 
-/// A move that a device makes by itself, between two events.
+/// A move that a device makes by itself between two events.
 #[derive(Clone, Copy, Debug, PartialEq, Eq)]
 pub struct Drift {
-    /// Place of the device before the move.
+    /// State of the device before the move.
     pub from: StandardState,
-    /// Devices that make the move.
+    /// Devices that may make the move.
     pub when: When,
-    /// Place of the device after the move.
+    /// State of the device after the move.
     pub next: StandardState,
     /// Source of the move in the standard.
-    pub source: Source,
+    pub source: RuleSource,
 }

@@ -1,6 +1,6 @@
 // Of crates/dfu_conformance/src/standard.rt, whose contracts are taken away.
 
-//! The table of the standard: the answers that a device may give at each place to each request (USB DFU 1.1, appendix A and section 6).
+//! The table of the standard: the answers that a device may give to each request in each state (USB DFU 1.1, appendix A and section 6).
 
 use crate::conformance::EventKind::{
     Abort, Block, Close, ClrStatus, Detach, GetState, GetStatus, Other, Upload,
@@ -11,11 +11,11 @@ use crate::conformance::StandardState::{
     ManifestSync, ManifestWaitReset, UploadIdle,
 };
 use crate::conformance::row::Gives::{Ack, Full, Short, Stall, State, Status};
-use crate::conformance::row::Source::{A, Open};
+use crate::conformance::row::RuleSource::{A, Open};
 use crate::conformance::row::When::{Always, CanDownload, CanUpload, Tolerant};
 
-/// Answers of devices that keep the standard. Each row has the place of the device, the request, the devices to which the row applies,
-/// their answer, the place that they enter, and the source in the standard.
+/// Answers of devices that keep the standard. Each row contains the state of the device, the request, the devices to which the row applies,
+/// their answer, the state that they enter, and the source in the standard.
 #[rustfmt::skip]
 pub static STANDARD: [Row; 126] = [
     // State 0, appIDLE.
@@ -28,7 +28,7 @@ pub static STANDARD: [Row; 126] = [
     row!(AppIdle, ClrStatus, Always, Stall, AppIdle, A),
     row!(AppIdle, Abort, Always, Stall, AppIdle, A),
     row!(AppIdle, Other, Always, Stall, AppIdle, A),
-    // State 1, appDETACH. A stalled request, also a second DETACH, leads back to appIDLE.
+    // State 1, appDETACH. A stalled request, even a second DETACH, leads back to appIDLE.
     row!(AppDetach, GetStatus, Always, Status, AppDetach, A),
     row!(AppDetach, GetState, Always, State, AppDetach, A),
     row!(AppDetach, Detach, Always, Stall, AppIdle, A),
@@ -38,7 +38,8 @@ pub static STANDARD: [Row; 126] = [
     row!(AppDetach, ClrStatus, Always, Stall, AppIdle, A),
     row!(AppDetach, Abort, Always, Stall, AppIdle, A),
     row!(AppDetach, Other, Always, Stall, AppIdle, A),
-    // State 2, dfuIDLE. A first block and an UPLOAD may be stalled. Open: a short UPLOAD ends the upload, or the host must send one more.
+    // State 2, dfuIDLE. The device may stall a first block and an UPLOAD. Open: an UPLOAD with a short answer ends the upload, or leads to
+    // dfuUPLOAD-IDLE.
     row!(DfuIdle, Block, CanDownload, Ack, DownloadSync, A),
     row!(DfuIdle, Upload, CanUpload, Full, UploadIdle, A),
     row!(DfuIdle, Upload, CanUpload, Short, UploadIdle, A),
@@ -52,7 +53,7 @@ pub static STANDARD: [Row; 126] = [
     row!(DfuIdle, Upload, Always, Stall, Error, A),
     row!(DfuIdle, ClrStatus, Always, Stall, Error, A),
     row!(DfuIdle, Other, Always, Stall, Error, A),
-    // State 3, dfuDNLOAD-SYNC. Open: ABORT is acknowledged, or leads to dfuERROR.
+    // State 3, dfuDNLOAD-SYNC. Open: the device acknowledges ABORT, or enters dfuERROR.
     row!(DownloadSync, GetStatus, Always, Status, DownloadBusy, A),
     row!(DownloadSync, GetStatus, Always, Status, DownloadIdle, A),
     row!(DownloadSync, GetState, Always, State, DownloadSync, A),
@@ -64,7 +65,7 @@ pub static STANDARD: [Row; 126] = [
     row!(DownloadSync, ClrStatus, Always, Stall, Error, A),
     row!(DownloadSync, Abort, Always, Stall, Error, Open),
     row!(DownloadSync, Other, Always, Stall, Error, A),
-    // State 4, dfuDNBUSY. Open: GETSTATUS and GETSTATE are answered, or lead to dfuERROR as every other request does.
+    // State 4, dfuDNBUSY. Open: the device answers GETSTATUS and GETSTATE, or enters dfuERROR as at every other request.
     row!(DownloadBusy, GetStatus, Always, Status, DownloadBusy, Open),
     row!(DownloadBusy, GetState, Always, State, DownloadBusy, Open),
     row!(DownloadBusy, Detach, Always, Stall, Error, A),
@@ -76,7 +77,7 @@ pub static STANDARD: [Row; 126] = [
     row!(DownloadBusy, GetState, Always, Stall, Error, Open),
     row!(DownloadBusy, Abort, Always, Stall, Error, A),
     row!(DownloadBusy, Other, Always, Stall, Error, A),
-    // State 5, dfuDNLOAD-IDLE. A block and the end of the image may be stalled.
+    // State 5, dfuDNLOAD-IDLE. The device may stall a block and the end of the image.
     row!(DownloadIdle, Block, Always, Ack, DownloadSync, A),
     row!(DownloadIdle, Close, Always, Ack, ManifestSync, A),
     row!(DownloadIdle, Abort, Always, Ack, DfuIdle, A),
@@ -88,7 +89,7 @@ pub static STANDARD: [Row; 126] = [
     row!(DownloadIdle, Upload, Always, Stall, Error, A),
     row!(DownloadIdle, ClrStatus, Always, Stall, Error, A),
     row!(DownloadIdle, Other, Always, Stall, Error, A),
-    // State 6, dfuMANIFEST-SYNC. Open: ABORT is acknowledged, or leads to dfuERROR.
+    // State 6, dfuMANIFEST-SYNC. Open: the device acknowledges ABORT, or enters dfuERROR.
     row!(ManifestSync, GetStatus, Always, Status, Manifest, A),
     row!(ManifestSync, GetStatus, Tolerant, Status, DfuIdle, A),
     row!(ManifestSync, GetState, Always, State, ManifestSync, A),
@@ -100,7 +101,7 @@ pub static STANDARD: [Row; 126] = [
     row!(ManifestSync, ClrStatus, Always, Stall, Error, A),
     row!(ManifestSync, Abort, Always, Stall, Error, Open),
     row!(ManifestSync, Other, Always, Stall, Error, A),
-    // State 7, dfuMANIFEST. Open: GETSTATUS and GETSTATE are answered, or lead to dfuERROR as every other request does.
+    // State 7, dfuMANIFEST. Open: the device answers GETSTATUS and GETSTATE, or enters dfuERROR as at every other request.
     row!(Manifest, GetStatus, Always, Status, Manifest, Open),
     row!(Manifest, GetState, Always, State, Manifest, Open),
     row!(Manifest, Detach, Always, Stall, Error, A),
@@ -112,8 +113,8 @@ pub static STANDARD: [Row; 126] = [
     row!(Manifest, GetState, Always, Stall, Error, Open),
     row!(Manifest, Abort, Always, Stall, Error, A),
     row!(Manifest, Other, Always, Stall, Error, A),
-    // State 8, dfuMANIFEST-WAIT-RESET. Open: a request is stalled, and the device stays or enters dfuERROR; or GETSTATUS and GETSTATE are
-    // answered.
+    // State 8, dfuMANIFEST-WAIT-RESET. Open: the device stalls a request, and stays or enters dfuERROR; or it answers GETSTATUS and
+    // GETSTATE.
     row!(ManifestWaitReset, GetStatus, Always, Status, ManifestWaitReset, Open),
     row!(ManifestWaitReset, GetState, Always, State, ManifestWaitReset, Open),
     row!(ManifestWaitReset, Detach, Always, Stall, ManifestWaitReset, Open),
@@ -134,7 +135,7 @@ pub static STANDARD: [Row; 126] = [
     row!(ManifestWaitReset, GetState, Always, Stall, Error, Open),
     row!(ManifestWaitReset, Abort, Always, Stall, Error, Open),
     row!(ManifestWaitReset, Other, Always, Stall, Error, Open),
-    // State 9, dfuUPLOAD-IDLE. An UPLOAD may be stalled.
+    // State 9, dfuUPLOAD-IDLE. The device may stall an UPLOAD.
     row!(UploadIdle, Upload, CanUpload, Full, UploadIdle, A),
     row!(UploadIdle, Upload, CanUpload, Short, DfuIdle, A),
     row!(UploadIdle, Abort, Always, Ack, DfuIdle, A),

@@ -5,34 +5,33 @@
 use crate::conformance::event::is_asked;
 use crate::conformance::{LogEvent, Row};
 
-/// Verdict of a judge on all events that it took.
+/// Verdict of a judge on all events that it has processed.
 #[derive(Clone, Copy, Debug, PartialEq, Eq)]
 pub enum Verdict {
     /// A device that keeps the standard may have answered the events.
     Kept,
-    /// No such device may have answered the events, but a device with these habits may: bit n is habit n of `Reading`. No set with
-    /// fewer habits suffices.
+    /// No device that keeps the standard may have answered the events, but a device with these habits may. Bit n is habit n of
+    /// `Reading`. No set of fewer habits is enough.
     KeptBy {
         /// The set of habits, 1 to 63.
         readings: u8,
     },
-    /// No device may have answered the events, with any habits.
+    /// No device with any set of habits may have answered the events.
     NotKept,
 }
 
-/// An event whose answer departs from the standard: no device that the judge follows could have given it after the answers since the last
-/// departure.
+/// An event whose answer departs from the standard: after the answers since the last departure, no device that keeps the standard could
+/// have given this answer. In a result for DfuSe, no DfuSe device could have given it.
 #[derive(Clone, Copy, Debug, PartialEq, Eq)]
 pub struct Departure {
-    /// Places at which the device might be before the event, in the order of `StandardState`.
+    /// States in which the device might be before the event, in the order of `StandardState`.
     pub before: [bool; 12],
-    /// Event that departs from the standard.
+    /// The event that departs from the standard.
     pub event: LogEvent,
 }
 
 impl Departure {
-    /// Returns true if `row` gives an answer that was allowed at the event: it begins at a place where the device might be, and applies to
-    /// the event.
+    /// Returns true if `row` was allowed at the event: it begins in a state in which the device might be, and applies to the event's kind.
     pub fn allows(&self, row: &Row) -> bool {
         self.before[row.from.number()] && is_asked(row.asked, &self.event)
     }

@@ -1,6 +1,6 @@
 // Of crates/dfu_device/src/answer.rt, whose contracts are taken away.
 
-//! Answers of a device to a setup, and their bytes in the buffer of the caller.
+//! Answers of a device to a setup packet. Their bytes go into a buffer of the caller.
 
 use crate::device::decision::Reply;
 use crate::device::device_core::DeviceCore;
@@ -8,36 +8,33 @@ use crate::device::device_state::status_in;
 use arrayvec::ArrayVec;
 use crate::slots::{Medium, Slots};
 
-/// Answer of a device to a setup. The bytes of an answer are in the buffer that the caller gave.
+/// Answer of a device to a request. The buffer that the caller provided contains its bytes.
 #[derive(Clone, Copy, Debug, PartialEq, Eq)]
 pub enum Answer {
-    /// Acknowledges the request; there are no bytes.
+    /// Acknowledges the request, without bytes.
     Ack,
-    /// The request is answered with the bytes in the buffer, which may be none.
+    /// Answers the request with the bytes in the buffer; there may be none.
     Bytes,
-    /// Stalls the request; there are no bytes.
+    /// Stalls the request, without bytes.
     Stall,
 }
 
-/// An answer before its bytes are in a buffer, with no byte made or copied. A status and a state are
-/// those of the core after the row.
+/// An answer whose bytes are not in a buffer yet. A status or a state is that of the device after the request.
 ///
-/// `asked` is wLength, the most bytes that are sent.
+/// `asked` is wLength: at most this many bytes are sent.
 #[derive(Clone, Copy, Debug, PartialEq, Eq)]
 pub(crate) enum PendingAnswer {
-    /// The request is acknowledged.
     Ack,
-    /// The request is answered with the status.
+    /// Answers GETSTATUS with the status.
     Status { asked: u16 },
-    /// The request is answered with the state.
+    /// Answers GETSTATE with the state.
     State { asked: u16 },
-    /// The request is answered with the bytes of the active image from `place` on.
+    /// Answers with the bytes of the active image from offset `place` on.
     Piece { place: u32, asked: u16 },
-    /// The request is stalled.
     Stall,
 }
 
-/// Returns the pending answer of a reply to a request for `asked` bytes.
+/// Returns the pending answer for `reply` to a request with wLength `asked`.
 pub(crate) fn pending_answer_of(reply: Reply, asked: u16) -> PendingAnswer {
     match reply {
         Reply::Ack => PendingAnswer::Ack,
@@ -55,7 +52,7 @@ impl<M: Medium> DeviceCore<M> {
         body: &[u8],
         out: &mut ArrayVec<u8, 4096>,
     ) -> Answer {
-        // Calls `transfer` for its clause `fits`, which `give` needs.
+        // The result is not used: the postcondition `at_most_4096` of `transfer` proves that the answer fits into `out`.
         let _ = self.config.transfer();
         let pending_answer = self.pending_answer(setup, body);
         out.clear();
@@ -88,7 +85,7 @@ impl<M: Medium> DeviceCore<M> {
         }
     }
 
-    /// Returns how many bytes the image has from `place` on, at most `len`.
+    /// Returns the number of bytes of the image from offset `place` on, at most `len`.
     #[inline(never)]
     pub(crate) fn piece_len(&self, place: u32, len: u16) -> u16 {
         let rest = self.slots.active_len().saturating_sub(place);
@@ -96,7 +93,7 @@ impl<M: Medium> DeviceCore<M> {
     }
 }
 
-/// Copies `count` bytes of the active image, from `place` on.
+/// Copies `count` bytes of the active image, from offset `place` on, to the empty buffer `out`.
 fn copy_image<M: Medium>(slots: &Slots<M>, place: u32, count: u16, out: &mut ArrayVec<u8, 4096>) {
     let mut buffer = [0; 4096];
     let piece = &mut buffer[..count as usize];

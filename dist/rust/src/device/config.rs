@@ -1,23 +1,23 @@
 // Of crates/dfu_device/src/config.rt, whose contracts are taken away.
 
-//! Settings of a device.
+//! Settings of a device, and the pace of its flash.
 
 use crate::slots::Unit;
 use crate::wire::{Functional, Ids};
 use core::fmt;
 use thiserror::Error;
 
-/// Pace of a device's flash: the times of an erase and of a program, and the sizes in which the flash is written and erased. With a pace a
-/// status has the time of its own block or image: `busy_ms` or `manifest_ms`, and the time of the erases and programs that are due.
+/// Pace of a device's flash: the times of an erase and of a program, and the sizes in which the flash is written and erased. The poll
+/// timeout is `busy_ms` in dfuDNBUSY and `manifest_ms` in dfuMANIFEST, each plus the time of the erases and programs that are pending.
 #[derive(Clone, Copy, Debug, PartialEq, Eq)]
 pub struct Pace {
-    /// Milliseconds to erase a sector.
+    /// Time to erase a sector, in milliseconds.
     pub erase_ms: u16,
-    /// Milliseconds to program 256 bytes.
+    /// Time to program 256 bytes, in milliseconds.
     pub program_ms: u16,
     /// Unit in which the flash is written.
     pub unit: Unit,
-    /// Bytes that are erased at a time; 0 if the flash is overwritten in place.
+    /// Size of a sector in bytes; 0 if the flash is overwritten in place.
     pub sector: u32,
 }
 
@@ -33,12 +33,12 @@ impl Pace {
     }
 }
 
-/// Settings of a device: its identifiers, its functional descriptor, the fewest bytes of an image (1 to 16,777,216), how long it takes to
-/// write a block and to put an image in place (0 to 16,777,215 ms; at least 1 ms for an image if the device is not tolerant of
+/// Settings of a device: its identifiers, its functional descriptor, the smallest length of an image (1 to 16,777,216 bytes), the times to
+/// write a block and to make an image active (0 to 16,777,215 ms; at least 1 ms for an image if the device is not tolerant of
 /// manifestation), and the pace of its flash.
 ///
-/// Without a pace both times must have room for the erases of a medium with sectors: a block takes at most one, and one more for each
-/// sector that begins in the transfer size and a unit; an image takes two or three.
+/// Without a pace, both times must include the erases of a medium with sectors. A block takes at most one erase, and one more for each
+/// sector that begins in a range of the transfer size plus a unit; an image takes two or three erases.
 #[derive(Clone, Copy, Debug, PartialEq, Eq)]
 pub struct Config {
     ids: Ids,
@@ -49,15 +49,14 @@ pub struct Config {
     pace: Pace,
 }
 
-/// A fault for which a device cannot be set up. The faults are checked in this order.
+/// Reason for which a device can't be configured. The faults are checked in this order.
 #[derive(Clone, Copy, Debug, PartialEq, Eq, Error)]
 pub enum ConfigFault {
     /// The transfer size of the functional descriptor is 0 or over 4,096 bytes.
     BadTransfer,
-    /// A poll time is over 16,777,215 ms, or the manifestation time is 0 although the device is not
-    /// tolerant of manifestation.
+    /// A time is over 16,777,215 ms, or the manifestation time is 0 although the device is not tolerant of manifestation.
     BadPoll,
-    /// The fewest bytes of an image are 0 or over 16,777,216.
+    /// The smallest length of an image is 0 or over 16,777,216 bytes.
     BadLeast,
 }
 
@@ -72,29 +71,31 @@ impl fmt::Display for ConfigFault {
     }
 }
 
-/// Fixed settings of a device, which the table reads beside its mode.
+/// Fixed settings of a device, on which the decisions of the device table depend besides the mode and the request.
 #[derive(Clone, Copy, Debug, PartialEq, Eq)]
 pub struct Profile {
-    /// The functional descriptor.
     pub functional: Functional,
-    /// The fewest bytes of an image.
+    /// Smallest length of an image, in bytes.
     pub least: u32,
-    /// Time of each block beside the erases and programs of the flash, in milliseconds.
+    /// Time to write a block, without the erases and programs of the flash, in milliseconds.
     pub busy_ms: u32,
-    /// Time of each image beside the erases and programs of the flash, in milliseconds.
+    /// Time to make an image active, without the erases and programs of the flash, in milliseconds.
     pub manifest_ms: u32,
-    /// Time of the flash for an erase and for a program.
+    /// Times of an erase and of a program of the flash.
     pub pace: Pace,
-    /// Largest number of bytes of an image.
+    /// Largest length of an image, in bytes.
     pub capacity: u64,
 }
 
 impl Config {
-    /// Makes a configuration; the version of the descriptor becomes 0110h. The faults, in the order in which
-    /// they are checked:
+    /// Creates a configuration. The version of its functional descriptor is 0110h.
+    ///
+    /// # Errors
+    ///
+    /// The faults are checked in this order:
     ///
     /// 1. `BadTransfer`: the transfer size is 0 or over 4,096.
-    /// 2. `BadPoll`: a time is over 16,777,215, or `manifest_ms` is 0 and the device is not tolerant.
+    /// 2. `BadPoll`: a time is over 16,777,215, or `manifest_ms` is 0 and the device is not tolerant of manifestation.
     /// 3. `BadLeast`: `least` is 0 or over 16,777,216.
     pub fn new(
         ids: Ids,
@@ -128,47 +129,45 @@ impl Config {
         })
     }
 
-    /// Returns the settings with `pace` as the pace of the flash.
+    /// Returns these settings with `pace` as the pace of the flash.
     pub fn with_pace(self, pace: Pace) -> Config {
         Config { pace, ..self }
     }
 
-    /// Returns the identifiers of the device.
     pub(crate) fn ids(&self) -> Ids {
         self.ids
     }
 
-    /// Returns the functional descriptor.
+    /// Returns the functional descriptor, with version 0110h.
     pub fn functional(&self) -> Functional {
         self.functional
     }
 
-    /// Returns the most bytes of a block.
+    /// Returns the largest length of a block, in bytes.
     pub(crate) fn transfer(&self) -> u16 {
         self.functional.transfer
     }
 
-    /// Returns the fewest bytes of an image.
+    /// Returns the smallest length of an image, in bytes.
     pub fn least(&self) -> u32 {
         self.least
     }
 
-    /// Returns the time to write a block, in milliseconds.
+    /// Returns the time to write a block, in milliseconds, without the erases and programs of the pace.
     pub fn busy_ms(&self) -> u32 {
         self.busy_ms
     }
 
-    /// Returns the time to put an image in place, in milliseconds.
+    /// Returns the time to make an image active, in milliseconds, without the erases and programs of the pace.
     pub fn manifest_ms(&self) -> u32 {
         self.manifest_ms
     }
 
-    /// Returns the pace of the device's flash.
     pub(crate) fn pace(&self) -> Pace {
         self.pace
     }
 
-    /// Returns the profile that the table reads, for a device with the settings and with room for images of `capacity` bytes.
+    /// Returns the profile of a device with these settings whose slots hold images of up to `capacity` bytes.
     pub fn profile(&self, capacity: u64) -> Profile {
         Profile {
             functional: self.functional(),

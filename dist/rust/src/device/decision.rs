@@ -1,67 +1,64 @@
 // Of crates/dfu_device/src/decision.rt, whose contracts are taken away.
 
-//! Decision of a row of the device table: the act, and the answer.
+//! Decision of a row of the device table: what the device does, and its answer.
 
 use crate::device::device_state::DeviceState;
 
-/// Answer of a decision. A status and a state are those of the device after the row.
+/// Answer of a decision. A status or a state is that of the device after the row.
 #[derive(Clone, Copy, Debug, PartialEq, Eq)]
 pub enum Reply {
-    /// The request is acknowledged.
     Ack,
-    /// The request is answered with the status.
+    /// Answers GETSTATUS with the status.
     Status,
-    /// The request is answered with the state.
+    /// Answers GETSTATE with the state.
     State,
-    /// The request is stalled.
     Stall,
 }
 
-/// Decision of a row of the device table. Only the medium is left open: if a write has a fault, the device enters dfuERROR in place of the
-/// mode that is named here, and a status in its answer is that of dfuERROR.
+/// Decision of a row of the device table. Only the outcome of a write is still open: if a write fails, the device enters dfuERROR instead
+/// of the mode given here, and a status in its answer reports dfuERROR.
 #[derive(Clone, Copy, Debug, PartialEq, Eq)]
 pub enum Decision {
-    /// The device enters a mode, and calls nothing of the slot store.
+    /// The device enters a mode, and doesn't call the slot store.
     Sure {
         /// Answer of the device.
         reply: Reply,
-        /// The mode that the device enters.
+        /// Mode that the device enters.
         mode: DeviceState,
     },
-    /// The body of the request becomes the block that is not written; the device enters `mode`, and acknowledges
-    /// the request.
+    /// The device keeps the body of the request as its block, to be written later, enters `mode`, and acknowledges the request.
     Holds {
-        /// The mode that the device enters.
+        /// Mode that the device enters.
         mode: DeviceState,
     },
-    /// The next bytes of the active image are sent. If they are fewer than `size`, they are the last and the device
-    /// enters dfuIDLE, else dfuUPLOAD-IDLE.
+    /// The device sends the next bytes of the active image. If they are fewer than `size`, they are the last bytes and the device enters
+    /// dfuIDLE, otherwise dfuUPLOAD-IDLE.
     Sends {
         /// Number of bytes of the image that were sent before.
         place: u32,
         /// wLength of the request, 1 or more.
         size: u16,
-        /// The next part's number.
+        /// Number of the next block.
         number: u16,
     },
-    /// The block is written. The device then enters dfuDNLOAD-IDLE, or dfuDNLOAD-SYNC if `late` is true.
+    /// The device writes the block. It then enters dfuDNLOAD-IDLE, or dfuDNLOAD-SYNC if `late` is true.
     Writes {
         /// Answer of the device.
         reply: Reply,
-        /// Bytes before the block.
+        /// Number of bytes written before the block.
         written: u32,
-        /// The next block's number.
+        /// Number of the next block.
         number: u16,
-        /// True if time passed, so that the host must ask for the status once more.
+        /// True if the busy time ended, so that the host must request the status once more.
         late: bool,
     },
-    /// The bytes taken become the active image, and the device enters a mode.
+    /// The device makes the received bytes the active image, and enters a mode.
     Commits {
         /// Answer of the device.
         reply: Reply,
-        /// Number of the bytes taken.
+        /// Number of bytes received.
         written: u32,
-        /// The mode that the device enters.
+        /// Mode that the device enters.
         mode: DeviceState,
     },
 }

@@ -1,6 +1,6 @@
 // Of crates/dfu_device/src/device_core.rt, whose contracts are taken away.
 
-//! Core of a device: its parts, and how a decision changes them.
+//! Core of a device: its parts, and the changes that a decision makes to them.
 
 use crate::device::answer::{PendingAnswer, pending_answer_of};
 use crate::device::config::Profile;
@@ -12,13 +12,13 @@ use crate::device::Config;
 use arrayvec::ArrayVec;
 use crate::slots::{Medium, Slots};
 
-// Makes `bytes` the bytes of the block.
+// Replaces the content of `block` by `bytes`.
 fn hold(block: &mut ArrayVec<u8, 4096>, bytes: &[u8]) {
     block.clear();
     let _ = block.try_extend_from_slice(bytes);
 }
 
-/// The core of a device: its fixed settings, its slot store, its mode, and the block that is not written yet.
+/// Core of a device: its fixed settings, its slot store, its mode, and the memory of a block that is not written yet.
 #[derive(Debug, PartialEq, Eq)]
 pub struct DeviceCore<M: Medium> {
     pub config: Config,
@@ -28,9 +28,9 @@ pub struct DeviceCore<M: Medium> {
 }
 
 impl<M: Medium> DeviceCore<M> {
-    /// Returns a core with `config` in appIDLE, on `slots`, with the memory of `block`.
+    /// Returns a core with `config` in appIDLE, on `slots`. It uses `block` as the memory for blocks.
     pub(crate) fn start(config: Config, slots: Slots<M>, block: ArrayVec<u8, 4096>) -> DeviceCore<M> {
-        // Calls `capacity` for its clauses, by which the store has the shape that the core must keep.
+        // The result is not used: its postconditions prove the invariant `sound`.
         let _ = slots.capacity();
         DeviceCore {
             config,
@@ -40,18 +40,18 @@ impl<M: Medium> DeviceCore<M> {
         }
     }
 
-    /// Returns the settings that the table reads.
+    /// Returns the settings that the device table reads.
     fn profile(&self) -> Profile {
         self.config.profile(u64::from(self.slots.capacity()))
     }
 
-    /// Returns the answer to `setup` with its `body`: that of its row if the table serves it, else a stall.
+    /// Returns the answer to `setup` with its `body`. A request without a row in the device table is stalled.
     pub(crate) fn pending_answer(&mut self, setup: &[u8; 8], body: &[u8]) -> PendingAnswer {
         let (decision, asked) = asked_row(&self.profile(), self.mode, setup, body);
         self.carry_out(decision, asked, body)
     }
 
-    /// Performs `decision`. `asked` is the number of bytes of a status or a state that the request asks for, and `body` is its body.
+    /// Performs `decision`. `asked` is wLength if the request is GETSTATUS or GETSTATE, and `body` is the data stage of the request.
     pub(crate) fn carry_out(&mut self, decision: Decision, asked: u16, body: &[u8]) -> PendingAnswer {
         match decision {
             Decision::Sure { reply, mode } => {
@@ -59,7 +59,7 @@ impl<M: Medium> DeviceCore<M> {
                 pending_answer_of(reply, asked)
             }
             Decision::Holds { mode } => {
-                // Calls `transfer` for its clause `fits`: the body of a block finds room.
+                // The result is not used: the postcondition `at_most_4096` of `transfer` proves that the body fits into the block.
                 let _ = self.config.transfer();
                 hold(&mut self.block, body);
                 self.mode = mode;
@@ -93,7 +93,7 @@ impl<M: Medium> DeviceCore<M> {
         }
     }
 
-    /// Returns the mode after a piece of the image is sent; a piece of fewer than `size` bytes is the last.
+    /// Returns the mode after a piece of the image is sent. A piece shorter than `size` bytes is the last one.
     fn after_piece(&self, place: u32, size: u16, number: u16) -> DeviceState {
         if self.piece_len(place, size) < size {
             return DeviceState::DfuIdle;
@@ -104,7 +104,7 @@ impl<M: Medium> DeviceCore<M> {
         }
     }
 
-    /// Lets `ms` milliseconds pass.
+    /// Performs the row of `ms` elapsed milliseconds.
     pub(crate) fn elapse(&mut self, ms: u32) {
         let block_len = self.block.as_slice().len();
         let decision = decide_time(&self.profile(), self.mode, block_len, ms);

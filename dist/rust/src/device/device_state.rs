@@ -1,87 +1,85 @@
 // Of crates/dfu_device/src/device_state.rt, whose contracts are taken away.
 
-//! Mode of a device: its state with the values that it keeps there, and the status that it reports (USB DFU 1.1, section 6.1.2).
+//! Mode of a device: its state with the values that the device keeps there, and the status that it reports (USB DFU 1.1, section 6.1.2).
 
 use crate::device::objection::Objection;
 use crate::device::time_table::poll_ms;
 use crate::device::Config;
 use crate::wire::{Code, State, Status};
 
-/// Mode of a device: a state of the standard (USB DFU 1.1, section 6.1.2), with the values that the device keeps there beside its slot
-/// store and the block that is not written. A device that enters a variant forgets all values that the variant does not name.
+/// Mode of a device: a state of the standard (USB DFU 1.1, section 6.1.2), with the values that the device keeps only in that state. The
+/// slot store and the block that is not written yet are not part of the mode.
 ///
-/// `written` is the number of bytes of a download that were put in the spare slot of the store; `number` is the number
-/// of the next block; `passed` is the number of milliseconds that passed in this state.
+/// `written` is the number of bytes of a download that were put into the spare slot of the store; `number` is the number of the next block;
+/// `passed` is the number of milliseconds that passed in this state.
 #[derive(Clone, Copy, Debug, PartialEq, Eq)]
 pub enum DeviceState {
     /// appIDLE: the application runs.
     AppIdle,
-    /// appDETACH: the device got DETACH, and goes back to appIDLE once `timer` milliseconds have passed, at least 1, if it
-    /// does not detach by itself.
+    /// appDETACH: the device received DETACH. It returns to appIDLE after `timer` milliseconds, at least 1, unless it detaches by itself.
     AppDetach {
-        /// wTimeout of the DETACH or wDetachTimeOut, whichever is less, in milliseconds.
+        /// The smaller of the DETACH request's wTimeout and the device's wDetachTimeOut, in milliseconds.
         timer: u32,
-        /// Milliseconds in this state.
+        /// Milliseconds since the device entered this state.
         passed: u32,
     },
-    /// dfuIDLE: no bytes are taken.
+    /// dfuIDLE: no download or upload is in progress.
     DfuIdle,
-    /// dfuDNLOAD-SYNC: the block is kept beside the mode, and is not written yet.
+    /// dfuDNLOAD-SYNC: the device keeps a block that is not written yet.
     DownloadSync {
-        /// Bytes before the block.
+        /// Number of bytes written before the block.
         written: u32,
-        /// The next block's number.
+        /// Number of the next block.
         number: u16,
     },
     /// dfuDNLOAD-SYNC: the block is written.
     DownloadSyncWritten {
-        /// Number of all bytes taken, 1 or more.
+        /// Number of bytes received, 1 or more.
         written: u32,
-        /// The next block's number.
+        /// Number of the next block.
         number: u16,
     },
-    /// dfuDNBUSY: the block is being written; it is kept beside the mode until the busy time has passed.
+    /// dfuDNBUSY: the device keeps the block until the busy time has passed, and then writes it.
     DownloadBusy {
-        /// Bytes before the block.
+        /// Number of bytes written before the block.
         written: u32,
-        /// The next block's number.
+        /// Number of the next block.
         number: u16,
-        /// Milliseconds in this state.
+        /// Milliseconds since the device entered this state.
         passed: u32,
     },
-    /// dfuDNLOAD-IDLE: the next block may come.
+    /// dfuDNLOAD-IDLE: the device accepts the next block.
     DownloadIdle {
-        /// Number of all bytes taken, 1 or more.
+        /// Number of bytes received, 1 or more.
         written: u32,
-        /// The next block's number.
+        /// Number of the next block.
         number: u16,
     },
-    /// dfuMANIFEST-SYNC, not complete: the download is closed, and its bytes are not in place yet.
+    /// dfuMANIFEST-SYNC, not complete: the download is closed, and its image is not active yet.
     ManifestSync {
-        /// Number of all bytes taken, 1 or more.
+        /// Number of bytes received, 1 or more.
         written: u32,
     },
-    /// dfuMANIFEST-SYNC, complete: the bytes taken are the active image.
+    /// dfuMANIFEST-SYNC, complete: the received image is active.
     ManifestSyncComplete,
-    /// dfuMANIFEST: the bytes taken are being put in place, until the manifestation time has passed.
+    /// dfuMANIFEST: the received image becomes active when the manifestation time has passed.
     Manifest {
-        /// Number of all bytes taken, 1 or more.
+        /// Number of bytes received, 1 or more.
         written: u32,
-        /// Milliseconds in this state.
+        /// Milliseconds since the device entered this state.
         passed: u32,
     },
-    /// dfuMANIFEST-WAIT-RESET: the bytes taken are the active image, and the device waits for a reset.
+    /// dfuMANIFEST-WAIT-RESET: the received image is active, and the device waits for a reset.
     ManifestWaitReset,
     /// dfuUPLOAD-IDLE: a part of the image was sent.
     UploadIdle {
         /// Number of bytes of the image that were sent.
         place: u32,
-        /// The next part's number.
+        /// Number of the next block.
         number: u16,
     },
     /// dfuERROR: the status code reports the cause.
     Error {
-        /// The status code.
         code: Code,
     },
 }
@@ -106,8 +104,7 @@ impl DeviceState {
         }
     }
 
-    /// Returns the status code: the code of dfuERROR, and OK in every other state (USB DFU 1.1, section
-    /// 6.1.2, bStatus).
+    /// Returns the status code: the code of dfuERROR, and OK in every other state (USB DFU 1.1, section 6.1.2, bStatus).
     pub fn code(self) -> Code {
         match self {
             DeviceState::Error { code } => code,
@@ -123,8 +120,8 @@ impl DeviceState {
         }
     }
 
-    /// Returns the length of a received image that the program may refuse: in dfuDNLOAD-IDLE, in dfuMANIFEST-SYNC before it is complete,
-    /// and in dfuMANIFEST.
+    /// Returns the length of a received image that the program may still refuse, in dfuDNLOAD-IDLE, in dfuMANIFEST-SYNC before
+    /// manifestation is complete, and in dfuMANIFEST. Returns None in every other mode.
     pub fn candidate_len(self) -> Option<u32> {
         match self {
             DeviceState::DownloadIdle { written, .. }
@@ -134,7 +131,8 @@ impl DeviceState {
         }
     }
 
-    /// Returns true if a DNLOAD of no bytes closes a download in the mode: in dfuDNLOAD-IDLE, once at least `least` bytes were taken.
+    /// Returns true if a DNLOAD of no bytes closes the download in this mode: in dfuDNLOAD-IDLE, after at least `least` bytes were
+    /// received.
     pub fn may_close(self, least: u32) -> bool {
         match self {
             DeviceState::DownloadIdle { written, .. } => least <= written,
@@ -142,15 +140,15 @@ impl DeviceState {
         }
     }
 
-    /// Returns the mode after the program refuses the image that a request closes: dfuERROR with the code of `objection`.
+    /// Returns the mode after the program refuses the image when the host closes the download: dfuERROR with the code of `objection`.
     pub fn after_refused_close(objection: Objection) -> DeviceState {
         DeviceState::Error {
             code: objection.code(),
         }
     }
 
-    /// Returns the mode after the program refuses the image that was closed: dfuERROR with the code of `objection` from dfuMANIFEST-SYNC,
-    /// not complete, and from dfuMANIFEST. Every other mode stays.
+    /// Returns the mode after the program refuses the image of a closed download. In dfuMANIFEST-SYNC before manifestation is complete, and
+    /// in dfuMANIFEST, the result is dfuERROR with the code of `objection`. Every other mode stays the same.
     pub fn after_refusal(self, objection: Objection) -> DeviceState {
         match self {
             DeviceState::ManifestSync { .. } | DeviceState::Manifest { .. } => {

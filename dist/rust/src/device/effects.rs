@@ -1,6 +1,6 @@
 // Of crates/dfu_device/src/effects.rt, whose contracts are taken away.
 
-//! Effects of a device on its slot store: a block is written, or the bytes taken become the active image.
+//! Effects of a device on its slot store: it writes a block, or makes the received image active.
 
 use crate::device::device_core::DeviceCore;
 use crate::device::device_state::DeviceState;
@@ -8,8 +8,11 @@ use crate::slots::{Medium, PutFault, Slots, WriteFault};
 use crate::wire::Code;
 
 impl<M: Medium> DeviceCore<M> {
-    /// Writes the block, and returns the fault if a write had one. `late` is true if time passed, so that the
-    /// host has to ask for the status once more.
+    /// Writes the block. If `late` is true, the busy time ended, and the host must request the status once more.
+    ///
+    /// # Errors
+    ///
+    /// The fault of the write that failed. The device is then in dfuERROR.
     pub(crate) fn write_block(
         &mut self,
         written: u32,
@@ -36,7 +39,11 @@ impl<M: Medium> DeviceCore<M> {
         }
     }
 
-    /// Makes the bytes taken the active image, and enters `next`. Returns the fault if a write had one.
+    /// Activates the image that consists of the `written` bytes received, and enters `next`.
+    ///
+    /// # Errors
+    ///
+    /// The fault of the write that failed. The device is then in dfuERROR.
     pub(crate) fn commit_taken(&mut self, written: u32, next: DeviceState) -> Result<(), WriteFault> {
         match self.slots.commit(written) {
             Ok(()) => {
@@ -54,7 +61,8 @@ impl<M: Medium> DeviceCore<M> {
     }
 }
 
-/// Returns the fault of the write that broke off a call of the slot store with `fault`.
+/// Converts the fault that a call of the slot store returned to the fault of the write that interrupted the call: `NotVerified` stays, and
+/// any other fault gives `Failed`.
 fn write_fault(fault: PutFault) -> WriteFault {
     match fault {
         PutFault::NotVerified => WriteFault::NotVerified,
@@ -62,7 +70,7 @@ fn write_fault(fault: PutFault) -> WriteFault {
     }
 }
 
-/// Returns the status code of `fault` in a block's write.
+/// Returns the status code for `fault` in the write of a block.
 fn write_code(fault: WriteFault) -> Code {
     match fault {
         WriteFault::Failed => Code::Write,
@@ -70,7 +78,7 @@ fn write_code(fault: WriteFault) -> Code {
     }
 }
 
-/// Returns the status code of `fault` in a commit's write.
+/// Returns the status code for `fault` in the writes of a commit.
 fn commit_code(fault: WriteFault) -> Code {
     match fault {
         WriteFault::Failed => Code::Prog,
@@ -78,7 +86,7 @@ fn commit_code(fault: WriteFault) -> Code {
     }
 }
 
-/// Writes a block after the `written` bytes; calls `begin` before the first block.
+/// Writes a block after the `written` bytes that were put before. Calls `begin` before the first block.
 fn put_block<M: Medium>(slots: &mut Slots<M>, written: u32, block: &[u8]) -> Result<(), PutFault> {
     if written > 0 {
         return slots.put(written, block);

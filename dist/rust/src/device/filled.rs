@@ -1,38 +1,38 @@
 // Of crates/dfu_device/src/filled.rt, whose contracts are taken away.
 
-//! Check that a mode fits the bytes that were put in a slot store.
+//! Checks that a mode agrees with the bytes that were put into a slot store.
 
 use crate::device::device_state::DeviceState;
 
-/// Facts of a slot store that decide if a mode fits it.
+/// Facts about a slot store that determine which modes agree with it.
 #[derive(Clone, Copy, Debug, PartialEq, Eq)]
 pub struct PutSoFar {
-    /// Largest number of bytes of an image.
+    /// Largest length of an image, in bytes.
     pub room: u32,
-    /// The gate of the spare slot is closed.
+    /// True if the gate of the spare slot is closed.
     pub begun: bool,
-    /// Place at which the puts end.
+    /// Number of bytes put into the spare slot.
     pub end: u32,
 }
 
-// Returns whether exactly `written` bytes were put in the closed spare slot.
+// Returns true if the spare slot is closed and exactly `written` bytes were put into it.
 fn is_put(seen: PutSoFar, written: u32) -> bool {
     seen.begun && seen.end == written
 }
 
-// Returns whether exactly `written` bytes were put in the closed spare slot, at least one, and fit in the room.
+// Returns true if the spare slot is closed, exactly `written` bytes were put into it, and `written` is from 1 to `seen.room`.
 fn is_written(seen: PutSoFar, written: u32) -> bool {
     0 < written && written <= seen.room && is_put(seen, written)
 }
 
-// Returns whether a block of `block` bytes is not empty, has room after the `written` bytes, and these, if any, were put.
+// Returns true if a block of `block` bytes is not empty and fits after the `written` bytes, and these bytes, if any, were put.
 fn is_next(seen: PutSoFar, written: u32, block: usize) -> bool {
     0 < block
         && u64::from(written) + block as u64 <= u64::from(seen.room)
         && (written == 0 || is_put(seen, written))
 }
 
-/// Returns whether a mode, with a block of `block` bytes that is not written, fits the bytes that were put in the slot store.
+/// Returns true if `mode`, with an unwritten block of `block` bytes, agrees with the bytes that were put into the slot store.
 ///
 /// # What the caller must keep to
 ///

@@ -1,6 +1,6 @@
 // Of crates/dfu_device/src/plans.rt, whose contracts are taken away.
 
-//! The decisions from which the device table is made, and the rows of DNLOAD and UPLOAD.
+//! Decisions that the device table consists of, and the rows of DNLOAD and UPLOAD.
 
 use crate::device::config::Profile;
 use crate::device::decision::{Decision, Reply};
@@ -28,7 +28,7 @@ pub(crate) fn error(code: Code) -> Decision {
     stall(DeviceState::Error { code })
 }
 
-/// Returns the decision that answers GETSTATUS with the status of `mode`, which the device enters.
+/// Returns the decision that enters `mode` and answers GETSTATUS with its status.
 pub(crate) fn report(mode: DeviceState) -> Decision {
     Decision::Sure {
         reply: Reply::Status,
@@ -36,7 +36,7 @@ pub(crate) fn report(mode: DeviceState) -> Decision {
     }
 }
 
-/// Returns the decision that answers GETSTATE with the state of `mode`, the current one.
+/// Returns the decision that answers GETSTATE with the state of `mode`, the current mode, and stays in this mode.
 pub(crate) fn tell(mode: DeviceState) -> Decision {
     Decision::Sure {
         reply: Reply::State,
@@ -44,8 +44,8 @@ pub(crate) fn tell(mode: DeviceState) -> Decision {
     }
 }
 
-/// Decides on a DNLOAD with wBlockNum `number` and wLength `size`, over 0, after `written` bytes; `expected` is the next block's number.
-/// Checks the errors in their order, else the block is kept and counts as taken, not as written.
+/// Decides on a DNLOAD with wBlockNum `number` and wLength `size`, over 0, after `written` bytes; `expected` is the number of the next
+/// block. Checks the errors in their order. A block without errors counts as received, but is not written yet.
 fn block(profile: &Profile, written: u32, expected: u16, number: u16, size: u16) -> Decision {
     if size > profile.functional.transfer {
         return error(Code::StalledPkt);
@@ -64,7 +64,7 @@ fn block(profile: &Profile, written: u32, expected: u16, number: u16, size: u16)
     }
 }
 
-/// Decides on a DNLOAD with wBlockNum `number` and wLength `size` in dfuIDLE: the first block has number 0.
+/// Decides on a DNLOAD with wBlockNum `number` and wLength `size` in dfuIDLE. The first block has number 0.
 pub(crate) fn first(profile: &Profile, number: u16, size: u16) -> Decision {
     if !profile.functional.can_download || size == 0 {
         return error(Code::StalledPkt);
@@ -72,8 +72,8 @@ pub(crate) fn first(profile: &Profile, number: u16, size: u16) -> Decision {
     block(profile, 0, 0, number, size)
 }
 
-/// Decides on a DNLOAD with wBlockNum `number` and wLength `size` in dfuDNLOAD-IDLE: one with wLength 0 closes the download, if the image
-/// is long enough.
+/// Decides on a DNLOAD with wBlockNum `number` and wLength `size` in dfuDNLOAD-IDLE. A wLength of 0 closes the download if the image is
+/// long enough.
 pub(crate) fn further(
     profile: &Profile,
     written: u32,
@@ -90,8 +90,8 @@ pub(crate) fn further(
     ack(DeviceState::ManifestSync { written })
 }
 
-/// Decides on an UPLOAD with wBlockNum `number` and wLength `size`, after `place` bytes; `expected` is the next part's number. Checks the
-/// errors in their order, else sends the next bytes of the image.
+/// Decides on an UPLOAD with wBlockNum `number` and wLength `size` after `place` bytes were sent; `expected` is the number of the next
+/// block. Checks the errors in their order. Without errors the decision sends the next bytes of the image.
 pub(crate) fn upload(
     profile: &Profile,
     place: u32,

@@ -1,8 +1,8 @@
 // Of crates/dfu_device/src/table.rt, whose contracts are taken away.
 
-//! The device table as a function: the decision on a request, from the mode of a device and its fixed settings alone (USB DFU 1.1,
-//! appendix A). Nothing is carried out here. `crates/dfu_device/specs/Table.antt` has the same rows in the same words. Before them come the rules by
-//! which a setup reaches the table.
+//! The device table as a function: its decision on a request depends only on the mode of a device and its fixed settings, and changes
+//! nothing (USB DFU 1.1, appendix A). `crates/dfu_device/specs/Table.antt` defines the same rows. The first functions below check if a request has a row in
+//! the table.
 
 use crate::device::config::Profile;
 use crate::device::decision::{Decision, Reply};
@@ -10,7 +10,7 @@ use crate::device::device_state::DeviceState;
 use crate::device::plans::{ack, error, first, further, report, stall, tell, upload};
 use crate::wire::{Code, Request, Setup};
 
-// Returns the number of bytes of a status or a state that a request asks for: wLength; 0 for any other request.
+// Returns wLength of a GETSTATUS or GETSTATE, and 0 for any other request.
 fn asked_length(request: Request) -> u16 {
     match request {
         Request::GetStatus { length } | Request::GetState { length } => length,
@@ -18,7 +18,7 @@ fn asked_length(request: Request) -> u16 {
     }
 }
 
-// Returns whether a body fits its setup: wLength bytes if bmRequestType is 21h, so that the host sends, else none.
+// Returns true if the length of a body matches its setup packet: wLength if bmRequestType is 21h, because the host then sends, otherwise 0.
 fn goes_with(setup: &Setup, body: &[u8]) -> bool {
     let len = if setup.kind == 0x21 {
         setup.length as usize
@@ -28,7 +28,7 @@ fn goes_with(setup: &Setup, body: &[u8]) -> bool {
     body.len() == len
 }
 
-// Returns whether the table serves a request: one of the class, whose body fits its setup.
+// Returns true if a request has a row in the table: it is one of the DFU class, and its body matches the setup packet.
 fn is_served(setup: &Setup, request: Request, body: &[u8]) -> bool {
     match request {
         Request::NotDfu => false,
@@ -36,7 +36,7 @@ fn is_served(setup: &Setup, request: Request, body: &[u8]) -> bool {
     }
 }
 
-// appIDLE. The timer of appDETACH is the smaller of the host's timeout and the device's.
+// In appIDLE, DETACH starts the timer of appDETACH: the smaller of the host's timeout and the device's.
 fn in_app_idle(profile: &Profile, request: Request) -> Decision {
     match request {
         Request::Detach { timeout } => ack(DeviceState::AppDetach {
@@ -49,7 +49,7 @@ fn in_app_idle(profile: &Profile, request: Request) -> Decision {
     }
 }
 
-// appDETACH. Any other request, a second DETACH too, is stalled and leads back to the application.
+// In appDETACH, any request other than GETSTATUS and GETSTATE, even a second DETACH, is stalled and leads back to appIDLE.
 fn in_app_detach(timer: u32, passed: u32, request: Request) -> Decision {
     match request {
         Request::GetStatus { .. } => report(DeviceState::AppDetach { timer, passed }),
@@ -58,7 +58,8 @@ fn in_app_detach(timer: u32, passed: u32, request: Request) -> Decision {
     }
 }
 
-// dfuIDLE. A device that can't download or upload treats DNLOAD or UPLOAD as any other request.
+// In dfuIDLE, a device without support for uploads stalls UPLOAD as it stalls any other request, and a device without support for downloads
+// stalls DNLOAD.
 fn in_dfu_idle(profile: &Profile, request: Request) -> Decision {
     match request {
         Request::Dnload { block, length } => first(profile, block, length),
@@ -72,7 +73,7 @@ fn in_dfu_idle(profile: &Profile, request: Request) -> Decision {
     }
 }
 
-// dfuDNLOAD-SYNC, block not written. With a busy time of 0 the block is written now.
+// In dfuDNLOAD-SYNC with an unwritten block, the device writes the block on GETSTATUS if the busy time is 0.
 fn in_download_sync(profile: &Profile, written: u32, number: u16, request: Request) -> Decision {
     match request {
         Request::GetStatus { .. } if profile.busy_ms == 0 => Decision::Writes {
@@ -91,7 +92,7 @@ fn in_download_sync(profile: &Profile, written: u32, number: u16, request: Reque
     }
 }
 
-// dfuDNLOAD-SYNC, block written. GETSTATUS leads to dfuDNLOAD-IDLE.
+// In dfuDNLOAD-SYNC with a written block, GETSTATUS leads to dfuDNLOAD-IDLE.
 fn in_download_sync_written(written: u32, number: u16, request: Request) -> Decision {
     match request {
         Request::GetStatus { .. } => report(DeviceState::DownloadIdle { written, number }),
@@ -100,7 +101,7 @@ fn in_download_sync_written(written: u32, number: u16, request: Request) -> Deci
     }
 }
 
-// dfuDNLOAD-IDLE. DNLOAD brings the next block or closes the download, and ABORT ends it.
+// In dfuDNLOAD-IDLE, DNLOAD sends the next block or closes the download, and ABORT cancels the download.
 fn in_download_idle(profile: &Profile, written: u32, number: u16, request: Request) -> Decision {
     match request {
         Request::Dnload { block, length } => further(profile, written, number, block, length),
@@ -111,7 +112,7 @@ fn in_download_idle(profile: &Profile, written: u32, number: u16, request: Reque
     }
 }
 
-// dfuMANIFEST-SYNC, not complete. With a manifestation time of 0 the image is put in place now.
+// In dfuMANIFEST-SYNC before manifestation, the image becomes active on GETSTATUS if the manifestation time is 0.
 fn in_manifest_sync(profile: &Profile, written: u32, request: Request) -> Decision {
     match request {
         Request::GetStatus { .. } if profile.manifest_ms == 0 => Decision::Commits {
@@ -125,7 +126,7 @@ fn in_manifest_sync(profile: &Profile, written: u32, request: Request) -> Decisi
     }
 }
 
-// dfuMANIFEST-SYNC, complete. GETSTATUS leads to dfuIDLE.
+// In dfuMANIFEST-SYNC after manifestation, GETSTATUS leads to dfuIDLE.
 fn in_manifest_sync_complete(request: Request) -> Decision {
     match request {
         Request::GetStatus { .. } => report(DeviceState::DfuIdle),
@@ -134,7 +135,7 @@ fn in_manifest_sync_complete(request: Request) -> Decision {
     }
 }
 
-// dfuUPLOAD-IDLE. UPLOAD asks for the next bytes of the image, and ABORT ends the upload.
+// In dfuUPLOAD-IDLE, UPLOAD requests the next bytes of the image, and ABORT ends the upload.
 fn in_upload_idle(profile: &Profile, place: u32, number: u16, request: Request) -> Decision {
     match request {
         Request::Upload { block, length } => upload(profile, place, number, block, length),
@@ -145,7 +146,7 @@ fn in_upload_idle(profile: &Profile, place: u32, number: u16, request: Request) 
     }
 }
 
-// dfuERROR. CLRSTATUS leads to dfuIDLE. Other requests but GETSTATUS and GETSTATE are stalled, and the device stays.
+// In dfuERROR, CLRSTATUS leads to dfuIDLE. GETSTATUS and GETSTATE don't change the state. Any other request is stalled.
 fn in_error(code: Code, request: Request) -> Decision {
     match request {
         Request::ClrStatus => ack(DeviceState::DfuIdle),
@@ -155,10 +156,10 @@ fn in_error(code: Code, request: Request) -> Decision {
     }
 }
 
-/// Returns the decision on `request`, one of the class, in `mode`: its row of the table. A DNLOAD must have a body of wLength bytes.
+/// Returns the table's decision on `request`, a request of the DFU class, in `mode`. The body of a DNLOAD must have wLength bytes.
 ///
-/// In dfuDNBUSY and dfuMANIFEST any request is an error, GETSTATUS too, and nothing is written. In dfuMANIFEST-WAIT-RESET any request is
-/// stalled, and the device stays.
+/// In dfuDNBUSY and dfuMANIFEST every request leads to dfuERROR, even GETSTATUS, and nothing is written. In dfuMANIFEST-WAIT-RESET every
+/// request is stalled, and the device stays in that state.
 #[rustfmt::skip]
 pub fn decide(profile: &Profile, mode: DeviceState, request: Request) -> Decision {
     match mode {
@@ -178,9 +179,9 @@ pub fn decide(profile: &Profile, mode: DeviceState, request: Request) -> Decisio
     }
 }
 
-/// Returns the decision on `setup` with its `body` in `mode`, and the number of bytes of a status or of a state that it asks for. A
-/// request that is not one of the class for interface 0, or whose body does not fit it, is stalled and changes nothing; any other
-/// request has its row of the table (USB DFU 1.1, section 3 and appendix A).
+/// Returns the decision on `setup` with its `body` in `mode`, and wLength if the request is GETSTATUS or GETSTATE, otherwise 0. A request
+/// is stalled and changes nothing if it is not a DFU class request for interface 0, or if the length of its body is wrong. For any other
+/// request the decision is that of its row in the table (USB DFU 1.1, section 3 and appendix A).
 pub fn asked_row(
     profile: &Profile,
     mode: DeviceState,

@@ -1,14 +1,14 @@
 // Of crates/dfu_device/src/time_table.rt, whose contracts are taken away.
 
-//! The rows of time that passes, as decisions (USB DFU 1.1, appendix A): a call makes at most one change, and the rest of its time
-//! is dropped. A block and an image take the time of the erases and programs that are due for them.
+//! The rows of the device table for elapsed time, as decisions (USB DFU 1.1, appendix A). A call makes at most one transition, and drops
+//! the rest of the time. Writing a block or an image takes the time of its erases and programs.
 
 use crate::device::config::{Config, Pace, Profile};
 use crate::device::decision::{Decision, Reply};
 use crate::device::device_state::DeviceState;
 use crate::device::plans::ack;
 
-// Counts the sectors that begin in `count` bytes from `at` on.
+// Returns the number of sectors that begin in the range of `count` bytes from offset `at`.
 fn edges(sector: u32, at: u32, count: u32) -> u32 {
     let behind = at % sector;
     let rest = if behind == 0 { 0 } else { sector - behind };
@@ -18,7 +18,8 @@ fn edges(sector: u32, at: u32, count: u32) -> u32 {
     (count - rest - 1) / sector + 1
 }
 
-// Returns the milliseconds to erase the sectors that begin in `count` bytes from `at` on, and `others` more; 0 without sectors.
+// Returns the milliseconds to erase `others` sectors and those that begin in the range of `count` bytes from offset `at`. Without sectors
+// the result is 0.
 fn erases_ms(pace: Pace, at: u32, count: u32, others: u32) -> u32 {
     if pace.sector == 0 {
         return 0;
@@ -31,15 +32,15 @@ fn programs_ms(pace: Pace, count: u32) -> u32 {
     (count * u32::from(pace.program_ms) + 255) / 256
 }
 
-// Returns the milliseconds to write `count` bytes from `at` on in a slot's data, and `others` gates and headers, with `base` added; at most
-// what fits in bwPollTimeout.
+// Returns `base` plus the milliseconds to write `count` bytes from offset `at` of a slot's data and `others` gates and headers. The sum is
+// limited to 2^24 - 1, the maximum of bwPollTimeout.
 fn writes_ms(pace: Pace, base: u32, at: u32, count: u32, others: u32) -> u32 {
     let erases = erases_ms(pace, at, count, others);
     let programs = programs_ms(pace, count + 256 * others);
     base.saturating_add(erases + programs).min(0xff_ffff)
 }
 
-// Returns the milliseconds to write a block of `block_len` bytes after `written` bytes, with `base` added.
+// Returns `base` plus the milliseconds to write a block of `block_len` bytes after `written` bytes.
 fn block_ms(pace: Pace, base: u32, written: u32, block_len: usize) -> u32 {
     let unit = pace.unit.size();
     let behind = written % unit;
@@ -48,7 +49,7 @@ fn block_ms(pace: Pace, base: u32, written: u32, block_len: usize) -> u32 {
     writes_ms(pace, base, written - behind, all - all % unit, others)
 }
 
-// Returns the milliseconds to put an image of `written` bytes in place, with `base` added.
+// Returns `base` plus the milliseconds to make an image of `written` bytes active.
 fn image_ms(pace: Pace, base: u32, written: u32) -> u32 {
     let unit = pace.unit.size();
     let behind = written % unit;
@@ -56,7 +57,7 @@ fn image_ms(pace: Pace, base: u32, written: u32) -> u32 {
     writes_ms(pace, base, written - behind, count, 2)
 }
 
-/// Returns the milliseconds that the host must wait in a mode with a block of `block_len` bytes (bwPollTimeout).
+/// Returns the milliseconds that the host must wait in `mode` with a block of `block_len` bytes (bwPollTimeout).
 pub fn poll_ms(config: &Config, mode: DeviceState, block_len: usize) -> u32 {
     match mode {
         DeviceState::DownloadBusy { written, .. } => {
@@ -69,7 +70,8 @@ pub fn poll_ms(config: &Config, mode: DeviceState, block_len: usize) -> u32 {
     }
 }
 
-// appDETACH: the timer runs out, or the device detaches by itself. A timer of 0 counts as 1.
+// In appDETACH, a device with bitWillDetach enters dfuIDLE once at least 1 ms has passed. Any other device returns to appIDLE after `timer`
+// milliseconds. A timer of 0 counts as 1.
 fn in_app_detach(profile: &Profile, timer: u32, passed: u32, ms: u32) -> Decision {
     let now = u64::from(passed) + u64::from(ms);
     if ms == 0 {
@@ -86,7 +88,7 @@ fn in_app_detach(profile: &Profile, timer: u32, passed: u32, ms: u32) -> Decisio
     }
 }
 
-// dfuDNBUSY: the block of `block_len` bytes is written once its time has passed.
+// In dfuDNBUSY, the block of `block_len` bytes is written once the busy time has passed.
 fn in_download_busy(
     profile: &Profile,
     written: u32,
@@ -112,7 +114,7 @@ fn in_download_busy(
     })
 }
 
-// dfuMANIFEST: the image is put in place once its time has passed. A device that is not tolerant of manifestation
+// In dfuMANIFEST, the image becomes active once the manifestation time has passed. A device that is not tolerant of manifestation then
 // waits for a reset.
 fn in_manifest(profile: &Profile, written: u32, passed: u32, ms: u32) -> Decision {
     let now = u64::from(passed) + u64::from(ms);
@@ -135,8 +137,8 @@ fn in_manifest(profile: &Profile, written: u32, passed: u32, ms: u32) -> Decisio
     })
 }
 
-/// Returns the decision on `ms` milliseconds in a mode with a block of `block_len` bytes: their row of the table. Modes that count no time
-/// stay.
+/// Returns the table's decision for `ms` milliseconds that elapse in `mode` with a block of `block_len` bytes. In modes other than
+/// appDETACH, dfuDNBUSY and dfuMANIFEST, elapsed time changes nothing.
 pub fn decide_time(profile: &Profile, mode: DeviceState, block_len: usize, ms: u32) -> Decision {
     match mode {
         DeviceState::AppDetach { timer, passed } => in_app_detach(profile, timer, passed, ms),

@@ -1,9 +1,9 @@
 // Of crates/dfu_formats/src/dfuse.rt, whose contracts are taken away.
 
-//! DfuSe files (ST's UM0391): elements of an address and bytes, for the memory of a device.
+//! DfuSe files (ST's UM0391). Their elements are bytes with addresses, for the memory of a device.
 //!
-//! `read` parses a whole file. `File::image` lists the elements of one alternate setting, sorted by address, as `dfuse::session` needs them;
-//! `read_raw` makes an element of a file without addresses, and `list` takes the elements that `formats` reads. No call
+//! `read` parses a whole file. `File::image` lists the elements of one alternate setting, sorted by address, as `dfuse::session` needs them.
+//! `read_raw` makes an element of a file without addresses, and `list` converts the elements that `formats` reads. No call
 //! allocates memory.
 
 mod element;

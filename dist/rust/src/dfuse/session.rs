@@ -1,9 +1,9 @@
 // Of crates/dfuse_host/src/lib.rt, whose contracts are taken away.
 
-//! The host of DfuSe: a machine that says which request or wait comes next, until the bytes of an image are stored in a device's memory and
-//! were read back.
+//! The host of DfuSe: a state machine that selects the next request or wait until an image is stored in a device's memory and has been read
+//! back.
 //!
-//! The machine sends nothing itself, and takes no memory.
+//! The machine sends nothing itself, and allocates no memory.
 
 mod action;
 mod asking;

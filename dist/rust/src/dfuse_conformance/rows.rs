@@ -5,13 +5,13 @@
 use crate::conformance::EventKind::{Close, GetState, GetStatus, Reset, Upload};
 use crate::conformance::Gives::{Ack, Short, Silent, Stall};
 use crate::conformance::Row;
-use crate::conformance::Source::{Habit, Open};
+use crate::conformance::RuleSource::{Habit, Open};
 use crate::conformance::StandardState::{
     DfuIdle, DownloadBusy, DownloadIdle, DownloadSync, Manifest, ManifestSync, UploadIdle,
 };
 use crate::conformance::When::Always;
 
-// Expands each line, for one place and one answer, to a row for each kind of event.
+// Expands each line, for one state and one answer, to a row for each of its kinds of event.
 macro_rules! rows {
     ($($from:ident, $($asked:ident)|+ => $gives:ident, $next:ident, $source:ident;)+) => {
         [$($(Row {
@@ -25,18 +25,19 @@ macro_rules! rows {
     };
 }
 
-/// Answers that a DfuSe device may give beyond USB DFU 1.1. Each row has the place of the device, the event, the answer, and the place that
-/// it enters. `Habit` marks answers of every DfuSe device, `Open` answers that devices are known to give or may give.
+/// Answers that a DfuSe device may give beyond those of USB DFU 1.1. Each row contains the state of the device, the event, the answer, and
+/// the state that the device enters. `Habit` marks an answer of every DfuSe device, and `Open` an answer that some devices give and others
+/// do not.
 #[rustfmt::skip]
 pub static DFUSE: [Row; 12] = rows!(
-    // DNLOAD of no bytes asks the device to leave, also from dfuIDLE.
+    // A DNLOAD without bytes makes the device leave DFU mode, even from dfuIDLE.
     DfuIdle, Close => Ack, ManifestSync, Habit;
-    // The answer to UPLOAD depends on the number of its block, so a short answer need not be the last.
+    // The answer to an UPLOAD depends on its block number, so a short answer need not be the last one.
     UploadIdle, Upload => Short, UploadIdle, Open;
-    // While a command is carried out, or the device leaves, GETSTATUS and GETSTATE may be stalled, and the device stays.
+    // While the device executes a command or leaves DFU mode, it may stall GETSTATUS and GETSTATE, and stays in its state.
     DownloadBusy, GetStatus | GetState => Stall, DownloadBusy, Open;
     Manifest, GetStatus | GetState => Stall, Manifest, Open;
-    // A reset of the bus may leave the device at its place.
+    // A device may stay in its state at a bus reset.
     DownloadSync, Reset => Silent, DownloadSync, Open;
     DownloadBusy, Reset => Silent, DownloadBusy, Open;
     DownloadIdle, Reset => Silent, DownloadIdle, Open;

@@ -1,10 +1,10 @@
 // Of crates/dfu_conformance/src/dfuse/speaks.rt, whose contracts are taken away.
 
-//! Rows that apply to a DfuSe device, and events at which it may stay at its place.
+//! Rows that apply to a DfuSe device, and events at which it may stay in its state.
 
 use crate::conformance::{EventKind, LogEvent, Reading, Response, When};
 
-/// Returns true if a DfuSe device may have the habit `reading`: bit n of 0Fh is habit n.
+/// Returns true if a DfuSe device may have the habit `reading`. The set of these habits is 0Fh.
 fn is_habit(reading: Reading) -> bool {
     match reading {
         Reading::Bootloader => true,
@@ -16,8 +16,8 @@ fn is_habit(reading: Reading) -> bool {
     }
 }
 
-/// Returns true if a row or a move with `when` applies to a DfuSe device: one that can download and upload, isn't tolerant and detaches by
-/// itself (bmAttributes 0Bh), with the habits bootloader, runtime-mute, self-reset and detach-at-once.
+/// Returns true if a row or move with `when` applies to a DfuSe device. Such a device can download and upload, isn't manifestation tolerant
+/// and detaches by itself (bmAttributes 0Bh), and may have the habits Bootloader, RuntimeMute, SelfReset and DetachAtOnce.
 pub fn is_of_dfuse(when: When) -> bool {
     match when {
         When::Always => true,
@@ -30,8 +30,8 @@ pub fn is_of_dfuse(when: When) -> bool {
     }
 }
 
-/// Returns true if a device must answer the request of `event`: GETSTATUS or GETSTATE, well-formed by section 3 of USB DFU 1.1. It may
-/// stall any other request, and stay.
+/// Returns true if a device must answer the request of `event`: a GETSTATUS or GETSTATE that is well-formed by section 3 of USB DFU 1.1. A
+/// device may stall any other request, and stay in its state.
 pub fn is_told(event: &LogEvent) -> bool {
     match event.asked {
         EventKind::GetStatus => event.is_plain,
@@ -40,7 +40,8 @@ pub fn is_told(event: &LogEvent) -> bool {
     }
 }
 
-/// Returns true if a device may stay at its place at `event`: no answer was seen, or it stalled a request that it need not answer.
+/// Returns true if a device may stay in its state at `event`: if the log has no answer, or if the device stalled a request that it need not
+/// answer.
 pub(crate) fn may_dfuse_stay(event: &LogEvent) -> bool {
     match event.answer {
         Response::Nothing => true,

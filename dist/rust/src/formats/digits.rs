@@ -1,12 +1,12 @@
 // Of crates/dfu_formats/src/images/digits.rt, whose contracts are taken away.
 
-//! Bytes that are spelled in two hexadecimal digits each.
+//! Bytes as pairs of hexadecimal digits.
 
 use crate::formats::fault::ImageFault;
 use crate::formats::limits::MAX_RECORD;
 use arrayvec::ArrayVec;
 
-/// Returns the value of hexadecimal digit `byte`, of either case, 0 to 15, or 16 if `byte` is not one.
+/// Returns the value, 0 to 15, of hexadecimal digit `byte`, of either case. Returns 16 for any other byte.
 pub fn hex_digit(byte: u8) -> u8 {
     match byte {
         b'0'..=b'9' => byte - b'0',
@@ -16,7 +16,7 @@ pub fn hex_digit(byte: u8) -> u8 {
     }
 }
 
-/// Returns the bytes that the hexadecimal `digits` spell, two digits for each; None if `digits` aren't pairs of digits.
+/// Returns the bytes of the hexadecimal `digits`, two digits for each. Returns None if a byte is no digit or one digit remains.
 fn pairs(digits: &[u8]) -> Option<ArrayVec<u8, MAX_RECORD>> {
     let mut bytes = ArrayVec::new();
     let mut at = 0;
@@ -35,7 +35,7 @@ fn pairs(digits: &[u8]) -> Option<ArrayVec<u8, MAX_RECORD>> {
     Some(bytes)
 }
 
-/// Returns the bytes of the record in line `at`, from its `digits`.
+/// Decodes the `digits` of the record on line `at`.
 pub(crate) fn bytes_at(at: usize, digits: &[u8]) -> Result<ArrayVec<u8, MAX_RECORD>, ImageFault> {
     if digits.len() > 2 * MAX_RECORD {
         return Err(ImageFault::BadLength(at));
@@ -46,7 +46,7 @@ pub(crate) fn bytes_at(at: usize, digits: &[u8]) -> Result<ArrayVec<u8, MAX_RECO
     }
 }
 
-/// Returns the sum of `bytes`, the bytes of a record.
+/// Returns the sum of the bytes of a record, for its checksum.
 pub(crate) fn sum_of(bytes: &[u8]) -> u32 {
     let mut sum: u32 = 0;
     for byte in bytes {

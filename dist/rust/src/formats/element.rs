@@ -4,7 +4,7 @@
 
 use crate::memory::Vec;
 
-/// Consecutive bytes, and the address of the first. There is at least one byte, and the last has an address of 32 bits.
+/// Consecutive bytes, and the address of the first one. There is at least one byte, and the last one has a 32-bit address.
 #[derive(Debug, PartialEq, Eq)]
 pub struct Element {
     address: u32,
@@ -12,7 +12,7 @@ pub struct Element {
 }
 
 impl Element {
-    /// Returns the element of `bytes`, 1 or more, at `address`. The element must end at 2^32 or before.
+    /// Returns the element of `bytes` at `address`. There must be at least one byte, and the element must end at or before 2^32.
     pub(crate) fn new(address: u64, bytes: Vec<u8>) -> Element {
         Element {
             address: address as u32,
@@ -30,7 +30,7 @@ impl Element {
         &self.bytes
     }
 
-    /// Returns the address after the last byte, up to 2^32.
+    /// Returns the address after the last byte, at most 2^32.
     pub fn end(&self) -> u64 {
         self.address as u64 + self.bytes.len() as u64
     }

@@ -1,6 +1,6 @@
 // Of crates/dfu_formats/src/images/elf.rt, whose contracts are taken away.
 
-//! ELF files of 32 bits, little endian: the bytes that their segments load.
+//! 32-bit little-endian ELF files: the bytes that their segments load.
 
 use crate::formats::element::Element;
 use crate::formats::fault::ImageFault;
@@ -9,7 +9,7 @@ use crate::formats::numbers::{le16, le32};
 use crate::formats::parts::{ByPart, elements_by_part};
 use crate::memory::{Global, Vec};
 
-/// Returns true if `file` has the header of an ELF file of 32 bits, little endian.
+/// Returns true if `file` has the header of a 32-bit little-endian ELF file.
 fn is_elf(file: &[u8]) -> bool {
     file.len() >= 52 && le32(file, 0) == 0x464c_457f && file[4] == 1 && file[5] == 1 && file[6] == 1
 }
@@ -34,7 +34,7 @@ impl ByPart for Segments<'_> {
         }
         let from = le32(header, 4) as usize;
         let address = le32(header, 12) as u64;
-        // A sum of 64 bits, because two numbers of a header may wrap a usize of 32.
+        // The sum needs 64 bits, because two header fields can together exceed a 32-bit usize.
         if from as u64 + count as u64 > self.file.len() as u64 {
             return Err(ImageFault::CutSegment(index));
         }

@@ -1,19 +1,19 @@
 // Of crates/dfu_formats/src/images/endings.rt, whose contracts are taken away.
 
-//! Formats by the ending of a file's name.
+//! The format of a file according to the ending of its name.
 
 use crate::formats::format::Format;
 
-/// Format by the ending of a file's name.
+/// Kind of file, according to the ending of its name.
 #[derive(Clone, Copy, Debug, PartialEq, Eq)]
 pub enum Ending {
-    /// A file of a format that builds produce.
+    /// The ending is that of a format that builds produce.
     Of(Format),
-    /// A DFU file.
+    /// The ending is that of a DFU file.
     Dfu,
 }
 
-/// Returns true if `name` ends in `ending`, in letters of either case.
+/// Returns true if `name` ends in `ending`, in upper or lower case.
 fn name_ends_in(ending: &[u8], name: &[u8]) -> bool {
     if name.len() < ending.len() {
         return false;
@@ -22,7 +22,7 @@ fn name_ends_in(ending: &[u8], name: &[u8]) -> bool {
     last.eq_ignore_ascii_case(ending)
 }
 
-/// Returns the format by the ending of `name`; None for an ending of no format.
+/// Returns the kind of file for the ending of `name`, or None if no kind has this ending.
 pub(crate) fn name_ending(name: &[u8]) -> Option<Ending> {
     if name_ends_in(b".dfu", name) {
         Some(Ending::Dfu)

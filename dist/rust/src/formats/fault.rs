@@ -1,65 +1,65 @@
 // Of crates/dfu_formats/src/images/fault.rt, whose contracts are taken away.
 
-//! Faults for which a file is refused.
+//! Faults of files from which no image can be read.
 
 use core::fmt;
 use thiserror::Error;
 
-/// A fault for which a file has no image. Lines are counted from 1, and blocks and segments from 0.
+/// A fault of a file from which no image can be read. Lines are counted from 1, and blocks and segments from 0.
 #[derive(Clone, Copy, Debug, PartialEq, Eq, Error)]
 pub enum ImageFault {
     /// An allocation was refused.
     NoMemory,
     /// The line doesn't begin with `:` in Intel HEX, or with `S` and a digit in S-records.
     NoMark(usize),
-    /// The line has something other than pairs of hexadecimal digits.
+    /// The text after the mark of the record isn't pairs of hexadecimal digits.
     BadDigit(usize),
-    /// The length of the record differs from its count, or from the length of its type.
+    /// The length of the record doesn't fit its count or its type.
     BadLength(usize),
-    /// The checksum doesn't fit the record.
+    /// The checksum doesn't match the record.
     BadChecksum(usize),
-    /// No record has this type.
+    /// The format has no record of this type.
     BadType(usize),
-    /// A count of records isn't the number of data records before it.
+    /// The count of a record isn't the number of data records before it.
     BadCount(usize),
-    /// The data goes past the end of its segment, or past address FFFFFFFFh.
+    /// The data ends beyond its segment, or beyond address FFFFFFFFh.
     PastSegment(usize),
     /// A line that isn't blank follows the end record.
     Trailing(usize),
-    /// There is no end record, nor a count of S-records after the last data.
+    /// The file has no end record, and no count of S-records after its last data record.
     NoEnd,
-    /// The file isn't one or more blocks of 512 bytes.
+    /// The file isn't a sequence of one or more blocks of 512 bytes.
     BadSize,
-    /// The block lacks one of its three marks.
+    /// The block lacks one of its three magic numbers.
     BadMagic(usize),
-    /// The block claims over 476 bytes of data.
+    /// The data size in the block is more than 476 bytes.
     BadBlock(usize),
-    /// The block doesn't have its own number, or the count of all blocks.
+    /// The number of the block isn't its index in the file, or its count isn't the number of all blocks.
     BadNumber(usize),
-    /// The block is for a file of the device, and not for its flash.
+    /// The block belongs to a file container, and isn't meant for the flash.
     FileContainer(usize),
     /// The block is for another family of boards than the first one.
     OtherFamily(usize),
-    /// The file doesn't have the header of an ELF file of 32 bits, little endian.
+    /// The file doesn't have the header of a 32-bit little-endian ELF file.
     NotElf,
-    /// The file doesn't have all its program headers, of 32 bytes each.
+    /// The file doesn't contain all its program headers, or they don't have 32 bytes each.
     CutHeader,
-    /// The file doesn't have all bytes of a segment.
+    /// The file doesn't contain all bytes of a segment.
     CutSegment(usize),
-    /// The data of the block or segment goes past address FFFFFFFFh.
+    /// The data of the block or segment ends beyond address FFFFFFFFh.
     PastTheEnd(usize),
-    /// The data has over 16,777,216 bytes, from this line, block or segment on.
+    /// With the data of this line, block or segment, the image has over 16,777,216 bytes.
     TooLarge(usize),
-    /// There are over 1,024 elements, from this line, block or segment on.
+    /// With the data of this line, block or segment, the image has over 1,024 elements.
     TooManyElements(usize),
-    /// Two records have a byte at this address; it is the lowest one.
+    /// Two records, blocks or segments have data for this address, which is the lowest such address.
     Overlaps(u32),
 }
 
-/// Row of Overlaps in the tables; its number is an address.
+/// Row of Overlaps in the tables. The number of this fault is an address, which is printed in hexadecimal.
 const OVERLAPS: usize = 22;
 
-/// Text of each fault, without its place or address, in the order of the enum.
+/// Text of each fault without its number, in the order of the enum.
 static WORDS: [&str; 23] = [
     "an allocation was refused",
     "no record begins so",
@@ -86,7 +86,7 @@ static WORDS: [&str; 23] = [
     "two records have a byte at address ",
 ];
 
-/// Kind of place that the number of each fault counts, in the order of the enum; empty if the fault has no such number.
+/// Word before the number of each fault in its message, in the order of the enum. It is empty for a fault that has no such number.
 #[rustfmt::skip]
 static PLACES: [&str; 23] = [
     "", "line", "line", "line", "line", "line", "line", "line", "line", "", "", "block", "block", "block", "block", "block", "",
@@ -94,7 +94,7 @@ static PLACES: [&str; 23] = [
 ];
 
 impl ImageFault {
-    /// Returns the row of the fault in the tables, 0 to 22, and the number or address of the fault, if it has one.
+    /// Returns the row of the fault in the tables, 0 to 22, and its number or address, if it has one.
     fn row(self) -> (usize, Option<usize>) {
         match self {
             ImageFault::NoMemory => (0, None),

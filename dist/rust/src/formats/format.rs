@@ -1,15 +1,15 @@
 // Of crates/dfu_formats/src/images/format.rt, whose contracts are taken away.
 
-//! Formats of files.
+//! Formats of firmware files.
 
-/// A format of files that builds produce.
+/// A format of the files that builds produce.
 #[derive(Clone, Copy, Debug, PartialEq, Eq)]
 pub enum Format {
-    /// Intel HEX.
+    /// Intel HEX: lines that begin with `:`.
     IntelHex,
-    /// S-records.
+    /// S-records: lines that begin with `S`.
     SRecord,
-    /// UF2.
+    /// UF2: blocks of 512 bytes.
     Uf2,
     /// ELF of 32 bits, little endian.
     Elf,

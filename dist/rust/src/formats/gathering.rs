@@ -1,13 +1,13 @@
 // Of crates/dfu_formats/src/images/gathering.rt, whose contracts are taken away.
 
-//! Elements that grow and are completed as records are read.
+//! Elements that are gathered from the records of a file.
 
 use crate::formats::element::Element;
 use crate::formats::fault::ImageFault;
 use crate::formats::limits::{MAX_ELEMENTS, MAX_IMAGE};
 use crate::memory::{Global, Vec};
 
-/// Complete elements, sorted by address, and the element that still grows.
+/// Complete elements, sorted by address, and the element to which records still append.
 #[derive(Debug, PartialEq, Eq)]
 pub(crate) struct Gathering {
     complete: Vec<Element>,
@@ -16,7 +16,7 @@ pub(crate) struct Gathering {
     total: usize,
 }
 
-/// Returns the number of `elements`, from the front, that begin at `address` or before it.
+/// Returns the number of leading `elements` that begin at or before `address`.
 fn place_of(address: u32, elements: &[Element]) -> usize {
     let mut count: usize = 0;
     for element in elements {
@@ -28,7 +28,7 @@ fn place_of(address: u32, elements: &[Element]) -> usize {
     count
 }
 
-/// Inserts `element` into `elements` by its address, after those with the same one.
+/// Inserts `element` into `elements`, after those with the same or a lower address.
 fn insert_element(mut elements: Vec<Element>, element: Element) -> Result<Vec<Element>, ImageFault> {
     let place = place_of(element.address(), &elements);
     match elements.insert(place, element) {
@@ -37,7 +37,7 @@ fn insert_element(mut elements: Vec<Element>, element: Element) -> Result<Vec<El
     }
 }
 
-/// Returns `elements` with the element of `bytes` at `address` inserted, unless `bytes` is empty.
+/// Inserts the element of `bytes` at `address` into `elements`, unless `bytes` is empty.
 fn insert_grown(
     elements: Vec<Element>,
     address: u64,
@@ -49,7 +49,7 @@ fn insert_grown(
     insert_element(elements, Element::new(address, bytes))
 }
 
-/// Begins an element with `bytes` at `address` beside the `complete` elements, unless these are at least 1,024.
+/// Begins an element with `bytes` at `address`, unless 1,024 elements or more are `complete`.
 fn begin_element(
     alloc: Global,
     at: usize,
@@ -72,7 +72,7 @@ fn begin_element(
     }
 }
 
-/// Returns the first address at which an element begins before the element in front of it ends; None if there is none.
+/// Returns the address of the first element that begins before the end of its predecessor, or None if there is none.
 fn shared(elements: &[Element]) -> Option<u32> {
     let mut end: u64 = 0;
     for element in elements {
@@ -95,7 +95,7 @@ impl Gathering {
         }
     }
 
-    /// Adds `bytes` at `address`: to the growing element if they begin at its end, and otherwise as a new element.
+    /// Appends `bytes` to the growing element if they begin at its end. Otherwise completes it and begins another at `address`.
     fn grow(
         self,
         alloc: Global,
@@ -127,7 +127,8 @@ impl Gathering {
         }
     }
 
-    /// Adds `bytes`, if there are any, at `address`; they are of line, block or segment number `at`, which a fault names.
+    /// Adds `bytes`, if there are any, at `address`. TooLarge and TooManyElements contain `at`, the number of the line, block or segment
+    /// with the bytes.
     pub(crate) fn add(
         self,
         alloc: Global,
@@ -148,7 +149,8 @@ impl Gathering {
     ///
     /// # Errors
     ///
-    /// Overlaps with the first address at which an element begins before the end of the one in front of it.
+    /// Overlaps, with the address of the first element that begins before the end of its predecessor; NoMemory if an allocation was
+    /// refused.
     pub(crate) fn finish(self) -> Result<Vec<Element>, ImageFault> {
         let Gathering {
             complete,

@@ -2,10 +2,10 @@
 
 //! Intel HEX, records 00 to 05.
 //!
-//! A line ends with a line feed, and the last one needs none. A byte order mark, blank lines and the blanks at either end of a line, such
-//! as a carriage return, are ignored. Digits have either case. There is one end record, and only blank lines follow it. The data of a
-//! record may continue past the 65,536 bytes of a linear base (type 04, or none), but not past those of a segment (type 02). The start
-//! address of a program is ignored.
+//! Each line ends with a line feed, which is optional after the last one. A byte order mark and empty lines are ignored, and so are spaces,
+//! tabs and carriage returns at either end of a line. Digits may be of either case. Only blank lines may follow the end record. The data of
+//! a record may continue beyond the 65,536 bytes of a linear base (type 04, or none), but not beyond those of a segment (type 02). The
+//! start address of a program is ignored.
 
 use crate::formats::digits::{bytes_at, sum_of};
 use crate::formats::element::Element;
@@ -15,7 +15,7 @@ use crate::formats::lines::{State, TextFormat, elements_by_line};
 use arrayvec::ArrayVec;
 use crate::memory::{Global, Vec};
 
-/// Returns the bytes of the record in `line`, which has number `at`: the bytes that the digits after `:` spell.
+/// Returns the bytes of the record in `line`, which has number `at`, from the digits after `:`.
 fn spelled(at: usize, line: &[u8]) -> Result<ArrayVec<u8, MAX_RECORD>, ImageFault> {
     match line {
         [b':', digits @ ..] => bytes_at(at, digits),
@@ -31,7 +31,7 @@ struct Record<'t> {
     content: &'t [u8],
 }
 
-/// Splits `bytes`, the record in line number `at`, into its fields, or returns its fault of length or checksum.
+/// Splits `bytes`, the record on line `at`, into its fields, or returns the fault of its length or checksum.
 fn split_record(at: usize, bytes: &[u8]) -> Result<Record<'_>, ImageFault> {
     if bytes.len() == 0 {
         return Err(ImageFault::BadLength(at));
@@ -52,12 +52,12 @@ fn split_record(at: usize, bytes: &[u8]) -> Result<Record<'_>, ImageFault> {
     })
 }
 
-/// Returns true if the base of `state` is a segment, and the data of record `said` goes past its end.
+/// Returns true if the base of `state` is a segment, and the data of record `said` ends beyond this segment.
 fn leaves_segment(state: &State, said: &Record<'_>) -> bool {
     state.is_segment && said.offset as usize + said.content.len() > 65_536
 }
 
-/// Adds the data of record `said`, in line number `at`, at its offset from the base of `state`.
+/// Adds the data of record `said`, on line `at`, at its offset from the base of `state`.
 fn add_data(alloc: Global, at: usize, state: State, said: &Record<'_>) -> Result<State, ImageFault> {
     let address = state.base + said.offset as u64;
     if leaves_segment(&state, said) || address + said.content.len() as u64 > 0x1_0000_0000 {
@@ -69,7 +69,7 @@ fn add_data(alloc: Global, at: usize, state: State, said: &Record<'_>) -> Result
     }
 }
 
-/// Sets the base to the two bytes of record `said`, in units of `unit` addresses. Other than two bytes are BadLength.
+/// Sets the base to the two bytes of record `said`, in units of `unit` addresses. Any other number of bytes is BadLength.
 fn with_base(at: usize, unit: u64, state: State, said: &Record<'_>) -> Result<State, ImageFault> {
     match said.content {
         [high, low] => Ok(State {
@@ -81,7 +81,7 @@ fn with_base(at: usize, unit: u64, state: State, said: &Record<'_>) -> Result<St
     }
 }
 
-/// Carries out record `said`, in line number `at`, by its type. Returns the state after it, or its fault.
+/// Applies record `said`, on line `at`, by its type. Returns the new state, or the fault.
 fn do_record(alloc: Global, at: usize, state: State, said: &Record<'_>) -> Result<State, ImageFault> {
     match said.kind {
         0 => add_data(alloc, at, state, said),
@@ -98,7 +98,7 @@ fn do_record(alloc: Global, at: usize, state: State, said: &Record<'_>) -> Resul
     }
 }
 
-/// Intel HEX, as a format that is read line by line.
+/// Intel HEX as a text format.
 struct IntelHex;
 
 impl TextFormat for IntelHex {

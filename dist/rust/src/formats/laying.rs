@@ -1,6 +1,6 @@
 // Of crates/dfu_formats/src/images/laying.rt, whose contracts are taken away.
 
-//! An image as one piece, from the lowest address of its elements on.
+//! Joins the elements of an image into one piece, which begins at their lowest address.
 
 use crate::formats::element::Element;
 use crate::formats::limits::MAX_IMAGE;
@@ -8,14 +8,14 @@ use crate::memory::{Global, Vec};
 use core::fmt;
 use thiserror::Error;
 
-/// A fault of elements that don't make one piece.
+/// A fault of elements that can't be joined to one piece.
 #[derive(Clone, Copy, Debug, PartialEq, Eq, Error)]
 pub enum LayFault {
     /// An allocation was refused.
     NoMemory,
-    /// No element has the addresses from the first up to before the second, and no filling is given.
+    /// No element contains the addresses from the first value up to before the second one, and no fill byte is given.
     Gap(u64, u32),
-    /// With the filling of the gaps, the image has over 16,777,216 bytes.
+    /// With the gaps filled, the image has over 16,777,216 bytes.
     TooLarge,
 }
 
@@ -34,7 +34,7 @@ impl fmt::Display for LayFault {
     }
 }
 
-/// Appends an element to bytes that end at address `end`, after those that fill the gap; or returns the fault.
+/// Appends an element to bytes that end at address `end`, after the fill bytes between them. Returns the fault if there is one.
 fn with_part(
     mut bytes: Vec<u8>,
     fill: Option<u8>,
@@ -58,7 +58,7 @@ fn with_part(
     }
 }
 
-/// Returns the lowest address of `elements`, which are sorted by address; 0 if there are none.
+/// Returns the lowest address of `elements`, which are sorted by address, or 0 if there are none.
 pub fn lowest(elements: &[Element]) -> u32 {
     match elements.first() {
         Some(element) => element.address(),
@@ -66,11 +66,11 @@ pub fn lowest(elements: &[Element]) -> u32 {
     }
 }
 
-/// Returns the bytes of `elements` from the lowest address on, with gaps filled by the byte `fill`, if it is given.
+/// Returns the bytes of `elements` from the lowest address on. Gaps are filled with the byte `fill`, if it is given.
 ///
 /// # Errors
 ///
-/// The first fault from the front: Gap if no filling is given, or TooLarge. NoMemory if an allocation was refused.
+/// The first fault from the front: Gap if `fill` is None, or TooLarge. NoMemory if an allocation was refused.
 ///
 /// # What the caller must keep to
 ///

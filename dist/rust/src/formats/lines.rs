@@ -8,12 +8,12 @@ use crate::formats::gathering::Gathering;
 use crate::formats::text::{is_blank_byte, unblanked, unmarked};
 use crate::memory::{Global, Vec};
 
-/// Returns the index of the first line feed of `text`; None if it has none.
+/// Returns the index of the first line feed of `text`, or None if it has none.
 fn feed_in(text: &[u8]) -> Option<usize> {
     text.iter().position(|byte| *byte == b'\n')
 }
 
-/// Returns the first line of `text`, and the text after its line feed, if it has one.
+/// Returns the first line of `text`, and the text after its line feed. This text is None if there is no line feed.
 fn take_line(text: &[u8]) -> (&[u8], Option<&[u8]>) {
     match feed_in(text) {
         Some(end) => {
@@ -36,8 +36,8 @@ fn bare(line: &[u8]) -> &[u8] {
     kept
 }
 
-/// State of the reading of a text up to a line: the elements, the base of Intel HEX, whether the base is that of a segment of 65,536 bytes,
-/// the number of S-records of data, whether the text may end here, and whether only blank lines may follow.
+/// State of reading a text: the elements, the base of Intel HEX, true if this base is a segment of 65,536 bytes, the number of S-records
+/// with data, true if the text may end here, and true if only blank lines may follow.
 #[derive(Debug, PartialEq, Eq)]
 pub(crate) struct State {
     pub gathering: Gathering,
@@ -48,17 +48,17 @@ pub(crate) struct State {
     pub is_ended: bool,
 }
 
-/// A format that is read line by line.
+/// A text format with one record on each line.
 pub(crate) trait TextFormat {
     fn step(alloc: Global, at: usize, state: State, line: &[u8]) -> Result<State, ImageFault>;
 }
 
-/// Returns true if `line` is empty or has only blanks.
+/// Returns true if `line` is empty or consists of blanks.
 fn is_blank_line(line: &[u8]) -> bool {
     line.iter().all(|byte| is_blank_byte(*byte))
 }
 
-/// Reads `line`, which has number `at`: a record, or blanks alone, or nothing. Returns the state after it.
+/// Reads `line`, which has number `at` and is a record or blank. Returns the new state, or the fault.
 fn line_read<F: TextFormat>(
     alloc: Global,
     at: usize,
@@ -74,7 +74,7 @@ fn line_read<F: TextFormat>(
     F::step(alloc, at, state, line)
 }
 
-/// Reads all lines of `text`. Returns the state after them, or the first fault; NoEnd is one.
+/// Reads all lines of `text`. Returns the last state or the first fault. The fault is NoEnd if the text may not end after its last line.
 fn lines_read<F: TextFormat>(alloc: Global, text: &[u8]) -> Result<State, ImageFault> {
     let mut state = State {
         gathering: Gathering::new(alloc),
@@ -101,7 +101,7 @@ fn lines_read<F: TextFormat>(alloc: Global, text: &[u8]) -> Result<State, ImageF
     }
 }
 
-/// Reads the elements of `text` line by line, without its byte order mark.
+/// Reads the elements of `text`, line by line. A byte order mark at its front is skipped.
 pub(crate) fn elements_by_line<F: TextFormat>(
     alloc: Global,
     text: &[u8],

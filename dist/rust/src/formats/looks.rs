@@ -1,6 +1,6 @@
 // Of crates/dfu_formats/src/images/looks.rt, whose contracts are taken away.
 
-//! Looks of a file without a DFU suffix: the format that it seems to have.
+//! The apparent format of a file without a DFU suffix.
 
 use crate::formats::digits::hex_digit;
 use crate::formats::endings::{Ending, name_ending};
@@ -8,40 +8,40 @@ use crate::formats::format::Format;
 use crate::formats::places::{Place, bad_place};
 use crate::formats::text::{is_text, unblanked, unmarked};
 
-/// Kinds of files from which no image is made.
+/// A kind of file from which no image is made.
 #[derive(Clone, Copy, Debug, PartialEq, Eq)]
 pub enum NotImage {
-    /// The file begins as a DfuSe file.
+    /// The file begins with the letters DfuSe.
     DfuSe,
-    /// The file begins as a zip archive.
+    /// The file begins like a zip archive.
     Zip,
-    /// The file begins as a gzip archive.
+    /// The file begins like a gzip archive.
     Gzip,
-    /// The file is text alone, of no format.
+    /// The whole file is text, but in no known format.
     Text,
-    /// The bytes fit no format, but the name has the ending of one.
+    /// The bytes have no known format, but the ending of the name is that of a known kind.
     Named(Ending),
 }
 
-/// Look of a file: a raw image, a format, or a file without an image, as far as its bytes and its name show.
+/// The apparent kind of a file, as far as its bytes and its name show it.
 #[derive(Clone, Copy, Debug, PartialEq, Eq)]
 pub enum Looks {
-    /// The file may be a raw image: its bytes and its name fit no format.
+    /// The file may be a raw image, because neither its bytes nor its name show a known kind.
     Raw,
-    /// A file of a format that builds produce.
+    /// The file has the mark of a format that builds produce.
     Of(Format),
-    /// A file from which no image is made.
+    /// The file is of a kind from which no image is made.
     Other(NotImage),
 }
 
-/// Findings of a look at a file.
+/// Result of `look_at`.
 #[derive(Clone, Copy, Debug, PartialEq, Eq)]
 pub struct Look {
-    /// Look of the file.
+    /// The apparent kind of the file.
     pub looks: Looks,
-    /// Format by the ending of the file's name, whatever its bytes are.
+    /// The kind of file for the ending of its name, which need not be the kind that its bytes show.
     pub ending: Option<Ending>,
-    /// Place of the first byte that no record may have there, in a file that looks like Intel HEX or S-records.
+    /// Line and column of the first byte that can't belong to a record, if the file looks like Intel HEX or S-records.
     pub bad: Option<Place>,
 }
 
@@ -53,7 +53,7 @@ fn has_digits(text: &[u8]) -> bool {
     }
 }
 
-/// Returns true if `text`, the text of `file`, begins as Intel HEX.
+/// Returns true if `text`, which is `file` without a byte order mark and blanks at its front, begins like Intel HEX.
 fn begins_ihex(file: &[u8], text: &[u8]) -> bool {
     match text {
         [b':', rest @ ..] => has_digits(rest) || is_text(file),
@@ -61,7 +61,7 @@ fn begins_ihex(file: &[u8], text: &[u8]) -> bool {
     }
 }
 
-/// Returns true if `text` begins as an S-record.
+/// Returns true if `text` begins like an S-record.
 fn begins_srec(text: &[u8]) -> bool {
     match text {
         [b'S', b'0'..=b'9', rest @ ..] => has_digits(rest),
@@ -69,7 +69,7 @@ fn begins_srec(text: &[u8]) -> bool {
     }
 }
 
-/// Returns the look of a file whose bytes fit no format, by the `ending` of its name.
+/// Returns the apparent kind of a file whose bytes have no known format, from the `ending` of its name.
 fn looks_by_name(ending: Option<Ending>) -> Looks {
     match ending {
         Some(ending) => Looks::Other(NotImage::Named(ending)),
@@ -77,7 +77,7 @@ fn looks_by_name(ending: Option<Ending>) -> Looks {
     }
 }
 
-/// Returns the look of `file`, by its bytes and the `ending` of its name.
+/// Returns the apparent kind of `file`, from its bytes and the `ending` of its name.
 fn looks_of(file: &[u8], ending: Option<Ending>) -> Looks {
     let text = unblanked(unmarked(file));
     if file.starts_with(b"DfuSe") {
@@ -101,7 +101,8 @@ fn looks_of(file: &[u8], ending: Option<Ending>) -> Looks {
     }
 }
 
-/// Returns the look of `file`, whose `name` may be its whole path or the last part of it.
+/// Returns the apparent kind of `file`, the kind for its name, and the first byte that can't belong to a record. `name` may be a path, or
+/// only its last part.
 pub fn look_at(file: &[u8], name: &[u8]) -> Look {
     let ending = name_ending(name);
     let looks = looks_of(file, ending);

@@ -11,7 +11,7 @@ use crate::memory::{Global, Vec};
 use core::fmt;
 use thiserror::Error;
 
-/// The bytes from the lowest address of a file to its highest one.
+/// The image of a file as one piece, from its lowest address to its highest one.
 #[derive(Debug, PartialEq, Eq)]
 pub struct Image {
     /// The address of the first byte.
@@ -20,14 +20,14 @@ pub struct Image {
     pub bytes: Vec<u8>,
 }
 
-/// A fault for which a file has no image.
+/// A fault of a file from which no image can be made.
 #[derive(Clone, Copy, Debug, PartialEq, Eq, Error)]
 pub enum ImageFileFault {
-    /// The file can't be read.
+    /// The elements of the file can't be read.
     Unread(ImageFault),
-    /// The file has no byte for any address.
+    /// The file has no data, and so no address.
     NoData,
-    /// The elements of the file don't make one piece.
+    /// The elements of the file can't be joined to one piece.
     Unlaid(LayFault),
 }
 
@@ -41,7 +41,7 @@ impl fmt::Display for ImageFileFault {
     }
 }
 
-/// Reads the elements of `file`, a file of `format`.
+/// Reads the elements of `file`, which is in `format`.
 fn elements_in(alloc: Global, format: Format, file: &[u8]) -> Result<Vec<Element>, ImageFault> {
     match format {
         Format::IntelHex => ihex::read(alloc, file),
@@ -51,11 +51,12 @@ fn elements_in(alloc: Global, format: Format, file: &[u8]) -> Result<Vec<Element
     }
 }
 
-/// Returns the image of `file`, a file of `format`, with gaps filled by the byte `fill`, if it is given.
+/// Returns the image of `file`, which is in `format`. Gaps are filled with the byte `fill`, if it is given.
 ///
 /// # Errors
 ///
-/// Unread with the first fault of the file; NoData if it has no bytes; Unlaid, with the reason, if its elements don't make one piece.
+/// Unread, with the first fault of the file; NoData if the file has no data; Unlaid, with the reason, if its elements can't be joined to
+/// one piece.
 pub fn image_of(
     alloc: Global,
     format: Format,

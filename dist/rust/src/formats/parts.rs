@@ -1,13 +1,13 @@
 // Of crates/dfu_formats/src/images/parts.rt, whose contracts are taken away.
 
-//! Formats that are read part by part, each part of one size.
+//! Formats whose files consist of parts of equal size.
 
 use crate::formats::element::Element;
 use crate::formats::fault::ImageFault;
 use crate::formats::gathering::Gathering;
 use crate::memory::{Global, Vec};
 
-/// A file of a format that is read part by part, with the facts of the whole file that each part needs.
+/// A file that consists of parts of equal size. The value contains the facts about the whole file that are needed to read a part.
 pub(crate) trait ByPart {
     fn part_read(
         &self,
@@ -18,7 +18,7 @@ pub(crate) trait ByPart {
     ) -> Result<Gathering, ImageFault>;
 }
 
-/// Reads the first `total` parts, each of `size` bytes. Returns the gathering after them, or the first fault.
+/// Reads the first `total` parts, each of `size` bytes. Returns the elements gathered from them, or the first fault.
 fn parts_read<F: ByPart>(
     alloc: Global,
     file: &F,
@@ -41,7 +41,7 @@ fn parts_read<F: ByPart>(
     Ok(gathering)
 }
 
-/// Reads the elements of the first `total` parts of `parts`, each of `size` bytes.
+/// Reads the elements from the first `total` parts, each of `size` bytes.
 pub(crate) fn elements_by_part<F: ByPart>(
     alloc: Global,
     file: &F,

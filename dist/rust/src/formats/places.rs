@@ -1,21 +1,21 @@
 // Of crates/dfu_formats/src/images/places.rt, whose contracts are taken away.
 
-//! Search of a text for the first byte that no record may have at its place.
+//! Searches a text for the first byte that can't belong to a record.
 
 use crate::formats::digits::hex_digit;
 use crate::formats::format::Format;
 use crate::formats::text::{is_blank_byte, unmarked};
 
-/// A place in a text. Both numbers count from 1, and columns count bytes.
+/// A position in a text. Lines and columns count from 1, and columns count bytes.
 #[derive(Clone, Copy, Debug, PartialEq, Eq)]
 pub struct Place {
-    /// Number of the line.
+    /// Number of the line, from 1.
     pub line: u64,
-    /// Number of the byte within the line.
+    /// Number of the byte within the line, from 1.
     pub column: u64,
 }
 
-/// A part of a line: before the mark of a record, from the mark to the last digit, or after the digits.
+/// Part of a line: before the mark of a record, from the mark to the last digit, or after the digits.
 #[derive(Clone, Copy, Debug, PartialEq, Eq)]
 enum Part {
     Front,
@@ -23,7 +23,7 @@ enum Part {
     Back,
 }
 
-/// Returns the part of a line after `byte` in `part`; None if no record with `mark` may have the byte in `part`.
+/// Returns the part of a line to which `byte` belongs if it follows `part`, or None if no record with `mark` allows this byte there.
 fn next_line_part(mark: u8, part: Part, byte: u8) -> Option<Part> {
     match part {
         Part::Front if byte == mark && !is_blank_byte(byte) => Some(Part::Digits),
@@ -34,8 +34,8 @@ fn next_line_part(mark: u8, part: Part, byte: u8) -> Option<Part> {
     }
 }
 
-/// Returns the place of the first byte of `text`, a text without its byte order mark, that no record with `mark` may have there; None if
-/// there is no such byte.
+/// Returns the line and column of the first byte of `text` that can't belong to a record with `mark`, or None if there is no such byte.
+/// `text` has no byte order mark.
 fn bad_from(mark: u8, text: &[u8]) -> Option<Place> {
     let mut part = Part::Front;
     let mut line: u64 = 1;
@@ -56,10 +56,10 @@ fn bad_from(mark: u8, text: &[u8]) -> Option<Place> {
     None
 }
 
-/// Returns the place of the first byte of `file` that no record may have there, if `format` is a text format. None if there is no such
-/// byte, and for a binary format.
+/// Returns the line and column of the first byte of `file` that can't belong to a record, or None if there is no such byte. For a binary
+/// format the result is None.
 ///
-/// A line is blanks, the mark of a record, hexadecimal digits, and blanks. Lines are counted after a byte order mark.
+/// A line consists of blanks, the mark of a record, hexadecimal digits, and blanks. A byte order mark is not counted.
 pub fn bad_place(format: Format, file: &[u8]) -> Option<Place> {
     match format {
         Format::IntelHex => bad_from(b':', unmarked(file)),

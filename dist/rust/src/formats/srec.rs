@@ -2,8 +2,8 @@
 
 //! S-records, types 0 to 3 and 5 to 9.
 //!
-//! Lines and digits are as in Intel HEX. After all data comes an end record, of any of its types, or a count, because some tools write no
-//! end record. A count must equal the number of data records before it. Titles are ignored.
+//! Lines and digits follow the rules of Intel HEX. After the last data record, the file must have an end record of any type or a count,
+//! because some tools write no end record. A count must equal the number of data records before it. Titles (type 0) are ignored.
 
 use crate::formats::element::Element;
 use crate::formats::fault::ImageFault;
@@ -11,7 +11,7 @@ use crate::formats::lines::{State, TextFormat, elements_by_line};
 use crate::formats::srec_line::{Record, spelled, split_record};
 use crate::memory::{Global, Vec};
 
-/// Adds the data of record `said`, in line number `at`, at its address.
+/// Adds the data of record `said`, on line `at`, at its address.
 fn add_data(alloc: Global, at: usize, state: State, said: &Record<'_>) -> Result<State, ImageFault> {
     if said.address + said.content.len() as u64 > 0x1_0000_0000 {
         return Err(ImageFault::PastSegment(at));
@@ -27,7 +27,7 @@ fn add_data(alloc: Global, at: usize, state: State, said: &Record<'_>) -> Result
     }
 }
 
-/// Reads a count, which must be that of the data records so far, or an end record. Neither may have data.
+/// Applies a count, which must be the number of data records so far, or an end record. Neither may have data.
 fn count_or_end(at: usize, state: State, said: &Record<'_>) -> Result<State, ImageFault> {
     if said.content.len() != 0 {
         return Err(ImageFault::BadLength(at));
@@ -48,7 +48,7 @@ fn count_or_end(at: usize, state: State, said: &Record<'_>) -> Result<State, Ima
     })
 }
 
-/// S-records, as a format that is read line by line.
+/// S-records as a text format.
 struct SRecord;
 
 impl TextFormat for SRecord {

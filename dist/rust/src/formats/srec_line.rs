@@ -1,6 +1,6 @@
 // Of crates/dfu_formats/src/images/srec_line.rt, whose contracts are taken away.
 
-//! One S-record: its type, its address and its data, from the text of its line.
+//! One S-record: its type, its address and its data.
 
 use crate::formats::digits::{bytes_at, sum_of};
 use crate::formats::fault::ImageFault;
@@ -28,7 +28,7 @@ pub(crate) fn spelled(at: usize, line: &[u8]) -> Result<TypedRecord, ImageFault>
     }
 }
 
-/// Returns the number of bytes of the address of a record of type `kind`.
+/// Returns the number of address bytes in a record of type `kind`.
 fn width(kind: u8) -> usize {
     match kind {
         3 | 7 => 4,
@@ -37,7 +37,7 @@ fn width(kind: u8) -> usize {
     }
 }
 
-/// Returns the number in `bytes`, at most four, the high byte first.
+/// Returns the number in these bytes, at most four, the high byte first.
 fn number(bytes: &[u8]) -> u64 {
     let mut value: u64 = 0;
     for byte in bytes {
@@ -54,7 +54,7 @@ pub(crate) struct Record<'t> {
     pub(crate) content: &'t [u8],
 }
 
-/// Splits `typed`, the type and bytes of the record in line number `at`, into its fields.
+/// Splits `typed`, the type and bytes of the record on line `at`, into its fields, or returns the fault of its length or checksum.
 pub(crate) fn split_record(at: usize, typed: &TypedRecord) -> Result<Record<'_>, ImageFault> {
     let bytes = typed.bytes.as_slice();
     let width = width(typed.kind);

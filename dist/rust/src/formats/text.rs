@@ -1,8 +1,8 @@
 // Of crates/dfu_formats/src/images/text.rt, whose contracts are taken away.
 
-//! The text of a file: its byte order mark, its blanks, and whether it is text alone.
+//! The byte order mark and the blanks of a text, and the test that a file is text.
 
-/// Returns `text` without the byte order mark of UTF-8, if it begins with one.
+/// Returns `text` without its UTF-8 byte order mark, if it begins with one.
 pub(crate) fn unmarked(text: &[u8]) -> &[u8] {
     match text {
         [0xef, 0xbb, 0xbf, rest @ ..] => rest,
@@ -15,7 +15,7 @@ pub(crate) fn is_blank_byte(byte: u8) -> bool {
     byte == b' ' || byte == b'\t' || byte == b'\r'
 }
 
-/// Returns `text` without the blanks and line feeds before its first other byte.
+/// Returns `text` without the blanks and line feeds at its front.
 pub(crate) fn unblanked(text: &[u8]) -> &[u8] {
     let mut rest = text;
     while let [first, more @ ..] = rest {
@@ -27,7 +27,7 @@ pub(crate) fn unblanked(text: &[u8]) -> &[u8] {
     rest
 }
 
-/// Returns true if `byte` is a tab, line feed, form feed or carriage return, or no ASCII control character.
+/// Returns true if `byte` is tab, line feed, form feed, carriage return, or not an ASCII control character.
 fn is_text_byte(byte: u8) -> bool {
     match byte {
         b'\t' | b'\n' | 0x0c | b'\r' => true,
@@ -35,7 +35,7 @@ fn is_text_byte(byte: u8) -> bool {
     }
 }
 
-/// Bytes of a character of UTF-8 that are awaited: their number, and the bounds of the next one.
+/// Continuation bytes of a UTF-8 character that are pending: their number, and the bounds of the next one.
 #[derive(Clone, Copy, Debug, PartialEq, Eq)]
 struct Awaited {
     left: u8,
@@ -43,14 +43,15 @@ struct Awaited {
     high: u8,
 }
 
-/// State between two characters: no byte is awaited.
+/// State between two characters, where no continuation byte is pending.
 const NOTHING: Awaited = Awaited {
     left: 0,
     low: 0x80,
     high: 0xbf,
 };
 
-/// Returns the bytes awaited after `byte`, the first of a character; None if no character of text begins with it.
+/// Returns the continuation bytes that are pending after `byte`, the first of a character. Returns None if no character of text begins with
+/// it.
 fn awaited_after_first_byte(byte: u8) -> Option<Awaited> {
     let (left, low, high) = match byte {
         0..=0x7f => return if is_text_byte(byte) {
@@ -70,7 +71,7 @@ fn awaited_after_first_byte(byte: u8) -> Option<Awaited> {
     Some(Awaited { left, low, high })
 }
 
-/// Returns the bytes awaited after `byte`; None if it is not allowed here.
+/// Returns the continuation bytes that are pending after `byte`, or None if it is not allowed here.
 fn awaited_after_byte(awaited: Awaited, byte: u8) -> Option<Awaited> {
     if awaited.left == 0 {
         return awaited_after_first_byte(byte);
@@ -84,7 +85,7 @@ fn awaited_after_byte(awaited: Awaited, byte: u8) -> Option<Awaited> {
     None
 }
 
-/// Returns true if `bytes` are UTF-8, without ASCII control characters but tab, line feed, form feed and carriage return.
+/// Returns true if `bytes` are UTF-8 without ASCII control characters other than tab, line feed, form feed and carriage return.
 fn are_characters(bytes: &[u8]) -> bool {
     let mut awaited = NOTHING;
     for byte in bytes {
@@ -96,7 +97,7 @@ fn are_characters(bytes: &[u8]) -> bool {
     awaited.left == 0
 }
 
-/// Returns true if `file` is text alone: not empty, UTF-8, and without ASCII control characters but tab, line feed, form feed and carriage
+/// Returns true if `file` is not empty, is UTF-8, and has no ASCII control characters other than tab, line feed, form feed and carriage
 /// return.
 pub(crate) fn is_text(file: &[u8]) -> bool {
     file.len() != 0 && are_characters(file)

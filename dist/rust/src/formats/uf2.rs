@@ -1,6 +1,6 @@
 // Of crates/dfu_formats/src/images/uf2.rt, whose contracts are taken away.
 
-//! UF2 files.
+//! UF2 files, which consist of blocks of 512 bytes.
 
 use crate::formats::element::Element;
 use crate::formats::fault::ImageFault;
@@ -9,19 +9,19 @@ use crate::formats::numbers::le32;
 use crate::formats::parts::{ByPart, elements_by_part};
 use crate::memory::{Global, Vec};
 
-/// Returns true if `block` has its three marks.
+/// Returns true if `block` has the three magic numbers of UF2.
 fn has_block_marks(block: &[u8]) -> bool {
     le32(block, 0) == 0x0a32_4655
         && le32(block, 4) == 0x9e5d_5157
         && le32(block, 508) == 0x0ab1_6f30
 }
 
-/// Returns true if `block` has the flag `flag`.
+/// Returns true if `block` has the flag `flag`, a number with a single bit set.
 fn has_flag(block: &[u8], flag: u32) -> bool {
     le32(block, 8) / flag % 2 == 1
 }
 
-/// Returns the family of boards that `block` is for, or 0 if it names none.
+/// Returns the family of boards that `block` is for, or 0 if the block contains no family.
 fn family_of(block: &[u8]) -> u32 {
     if has_flag(block, 0x2000) {
         le32(block, 28)
@@ -30,8 +30,8 @@ fn family_of(block: &[u8]) -> u32 {
     }
 }
 
-/// Adds the data of `block` to the elements, if it is for the main flash. It must not be for a file or another family, or end past the last
-/// address.
+/// Adds the data of `block` to the elements, or skips the block if it isn't for the main flash. A block for the main flash has a fault if
+/// it belongs to a file container, is for another family, or has data beyond address FFFFFFFFh.
 fn add_block(
     alloc: Global,
     index: usize,
@@ -58,7 +58,7 @@ fn add_block(
     gathering.add(alloc, index, address, content)
 }
 
-/// A UF2 file, read block by block: the number of its blocks, and the family of the first.
+/// A UF2 file, read block by block: the number of its blocks, and the family of its first block.
 #[derive(Debug, PartialEq, Eq)]
 struct Blocks {
     total: usize,

@@ -4,7 +4,7 @@
 
 use crate::slots::flash_byte_at;
 
-/// Returns whether bytes of flash equal a slice of the same length. (A loop is less code than `==`.)
+/// Returns true if bytes of flash equal a slice of the same length. A loop takes less code than `==`.
 pub(crate) fn are_same(one: &[u8], other: &[u8]) -> bool {
     for i in 0..one.len() {
         if flash_byte_at(one, i) != other[i] {

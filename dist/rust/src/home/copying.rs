@@ -1,6 +1,6 @@
 // Of crates/dfu_home/src/copying.rt, whose contracts are taken away.
 
-//! Operations that copy the image of the second slot into the first: its bytes, then its header, and then the gate, which opens.
+//! Operations that copy the image of the second slot into the first: its bytes, then its header, and then the gate, which opens the slot.
 
 use crate::home::Due;
 use crate::home::bytes::{are_same, fill_up};
@@ -9,7 +9,7 @@ use crate::slots::{
     Medium, OPEN_GATE, VERSION, crc_of_flash, gate_of, header_of, length_in, make_header,
 };
 
-// Returns the place of the last operation, counted from the first slot's data, which begins at `gates`; None without one, and if it lies
+// Returns the offset of the last operation in the first slot's data, which begins at `gates`. None if there was no operation or it lay
 // before the data.
 fn last_in_data(gates: u32, last: Option<u32>) -> Option<u32> {
     match last {
@@ -18,7 +18,7 @@ fn last_in_data(gates: u32, last: Option<u32>) -> Option<u32> {
     }
 }
 
-// Returns the header of the copy of an image with the header `found`: one generation newer.
+// Returns the header of the copy of an image with the header `found`. The copy has the next generation after that in `found`.
 fn copy_header(found: &[u8; 16], image: &[u8]) -> [u8; 16] {
     make_header(
         VERSION,
@@ -43,13 +43,13 @@ fn away_image<'f, M: Medium>(medium: &M, flash: &'f [u8]) -> &'f [u8] {
     &data[..length_in(&header_of(medium, half)) as usize]
 }
 
-// Returns the bytes of a gate unit; a header unit has as many.
+// Returns the number of bytes of a gate unit; a header unit has as many.
 fn gate_size<M: Medium>(medium: &M) -> u32 {
     16.max(medium.unit().size())
 }
 
-// Returns the next operation of the gate unit or header unit at `at`, which is to hold `front` and zeros after it: a program if the last
-// operation erased its sector, else the erase. `out` has the unit for the program.
+// Returns the next operation of the gate unit or header unit at `at`, which must contain `front` and zeros after it: a program if the last
+// operation erased the unit's sector, else the erase. For a program, the unit is at the front of `out`.
 fn unit_due<M: Medium>(
     medium: &M,
     flash: &[u8],
@@ -69,13 +69,13 @@ fn unit_due<M: Medium>(
     Due::Program { at, len }
 }
 
-// Returns whether the first slot has this header.
+// Returns true if the first slot has this header.
 fn has_header<M: Medium>(medium: &M, flash: &[u8], header: &[u8; 16]) -> bool {
     let at = gate_of(medium) as usize;
     are_same(&flash[at..at + 16], header)
 }
 
-// Returns the next operation once the bytes are copied: that of the header and, once the header is there, that of the gate.
+// Returns the next operation once the bytes are copied: that of the header or, once the header is copied, that of the gate.
 fn head<M: Medium>(
     medium: &M,
     flash: &[u8],
@@ -90,7 +90,7 @@ fn head<M: Medium>(
     unit_due(medium, flash, gate_of(medium), last, &header, out)
 }
 
-/// Returns the next operation of a copy, an erase or a program; the bytes of the program are at the front of `out`.
+/// Returns the next operation of a copy, an erase or a program. The bytes of a program are at the front of `out`.
 pub(crate) fn copy<M: Medium>(
     medium: &M,
     flash: &[u8],
@@ -110,7 +110,9 @@ pub(crate) fn copy<M: Medium>(
             }
         }
         install::Due::Start => head(medium, flash, image, last, out),
-        install::Due::Refuse(install::Refusal::NoImage) => head(medium, flash, image, last, out),
+        install::Due::Refuse(install::InstallRefusal::NoImage) => head(
+            medium, flash, image, last, out,
+        ),
         install::Due::Refuse(_) => unreachable!(),
     }
 }

@@ -1,44 +1,45 @@
 // Of crates/dfu_home/src/due.rt, whose contracts are taken away.
 
-//! Operation that is due next, and progress of the work.
+//! Operation that is due next, and progress of a copy.
 
-/// Reasons for which no image can be brought to the first slot. They are checked in this order.
+/// Reasons that prevent an image from being copied into the first slot. They are checked in this order.
 #[derive(Clone, Copy, Debug, PartialEq, Eq)]
-pub enum Refusal {
+pub enum CopyRefusal {
     /// The medium has no sectors.
     NoSectors,
     /// The medium has no active image.
     NoImage,
-    /// One operation for each 128 bytes of the medium was taken, and the image is not there: the part is worn, or its driver is broken.
+    /// One operation for each 128 bytes of the medium was done, and the image is not in the first slot: the flash is worn, or its driver is
+    /// broken.
     NotWritten,
 }
 
-/// Operation that is due next. Places are those of the medium, from 0 on.
+/// Operation that is due next. Offsets are counted from the beginning of the medium.
 #[derive(Clone, Copy, Debug, PartialEq, Eq)]
 pub enum Due {
-    /// Nothing: no image can be brought to the first slot.
-    Refuse(Refusal),
-    /// Nothing: the active image is in the first slot.
+    /// No operation, because no image can be copied into the first slot.
+    Refuse(CopyRefusal),
+    /// No operation, because the active image is in the first slot.
     Home,
     /// An erase of the sector that begins at `at`.
     Erase {
-        /// Place at which the sector begins.
+        /// Offset of the sector.
         at: u32,
     },
-    /// A program of `len` bytes at `at`: those that `next` put at the front of its buffer.
+    /// A program of `len` bytes at `at`. `next` writes the bytes to the front of its buffer.
     Program {
-        /// Place of the first byte.
+        /// Offset of the first byte.
         at: u32,
-        /// Number of bytes, from 16 to 256: whole units.
+        /// Number of bytes, 16 to 256, in whole units.
         len: u32,
     },
 }
 
-/// Progress between two operations. It is lost with the power.
+/// Progress between two operations. A loss of power discards it.
 #[derive(Clone, Copy, Debug, PartialEq, Eq)]
 pub struct Progress {
-    /// Place of the last operation, if it worked; else None, and None before the first one.
+    /// Offset of the last operation if it succeeded. None if it didn't, or if there was no operation yet.
     pub last: Option<u32>,
-    /// Number of operations that were taken since the last power-on.
+    /// Number of operations since the last power-on.
     pub count: u32,
 }

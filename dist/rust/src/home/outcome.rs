@@ -1,12 +1,13 @@
 // Of crates/dfu_home/src/outcome.rt, whose contracts are taken away.
 
-//! Outcome of an operation.
+//! Outcome of an operation that `next` returned.
 
 use crate::home::bytes::are_same;
 use crate::home::{Due, Progress};
 use crate::boot::install::are_blank;
 
-// Returns whether an operation worked, as the flash reads: its range is not empty and lies in the flash, and has its bytes.
+// Returns true if an operation succeeded, according to the flash that is read back: its range is not empty, lies in the flash, and has the
+// right bytes.
 fn worked(flash: &[u8], sector: u32, due: Due, bytes: &[u8; 256]) -> bool {
     match due {
         Due::Erase { at } => {
@@ -25,10 +26,11 @@ fn worked(flash: &[u8], sector: u32, due: Due, bytes: &[u8; 256]) -> bool {
     }
 }
 
-/// Returns the progress after an operation was carried out, or `failed`, to be passed to `next`.
+/// Returns the progress after an operation was carried out or `failed`. The program must pass the progress to `next`.
 ///
-/// `due` is what `next` returned, and `bytes` what it put into its buffer. The flash is read back: after an erase the whole sector must
-/// read FFh, after a program its bytes; else, and if it failed, `last` is None. The count goes up by 1, also if the operation failed.
+/// `due` is the operation that `next` returned, and `bytes` its buffer. The call reads the flash back: after an erase, the whole sector
+/// must read FFh; after a program, the range must contain the programmed bytes. If not, or if the operation failed, `last` is None. The
+/// count increases by 1, even if the operation failed, up to 4,294,967,295.
 pub fn took(
     flash: &[u8],
     sector: u32,

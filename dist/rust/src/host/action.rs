@@ -1,14 +1,14 @@
 // Of crates/dfu_host/src/action.rt, whose contracts are taken away.
 
-//! Actions that a host asks its caller to do.
+//! Actions that a host requests from its caller.
 
 use crate::host::report::Report;
 
-/// Actions that a host asks its caller to do.
+/// Action that a host requests from its caller.
 #[derive(Clone, Copy, Debug, PartialEq, Eq)]
 pub enum Action<'f> {
-    /// Send this request (USB DFU 1.1, section 3). `body` goes out with it: a block of the payload with a
-    /// DNLOAD, else nothing. If the setup's first byte is A1h, the device answers with bytes.
+    /// Send this request (USB DFU 1.1, section 3) with `body`: a block of the payload for a DNLOAD, else empty. If the first byte of
+    /// `setup` is A1h, the device answers with bytes.
     Send { setup: [u8; 8], body: &'f [u8] },
     /// Wait for this many milliseconds, 0 to 16,777,215.
     Wait(u32),

@@ -9,7 +9,7 @@ use crate::host::report::Report;
 use crate::host::task::Task;
 
 impl Task<'_> {
-    /// Compares `part` of the image with block number `number`, and returns the comparison as the part's meaning.
+    /// Compares `part` of the image with block `number` of the payload, and returns the result with the part's length.
     pub(crate) fn compare(&self, number: u16, part: &[u8]) -> Heard {
         Heard::Compared {
             same: part == self.block(number as usize),
@@ -17,7 +17,7 @@ impl Task<'_> {
         }
     }
 
-    /// Returns the phase after UPLOAD of part number `number`; `heard` has the part's comparison.
+    /// Returns the phase after the UPLOAD of part `number`. `heard` contains the comparison of the part; any other meaning leads to Find.
     pub(crate) fn after_compare(&self, number: u16, heard: Heard) -> Phase {
         match heard {
             Heard::Compared { same, len } => self.compared(number, same, len),
@@ -25,7 +25,7 @@ impl Task<'_> {
         }
     }
 
-    /// Returns the phase after a part of `len` bytes; `same` says that they equal the payload's block.
+    /// Returns the phase after a part of `len` bytes; `same` is true if the part equals the payload's block.
     fn compared(&self, number: u16, same: bool, len: usize) -> Phase {
         let transfer = self.transfer as usize;
         if len > transfer {

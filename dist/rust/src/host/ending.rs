@@ -10,8 +10,8 @@ use crate::host::task::Task;
 use crate::wire::{Code, State, Status};
 
 impl Task<'_> {
-    /// Returns the phase after `status`, asked for after a stall or an unexpected state: dfuERROR with a code other than OK and
-    /// errSTALLEDPKT ends the session; every other status leads to the phase for its state.
+    /// Returns the phase after `status`, which the host requested after a stall or an unexpected state. dfuERROR with a code other than OK
+    /// and errSTALLEDPKT ends the session; every other status leads to the phase for its state.
     pub(crate) fn troubled(&self, status: Status) -> Phase {
         match status.state() {
             State::Error => match status.code() {
@@ -22,7 +22,7 @@ impl Task<'_> {
         }
     }
 
-    /// Returns true if the close is done in `phase`.
+    /// Returns true if `phase` follows the close of a download.
     pub(crate) fn is_behind_close(&self, phase: Phase) -> bool {
         match phase {
             Phase::Manifest | Phase::WaitManifest(_) | Phase::WaitLast(_) => true,
@@ -31,8 +31,8 @@ impl Task<'_> {
         }
     }
 
-    /// Returns the phase after the last reset: the end with the report, or Find to compare; after any result but a reset, the last reset
-    /// again.
+    /// Returns the phase after the last reset: the end with `report`, or Find if the session must still compare the image. After any result
+    /// other than a reset, the host resets the bus again.
     pub(crate) fn after_last(&self, report: Report, heard: Heard) -> Phase {
         match heard {
             Heard::WasReset => match &self.goal {
@@ -43,7 +43,7 @@ impl Task<'_> {
         }
     }
 
-    /// Returns the phase after `status`, asked for after the close.
+    /// Returns the phase after `status`, which the host requested after the close.
     pub(crate) fn manifested(&self, status: Status) -> Phase {
         if self.tolerant {
             self.confirmed(status)
@@ -52,7 +52,7 @@ impl Task<'_> {
         }
     }
 
-    /// Returns the phase after `status` of a tolerant device: only dfuIDLE with OK confirms the new image.
+    /// Returns the phase after `status` of a tolerant device. Only dfuIDLE with OK confirms the new image.
     fn confirmed(&self, status: Status) -> Phase {
         match (status.state(), status.code()) {
             (State::ManifestSync | State::Manifest, _) => Phase::WaitManifest(status.poll_ms()),

@@ -1,21 +1,21 @@
 // Of crates/dfu_host/src/fault.rt, whose contracts are taken away.
 
-//! Faults for which no session begins.
+//! Faults that prevent a session from beginning.
 
 use core::fmt;
 use thiserror::Error;
 
-/// A fault for which no session begins. A call returns the first one that holds, in this order.
+/// A fault that prevents a session from beginning. A call returns the first one that holds, in this order.
 #[derive(Clone, Copy, Debug, PartialEq, Eq, Error)]
 pub enum HostFault {
     /// The file's payload has no bytes. Only for downloads.
     EmptyPayload,
-    /// The file's vendor is neither FFFFh nor the device's, or its product is neither FFFFh nor
-    /// the device's. The release of the device isn't compared. Only for downloads.
+    /// The file's vendor is neither FFFFh nor the device's, or its product is neither FFFFh nor the device's. The release of the device
+    /// isn't compared. Only for downloads.
     WrongTarget,
     /// The descriptor has bitCanDnload 0. Only for downloads.
     CannotDownload,
-    /// The descriptor has bitCanUpload 0. Only for sessions that ask for the image.
+    /// The descriptor has bitCanUpload 0. Only for uploads and verified downloads.
     CannotUpload,
     /// The descriptor's transfer size is 0.
     BadDescriptor,
@@ -34,7 +34,7 @@ impl fmt::Display for HostFault {
 }
 
 impl HostFault {
-    /// Returns the name of the fault, which is its variant's, such as `EmptyPayload`.
+    /// Returns the name of the fault's variant, such as `EmptyPayload`.
     pub fn name(self) -> &'static str {
         crate::wire::variant_name!(self, HostFault:
             EmptyPayload, WrongTarget, CannotDownload, CannotUpload, BadDescriptor

@@ -5,13 +5,13 @@
 /// Goal of a session. A goal takes no memory, because the caller keeps the bytes that an upload fetches.
 #[derive(Clone, Copy, Debug, PartialEq, Eq)]
 pub enum Goal<'f> {
-    /// To install a payload, which has at least one byte.
+    /// Install a payload, which has at least one byte.
     Load(&'f [u8]),
-    /// To fetch the active image.
+    /// Fetch the active image.
     Fetch,
-    /// To install a payload, which has at least one byte, and to compare it after the last reset.
+    /// Install a payload, which has at least one byte, and compare the active image with it after the last reset.
     Verify(&'f [u8]),
-    /// To compare the active image with the payload, which has at least one byte.
+    /// Compare the active image with the payload, which has at least one byte.
     Compare(&'f [u8]),
 }
 
@@ -24,7 +24,7 @@ impl<'f> Goal<'f> {
         }
     }
 
-    /// Returns whether a payload still has to be installed.
+    /// Returns true if a payload still has to be installed.
     pub(crate) fn installs(&self) -> bool {
         match self {
             Goal::Load(_) | Goal::Verify(_) => true,
@@ -32,7 +32,7 @@ impl<'f> Goal<'f> {
         }
     }
 
-    /// Returns whether the goal is to fetch the image.
+    /// Returns true if the goal is to fetch the image.
     pub(crate) fn is_fetch(&self) -> bool {
         match self {
             Goal::Fetch => true,

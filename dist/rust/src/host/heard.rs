@@ -13,10 +13,9 @@ pub(crate) enum Heard {
     Acked,
     Told(Status),
     StateIs(State),
-    /// A part of an upload, with its length in bytes; it is kept already.
+    /// Length in bytes of a part of an upload. If the part must be kept, it is kept already.
     Part(usize),
-    /// A part of an image that was compared: `same` says that it equals the payload's block, `len` is its length
-    /// in bytes.
+    /// A part of an image that was compared. `same` is true if it equals the payload's block, and `len` is its length in bytes.
     Compared { same: bool, len: usize },
     /// A part of an upload for which there was no memory.
     NoRoom,
@@ -29,8 +28,8 @@ pub(crate) enum Heard {
 }
 
 impl Task<'_> {
-    /// Returns the meaning of `seen` in `phase`. Bytes are read as the answer to the phase's request; bytes that are no valid answer mean
-    /// Nothing. A part of an upload is kept already, or `refused`; a part of a comparison is compared here.
+    /// Returns the meaning of `seen` in `phase`. Bytes are read as the answer to the phase's request; bytes that aren't a valid answer mean
+    /// Nothing. A part of an upload that must be kept is kept already, unless it was `refused`. A part of a comparison is compared here.
     pub(crate) fn hear(&self, phase: Phase, seen: Seen<'_>, refused: bool) -> Heard {
         match seen {
             Seen::Ack => Heard::Acked,
@@ -44,7 +43,7 @@ impl Task<'_> {
         }
     }
 
-    /// Returns the meaning of `bytes` in `phase`.
+    /// Returns the meaning of `bytes` as an answer in `phase`.
     fn answered(&self, phase: Phase, bytes: &[u8], refused: bool) -> Heard {
         match phase {
             Phase::Find | Phase::FindAgain | Phase::Poll(_) | Phase::Manifest | Phase::Trouble => {
@@ -58,7 +57,7 @@ impl Task<'_> {
     }
 }
 
-/// Returns the meaning of `bytes` as an answer to GETSTATUS.
+/// Returns the status that `bytes` encode, or Nothing if they encode none.
 fn status_in(bytes: &[u8]) -> Heard {
     match Status::decode(bytes) {
         Ok(status) => Heard::Told(status),
@@ -66,7 +65,7 @@ fn status_in(bytes: &[u8]) -> Heard {
     }
 }
 
-/// Returns the meaning of `bytes` as an answer to GETSTATE, one byte.
+/// Returns the state that `bytes` encode, or Nothing if they aren't a single byte that encodes a state.
 fn state_in(bytes: &[u8]) -> Heard {
     match bytes {
         [byte] => match State::from_byte(*byte) {

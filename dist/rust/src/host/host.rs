@@ -1,6 +1,6 @@
 // Of crates/dfu_host/src/host.rt, whose contracts are taken away.
 
-//! The host machine, and its memory for an upload.
+//! The state machine of a host, and its memory for an upload.
 
 use crate::host::action::Action;
 use crate::host::fault::HostFault;
@@ -15,10 +15,10 @@ use crate::suffix::File;
 use crate::wire::{Functional, Ids};
 use crate::memory::{Global, Vec};
 
-/// A host in a session (USB DFU 1.1, appendix A, seen from the host's side).
+/// A host in a session (the host's part of USB DFU 1.1, appendix A).
 ///
-/// A host does nothing itself: its caller does what `next` asks for and gives `take` the result, until `next`
-/// returns `Done`. Only the parts of an upload take memory.
+/// A host does no I/O. Its caller carries out the action that `next` returns and passes the result to `take`, until `next` returns `Done`.
+/// Only the parts of an upload take memory.
 #[derive(Debug, PartialEq, Eq)]
 pub struct Host<'f> {
     session: Session<'f>,
@@ -26,10 +26,10 @@ pub struct Host<'f> {
 }
 
 impl<'f> Host<'f> {
-    /// Makes a host that installs a file on the device with the given descriptor and identifiers. The host
-    /// borrows the file's payload; the transfer size is 1 to 65,535.
+    /// Creates a host that installs a file on the device with the given descriptor and identifiers. The host borrows the file's payload;
+    /// the transfer size is 1 to 65,535.
     ///
-    /// The faults, in the order in which they are looked for:
+    /// The faults, in the order in which they are checked:
     ///
     /// 1. `EmptyPayload`: the payload has no bytes.
     /// 2. `WrongTarget`: the file's vendor or product is neither FFFFh nor the device's.
@@ -47,12 +47,12 @@ impl<'f> Host<'f> {
         Ok(Host { session, memory })
     }
 
-    /// Makes a host that installs a file as `download` does, and after its last reset asks for the active image and
-    /// compares it with the payload, so that its report is neither Installed nor Unconfirmed, but Verified or
-    /// Different. The host borrows the file's payload and takes no memory; the transfer size is 1 to 65,535. A
-    /// payload of more than 65,534 full blocks ends as TooManyBlocks.
+    /// Creates a host that installs a file as `download` does. After its last reset, it uploads the active image and compares it with the
+    /// payload, so that its report is Verified or Different instead of Installed or Unconfirmed. The host borrows the file's payload and
+    /// takes no memory; the transfer size is 1 to 65,535. A payload of more than 65,534 full blocks can't be verified: a comparison without
+    /// a difference ends with TooManyBlocks.
     ///
-    /// The faults, in the order in which they are looked for:
+    /// The faults, in the order in which they are checked:
     ///
     /// 1. `EmptyPayload`: the payload has no bytes.
     /// 2. `WrongTarget`: the file's vendor or product is neither FFFFh nor the device's.
@@ -71,10 +71,10 @@ impl<'f> Host<'f> {
         Ok(Host { session, memory })
     }
 
-    /// Makes a host that fetches the active image of the device with the given descriptor. The host keeps the
-    /// allocator for the parts to come; the transfer size is 1 to 65,535.
+    /// Creates a host that fetches the active image of the device with the given descriptor. The host keeps the allocator for the parts of
+    /// the image; the transfer size is 1 to 65,535.
     ///
-    /// The faults, in the order in which they are looked for:
+    /// The faults, in the order in which they are checked:
     ///
     /// 1. `CannotUpload`: the descriptor has bitCanUpload 0.
     /// 2. `BadDescriptor`: the descriptor's transfer size is 0.
@@ -89,7 +89,7 @@ impl<'f> Host<'f> {
         Ok(Host { session, memory })
     }
 
-    /// Returns the action that the host wants next. The call changes nothing, so it may be repeated.
+    /// Returns the next action that the caller must carry out. The call changes nothing, so it may be repeated.
     pub fn next(&self) -> Action<'f> {
         self.session.next()
     }
@@ -99,26 +99,26 @@ impl<'f> Host<'f> {
         self.session.parts().phase
     }
 
-    /// Gives the host the result of its action. Whatever the result, the host is done after at most `actions`
-    /// calls, or after one if the limits have 0. Then nothing changes any more.
+    /// Passes the result of the host's action to the host. For any results, the host is done after at most `Limits::actions` calls, or
+    /// after one if that number is 0. After that, a call changes nothing.
     ///
-    /// A part of an upload, 1 byte or more, takes memory if the kept bytes have to grow. If there is none,
-    /// the session ends with the report NoMemory.
+    /// A part of an upload with at least 1 byte takes memory if the vector of the kept bytes must grow. If there is no memory, the session
+    /// ends with the report NoMemory.
     pub fn take(&mut self, seen: Seen<'_>) {
         let refused = self.memory.refuses(&self.session, seen);
         self.session.on_result(seen, refused);
     }
 
-    /// Gives the session up. The host asks for ABORT next, and whatever the result, its report is Aborted.
-    /// Only the phase changes, and nothing if the host is done. If a download is given up in its last steps,
-    /// the new image may be in place all the same.
+    /// Aborts the session. The next action sends ABORT, and the report is Aborted, whatever the result of that action. Only the phase
+    /// changes, and nothing changes if the host is done. If a download is aborted in its last steps, the device may have installed the new
+    /// image nevertheless.
     pub fn abort(&mut self) {
         self.session.abort();
     }
 
-    /// Returns the bytes that an upload keeps: all fetched bytes, once the host is done with `Uploaded`; before that, the parts that
-    /// came since the fetching last began; and nothing in a download, or after the session went back to find the device, was given up or
-    /// ended in another way.
+    /// Returns the bytes that an upload keeps. Once the host is done with `Uploaded`, these are all fetched bytes; before that, the parts
+    /// that arrived since the fetching last began. The slice is empty in a download, and after the session returned to finding the device,
+    /// was aborted, or ended with another report.
     pub fn uploaded(&self) -> &[u8] {
         match self.session.parts().phase {
             Phase::Fetch(0) => &[],
@@ -136,7 +136,7 @@ pub(crate) enum Memory {
 }
 
 impl Memory {
-    /// Keeps the part in `seen`, if there is one, and returns true if it was refused.
+    /// Keeps the part in `seen`, if there is one to keep. Returns true if the part was refused.
     pub(crate) fn refuses(&mut self, session: &Session<'_>, seen: Seen<'_>) -> bool {
         match session.part(seen) {
             Some(part) => self.refuses_part(&part),
@@ -144,8 +144,7 @@ impl Memory {
         }
     }
 
-    /// Stores `part`, and returns true if it was refused: because there is no vector, or because the vector had no room for it and could
-    /// not grow.
+    /// Stores `part`, and returns true if it was refused, because the vector could not grow or because there is no vector for its bytes.
     fn refuses_part(&mut self, part: &UploadPart<'_>) -> bool {
         match self {
             Memory::Nothing => !part.bytes.is_empty(),
@@ -153,7 +152,6 @@ impl Memory {
         }
     }
 
-    /// Returns the kept bytes.
     pub(crate) fn as_slice(&self) -> &[u8] {
         match self {
             Memory::Nothing => &[],
@@ -162,7 +160,8 @@ impl Memory {
     }
 }
 
-/// Stores `part` in `kept`, and returns true if the vector was full and could not grow.
+/// Stores `part` in `kept`: after the bytes that are kept already, or in their place if it is part 0. Returns true if the vector was full
+/// and could not grow.
 fn is_full(kept: &mut Vec<u8>, part: &UploadPart<'_>) -> bool {
     if part.number == 0 {
         kept.clear();

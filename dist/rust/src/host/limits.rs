@@ -2,11 +2,11 @@
 
 //! Limits of a session.
 
-/// Limits of a session.
+/// Limits that end a session early.
 #[derive(Clone, Copy, Debug, PartialEq, Eq)]
 pub struct Limits {
-    /// Calls of `take` after which the host gives up; 0 counts as 1.
+    /// Number of calls of `take` after which the host gives up; 0 counts as 1.
     pub actions: u32,
-    /// Restarts of the device that the host takes; one more restart ends the session.
+    /// Number of restarts of the device that the host tolerates; one more restart ends the session.
     pub restarts: u16,
 }

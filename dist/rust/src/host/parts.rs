@@ -21,19 +21,19 @@ pub struct Parts<'f> {
     pub detach_ms: u16,
     /// Phase of the session.
     pub phase: Phase,
-    /// Actions that are left.
+    /// Number of actions that are left.
     pub actions: u32,
-    /// Further restarts of the device that the session takes.
+    /// Number of further restarts of the device that the session tolerates.
     pub restarts: u16,
 }
 
 impl Parts<'_> {
-    /// Returns whether a session has these parts.
+    /// Returns true if a session can have these parts.
     pub(crate) fn is_session(&self) -> bool {
         self.transfer > 0 && self.has_some() && self.is_within()
     }
 
-    /// Returns whether the goal has something to do: an image to fetch, or a payload of at least one byte.
+    /// Returns true if the goal is an upload, or has a payload of at least one byte.
     fn has_some(&self) -> bool {
         match &self.goal {
             Goal::Load(payload) | Goal::Verify(payload) | Goal::Compare(payload) => {
@@ -43,7 +43,7 @@ impl Parts<'_> {
         }
     }
 
-    /// Returns whether the session has the payload, block or part that its phase needs.
+    /// Returns true if the session has the payload, block or part that its phase needs.
     fn is_within(&self) -> bool {
         match self.phase {
             Phase::Block(number) => self.has_block(number),
@@ -58,7 +58,7 @@ impl Parts<'_> {
         }
     }
 
-    /// Returns true if the payload has block number `number`.
+    /// Returns true if the payload has block `number`.
     fn has_block(&self, number: usize) -> bool {
         number.saturating_mul(self.transfer as usize) < self.goal.payload().len()
     }

@@ -4,57 +4,57 @@
 
 use crate::host::report::Report;
 
-/// A phase of a session, with the values that the session must remember in it. Blocks are counted from 0, poll times are in milliseconds.
+/// A phase of a session, with the values that the session must remember in it. Blocks are counted from 0; poll times are in milliseconds.
 #[derive(Clone, Copy, Debug, PartialEq, Eq)]
 pub enum Phase {
-    /// Ask for the status, to find the device's state.
+    /// Request the status, to find the device's state.
     Find,
     /// Like `Find`, after a stall.
     FindAgain,
-    /// Ask the application with DETACH to make way for upgrade mode.
+    /// Send DETACH, so that the application leaves for DFU mode.
     Detach,
-    /// Bring the device from its application into upgrade mode.
+    /// Bring the device from its application into DFU mode.
     Enter,
-    /// Clear the fault of an earlier session.
+    /// Send CLRSTATUS to clear the fault of an earlier session.
     Clear,
-    /// Leave the transfer of an earlier session.
+    /// Send ABORT to end the transfer of an earlier session.
     Quit,
-    /// Wait for a write or an install that an earlier session left running, then find.
+    /// Wait for a write or an install that an earlier session left running, then request the status as in `Find`.
     WaitFind(u32),
-    /// Reset, then find.
+    /// Reset the bus, then request the status as in `Find`.
     ResetFind,
-    /// Send the block.
+    /// Send the block with this number.
     Block(usize),
-    /// The answer to the block was lost: ask whether the block arrived.
+    /// The answer to the block was lost. Request the state, which shows if the block arrived.
     Ask(usize),
-    /// The block arrived: ask whether the device has written it.
+    /// The block arrived. Request the status, which shows if the device has written it.
     Poll(usize),
-    /// The block isn't written yet: wait, then poll again.
+    /// The block isn't written yet. Wait, then poll again.
     WaitPoll(usize, u32),
-    /// All blocks are written: close the download with a DNLOAD of no bytes.
+    /// All blocks are written. Close the download with a DNLOAD of 0 bytes.
     Close,
-    /// The answer to the closing request was lost: ask whether the request arrived.
+    /// The answer to the closing request was lost. Request the state, which shows if the request arrived.
     AskLast,
-    /// Ask whether the new image is in place.
+    /// Request the status, which shows if the new image is installed.
     Manifest,
-    /// The image isn't in place yet: wait, then ask again.
+    /// The image isn't installed yet. Wait, then request the status again.
     WaitManifest(u32),
-    /// The device won't report the image in place: wait, then end unconfirmed.
+    /// The device can't confirm the image. Wait, then reset for the last time and end as Unconfirmed.
     WaitLast(u32),
-    /// A request was stalled, or the state is unexpected: ask for the status.
+    /// A request was stalled, or the state is unexpected. Request the status.
     Trouble,
-    /// Ask for the part of the image with this number, 0 to 65,534.
+    /// Request the part of the image with this number, 0 to 65,534.
     Fetch(u16),
-    /// Ask for the part of the image with this number, 0 to 65,534, and compare it.
+    /// Request the part of the image with this number, 0 to 65,534, and compare it.
     Compare(u16),
-    /// Reset for the last time, and then report, or compare.
+    /// Reset for the last time, and then end with this report, or compare if the session verifies.
     Last(Report),
-    /// Reset for the last time, with all fetched bytes kept.
+    /// Reset for the last time, and then end as Uploaded, with all fetched bytes kept.
     LastUploaded,
-    /// The caller gave the session up: leave the transfer, and end.
+    /// The caller aborted the session. Send ABORT, and end.
     GiveUp,
-    /// The session is over.
+    /// The session is over with this report.
     Over(Report),
-    /// The session is over, with all fetched bytes kept.
+    /// The session is over as Uploaded, with all fetched bytes kept.
     OverUploaded,
 }

@@ -1,6 +1,6 @@
 // Of crates/dfu_host/src/progress.rt, whose contracts are taken away.
 
-//! Progress of a session: its phase, the budget of actions, and the count of restarts.
+//! Progress of a session: its phase, the actions and the restarts that are left.
 
 use crate::host::heard::Heard;
 use crate::host::limits::Limits;
@@ -12,13 +12,13 @@ use crate::host::task::Task;
 #[derive(Clone, Copy, Debug, PartialEq, Eq)]
 pub(crate) struct Progress {
     pub(crate) phase: Phase,
-    /// Actions that are left.
+    /// Number of actions that are left.
     pub(crate) actions: u32,
-    /// Further restarts of the device that the session takes.
+    /// Number of further restarts of the device that the session tolerates.
     pub(crate) restarts: u16,
 }
 
-/// Returns the first phase of a session, with at least one action.
+/// Returns the progress of a new session, with at least one action.
 pub(crate) fn beginning(limits: Limits) -> Progress {
     Progress {
         phase: Phase::Find,
@@ -28,7 +28,8 @@ pub(crate) fn beginning(limits: Limits) -> Progress {
 }
 
 impl Progress {
-    /// Returns the progress after the result `heard`, whose part, if any, is kept or refused already. The task changes with it.
+    /// Returns the progress after the result `heard`, and changes the task with it. The caller has already kept or refused a part in the
+    /// result.
     pub(crate) fn after(self, task: &mut Task<'_>, heard: Heard) -> Progress {
         if let Phase::Over(_) | Phase::OverUploaded = self.phase {
             return self;
@@ -40,7 +41,7 @@ impl Progress {
         }
     }
 
-    /// Returns the progress after a result that the table's row takes.
+    /// Returns the progress after a result that is handled by the table's row.
     fn by_row(self, task: &mut Task<'_>, heard: Heard) -> Progress {
         let done = is_last_done(&self.phase, &heard);
         let next = task.row(self.phase, heard);
@@ -48,8 +49,8 @@ impl Progress {
         self.spent(next, self.restarts)
     }
 
-    /// Returns the progress after the device left by itself. After the close that counts as the last reset, which
-    /// confirms nothing; in every other phase it counts as a restart.
+    /// Returns the progress after the device left by itself. After the close, this counts as the last reset, which confirms nothing; in
+    /// every other phase it counts as a restart.
     fn left(self, task: &mut Task<'_>) -> Progress {
         if !task.is_behind_close(self.phase) {
             return self.restarted();
@@ -82,7 +83,7 @@ impl Progress {
     }
 }
 
-/// Returns whether `phase` was the last reset, and the bus was reset.
+/// Returns true if `phase` was the last reset, and the bus was reset.
 fn is_last_done(phase: &Phase, heard: &Heard) -> bool {
     match (phase, heard) {
         (Phase::Last(_), Heard::WasReset) => true,
@@ -90,7 +91,7 @@ fn is_last_done(phase: &Phase, heard: &Heard) -> bool {
     }
 }
 
-/// Returns the phase after the budget check: with no actions left, a session that isn't over gives up.
+/// Returns the phase after the budget check. A session without actions left gives up, unless it is over.
 fn budgeted(left: u32, phase: Phase) -> Phase {
     match phase {
         Phase::Over(_) | Phase::OverUploaded => phase,

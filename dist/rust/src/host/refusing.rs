@@ -1,6 +1,6 @@
 // Of crates/dfu_host/src/refusing.rt, whose contracts are taken away.
 
-//! The refusals that several kinds of sessions share.
+//! The checks that several kinds of sessions share.
 
 use crate::host::fault::HostFault;
 use crate::host::goal::Goal;
@@ -8,7 +8,7 @@ use crate::host::target::is_for;
 use crate::suffix::File;
 use crate::wire::{Functional, Ids};
 
-/// Returns the goal of a session that installs a file, and compares it too if `compares` is true.
+/// Returns the goal of a session that installs a file, and also compares it if `compares` is true. Fails with the first fault that holds.
 pub(crate) fn goal_to_install<'f>(
     file: &File<'f>,
     functional: &Functional,
@@ -26,7 +26,7 @@ pub(crate) fn goal_to_install<'f>(
     Ok(Goal::Load(payload))
 }
 
-/// Returns the payload of the file, or the first fault for which the device can't install it.
+/// Returns the payload of the file, or the first fault that prevents its install on the device.
 fn payload_for<'f>(
     file: &File<'f>,
     functional: &Functional,
@@ -44,7 +44,7 @@ fn payload_for<'f>(
     }
 }
 
-/// Returns the first fault for which the device can't upload, if there is one.
+/// Fails with the first fault that prevents an upload from the device.
 pub(crate) fn gives_uploads(functional: &Functional) -> Result<(), HostFault> {
     if !functional.can_upload {
         Err(HostFault::CannotUpload)

@@ -6,37 +6,33 @@ use crate::wire::Code;
 
 /// Report with which a session ended.
 ///
-/// Only [`Report::Installed`] and [`Report::Verified`] say that the payload of this session is in place.
-/// [`Report::Different`] says that the device gave other bytes, and [`Report::Uploaded`] that it gave an
-/// image. All others leave open which image the device has.
+/// Only [`Report::Installed`] and [`Report::Verified`] mean that the device has the payload of this session. [`Report::Different`] means
+/// that the device returned other bytes, and [`Report::Uploaded`] that it returned an image. After all other reports, the device may have
+/// any image.
 #[derive(Clone, Copy, Debug, PartialEq, Eq)]
 pub enum Report {
-    /// A tolerant device took the whole payload, reported dfuIDLE with OK after it, and was
-    /// reset.
+    /// A tolerant device received the whole payload, then reported dfuIDLE with OK, and was reset.
     Installed,
-    /// A device that isn't tolerant took the whole payload and was reset, and can't report whether the image is in
-    /// place. Or a device took the payload and left by itself.
+    /// A device that isn't tolerant received the whole payload and was reset, or a device left by itself after it received the payload. The
+    /// host doesn't know if the image is installed.
     Unconfirmed,
-    /// The caller gave the session up.
+    /// The caller aborted the session.
     Aborted,
-    /// The budget of actions is spent.
+    /// The host spent its budget of actions.
     GaveUp,
-    /// After a stall, or during the download, the device was in dfuERROR with this code, which is
-    /// neither OK nor errSTALLEDPKT.
+    /// After a stall, or during the download, the device was in dfuERROR with this code, which is neither OK nor errSTALLEDPKT.
     Refused(Code),
     /// The device was restarted more often than the limits allow.
     RestartsSpent,
     /// All parts of the image arrived; the last is shorter than the transfer size. Only for uploads.
     Uploaded,
-    /// 65,535 full parts arrived, more than an upload or a comparison takes.
+    /// 65,535 full parts arrived, more than an upload or a comparison allows.
     TooManyBlocks,
     /// There was no memory for a part of the image. Only for uploads.
     NoMemory,
-    /// After the last reset the device gave the whole payload back, and was reset once more. Only
-    /// for downloads that are verified.
+    /// After the last reset, the device returned the whole payload, and was reset once more. Only for verified downloads.
     Verified,
-    /// After the last reset the device gave other bytes than the payload's. Only for downloads
-    /// that are verified.
+    /// After the last reset, the device returned other bytes than the payload's. Only for verified downloads.
     Different,
 }
 

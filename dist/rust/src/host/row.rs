@@ -1,7 +1,7 @@
 // Of crates/dfu_host/src/row.rt, whose contracts are taken away.
 
-//! The host's table, and its rows for the phases that bring a device to dfuIDLE, send the blocks and close the transfer (states:
-//! USB DFU 1.1, appendix A). The other rows are in `fetching` and `ending`.
+//! The host's table, and its rows for the phases that bring a device to dfuIDLE, send the blocks and close the transfer (states: USB DFU
+//! 1.1, appendix A). The other rows are in `fetching`, `comparing` and `ending`.
 
 use crate::host::goal::Goal;
 use crate::host::heard::Heard;
@@ -10,7 +10,7 @@ use crate::host::report::Report;
 use crate::host::task::Task;
 use crate::wire::{State, Status};
 
-/// Returns the phase after a request whose answer has no bytes: by its acknowledgement, by a stall, or by any other result.
+/// Returns the phase after a request whose answer has no bytes: `acked`, `stalled`, or `nothing` after any other result.
 fn on_ack(heard: Heard, acked: Phase, stalled: Phase, nothing: Phase) -> Phase {
     match heard {
         Heard::Acked => acked,
@@ -58,7 +58,8 @@ impl Task<'_> {
         }
     }
 
-    /// Returns the phase after GETSTATUS: by the status, by a stall, or by any other result.
+    /// Returns the phase after GETSTATUS: the one that the status selects, `stalled` after a stall, or `phase` again after any other
+    /// result.
     fn on_status(&self, phase: Phase, heard: Heard, stalled: Phase) -> Phase {
         match heard {
             Heard::Told(status) => self.told(phase, status),
@@ -67,7 +68,7 @@ impl Task<'_> {
         }
     }
 
-    /// Returns the phase after `status` in `phase`, which asks for it.
+    /// Returns the phase after `status`, which the host requested in `phase`.
     fn told(&self, phase: Phase, status: Status) -> Phase {
         match phase {
             Phase::Poll(number) => self.polled(number, status),
@@ -77,8 +78,7 @@ impl Task<'_> {
         }
     }
 
-    /// Returns the phase in which the work begins once the device is in dfuIDLE. A payload has a first block;
-    /// no part of an image is kept or compared yet.
+    /// Returns the first phase of the work, once the device is in dfuIDLE: that of block 0 or of part 0.
     fn start(&self) -> Phase {
         match &self.goal {
             Goal::Load(_) => Phase::Block(0),
@@ -88,7 +88,7 @@ impl Task<'_> {
         }
     }
 
-    /// Returns the phase after `status`, by the device's state.
+    /// Returns the phase that the device's state in `status` selects.
     pub(crate) fn listed(&self, status: Status) -> Phase {
         match status.state() {
             State::AppIdle => Phase::Detach,
@@ -102,7 +102,7 @@ impl Task<'_> {
         }
     }
 
-    /// Returns the phase after Enter, which waits if the device detaches by itself, and else resets the bus.
+    /// Returns the phase after Enter, in which the host waits if the device detaches by itself, and else resets the bus.
     pub(crate) fn after_enter(&self, heard: Heard) -> Phase {
         match heard {
             Heard::Waited if self.will_detach => Phase::Find,
@@ -111,7 +111,8 @@ impl Task<'_> {
         }
     }
 
-    /// Returns the phase after GETSTATE, asked because the answer to block number `number` was lost: the state says if the block arrived.
+    /// Returns the phase after GETSTATE, which the host sent because the answer to block `number` was lost. The state shows if the block
+    /// arrived.
     pub(crate) fn after_ask(&self, number: usize, heard: Heard) -> Phase {
         match heard {
             Heard::StateIs(State::DownloadSync) => Phase::Poll(number),
@@ -122,7 +123,7 @@ impl Task<'_> {
         }
     }
 
-    /// Returns the phase after `status`, asked for after block number `number`.
+    /// Returns the phase after `status`, which the host requested after block `number`.
     pub(crate) fn polled(&self, number: usize, status: Status) -> Phase {
         match status.state() {
             State::DownloadSync | State::DownloadBusy => {
@@ -134,7 +135,8 @@ impl Task<'_> {
         }
     }
 
-    /// Returns the phase after GETSTATE, asked because the answer to the close was lost: the state says if the close arrived.
+    /// Returns the phase after GETSTATE, which the host sent because the answer to the close was lost. The state shows if the close
+    /// arrived.
     pub(crate) fn after_ask_last(&self, heard: Heard) -> Phase {
         match heard {
             Heard::StateIs(State::ManifestSync) => Phase::Manifest,

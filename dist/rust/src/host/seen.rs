@@ -2,7 +2,7 @@
 
 //! Result of an action.
 
-/// Result of an action. A result that doesn't fit the action counts as [`Seen::Nothing`].
+/// Result of an action. A result that can't follow from the action is treated as [`Seen::Nothing`].
 #[derive(Clone, Copy, Debug, PartialEq, Eq)]
 pub enum Seen<'s> {
     /// A request whose answer has no bytes was acknowledged.
@@ -13,15 +13,14 @@ pub enum Seen<'s> {
     Stall,
     /// A request, or its answer, was lost.
     Nothing,
-    /// The wait that was asked for is over.
+    /// The requested wait is over.
     Waited,
     /// The bus was reset.
     WasReset,
-    /// The device was restarted, or somebody else reset it. The host gets this before any later
-    /// answer.
+    /// The device restarted, or another program reset it. The caller passes this before any later answer.
     Restarted,
-    /// The device left the bus by itself, or came back reset, after the close: it acknowledged the DNLOAD that closes
-    /// the download, a GETSTATUS after that said dfuMANIFEST-SYNC or dfuMANIFEST, and nobody reset it or asked it to
-    /// leave. The host gets this once, before any later answer.
+    /// The device left the bus or returned reset by itself, after the close. It had acknowledged the DNLOAD that closes the download and
+    /// then answered a GETSTATUS with dfuMANIFEST-SYNC or dfuMANIFEST, and no host reset it or sent it a request to leave. The caller
+    /// passes this once, before any later answer.
     Left,
 }

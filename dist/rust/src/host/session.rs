@@ -24,7 +24,7 @@ pub struct Session<'f> {
 }
 
 impl<'f> Session<'f> {
-    /// Makes a session that installs a file, as `Host::download` does, with the same faults.
+    /// Returns a new session that installs a file, as `Host::download` does, with the same faults.
     pub fn download(
         file: &File<'f>,
         functional: &Functional,
@@ -35,8 +35,8 @@ impl<'f> Session<'f> {
         Ok(Session::begin(goal, functional, limits))
     }
 
-    /// Makes a session that installs a file and compares it, as `Host::download_verified` does, with
-    /// the same faults.
+    /// Returns a new session that installs a file and then compares the image in the device with it, as `Host::download_verified`
+    /// does, with the same faults.
     pub fn download_verified(
         file: &File<'f>,
         functional: &Functional,
@@ -47,7 +47,7 @@ impl<'f> Session<'f> {
         Ok(Session::begin(goal, functional, limits))
     }
 
-    /// Makes a session that fetches the active image, as `Host::upload` does, with the same faults.
+    /// Returns a new session that fetches the active image, as `Host::upload` does, with the same faults.
     pub fn upload(functional: &Functional, limits: Limits) -> Result<Session<'f>, HostFault> {
         gives_uploads(functional)?;
         Ok(Session::begin(Goal::Fetch, functional, limits))
@@ -67,7 +67,7 @@ impl<'f> Session<'f> {
         }
     }
 
-    /// Returns the session's parts, which [`Session::from_parts`] puts together again.
+    /// Returns the session's parts, from which [`Session::from_parts`] creates the session again.
     pub fn parts(&self) -> Parts<'f> {
         Parts {
             goal: self.task.goal,
@@ -81,8 +81,8 @@ impl<'f> Session<'f> {
         }
     }
 
-    /// Returns the session of `parts`. None exactly if no session has these parts: the goal has nothing to do, as with an empty payload;
-    /// the transfer size is 0; or the phase needs something that doesn't exist, such as a block after the last one.
+    /// Returns the session of `parts`. None exactly if no session has these parts: the goal has an empty payload, the transfer size is 0,
+    /// or the phase needs something that doesn't exist, such as a block after the last one.
     pub fn from_parts(parts: Parts<'f>) -> Option<Session<'f>> {
         if !parts.is_session() {
             return None;
@@ -103,13 +103,13 @@ impl<'f> Session<'f> {
         })
     }
 
-    /// Returns the action that the session wants next. The call changes nothing, so it may be repeated.
+    /// Returns the next action that the caller must carry out. The call changes nothing, so it may be repeated.
     pub fn next(&self) -> Action<'f> {
         self.task.action(self.progress.phase)
     }
 
-    /// Returns the offset in the payload at which the body of `next` begins; 0 without a body. The body is a slice of
-    /// the payload from there on.
+    /// Returns the offset in the payload of the body of `next`; 0 if there is no body. The body is a slice of the payload that begins
+    /// there.
     pub fn sends_from(&self) -> usize {
         match self.progress.phase {
             Phase::Block(number) => self.task.begins(number),
@@ -117,7 +117,7 @@ impl<'f> Session<'f> {
         }
     }
 
-    /// Returns the part of the image in `seen` that must be kept, before the session gets the result; None if there is none.
+    /// Returns the part of the image in `seen` that must be kept before the session takes the result; None if `seen` has no such part.
     pub(crate) fn part<'s>(&self, seen: Seen<'s>) -> Option<UploadPart<'s>> {
         match (self.progress.phase, seen) {
             (Phase::Fetch(number), Seen::Bytes(bytes)) => self.task.part_in(number, bytes),
@@ -125,14 +125,14 @@ impl<'f> Session<'f> {
         }
     }
 
-    /// Gives the session the result of its action; `refused` says that the caller did not keep the result's part.
+    /// Passes the result of the session's action to the session. `refused` is true if the caller did not keep the part in the result.
     pub(crate) fn on_result(&mut self, seen: Seen<'_>, refused: bool) {
         let phase = self.progress.phase;
         let heard = self.task.hear(phase, seen, refused);
         self.progress = self.progress.after(&mut self.task, heard);
     }
 
-    /// Gives the session up, as `Host::abort` does.
+    /// Aborts the session, as `Host::abort` does.
     pub fn abort(&mut self) {
         match self.progress.phase {
             Phase::Over(_) | Phase::OverUploaded => {}

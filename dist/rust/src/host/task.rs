@@ -26,7 +26,7 @@ impl<'f> Task<'f> {
         self.goal.payload()
     }
 
-    /// Returns block `number`, as a slice of the payload; empty past the last block.
+    /// Returns block `number`, as a slice of the payload; empty beyond the last block.
     pub(crate) fn block(&self, number: usize) -> &'f [u8] {
         let transfer = self.transfer as usize;
         let payload = self.payload();
@@ -34,19 +34,19 @@ impl<'f> Task<'f> {
         &rest[..transfer.min(rest.len())]
     }
 
-    /// Returns the offset in the payload at which block number `number` begins.
+    /// Returns the offset of block `number` in the payload.
     pub(crate) fn begins(&self, number: usize) -> usize {
         let all = self.payload().len();
         number.saturating_mul(self.transfer as usize).min(all)
     }
 
-    /// Returns true if block number `number` is the last one.
+    /// Returns true if block `number` is the last one.
     pub(crate) fn is_last(&self, number: usize) -> bool {
         let transfer = self.transfer as usize;
         self.payload().len() - number * transfer <= transfer
     }
 
-    /// Changes the goal once the last reset is done: a payload that was to be verified is compared from then on.
+    /// Changes the goal Verify to Compare if `done` is true, because the last reset is done then. Every other goal is unchanged.
     pub(crate) fn go_on(&mut self, done: bool) {
         if !done {
             return;
@@ -102,14 +102,14 @@ impl<'f> Task<'f> {
     }
 }
 
-/// Returns the DNLOAD of `body` as block number `number`, which wraps at 65,536.
+/// Returns the DNLOAD of `body` as block `number`. wBlockNum is the number modulo 65,536.
 fn download(number: usize, body: &[u8]) -> Action<'_> {
     let block = (number % 65_536) as u16;
     let length = body.len() as u16;
     send(Request::Dnload { block, length }, body)
 }
 
-/// Returns the action that sends `request`, one of the seven, with its `body`.
+/// Returns the action that sends `request`, one of the seven class requests, with its `body`.
 fn send(request: Request, body: &[u8]) -> Action<'_> {
     match request.setup() {
         Some(setup) => Action::Send {

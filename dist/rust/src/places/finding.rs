@@ -1,11 +1,11 @@
 // Of crates/dfu_places/src/finding.rt, whose contracts are taken away.
 
-//! Places of virtual bytes on a part.
+//! Addresses of virtual bytes on a part.
 
 use crate::places::placement::{bytes_at, span_at};
 use crate::places::{Placement, Span};
 
-/// Spot of a virtual byte: the rank of its thing, and the byte's offset in the thing.
+/// Spot of a virtual byte: the rank of its gate, header or data, and the byte's offset there.
 #[derive(Clone, Copy, Debug, PartialEq, Eq)]
 pub(crate) struct Spot {
     pub rank: u32,
@@ -17,7 +17,7 @@ fn slot_len(placement: &Placement) -> u32 {
     2 * placement.sector + placement.first.data.len
 }
 
-/// Returns the number of bytes of the virtual flash: DFU_MEDIUM_SIZE of the unit, the virtual sector and the bytes of the data.
+/// Returns the number of bytes of the virtual flash. It equals DFU_MEDIUM_SIZE for the unit, the virtual sector and the data bytes.
 ///
 /// # What the caller must keep to
 ///
@@ -26,7 +26,7 @@ pub fn virtual_len(placement: &Placement) -> u32 {
     2 * slot_len(placement)
 }
 
-// Returns the spot of a byte of a slot, whose things have ranks from `first` on.
+// Returns the spot of byte `at` of a slot, whose gate has the rank `first`.
 fn spot_in(sector: u32, first: u32, at: u32) -> Spot {
     if at < sector {
         Spot {
@@ -46,7 +46,6 @@ fn spot_in(sector: u32, first: u32, at: u32) -> Spot {
     }
 }
 
-// Returns the spot of a virtual byte.
 fn spot_of(placement: &Placement, at: u32) -> Spot {
     let slot = slot_len(placement);
     if at < slot {
@@ -56,8 +55,8 @@ fn spot_of(placement: &Placement, at: u32) -> Spot {
     }
 }
 
-/// Returns the address of the `len` virtual bytes from `at` on; None exactly if they do not all lie in one thing, or not all are on the
-/// part.
+/// Returns the address of the `len` virtual bytes from `at` on. None means that they do not all lie in the same gate, header or data, or
+/// that not all are on the part.
 ///
 /// # What the caller must keep to
 ///
@@ -71,8 +70,8 @@ pub fn find(placement: &Placement, at: u32, len: u32) -> Option<u32> {
     }
 }
 
-/// Returns the sectors of the part that are erased for the virtual sector that begins at `at`: all of a gate or a header, or a part of the
-/// data; None exactly if no virtual sector begins there.
+/// Returns the sectors of the part that are erased for the virtual sector that begins at `at`: a whole gate or header, or one virtual
+/// sector of data. None means that no virtual sector begins there.
 ///
 /// # What the caller must keep to
 ///

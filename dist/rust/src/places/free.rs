@@ -1,6 +1,6 @@
 // Of crates/dfu_places/src/free.rt, whose contracts are taken away.
 
-//! Free sectors of a part, of which a plan takes the smallest for gates and headers.
+//! Free sectors of a part. A plan takes the smallest of them for gates and headers.
 
 use crate::places::placement::room_at;
 use crate::places::region::end_of;
@@ -9,19 +9,19 @@ use crate::places::{Needs, Region, Span};
 /// Number of gates and headers of a placement.
 pub(crate) const HEADS: u32 = 4;
 
-/// Free sectors of a region, side by side.
+/// Free sectors of a region, at consecutive addresses.
 #[derive(Clone, Copy, Debug, PartialEq, Eq)]
 pub(crate) struct Free {
     /// Address of the first sector.
     pub at: u32,
-    /// Bytes of each sector.
+    /// Number of bytes of each sector.
     pub sector: u32,
     /// Number of sectors.
     pub count: u32,
 }
 
 impl Free {
-    /// Returns the free sectors behind the first `taken` ones.
+    /// Returns the free sectors that remain after the first `taken` ones.
     pub(crate) fn behind(self, taken: u32) -> Free {
         Free {
             at: self.at.saturating_add(self.sector.saturating_mul(taken)),
@@ -31,8 +31,8 @@ impl Free {
     }
 }
 
-/// Returns the sectors of a region that have no byte of the bootloader: those before it if they are more than those behind it, else those
-/// behind it.
+/// Returns the sectors of a region that have no byte in common with the bootloader. If such sectors lie before and after the bootloader,
+/// returns the larger of the two groups, or the later one if both are equal.
 pub(crate) fn free_of(region: Region, boot: Span) -> Free {
     let Region { at, sector, count } = region;
     let all = Free { at, sector, count };
@@ -57,13 +57,13 @@ pub(crate) fn free_of(region: Region, boot: Span) -> Free {
     }
 }
 
-// Returns whether gates and headers take sectors of region `a` before those of region `b`: its sectors are smaller, or as small and it
-// comes earlier in the list.
+// Returns true if gates and headers take sectors of region `a` before those of region `b`: the sectors of `a` are smaller, or they have the
+// same size and region `a` is earlier in the list.
 fn is_first(a: Region, i: usize, b: Region, j: usize) -> bool {
     a.sector < b.sector || a.sector == b.sector && i < j
 }
 
-// Returns the free sectors of a region that gates and headers may take: all if each has room for a header and its marks, else none.
+// Returns the free sectors of a region that gates and headers may take: all if a sector has room for a header and its marks, else none.
 fn heads_of(region: Region, needs: Needs) -> Free {
     let free = free_of(region, needs.boot);
     if (region.sector as u64) < room_at(needs, 1) {
@@ -73,7 +73,7 @@ fn heads_of(region: Region, needs: Needs) -> Free {
     }
 }
 
-// Returns the number of gates and headers, at most 4, that take sectors of regions before region `j` does.
+// Returns the number of gates and headers, at most 4, that take sectors of other regions before they take those of region `j`.
 fn taken_before(regions: &[Region], needs: Needs, j: usize) -> u32 {
     let mut taken = 0u32;
     for (i, region) in regions.iter().enumerate() {
@@ -84,7 +84,7 @@ fn taken_before(regions: &[Region], needs: Needs, j: usize) -> u32 {
     taken.min(HEADS)
 }
 
-/// Returns the sector for a gate or a header, by its number from 0 to 3; None if the regions have no free one for it.
+/// Returns the sector for gate or header number 0 to 3, or None if no free sector remains for it.
 pub(crate) fn head(regions: &[Region], needs: Needs, number: u32) -> Option<Span> {
     for (j, region) in regions.iter().enumerate() {
         let before = taken_before(regions, needs, j);
@@ -99,7 +99,7 @@ pub(crate) fn head(regions: &[Region], needs: Needs, number: u32) -> Option<Span
     None
 }
 
-/// Returns the free sectors of region `j` that gates and headers leave.
+/// Returns the free sectors of region `j` that remain after those of gates and headers.
 pub(crate) fn rest_of(regions: &[Region], needs: Needs, j: usize) -> Free {
     let taken = HEADS.saturating_sub(taken_before(regions, needs, j));
     let heads = heads_of(regions[j], needs).count;

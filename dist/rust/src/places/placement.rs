@@ -5,43 +5,45 @@
 use crate::places::Span;
 use crate::slots::Unit;
 
-/// Places of the three things of a slot.
+/// Spans of a slot's gate, header and data.
 #[derive(Clone, Copy, Debug, PartialEq, Eq)]
 pub struct SlotPlaces {
-    /// Sectors of the gate, erased together; 16 bytes of it are used, or a unit if that is more.
+    /// Sectors of the gate, which are erased together. The store uses the first 16 bytes, or a unit if that is more.
     pub gate: Span,
-    /// Sectors of the header, erased together; as many bytes of it are used, and behind them the marks of trials.
+    /// Sectors of the header, which are erased together. The store uses as many bytes as in a gate, and the marks of trials follow these.
     pub header: Span,
     /// Sectors of the data.
     pub data: Span,
 }
 
-/// Places of two slots, and of a run area. The slot store sees a *virtual* flash, in which all sectors have `sector` bytes: for each slot a
-/// sector for the gate, one for the header, and the data. Virtual bytes of a gate or a header that are not on the part are never used.
+/// Spans of two slots, and of a run area. The slot store reads and writes a *virtual* flash, in which all sectors have `sector` bytes. Each
+/// slot of the virtual flash has a sector for the gate, one for the header, and the data. The store never uses virtual bytes of a gate or
+/// header that are not on the part.
 #[derive(Clone, Copy, Debug, PartialEq, Eq)]
 pub struct Placement {
-    /// Bytes of a virtual sector: a multiple of 256, up to 262,144. Each virtual sector of data is whole sectors of the part.
+    /// Number of bytes of a virtual sector: a multiple of 256, up to 262,144. Each virtual sector of data consists of whole sectors of the
+    /// part.
     pub sector: u32,
-    /// The first slot. In two areas images run from its data.
+    /// First slot. With two areas, images run from its data.
     pub first: SlotPlaces,
-    /// The second slot.
+    /// Second slot.
     pub second: SlotPlaces,
-    /// The run area, to which images are copied before they start; None in two areas.
+    /// Run area, to which images are copied before they start. None with two areas.
     pub run: Option<Span>,
 }
 
-/// Bootloader, unit and marks for which a placement must have room.
+/// Bootloader, unit and marks that a placement must allow for.
 #[derive(Clone, Copy, Debug, PartialEq, Eq)]
 pub struct Needs {
-    /// Bytes of the bootloader, whose sectors nothing else may have.
+    /// Bytes of the bootloader. No sector of the bootloader may be used for anything else.
     pub boot: Span,
-    /// Bytes that the part programs at a time.
+    /// Unit in which the part is programmed.
     pub unit: Unit,
-    /// Bytes of the marks of trials behind a header; 0 without trials. With T tries they are T + 1 units, of 16 bytes at least.
+    /// Number of bytes for the marks of trials after a header; 0 without trials. T tries need T + 1 units, of at least 16 bytes each.
     pub marks: u32,
 }
 
-// Returns the run area, or the empty span at 0 without one.
+// Returns the run area, or the empty span at address 0 if there is none.
 fn run_span(run: Option<Span>) -> Span {
     match run {
         Some(span) => span,
@@ -49,12 +51,12 @@ fn run_span(run: Option<Span>) -> Span {
     }
 }
 
-/// Returns the number of things of a placement: 7 with a run area, else 6.
+/// Returns the number of gates, headers, data and run areas of a placement: 7 with a run area, else 6.
 pub(crate) fn things(placement: &Placement) -> u32 {
     if placement.run.is_some() { 7 } else { 6 }
 }
 
-/// Returns the span of a thing, by its rank.
+/// Returns the span of the `Thing` of rank `i`.
 pub(crate) fn span_at(placement: &Placement, i: u32) -> Span {
     if i == 0 {
         placement.first.gate
@@ -73,7 +75,7 @@ pub(crate) fn span_at(placement: &Placement, i: u32) -> Span {
     }
 }
 
-/// Returns the number of a thing's bytes that are erased at a time: a virtual sector of data, else all.
+/// Returns the number of bytes of the `Thing` of rank `i` that are erased together: a virtual sector of data, else the whole span.
 pub(crate) fn part_at(placement: &Placement, i: u32) -> u32 {
     if i == 2 || i == 5 {
         placement.sector
@@ -82,7 +84,8 @@ pub(crate) fn part_at(placement: &Placement, i: u32) -> u32 {
     }
 }
 
-/// Returns the number of a thing's bytes that virtual bytes stand for: of a gate and a header no more than a virtual sector.
+/// Returns the number of bytes of the `Thing` of rank `i` that are mapped to virtual bytes: at most a virtual sector of a gate, header or
+/// run area, and all data.
 pub(crate) fn bytes_at(placement: &Placement, i: u32) -> u32 {
     let len = span_at(placement, i).len;
     if i == 2 || i == 5 {
@@ -92,13 +95,13 @@ pub(crate) fn bytes_at(placement: &Placement, i: u32) -> u32 {
     }
 }
 
-// Returns the number of bytes of a gate's or a header's unit: 16, or a unit of the part if that is more.
+// Returns the number of bytes of a gate or of a header without marks: 16, or a unit of the part if that is more.
 fn gate_size(unit: Unit) -> u32 {
     unit.size().max(16)
 }
 
-/// Returns the smallest number of bytes that a thing must have: a gate its unit, a header its unit and the marks, each other thing one
-/// byte.
+/// Returns the number of bytes that the `Thing` of rank `i` needs: for a gate 16 or a unit, whichever is more; for a header as many and the
+/// marks; 1 for data or a run area.
 pub(crate) fn room_at(needs: Needs, i: u32) -> u64 {
     let size = gate_size(needs.unit) as u64;
     if i == 0 || i == 3 {

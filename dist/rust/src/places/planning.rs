@@ -5,26 +5,26 @@
 use crate::places::checking::MAX_CAPACITY;
 use crate::places::free::{Free, head, rest_of};
 use crate::places::region::are_regions;
-use crate::places::{Needs, Placement, Refusal, Region, SlotPlaces, Span, check};
+use crate::places::{Needs, Placement, PlacementRefusal, Region, SlotPlaces, Span, check};
 use crate::slots::{MAX_SECTOR, PAGE};
 
-/// Areas of a plan.
+/// Areas of a plan: two slots, or two slots and a run area.
 #[derive(Clone, Copy, Debug, PartialEq, Eq)]
 pub enum Areas {
-    /// Two areas: images run from the data of the first slot.
+    /// Two slots, and images run from the data of the first slot.
     Two,
     /// Two slots and a run area, to which images are copied before they start.
     Three,
 }
 
-// Sizes of a plan: bytes of a virtual sector, and of the data of each area.
+// Sizes of a plan: number of bytes of a virtual sector, and of the data of a slot.
 #[derive(Clone, Copy, Debug, PartialEq, Eq)]
 struct Sizes {
     sector: u32,
     len: u32,
 }
 
-// Returns the number of areas that the sectors have room for, side by side; 0 if a virtual sector is not of whole sectors.
+// Returns the number of areas that fit into the free sectors one after the other; 0 if a virtual sector does not consist of whole sectors.
 fn areas_in(free: Free, sizes: Sizes) -> u32 {
     if free.sector == 0 || sizes.len == 0 || sizes.sector % free.sector != 0 {
         return 0;
@@ -32,7 +32,7 @@ fn areas_in(free: Free, sizes: Sizes) -> u32 {
     free.sector.saturating_mul(free.count) / sizes.len
 }
 
-// Returns an area, by its number from 0 on; None if the regions have no room for so many.
+// Returns the span of area `number`, from 0 on, or None if the free sectors have no room for so many areas.
 fn area(regions: &[Region], needs: Needs, sizes: Sizes, number: u32) -> Option<Span> {
     let mut before = 0u32;
     for j in 0..regions.len() {
@@ -49,7 +49,8 @@ fn area(regions: &[Region], needs: Needs, sizes: Sizes, number: u32) -> Option<S
     None
 }
 
-// Returns the virtual sector for data in sectors of `sector` bytes: that size, or 256 if it divides 256; 0 if the store supports neither.
+// Returns the virtual sector for data in sectors of `sector` bytes: the same size, or 256 if `sector` divides 256. Returns 0 if the store
+// allows neither.
 fn virtual_sector(sector: u32) -> u32 {
     if sector == 0 || sector > MAX_SECTOR {
         0
@@ -62,8 +63,8 @@ fn virtual_sector(sector: u32) -> u32 {
     }
 }
 
-// Returns the sizes with `bytes` of data, down to whole virtual sectors and to the largest capacity, if these are more than in `best` and
-// the regions have room for so many areas of them; else `best`.
+// Returns the sizes for `bytes` bytes of data, rounded down to whole virtual sectors and limited to the largest capacity. Returns `best` if
+// these data are not longer than those of `best`, or if `areas` such areas do not fit.
 fn larger(
     regions: &[Region],
     needs: Needs,
@@ -84,7 +85,7 @@ fn larger(
     }
 }
 
-// Returns the sizes with the largest data in so many areas, of those in `best` and of all, a half and a third of each region's rest.
+// Returns the sizes with the longest data. The candidates are `best`, and all, a half and a third of the free bytes of each region.
 fn largest(regions: &[Region], needs: Needs, areas: u32, sector: u32, best: Sizes) -> Sizes {
     let mut best = best;
     for j in 0..regions.len() {
@@ -97,7 +98,7 @@ fn largest(regions: &[Region], needs: Needs, areas: u32, sector: u32, best: Size
     best
 }
 
-// Returns the sizes with the largest data, tried with the virtual sector of each region; both are 0 if nothing fits.
+// Returns the sizes with the longest data, for the virtual sector of any region. Both sizes are 0 if nothing fits.
 fn best_sizes(regions: &[Region], needs: Needs, areas: u32) -> Sizes {
     let mut best = Sizes { sector: 0, len: 0 };
     for region in regions {
@@ -109,7 +110,7 @@ fn best_sizes(regions: &[Region], needs: Needs, areas: u32) -> Sizes {
     best
 }
 
-// Returns the places of a slot: 0 is the number of the first slot, 1 that of the second. None if a thing of it finds no room.
+// Returns the spans of slot 0 or 1, or None if there is no room for its gate, header or data.
 fn slot(regions: &[Region], needs: Needs, sizes: Sizes, number: u32) -> Option<SlotPlaces> {
     Some(SlotPlaces {
         gate: head(regions, needs, 2 * number)?,
@@ -118,7 +119,7 @@ fn slot(regions: &[Region], needs: Needs, sizes: Sizes, number: u32) -> Option<S
     })
 }
 
-// Returns the placement of a plan, unchecked; None if one of its things finds no room.
+// Returns the placement of a plan, which is not checked yet, or None if there is no room for a gate, a header or an area.
 fn placed(regions: &[Region], needs: Needs, areas: Areas) -> Option<Placement> {
     let sizes = best_sizes(regions, needs, if let Areas::Two = areas { 2 } else { 3 });
     Some(Placement {
@@ -132,19 +133,19 @@ fn placed(regions: &[Region], needs: Needs, areas: Areas) -> Option<Placement> {
     })
 }
 
-/// Plans the placement with the largest data on a part with these regions. Gates and headers take the smallest free sectors first; areas
-/// lie in the rest, each in one region. A placement made by hand may allow a larger image.
+/// Plans the placement with the largest data on a part with these regions. Gates and headers take the smallest free sectors. The areas lie
+/// in the remaining sectors, each in one region. A placement made by hand may allow a larger image.
 ///
 /// The result is a placement that `check` accepts. `BadRegions`: as in `check`. `NoPlacement`: the sectors are too few, or too unequal.
-pub fn plan(regions: &[Region], needs: Needs, areas: Areas) -> Result<Placement, Refusal> {
+pub fn plan(regions: &[Region], needs: Needs, areas: Areas) -> Result<Placement, PlacementRefusal> {
     if !are_regions(regions) {
-        return Err(Refusal::BadRegions);
+        return Err(PlacementRefusal::BadRegions);
     }
     match placed(regions, needs, areas) {
         Some(placement) => match check(regions, needs, &placement) {
             Ok(()) => Ok(placement),
-            Err(_) => Err(Refusal::NoPlacement),
+            Err(_) => Err(PlacementRefusal::NoPlacement),
         },
-        None => Err(Refusal::NoPlacement),
+        None => Err(PlacementRefusal::NoPlacement),
     }
 }

@@ -5,26 +5,26 @@
 use core::fmt;
 use thiserror::Error;
 
-/// Thing that a placement gives a place.
+/// Gate, header, data or run area, to which a placement assigns a span of the part.
 #[derive(Clone, Copy, Debug, PartialEq, Eq)]
 pub enum Thing {
-    /// The gate of the first slot.
+    /// Gate of the first slot.
     FirstGate,
-    /// The header of the first slot.
+    /// Header of the first slot.
     FirstHeader,
-    /// The data of the first slot.
+    /// Data of the first slot.
     FirstData,
-    /// The gate of the second slot.
+    /// Gate of the second slot.
     SecondGate,
-    /// The header of the second slot.
+    /// Header of the second slot.
     SecondHeader,
-    /// The data of the second slot.
+    /// Data of the second slot.
     SecondData,
-    /// The run area.
+    /// Run area, to which images are copied before they start.
     RunArea,
 }
 
-/// Names of the things, in the order of the enum.
+/// Names of the values of `Thing`, in the order of the enum.
 static NAMES: [&str; 7] = [
     "the first gate",
     "the first header",
@@ -41,7 +41,7 @@ impl fmt::Display for Thing {
     }
 }
 
-/// Returns the thing of a rank: 0 for `FirstGate` up to 6 for `RunArea`.
+/// Returns the `Thing` of a rank: 0 for `FirstGate` up to 6 for `RunArea`.
 pub(crate) fn thing_of(i: u32) -> Thing {
     if i == 0 {
         Thing::FirstGate
@@ -60,32 +60,32 @@ pub(crate) fn thing_of(i: u32) -> Thing {
     }
 }
 
-/// Refusal of a placement: the first rule that it breaks, in this order, and of that rule the first thing in the order of `Thing`.
+/// Refusal of a placement: the first broken rule in this order, and the first `Thing` that breaks it in the order of the enum.
 #[derive(Clone, Copy, Debug, PartialEq, Eq, Error)]
-pub enum Refusal {
-    /// A region has no sectors, ends at 2^32 or beyond, or begins before the one before it ends.
+pub enum PlacementRefusal {
+    /// A region has no sectors, ends at 2^32 or above, or begins before the end of the previous region.
     #[error("the regions are empty, overlap or are out of order")]
     BadRegions,
     /// The virtual sector is not a multiple of 256 from 256 to 262,144 bytes.
     #[error("the virtual sector is not a multiple of 256 bytes up to 262,144")]
     BadSector,
-    /// The first data are none, more than 16,777,216 bytes, or not whole virtual sectors.
+    /// The first data are empty, longer than 16,777,216 bytes, or not whole virtual sectors.
     #[error("the data are none, too large, or not whole virtual sectors")]
     BadCapacity,
-    /// The second data or the run area have another length than the first data.
+    /// This `Thing`, the second data or the run area, has another length than the first data.
     #[error("{0} has another length than the first data")]
     Unequal(Thing),
-    /// This thing does not lie in one region, from the beginning of a sector on, or does not consist of whole sectors; in data each virtual
-    /// sector must.
+    /// This `Thing` does not lie in one region, does not begin at a sector, or does not consist of whole sectors. In data each virtual
+    /// sector must consist of whole sectors.
     #[error("{0} is not whole sectors of one region")]
     NotWhole(Thing),
-    /// This thing has fewer bytes than it needs.
+    /// This `Thing` has fewer bytes than it needs.
     #[error("{0} has too few bytes")]
     NoRoom(Thing),
-    /// This thing has bytes of the bootloader.
+    /// This `Thing` has a byte in common with the bootloader.
     #[error("{0} lies in the bootloader")]
     InBootloader(Thing),
-    /// These two things have a byte in common, and so a sector. The second one is the first thing that meets one before it.
+    /// These two spans have a byte in common, and therefore a sector. The second `Thing` is the first one that overlaps an earlier one.
     #[error("{0} and {1} share a sector")]
     Shared(Thing, Thing),
     /// `plan` found no placement.

@@ -1,22 +1,22 @@
 // Of crates/dfu_slots/src/both.rt, whose contracts are taken away.
 
-//! Check of a medium that also looks at the image in the spare slot.
+//! Checks a medium, and also finds the image in the spare slot.
 
 use crate::slots::layout::is_sized;
 use crate::slots::places::{Counted, count_slots, find_places, has_newest, is_none};
 use crate::slots::read::header_len;
 use crate::slots::{Medium, OpenFault, Places};
 
-/// Places of the slots of a medium with an active image, and the length of the spare slot's image, if it has one.
+/// Offsets of the two slots of a medium with an active image, and the length of the image in the spare slot, if that slot holds one.
 #[derive(Clone, Copy, Debug, PartialEq, Eq)]
 pub struct Both {
-    /// Places at which the active slot and the spare one begin.
+    /// Offsets of the active slot and of the spare slot.
     pub places: Places,
-    /// Length of the image in the spare slot; None if the slot does not count or its header is not well formed.
+    /// Length in bytes of the image in the spare slot; None if the slot doesn't count or its header is not well formed.
     pub spare_len: Option<u32>,
 }
 
-// Returns the length of the image in the spare slot; None if the slot does not count or its header is not well formed.
+// Returns the length of the image in the spare slot; None if the slot doesn't count or its header is not well formed.
 fn spare_len<M: Medium>(medium: &M, spare: u32, counted: Counted) -> Option<u32> {
     let counts = if spare == 0 {
         counted.first
@@ -29,12 +29,12 @@ fn spare_len<M: Medium>(medium: &M, spare: u32, counted: Counted) -> Option<u32>
     header_len(medium, spare)
 }
 
-/// Returns the places of the slots of a medium with an active image, and the length of the spare slot's image, if it has one. Reads the
-/// same bytes as `check`.
+/// Returns the offsets of the two slots of a medium with an active image, and the length of the image in the spare slot, if that slot holds
+/// one. Reads only bytes that `check` reads too.
 ///
 /// # Errors
 ///
-/// The first fault of `check`: the medium has no active image.
+/// The first fault of the medium, in the order of `OpenFault`.
 pub fn check_both<M: Medium>(medium: &M) -> Result<Both, OpenFault> {
     if !is_sized(medium) {
         return Err(OpenFault::WrongSize);

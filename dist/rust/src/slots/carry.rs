@@ -1,6 +1,6 @@
 // Of crates/dfu_slots/src/carry.rt, whose contracts are taken away.
 
-//! Operations of a change, which are performed on a medium.
+//! Performs the operations of a change on a medium.
 
 use crate::slots::erasing::erase;
 use crate::slots::layout::{MAX_UNIT, OPEN_GATE};
@@ -9,18 +9,18 @@ use crate::slots::sequence::{MAX_OPERATIONS, Sequence};
 use crate::slots::writes::write_some;
 use crate::slots::{Medium, WriteFault};
 
-/// Bytes that the operations of a change write: the held bytes, the block and the header.
+/// Sources of the bytes that the operations of a change write: the held bytes, the block and the header.
 #[derive(Clone, Copy, Debug, PartialEq, Eq)]
 pub(crate) struct Sources<'b> {
     /// Bytes held back by earlier puts.
     pub held: &'b [u8],
-    /// Block of a `put`.
+    /// Block that a `put` writes after the held bytes.
     pub block: &'b [u8],
     /// Header that a `commit` or a `format` writes.
     pub header: &'b [u8; 16],
 }
 
-// Returns byte `at` of `front`, `back` and zeros, one after the other.
+// Returns byte `at` of the concatenation of `front`, `back` and zeros.
 fn byte_in(front: &[u8], back: &[u8], at: usize) -> u8 {
     if at < front.len() {
         return front[at];
@@ -29,7 +29,7 @@ fn byte_in(front: &[u8], back: &[u8], at: usize) -> u8 {
     if behind < back.len() { back[behind] } else { 0 }
 }
 
-// Returns byte `at` of a source, given the bytes held back, the block and the header.
+// Returns byte `at` of a source, or 0 beyond its end.
 fn byte_of(source: Source, held: &[u8], block: &[u8], header: &[u8; 16], at: usize) -> u8 {
     match source {
         Source::Joined => byte_in(held, block, at),
@@ -41,14 +41,15 @@ fn byte_of(source: Source, held: &[u8], block: &[u8], header: &[u8; 16], at: usi
 }
 
 impl Sources<'_> {
-    // Copies `len` bytes of a source, from byte `skip` on, to the front of a buffer.
+    // Copies `len` bytes of a source to the front of `out`, beginning with byte `skip` of the source.
     fn gather(self, source: Source, skip: usize, len: usize, out: &mut [u8; MAX_UNIT]) {
         for i in 0..len {
             out[i] = byte_of(source, self.held, self.block, self.header, skip + i);
         }
     }
 
-    // Writes `len` bytes of a source, at most 256, from byte `skip` on, after the erases that they need. No bytes mean no write.
+    // Writes `len` bytes of a source, at most 256, beginning with its byte `skip`. First erases the sectors that begin in the range. Writes
+    // nothing if `len` is 0.
     fn write_gathered<M: Medium>(
         self,
         medium: &mut M,
@@ -62,8 +63,8 @@ impl Sources<'_> {
         write_some(medium, at, &unit[..len])
     }
 
-    // Writes `len` bytes of the held bytes and the block, from byte `skip` on, after the erases that they need: straight from the block if
-    // all lie there.
+    // Writes `len` bytes of the held bytes and the block, beginning with byte `skip` of both together. First erases the sectors that begin
+    // in the range. If all these bytes lie in the block, they are written without a copy.
     fn write_joined<M: Medium>(
         self,
         medium: &mut M,
@@ -79,7 +80,6 @@ impl Sources<'_> {
         write_some(medium, at, &self.block[begin..begin + len])
     }
 
-    // Performs one operation.
     fn carry_op<M: Medium>(self, medium: &mut M, op: Op) -> Result<(), WriteFault> {
         let _end = medium.len();
         match op {

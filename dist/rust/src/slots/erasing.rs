@@ -1,12 +1,12 @@
 // Of crates/dfu_slots/src/erasing.rt, whose contracts are taken away.
 
-//! Erases of sectors, which are read back.
+//! Erases sectors, and reads each erased sector back.
 
 use crate::slots::layout::MAX_UNIT;
 use crate::slots::read::stands_at;
 use crate::slots::{Medium, WriteFault};
 
-/// Returns whether the `len` bytes from `at` on are all FFh.
+/// Returns true if the `len` bytes that begin at `at` are all FFh.
 pub(crate) fn is_blank<M: Medium>(medium: &M, at: u32, len: u32) -> bool {
     let blank = [0xff; MAX_UNIT];
     let _end = medium.len();
@@ -22,7 +22,7 @@ pub(crate) fn is_blank<M: Medium>(medium: &M, at: u32, len: u32) -> bool {
     true
 }
 
-/// Erases the sector that begins at `at`, and reads it back. All erases of the store go through this call.
+/// Erases the sector that begins at `at`, and reads it back. Every erase of the store goes through this function.
 pub(crate) fn erase<M: Medium>(medium: &mut M, at: u32) -> Result<(), WriteFault> {
     let size = medium.sector();
     match medium.erase(at) {
@@ -36,7 +36,7 @@ pub(crate) fn erase<M: Medium>(medium: &mut M, at: u32) -> Result<(), WriteFault
     }
 }
 
-/// Erases the sectors that begin in the `len` bytes from `at` on, one after the other.
+/// Erases, in order, the sectors that begin in the range of `len` bytes from offset `at`.
 pub(crate) fn erase_within<M: Medium>(medium: &mut M, at: u32, len: u32) -> Result<(), WriteFault> {
     let _end = medium.len();
     let sector = medium.sector();

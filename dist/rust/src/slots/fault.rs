@@ -1,19 +1,19 @@
 // Of crates/dfu_slots/src/fault.rt, whose contracts are taken away.
 
-//! Faults that calls of the store return.
+//! Faults that the calls of the store return.
 use core::fmt;
 use thiserror::Error;
 
-/// Fault with which `format` hands the medium back. The faults are checked in this order.
+/// Fault of `format`. The faults are checked in this order.
 #[derive(Clone, Copy, Debug, PartialEq, Eq, Error)]
 pub enum FormatFault {
-    /// The medium's length is not 2 * (2 * G + C), with C from 1 to 16,777,216 and a multiple of the unit and of the sector, and G the
-    /// largest of 16, the unit's size and the sector's; or the sector is neither 0 nor a multiple of 256 up to 262,144. Nothing was
+    /// The medium's length is not 2 * (2 * G + C), or its sector size is neither 0 nor a multiple of 256 up to 262,144. C is from 1 to
+    /// 16,777,216 and a multiple of the unit and of the sector; G is the largest of 16, the unit's size and the sector's. Nothing was
     /// written.
     WrongSize,
-    /// The image has more bytes than the data of a slot. Nothing was written.
+    /// The image is longer than the data of a slot. Nothing was written.
     TooLarge,
-    /// A write to the medium failed, or other bytes were read back. The medium may have an active image or none.
+    /// A write to the medium failed, or reading it back returned other bytes. The medium may have an active image or none.
     Failed,
 }
 
@@ -27,21 +27,21 @@ impl fmt::Display for FormatFault {
     }
 }
 
-/// Fault with which `open` hands the medium back unchanged. The faults are checked in this order.
+/// Fault of `open`. The medium is unchanged. The faults are checked in this order.
 ///
 /// A slot counts if its gate is open and, if its header is of version 2, that header is well formed: its zero bytes are 0, its length is at
-/// most C, and its register is that of the slot's first data bytes, as many as the length says.
+/// most the capacity C, and its register is the CRC register of that many data bytes of the slot.
 #[derive(Clone, Copy, Debug, PartialEq, Eq, Error)]
 pub enum OpenFault {
-    /// The medium's length is not 2 * (2 * G + C), with C from 1 to 16,777,216 and a multiple of the unit and of the sector, and G the
-    /// largest of 16, the unit's size and the sector's; or the sector is neither 0 nor a multiple of 256 up to 262,144.
+    /// The medium's length is not 2 * (2 * G + C), or its sector size is neither 0 nor a multiple of 256 up to 262,144. C is from 1 to
+    /// 16,777,216 and a multiple of the unit and of the sector; G is the largest of 16, the unit's size and the sector's.
     WrongSize,
     /// Neither slot counts.
     NoImage,
-    /// Both slots count, and neither generation is the other's plus 1 modulo 256.
+    /// Both slots count, and neither slot's generation is the other's plus 1 modulo 256.
     TwoImages,
-    /// The active slot's header is neither of version 1 nor of version 2; or it is of version 1 and has a byte other
-    /// than 0 where a zero belongs, or a length over C.
+    /// The active slot's header has a version other than 1 and 2; or it has version 1, and one of its zero bytes is not 0 or its length is
+    /// over C.
     BadHeader,
 }
 
@@ -57,29 +57,29 @@ impl fmt::Display for OpenFault {
     }
 }
 
-/// Fault of one write of the store.
+/// Fault of one write or erase of the store.
 #[derive(Clone, Copy, Debug, PartialEq, Eq)]
 pub enum WriteFault {
     /// The medium reported that the write failed.
     Failed,
-    /// The medium reported success, but other bytes were read back.
+    /// The medium reported success, but reading the range back returned other bytes.
     NotVerified,
 }
 
 /// Fault that `begin`, `put` or `commit` returns.
 #[derive(Clone, Copy, Debug, PartialEq, Eq, Error)]
 pub enum PutFault {
-    /// The bytes to be put end past the capacity, and the spare's gate is closed. Nothing was written. Only `put` returns it, because bytes
-    /// that were put lie within the capacity.
+    /// The bytes end beyond the capacity. Nothing was written. Only `put` returns this fault, because `commit` activates only bytes that
+    /// were put already.
     TooLarge,
-    /// A write to the medium failed. The active image is the old one; after `commit` it is the old one or the whole new one. The bytes put
-    /// are discarded, and `put_end` is 0.
+    /// A write to the medium failed. The old image is still active, except after `commit`, where the whole new image may be active instead.
+    /// The bytes put since `begin` are discarded, and `put_end` is 0.
     Failed,
-    /// The medium reported success of a write, and other bytes were read back. The medium's count of failures rose.
-    /// All else is as after `Failed`.
+    /// The medium reported that a write succeeded, but reading it back returned other bytes. The medium's count of failures rose or is at
+    /// its maximum. Everything else is as after `Failed`.
     NotVerified,
-    /// The spare's gate reads open, so the slot may hold the image before this one: call `begin` first. Nothing was written. Checked before
-    /// `TooLarge`; `begin` never returns it.
+    /// The spare's gate is open, so its slot may hold the previous image. Call `begin` first. Nothing was written. `put` and `commit` check
+    /// this before `TooLarge`; `begin` never returns it.
     NotBegun,
 }
 

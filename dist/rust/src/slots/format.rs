@@ -1,6 +1,6 @@
 // Of crates/dfu_slots/src/format.rt, whose contracts are taken away.
 
-//! Format of a medium: an image is written into the first slot, whatever the medium held before.
+//! Formats a medium: writes an image into the first slot, and ignores what the medium held before.
 
 use crate::slots::gates::{close_gate, open_slot};
 use crate::slots::layout::{VERSION, fill_size, make_header};
@@ -10,7 +10,7 @@ use crate::slots::sequence::{MAX_WRITE, Sequence};
 use crate::slots::writes::write_some;
 use crate::slots::{Medium, WriteFault};
 
-// Writes `bytes` and zeros after them, `len` bytes together: at most 4,096, at most 256 of them zeros.
+// Writes `bytes` followed by zeros: `len` bytes in all, at most 4,096, with at most 256 zeros.
 #[inline(never)]
 fn write_padded<M: Medium>(
     medium: &mut M,
@@ -23,7 +23,7 @@ fn write_padded<M: Medium>(
     write_some(medium, at, &padded[..len])
 }
 
-// Writes `len` bytes of an image from byte `skip` on, with zeros past its end.
+// Writes `len` bytes of an image, the first one at index `skip`. Bytes beyond the end of the image are zeros.
 fn write_part<M: Medium>(
     medium: &mut M,
     at: u32,
@@ -37,7 +37,8 @@ fn write_part<M: Medium>(
     write_some(medium, at, &image[skip..skip + len])
 }
 
-// Writes the piece of an image that begins at byte `from`: up to 4,096 bytes, filled up to a unit, into the data of the first slot.
+// Writes one piece of an image into the data of the first slot: up to 4,096 bytes, beginning with the image's byte `from`. The last piece
+// ends with zeros that fill its unit.
 fn write_piece<M: Medium>(medium: &mut M, image: &[u8], from: u32) -> Result<(), WriteFault> {
     let sequence = Sequence::Image {
         from,
@@ -70,7 +71,7 @@ fn write_pieces<M: Medium>(medium: &mut M, image: &[u8]) -> Result<(), WriteFaul
     Ok(())
 }
 
-// Closes both gates, the second slot's first.
+// Closes both gates, first the gate of the second slot.
 fn close_gates<M: Medium>(medium: &mut M) -> Result<(), WriteFault> {
     let second = medium.len() / 2;
     match close_gate(medium, second) {

@@ -1,12 +1,13 @@
 // Of crates/dfu_slots/src/gates.rt, whose contracts are taken away.
 
-//! Gates of slots: one is closed, or is opened after a new header.
+//! Closes a slot's gate, and opens it after a new header is written.
 
 use crate::slots::carry::Sources;
 use crate::slots::sequence::Sequence;
 use crate::slots::{Medium, WriteFault};
 
-/// Closes the gate of the slot that begins at `slot`: writes a gate unit of zeros over it; with sectors, instead, erases its sector.
+/// Closes the gate of the slot that begins at `slot`. Without sectors it writes a gate unit of zeros; with sectors it erases the gate's
+/// sector.
 pub(crate) fn close_gate<M: Medium>(medium: &mut M, slot: u32) -> Result<(), WriteFault> {
     let none = Sources {
         held: &[],
@@ -16,8 +17,8 @@ pub(crate) fn close_gate<M: Medium>(medium: &mut M, slot: u32) -> Result<(), Wri
     none.carry_out(medium, Sequence::Close { slot })
 }
 
-/// Writes `held`, at most 256 bytes of puts that end at `end`, into the data of the slot that begins at `slot`, then the header `head`,
-/// and then, in a write of its own, opens the gate.
+/// Writes `held`, at most 256 bytes that end at offset `end` of the slot's data, then the header `head`, and then, in a separate write, the
+/// open gate. The slot begins at `slot`.
 pub(crate) fn open_slot<M: Medium>(
     medium: &mut M,
     slot: u32,

@@ -1,20 +1,20 @@
 // Of crates/dfu_slots/src/noted.rt, whose contracts are taken away.
 
-//! The last writes of a medium in memory, for a trace.
+//! Record of the last writes of a simulated medium, for a trace.
 
 use crate::slots::Failed;
 use arrayvec::ArrayVec;
 
-/// Outcome of a write.
+/// Outcome of a write or an erase.
 #[derive(Clone, Copy, Debug, PartialEq, Eq)]
 pub enum WriteEnd {
     Worked,
     Failed,
-    /// The medium was armed to lie: it reported success, whatever bytes it left.
+    /// The medium was armed to lie: it reported success, but may have left other bytes.
     Lied,
 }
 
-/// A write or an erase: its place, its number of bytes, and its outcome.
+/// A write or an erase: its offset, its number of bytes, and its outcome.
 #[derive(Clone, Copy, Debug, PartialEq, Eq)]
 pub struct WriteNote {
     pub erases: bool,
@@ -34,12 +34,12 @@ impl Default for WriteNote {
     }
 }
 
-/// The last writes of a medium, and the number of all writes.
+/// The last writes and erases of a medium, and the number of all of them.
 #[derive(Debug, PartialEq, Eq)]
 pub struct LastWrites {
-    /// The last 16 writes, the oldest first.
+    /// The last writes and erases, at most 16, the oldest first.
     pub notes: ArrayVec<WriteNote, 16>,
-    /// Number of writes, at most 2^64 - 1.
+    /// Number of all writes and erases so far, limited to 2^64 - 1.
     pub count: u64,
 }
 
@@ -62,7 +62,7 @@ impl LastWrites {
     }
 }
 
-/// Returns the outcome of a write with the result `answer`; `lies` is true if the medium was armed to lie in it.
+/// Returns the outcome of a write that returned `answer`. If `lies` is true, the medium was armed to lie in this write.
 pub(crate) fn ended(lies: bool, answer: Result<(), Failed>) -> WriteEnd {
     match answer {
         Ok(()) if lies => WriteEnd::Lied,

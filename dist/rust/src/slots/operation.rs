@@ -1,35 +1,34 @@
 // Of crates/dfu_slots/src/operation.rt, whose contracts are taken away.
 
-//! One operation on a medium, and the source of its bytes.
+//! One operation on a medium: an erase, or a write with the source of its bytes.
 
-/// Source of the bytes that an operation writes; zeros follow its last byte.
+/// Source of the bytes that an operation writes. If the operation writes more bytes than the source has, the others are zeros.
 #[derive(Clone, Copy, Debug, PartialEq, Eq)]
 pub enum Source {
     /// The bytes held back, followed by the block or the image.
     Joined,
     /// The bytes held back.
     Held,
-    /// A header.
+    /// The header that a `commit` or a `format` writes.
     Header,
     /// The first byte of an open gate.
     Opened,
-    /// No bytes: a gate is closed by the zeros after them.
+    /// No bytes at all. The operation writes only zeros, and they close a gate.
     Closed,
 }
 
-/// An operation on a medium.
+/// An operation on a medium: an erase, or a write with the erases before it.
 #[derive(Clone, Copy, Debug, PartialEq, Eq)]
 pub enum Op {
-    /// Erases a sector.
+    /// Erases the sector that begins at `at`.
     Erase {
-        /// Place at which the sector begins.
+        /// Offset of the sector on the medium, in bytes.
         at: u64,
     },
-    /// Writes bytes, after an erase of each sector that begins in their range. No bytes mean no write.
+    /// Erases each sector that begins in the range, then writes the bytes. With a `len` of 0 it neither erases nor writes.
     Program {
-        /// Place of the first byte.
+        /// Offset of the first written byte on the medium.
         at: u64,
-        /// Source of the bytes.
         source: Source,
         /// Number of bytes of the source to skip.
         skip: u32,

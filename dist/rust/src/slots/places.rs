@@ -1,28 +1,28 @@
 // Of crates/dfu_slots/src/places.rt, whose contracts are taken away.
 
-//! Places of the active slot and the spare one.
+//! Offsets of the active slot and of the spare slot on a medium.
 
 use crate::slots::layout::is_sized;
 use crate::slots::read::{counts, generation, header_len};
 use crate::slots::{Medium, OpenFault};
 
-/// Places at which the active slot and the spare one begin.
+/// Offsets of the active slot and of the spare slot, in bytes from the beginning of the medium.
 #[derive(Clone, Copy, Debug, PartialEq, Eq)]
 pub struct Places {
-    /// Place at which the active slot begins.
+    /// Offset of the active slot's first byte.
     pub active: u32,
-    /// Place at which the spare slot begins.
+    /// Offset of the spare slot's first byte.
     pub spare: u32,
 }
 
-/// For each of the two slots, true if it counts.
+/// For each of the two slots, true if it counts in the sense of `OpenFault`.
 #[derive(Clone, Copy, Debug, PartialEq, Eq)]
 pub struct Counted {
     pub first: bool,
     pub second: bool,
 }
 
-/// Finds the slots that count. The whole image of an open slot of version 2 is read once, for its register.
+/// Finds the slots that count. For an open slot of version 2 this reads the whole image once, to compute its CRC register.
 pub(crate) fn count_slots<M: Medium>(medium: &M) -> Counted {
     Counted {
         first: counts(medium, 0),
@@ -30,12 +30,12 @@ pub(crate) fn count_slots<M: Medium>(medium: &M) -> Counted {
     }
 }
 
-/// Returns whether neither slot counts.
+/// Returns true if neither slot counts.
 pub(crate) fn is_none(counted: Counted) -> bool {
     !counted.first && !counted.second
 }
 
-// Returns whether the slot `mine` counts, and the slot `other` does not or is one generation older.
+// Returns true if the slot at `mine` counts, and the slot at `other` doesn't count or is one generation older.
 fn is_newest<M: Medium>(
     medium: &M,
     mine: u32,
@@ -47,7 +47,7 @@ fn is_newest<M: Medium>(
         && (!other_counts || generation(medium, mine) == generation(medium, other).wrapping_add(1))
 }
 
-/// Returns the places of the slots: the first slot is the active one if `first` is true, else the second.
+/// Returns the offsets of the slots. If `first` is true, the first slot is the active one, otherwise the second.
 pub(crate) fn places_of<M: Medium>(medium: &M, first: bool) -> Places {
     let second = medium.len() / 2;
     if first {
@@ -63,14 +63,14 @@ pub(crate) fn places_of<M: Medium>(medium: &M, first: bool) -> Places {
     }
 }
 
-/// Returns the places of the active slot and the spare one; if neither is the newest, the second is taken as active.
+/// Returns the offsets of the active slot and of the spare slot. If neither slot is the newest, it returns the second slot as active.
 pub(crate) fn find_places<M: Medium>(medium: &M, counted: Counted) -> Places {
     let second = medium.len() / 2;
     let first = is_newest(medium, 0, second, counted.first, counted.second);
     places_of(medium, first)
 }
 
-/// Returns whether the slot at `places.active`, one of the two, is the newest.
+/// Returns true if the slot at `places.active` is the newest one.
 pub(crate) fn has_newest<M: Medium>(medium: &M, places: Places, counted: Counted) -> bool {
     let Places { active, spare } = places;
     if active == 0 {
@@ -80,12 +80,16 @@ pub(crate) fn has_newest<M: Medium>(medium: &M, places: Places, counted: Counted
     }
 }
 
-/// Finds the active slot and the spare one.
+/// Returns the offsets of the active slot and of the spare slot.
 pub(crate) fn look<M: Medium>(medium: &M) -> Places {
     find_places(medium, count_slots(medium))
 }
 
-/// Returns the places of the slots of a medium with an active image, or else its first fault.
+/// Returns the offsets of the two slots of a medium that has an active image.
+///
+/// # Errors
+///
+/// The first fault of the medium, in the order of `OpenFault`.
 pub fn check<M: Medium>(medium: &M) -> Result<Places, OpenFault> {
     if !is_sized(medium) {
         return Err(OpenFault::WrongSize);

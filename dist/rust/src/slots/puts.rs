@@ -1,6 +1,6 @@
 // Of crates/dfu_slots/src/puts.rt, whose contracts are taken away.
 
-//! Bytes put since `begin`: whole units are written at once, and the rest is held back.
+//! Bytes put since `begin`: each put writes the whole units, and holds the rest back.
 
 use crate::slots::carry::Sources;
 use crate::slots::layout::MAX_UNIT;
@@ -8,12 +8,12 @@ use crate::slots::sequence::Sequence;
 use crate::slots::{Medium, Unit, WriteFault};
 use arrayvec::ArrayVec;
 
-/// The puts since `begin`. Their whole units are written, and the rest is held back.
+/// State of the bytes put since `begin`. Their whole units are written, and the rest is held back.
 #[derive(Debug, PartialEq, Eq)]
 pub struct Puts {
-    /// The bytes held back, fewer than a unit has.
+    /// Bytes held back. Their number is less than a unit.
     pub held: ArrayVec<u8, MAX_UNIT>,
-    /// Place at which the puts end in the spare's data.
+    /// Offset in the spare's data at which the bytes put so far end.
     pub end: u32,
 }
 
@@ -26,7 +26,7 @@ impl Puts {
         }
     }
 
-    /// Discards all puts: no bytes are held back, and the end is 0.
+    /// Discards all bytes put: none is held back, and the end is 0.
     pub(crate) fn clear(&mut self) {
         self.held.clear();
         self.end = 0;
@@ -38,7 +38,7 @@ fn hold(held: &mut ArrayVec<u8, MAX_UNIT>, bytes: &[u8]) {
     let _ = held.try_extend_from_slice(bytes);
 }
 
-/// Keeps in `held` only the last bytes of `held` and `bytes` together, those that fill no whole unit.
+/// Appends `bytes` to `held`, and then removes all whole units from its front.
 pub(crate) fn hold_rest(held: &mut ArrayVec<u8, MAX_UNIT>, unit: Unit, bytes: &[u8]) {
     let all = held.len() + bytes.len();
     let rest = all % unit.size() as usize;
@@ -50,8 +50,8 @@ pub(crate) fn hold_rest(held: &mut ArrayVec<u8, MAX_UNIT>, unit: Unit, bytes: &[
     hold(held, &bytes[bytes.len() - rest..]);
 }
 
-/// Puts `bytes` after `held` into the data of the slot that begins at `slot`, where the puts end at `end`. Writes the unit that the held
-/// bytes begin, if it is full now, then all further whole units in one write, and holds the rest back.
+/// Puts `bytes` after `held` into the data of the slot that begins at `slot`. `end` is the offset in the data at which the held bytes end.
+/// Writes the unit that the held bytes begin, if `bytes` fill it, then all other whole units in one write, and holds the rest back.
 pub(crate) fn put_units<M: Medium>(
     medium: &mut M,
     held: &mut ArrayVec<u8, MAX_UNIT>,

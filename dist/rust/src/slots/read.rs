@@ -1,6 +1,6 @@
 // Of crates/dfu_slots/src/read.rt, whose contracts are taken away.
 
-//! Reads of flash, and of the slots of a medium.
+//! Functions that read flash, and the slots of a medium.
 
 use crate::slots::Medium;
 use crate::slots::layout::{
@@ -9,18 +9,19 @@ use crate::slots::layout::{
 use crate::slots::register::register_of;
 use crate::suffix::Crc;
 
-// Bytes that are copied at a time out of flash that is not mapped.
+// Number of bytes that are copied at a time out of flash that is not mapped.
 const PIECE_BYTES: usize = 64;
 
-// Bytes that are read back at a time.
+// Number of bytes that are read back at a time.
 const READ_BACK_BYTES: usize = 256;
 
-// Returns whether flash is mapped, to be read in place. Its contract leaves the answer open, so its callers are proved for both answers.
+// Returns true if flash is mapped and can be read in place. The contract leaves the result open, so that callers are proved for both
+// results.
 fn is_mapped() -> bool {
     true
 }
 
-/// Copies `flash` to `out`, which has as many bytes. Flash that is not mapped is read through this call alone.
+/// Copies `flash` to `out`, which has the same length. Flash that is not mapped is read only through this function.
 ///
 /// # What the caller must keep to
 ///
@@ -30,7 +31,7 @@ pub fn read_flash(flash: &[u8], out: &mut [u8]) {
     out.copy_from_slice(flash);
 }
 
-/// Returns byte `at` of flash.
+/// Returns byte `at` of flash, even if the flash is not mapped.
 ///
 /// # What the caller must keep to
 ///
@@ -42,7 +43,7 @@ pub fn flash_byte_at(flash: &[u8], at: usize) -> u8 {
     byte[0]
 }
 
-/// Returns whether the bytes of flash from `from` to before `to` are all FFh.
+/// Returns true if every byte of flash from offset `from` up to, not including, `to` is FFh.
 ///
 /// # What the caller must keep to
 ///
@@ -57,7 +58,7 @@ pub fn is_flash_erased(flash: &[u8], from: usize, to: usize) -> bool {
     true
 }
 
-// Returns the register over all bytes of `flash`, which are copied piece by piece.
+// Returns the CRC register over all bytes of `flash`, copying them piece by piece.
 fn crc_by_pieces(flash: &[u8]) -> Crc {
     let mut crc = Crc::new();
     let mut buffer = [0; PIECE_BYTES];
@@ -72,7 +73,7 @@ fn crc_by_pieces(flash: &[u8]) -> Crc {
     crc
 }
 
-/// Returns the register over all bytes of `flash`, to which more bytes can be added.
+/// Returns the CRC register over all bytes of `flash`. The caller can add more bytes to it.
 pub fn crc_of_flash(flash: &[u8]) -> Crc {
     if !is_mapped() {
         return crc_by_pieces(flash);
@@ -82,14 +83,13 @@ pub fn crc_of_flash(flash: &[u8]) -> Crc {
     crc
 }
 
-/// Returns the medium's byte at `at`.
 pub(crate) fn byte_at<M: Medium>(medium: &M, at: u32) -> u8 {
     let mut byte = [0];
     medium.read(at, &mut byte);
     byte[0]
 }
 
-// Returns whether two slices of equal length have equal bytes, in much less code than `==`.
+// Returns true if two slices of equal length hold equal bytes. This compiles to much less code than `==`.
 fn are_same(read: &[u8], piece: &[u8]) -> bool {
     let mut at = 0;
     while at < piece.len() {
@@ -101,7 +101,7 @@ fn are_same(read: &[u8], piece: &[u8]) -> bool {
     true
 }
 
-/// Returns whether the medium has `bytes` at `at`. Reads them in pieces.
+/// Returns true if the medium holds `bytes` at offset `at`. Reads them in pieces of up to 256 bytes.
 pub(crate) fn stands_at<M: Medium>(medium: &M, at: u32, bytes: &[u8]) -> bool {
     let mut buffer = [0; READ_BACK_BYTES];
     let mut ahead = medium.len() - at;
@@ -120,7 +120,7 @@ pub(crate) fn stands_at<M: Medium>(medium: &M, at: u32, bytes: &[u8]) -> bool {
     true
 }
 
-/// Returns whether the gate of the slot that begins at `at` is open.
+/// Returns true if the gate of the slot that begins at `at` is open.
 ///
 /// # What the caller must keep to
 ///
@@ -137,7 +137,7 @@ pub fn header_of<M: Medium>(medium: &M, at: u32) -> [u8; 16] {
     header
 }
 
-// Returns whether the slot that begins at `at` has a well-formed header of version 2, with the register over its image.
+// Returns true if the slot that begins at `at` has a well-formed header of version 2 with the CRC register of its image.
 fn is_intact<M: Medium>(medium: &M, at: u32) -> bool {
     let header = header_of(medium, at);
     let len = length_in(&header);
@@ -147,7 +147,7 @@ fn is_intact<M: Medium>(medium: &M, at: u32) -> bool {
     is_header(&header, VERSION, register_of(medium, at, len))
 }
 
-/// Returns whether the slot that begins at `at` counts.
+/// Returns true if the slot that begins at `at` counts in the sense of `OpenFault`.
 pub(crate) fn counts<M: Medium>(medium: &M, at: u32) -> bool {
     is_open(medium, at) && (header_of(medium, at)[1] != VERSION || is_intact(medium, at))
 }
@@ -164,8 +164,8 @@ pub fn generation<M: Medium>(medium: &M, at: u32) -> u8 {
     byte_at(medium, at + gate_of(medium))
 }
 
-/// Returns the length in the header of a slot that counts; None if the header is not well formed or the image does not fit. A header of
-/// version 2 is well formed, because the slot counts.
+/// Returns the image's length from the header of a slot that counts. A header of version 2 is well formed, because the slot counts. For any
+/// other header the function returns None, unless it is a well-formed header of version 1 with a length of at most the capacity.
 pub(crate) fn header_len<M: Medium>(medium: &M, at: u32) -> Option<u32> {
     let header = header_of(medium, at);
     let len = length_in(&header);
@@ -179,7 +179,7 @@ pub(crate) fn header_len<M: Medium>(medium: &M, at: u32) -> Option<u32> {
     }
 }
 
-/// Returns the place at which the data of the slot that begins at `slot_at` begins.
+/// Returns the offset of the first data byte of the slot that begins at `slot_at`.
 ///
 /// # What the caller must keep to
 ///
@@ -191,7 +191,7 @@ pub fn data_at<M: Medium>(medium: &M, slot_at: u32) -> u32 {
     slot_at + 2 * gate_of(medium)
 }
 
-/// Reads data bytes of the slot that begins at `slot_at`, from byte `at` of the data on.
+/// Reads data bytes of the slot that begins at `slot_at`, the first one at offset `at` of the data.
 ///
 /// # What the caller must keep to
 ///

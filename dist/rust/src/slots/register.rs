@@ -1,15 +1,15 @@
 // Of crates/dfu_slots/src/register.rt, whose contracts are taken away.
 
-//! The register over an image, read from the medium.
+//! Computes the CRC register of an image, with the small or large tables that the medium selects.
 
 use crate::slots::Medium;
 use crate::slots::read::read_data;
 use crate::suffix::Crc;
 
-// Bytes that are read at a time.
+// Number of bytes that are read at a time.
 const REGISTER_BYTES: u32 = 64;
 
-// Adds bytes of an image to the register, with the tables that the medium has chosen.
+// Adds `piece` to the CRC register, with the small or large tables that the medium selects.
 fn take_piece<M: Medium>(medium: &M, crc: &mut Crc, piece: &[u8]) {
     if medium.has_small_tables() {
         crc.update_small(piece);
@@ -18,7 +18,7 @@ fn take_piece<M: Medium>(medium: &M, crc: &mut Crc, piece: &[u8]) {
     }
 }
 
-// Returns the register over the first `len` data bytes of the slot that begins at `slot_at`; more bytes can be added to it.
+// Returns the CRC register over the first `len` data bytes of the slot that begins at `slot_at`. The caller can add more bytes to it.
 fn crc_of<M: Medium>(medium: &M, slot_at: u32, len: u32) -> Crc {
     let mut crc = Crc::new();
     let mut buffer = [0; REGISTER_BYTES as usize];
@@ -33,13 +33,13 @@ fn crc_of<M: Medium>(medium: &M, slot_at: u32, len: u32) -> Crc {
     crc
 }
 
-/// Returns the register over the first `len` bytes of the data of the slot that begins at `slot_at`.
+/// Returns the CRC register over the first `len` data bytes of the slot that begins at `slot_at`.
 pub(crate) fn register_of<M: Medium>(medium: &M, slot_at: u32, len: u32) -> u32 {
     crc_of(medium, slot_at, len).value()
 }
 
-/// Returns the register over the first `len` bytes put into the slot that begins at `slot_at`: those before `at` are in its data, the
-/// others in `held`.
+/// Returns the CRC register over the first `len` bytes put into the slot that begins at `slot_at`. The slot's data holds the bytes before
+/// offset `at`, and `held` the others.
 pub(crate) fn register_of_put<M: Medium>(
     medium: &M,
     slot_at: u32,
@@ -53,7 +53,7 @@ pub(crate) fn register_of_put<M: Medium>(
     crc.value()
 }
 
-/// Returns the register over `image`, with the tables that `medium` has chosen.
+/// Returns the CRC register over `image`, computed with the small or large tables that `medium` selects.
 pub(crate) fn register_of_image<M: Medium>(medium: &M, image: &[u8]) -> u32 {
     let mut crc = Crc::new();
     take_piece(medium, &mut crc, image);

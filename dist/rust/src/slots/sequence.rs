@@ -1,12 +1,12 @@
 // Of crates/dfu_slots/src/sequence.rt, whose contracts are taken away.
 
-//! The operations of each change of a medium; performed in their order, they make its writes.
+//! The operations of each change of a medium. Performed in their order, they make the writes of the change.
 
 use crate::slots::Unit;
 use crate::slots::layout::{fill_size, gate_room, gate_size};
 use crate::slots::operation::{Op, Source};
 
-/// Number of bytes of an image that a format writes at a time: a multiple of every unit.
+/// Number of bytes of an image that a format writes at a time. It is a multiple of every unit.
 pub(crate) const MAX_WRITE: u32 = 4096;
 
 /// Number of operations of the longest change.
@@ -17,14 +17,15 @@ pub const MAX_OPERATIONS: usize = 3;
 pub enum Sequence {
     /// Closes the gate of a slot.
     Close {
-        /// Place at which the slot begins.
+        /// Offset of the slot on the medium.
         slot: u32,
     },
-    /// Puts a block after the bytes held back: writes the unit that they begin, if it is full now, and then all further whole units.
+    /// Puts a block after the bytes held back: writes the unit that the held bytes begin, if the block fills it, and then all other whole
+    /// units.
     Put {
-        /// Place at which the slot begins.
+        /// Offset of the slot on the medium.
         slot: u32,
-        /// Place at which the puts end in the data of the slot.
+        /// Offset in the slot's data at which the bytes put so far end.
         end: u32,
         /// Number of bytes that are held back.
         held: u16,
@@ -33,9 +34,9 @@ pub enum Sequence {
     },
     /// Writes the bytes held back, filled up to a unit, then the header, and then opens the gate.
     Commit {
-        /// Place at which the slot begins.
+        /// Offset of the slot on the medium.
         slot: u32,
-        /// Place at which the puts end in the data of the slot.
+        /// Offset in the slot's data at which the bytes put so far end.
         end: u32,
         /// Number of bytes that are held back.
         held: u16,
@@ -49,14 +50,14 @@ pub enum Sequence {
     },
 }
 
-// Returns the place on the medium of the bytes held back, in the slot that begins at `slot`.
+// Returns the offset on the medium of the first byte held back, in the slot that begins at `slot`.
 fn held_from(unit: Unit, sector: u32, slot: u32, end: u32, held: u16) -> u64 {
     let at = end.saturating_sub(u32::from(held));
     u64::from(slot) + 2 * u64::from(gate_room(unit, sector)) + u64::from(at)
 }
 
-// Returns the operation that closes a gate: it writes a gate unit of zeros; with sectors, instead, it erases the gate's sector. None if
-// `index` is over 0.
+// Returns the operation that closes a gate: without sectors it writes a gate unit of zeros, with sectors it erases the gate's sector.
+// Returns None if `index` is over 0.
 fn close_op(unit: Unit, sector: u32, slot: u32, index: usize) -> Option<Op> {
     if index > 0 {
         return None;
@@ -73,7 +74,7 @@ fn close_op(unit: Unit, sector: u32, slot: u32, index: usize) -> Option<Op> {
     Some(Op::Erase { at })
 }
 
-// Returns operation `index` of a put whose first byte goes to the place `at`; None if `index` is over 1.
+// Returns operation `index` of a put whose first byte goes to offset `at` of the medium. Returns None if `index` is over 1.
 fn put_op(unit: Unit, at: u64, held: u16, block: u16, index: usize) -> Option<Op> {
     let size = unit.size();
     let all = u32::from(held) + u32::from(block);
@@ -96,7 +97,7 @@ fn put_op(unit: Unit, at: u64, held: u16, block: u16, index: usize) -> Option<Op
     }
 }
 
-// Returns operation `index` of a commit whose held bytes go to the place `at`; None if `index` is over 2.
+// Returns operation `index` of a commit whose held bytes go to offset `at` of the medium. Returns None if `index` is over 2.
 fn commit_op(unit: Unit, sector: u32, slot: u32, at: u64, held: u16, index: usize) -> Option<Op> {
     match index {
         0 => Some(Op::Program {
@@ -121,7 +122,7 @@ fn commit_op(unit: Unit, sector: u32, slot: u32, at: u64, held: u16, index: usiz
     }
 }
 
-// Returns the operation that writes the piece of an image of `image` bytes that begins at byte `from`; None if `index` is over 0.
+// Returns the operation that writes the piece that begins at byte `from` of an image of `image` bytes. Returns None if `index` is over 0.
 fn image_op(unit: Unit, sector: u32, from: u32, image: u32, index: usize) -> Option<Op> {
     if index > 0 {
         return None;
@@ -137,8 +138,8 @@ fn image_op(unit: Unit, sector: u32, from: u32, image: u32, index: usize) -> Opt
 }
 
 impl Sequence {
-    /// Returns operation number `index`, from 0 on, on a medium with this `unit` and with sectors of `sector` bytes, 0 for none. None
-    /// after the last operation. A sequence has at most 3.
+    /// Returns operation number `index`, counted from 0, or None after the last one. A sequence has at most 3 operations. The medium is
+    /// written in units of `unit` and has sectors of `sector` bytes, or none if `sector` is 0.
     pub fn operation(self, unit: Unit, sector: u32, index: usize) -> Option<Op> {
         match self {
             Sequence::Close { slot } => close_op(unit, sector, slot, index),

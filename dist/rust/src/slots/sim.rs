@@ -1,6 +1,6 @@
 // Of crates/dfu_slots/src/sim.rt, whose contracts are taken away.
 
-//! A medium in memory.
+//! A simulated medium in RAM.
 
 use crate::slots::noted::{LastWrites, WriteNote, ended};
 use crate::slots::{Failed, Faulty, Medium, Unit};
@@ -8,7 +8,7 @@ use arrayvec::ArrayVec;
 use crate::memory::{AllocError, Global, Vec};
 use thiserror::Error;
 
-/// Not enough memory for the medium.
+/// There is not enough memory for the medium.
 #[derive(Clone, Copy, Debug, PartialEq, Eq, Error)]
 #[error("out of memory")]
 pub struct NoMemory;
@@ -19,20 +19,20 @@ impl From<AllocError> for NoMemory {
     }
 }
 
-/// Behaviour of the next writes.
+/// Kinds of behaviour of the next writes. `writes` is the count in `SimFuse`.
 #[derive(Clone, Copy, Debug, PartialEq, Eq)]
 pub enum Mode {
     /// All writes work.
     Whole,
     /// The next `writes` writes work, and the one after them fails.
     Armed,
-    /// The next `writes` writes work, and the one after them lies.
+    /// The next `writes` writes work. The write after them lies: it may store other bytes, but returns Ok.
     Lying,
     /// All writes fail.
     Stopped,
 }
 
-/// Behaviour of the next writes, and the count of failed writes.
+/// State that decides how the next writes behave, and the count of writes that failed or lied.
 #[derive(Debug, PartialEq, Eq)]
 pub struct SimFuse {
     failures: u64,
@@ -43,39 +43,32 @@ pub struct SimFuse {
 }
 
 impl SimFuse {
-    /// Returns whether the medium is armed so that the next write lies.
+    /// Returns true if the medium is armed so that the next write lies.
     fn lies(&self) -> bool {
         matches!(self.mode, Mode::Lying) && self.writes == 0
     }
 }
 
-/// A medium in memory that can be set to fail or to lie.
+/// A simulated medium in RAM that can be armed to fail or to lie.
 #[derive(Debug, PartialEq, Eq)]
 pub struct SimMedium {
     bytes: Vec<u8>,
     fuse: SimFuse,
     unit: Unit,
     sector: u32,
-    // Bytes that an erase writes: FFh over a sector.
+    // Content of an erased sector: FFh in every byte.
     blank: Vec<u8>,
     noted: LastWrites,
 }
 
 impl SimMedium {
-    /// Returns a medium of `len` bytes FFh, which is written over in place, byte by byte, and is not armed.
-    ///
-    /// # Errors
-    ///
-    /// `NoMemory` if there is no memory for the bytes.
+    /// Returns a medium of `len` bytes FFh that is overwritten in place, byte by byte. It is not armed.
     pub fn new(alloc: Global, len: u32) -> Result<SimMedium, NoMemory> {
         SimMedium::with_unit(alloc, len, Unit::Byte)
     }
 
-    /// Returns a medium of `len` bytes FFh, a multiple of `unit`, which is written over in place in that unit, and is not armed.
-    ///
-    /// # Errors
-    ///
-    /// `NoMemory` if there is no memory for the bytes.
+    /// Returns a medium of `len` bytes FFh that is overwritten in place in units of `unit`. `len` must be a multiple of the unit. The
+    /// medium is not armed.
     ///
     /// # What the caller must keep to
     ///
@@ -85,12 +78,8 @@ impl SimMedium {
         SimMedium::with_sectors(alloc, len, unit, 0)
     }
 
-    /// Returns a medium of `len` bytes FFh, which is written in units of `unit`, erased in sectors of `sector` bytes (0: written over in
-    /// place), and is not armed. `len` must be a multiple of the unit. The fuse counts an erase like a write.
-    ///
-    /// # Errors
-    ///
-    /// `NoMemory` if there is no memory for the bytes and one more sector.
+    /// Returns a medium of `len` bytes FFh that is written in units of `unit` and erased in sectors of `sector` bytes; with 0 it is
+    /// overwritten in place. `len` must be a multiple of the unit. The medium is not armed. The fuse counts an erase like a write.
     ///
     /// # What the caller must keep to
     ///
@@ -122,34 +111,34 @@ impl SimMedium {
         })
     }
 
-    /// Returns the last writes, for a trace.
+    /// Returns the record of the last writes, for a trace.
     pub fn noted(&self) -> &LastWrites {
         &self.noted
     }
 }
 
-// Writes `new` at `at`.
+// Copies `new` into the medium's bytes, beginning at offset `at`.
 fn write_over(bytes: &mut Vec<u8>, at: usize, new: &[u8]) {
     bytes[at..at + new.len()].copy_from_slice(new);
 }
 
-// Writes `new` at `at`, and counts it as one of the writes that work before one fails or lies.
+// Writes `new` at offset `at`, and subtracts one from the number of writes that work before one fails or lies.
 fn write_counted(bytes: &mut Vec<u8>, fuse: &mut SimFuse, at: usize, new: &[u8]) {
     fuse.writes -= 1;
     write_over(bytes, at, new);
 }
 
-// Writes the first bytes of `tear` at `at`, at most `len`.
+// Writes the first bytes of `tear` at offset `at`, at most `len` bytes.
 fn tear_front(bytes: &mut Vec<u8>, at: usize, tear: &[u8], len: usize) {
     write_over(bytes, at, &tear[..len.min(tear.len())]);
 }
 
-// Returns the behaviour of the writes after a failed one: all fail too if `stop` is true, and else all work.
+// Returns the behaviour of the writes after a failed one: if `stop` is true all of them fail too, otherwise all work.
 fn after_tear(stop: bool) -> Mode {
     if stop { Mode::Stopped } else { Mode::Whole }
 }
 
-// Returns the first bytes of a tear, at most 4,096, which are kept.
+// Returns a copy of the first 4,096 bytes of `tear`, or of the whole `tear` if it is shorter.
 fn keep_tear(tear: &[u8]) -> ArrayVec<u8, 4096> {
     let mut kept = ArrayVec::new();
     let most: usize = 4096;
@@ -157,7 +146,7 @@ fn keep_tear(tear: &[u8]) -> ArrayVec<u8, 4096> {
     kept
 }
 
-// Writes `new` at `at`; the fuse decides if the write works, fails or lies, and which bytes it leaves then.
+// Writes `new` at offset `at`. The fuse decides if the write works, fails or lies, and which bytes a failed or lying write leaves.
 fn change(bytes: &mut Vec<u8>, fuse: &mut SimFuse, at: usize, new: &[u8]) -> Result<(), Failed> {
     match fuse.mode {
         Mode::Whole => {

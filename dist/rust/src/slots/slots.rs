@@ -1,6 +1,6 @@
 // Of crates/dfu_slots/src/slots.rt, whose contracts are taken away.
 
-//! The slot store.
+//! The slot store: two image slots on a medium, of which one holds the active image.
 
 use crate::slots::layout::{capacity_of, is_sized};
 use crate::slots::places::{Places, check, look};
@@ -8,27 +8,27 @@ use crate::slots::puts::Puts;
 use crate::slots::read::{data_at, header_len, is_open, read_data};
 use crate::slots::{Faulty, FormatFault, Medium, OpenFault, format};
 
-/// Two image slots on a medium. One of them is active and holds the image; the other one is the spare, which takes the next image piece by
-/// piece. The active slot is found when the store is made, and again after each `commit`.
+/// Two image slots on a medium. The active slot holds the current image; the other one is the spare, which receives the next image piece by
+/// piece. The store finds the active slot when it formats, opens or reopens the medium, and again after each `commit`.
 ///
-/// The medium is written in whole units; bytes put that do not fill a unit yet are held back.
+/// The medium is written in whole units; bytes put that don't fill a unit yet are held back.
 #[derive(Debug, PartialEq, Eq)]
 pub struct Slots<M: Medium> {
     pub(crate) medium: M,
     pub(crate) puts: Puts,
-    // Found when the store is made, and again after each `commit`, because a search computes a register over each open slot.
+    // Cached until the next `commit`, because a search computes a CRC register over each open slot.
     pub(crate) places: Places,
 }
 
 impl<M: Medium> Slots<M> {
-    /// Writes an image into the first slot, and makes it the active one, whatever the medium held before.
+    /// Writes an image into the first slot and makes it the active one, regardless of what the medium held before.
     ///
     /// # Errors
     ///
     /// `WrongSize` if the medium's length is not 2 * (2 * G + C), with C from 1 to 16,777,216 and a multiple of the unit and of the sector,
     /// and G the largest of 16, the unit's size and the sector's, or if the sector is neither 0 nor a multiple of 256 up to 262,144;
-    /// `TooLarge` if the image has more than C bytes; `Failed` if a write failed, or other bytes were read back. They are checked in this
-    /// order. The first two hand the medium back unchanged.
+    /// `TooLarge` if the image has more than C bytes; `Failed` if a write failed, or other bytes were read back. The errors are checked in
+    /// this order. The first two return the medium unchanged.
     pub fn format(medium: M, image: &[u8]) -> Result<Slots<M>, (FormatFault, M)>
 
          {
@@ -70,27 +70,27 @@ impl<M: Medium> Slots<M> {
         }
     }
 
-    /// Returns the largest number of bytes of an image: C, from 1 to 16,777,216.
+    /// Returns the largest length of an image in bytes: C, from 1 to 16,777,216.
     pub fn capacity(&self) -> u32 {
         capacity_of(&self.medium)
     }
 
-    /// Returns the place at which the puts since `begin` end: 0 if there are none, at most the capacity. Nothing is held back at 0.
+    /// Returns the number of bytes that were put and not discarded since, from 0 to the capacity. If it is 0, no bytes are held back.
     pub fn put_end(&self) -> u32 {
         self.puts.end
     }
 
-    /// Returns the bytes held back: the last bytes put, which do not fill a unit of the medium yet.
+    /// Returns the bytes held back: the last bytes put, which don't fill a unit of the medium yet.
     pub fn held(&self) -> &[u8] {
         self.puts.held.as_slice()
     }
 
-    /// Returns whether the gate of the spare slot is closed, so that `put` and `commit` are not refused with `NotBegun`.
+    /// Returns true if the gate of the spare slot is closed, so that `put` and `commit` don't return `NotBegun`.
     pub fn is_begun(&self) -> bool {
         !is_open(&self.medium, self.places.spare)
     }
 
-    /// Returns the length of the active image, from 0 to the capacity.
+    /// Returns the length of the active image in bytes, from 0 to the capacity.
     pub fn active_len(&self) -> u32 {
         match header_len(&self.medium, self.places.active) {
             Some(len) => len,
@@ -98,13 +98,13 @@ impl<M: Medium> Slots<M> {
         }
     }
 
-    /// Returns the place of the first byte of the active image on the medium: a program may run it there. The place is valid until the next
-    /// `commit`.
+    /// Returns the offset on the medium of the active image's first byte, from which a program may run the image. The offset is valid until
+    /// the next `commit`.
     pub fn image_at(&self) -> u32 {
         data_at(&self.medium, self.places.active)
     }
 
-    /// Reads bytes of the active image, from `at` on. The range must lie within the image.
+    /// Reads `out.len()` bytes of the active image, the first one at offset `at`. The range must lie within the image.
     ///
     /// # What the caller must keep to
     ///
@@ -114,8 +114,8 @@ impl<M: Medium> Slots<M> {
         read_data(&self.medium, self.places.active, at, out);
     }
 
-    /// Opens the store's own medium again, as after a loss of power: the bytes put are discarded. Never fails, because `open` would not
-    /// refuse the medium. Writes nothing.
+    /// Opens the store's own medium again, as after a power loss: the bytes put are discarded. The call never fails, because the medium has
+    /// an active image. Writes nothing.
     pub fn reopen(&mut self) {
         self.puts.clear();
         match check(&self.medium) {
@@ -124,12 +124,12 @@ impl<M: Medium> Slots<M> {
         }
     }
 
-    /// Returns the medium, to be read. Bytes that are held back are not on it.
+    /// Returns the medium for reading. Bytes that are held back are not on it.
     pub fn medium(&self) -> &M {
         &self.medium
     }
 
-    /// Hands the medium back. Bytes that are held back are not written to it.
+    /// Returns the medium. Bytes that are held back are not written to it.
     pub fn into_medium(self) -> M {
         let Slots {
             medium,
@@ -141,17 +141,17 @@ impl<M: Medium> Slots<M> {
 }
 
 impl<M: Faulty> Slots<M> {
-    /// Arms the medium, as `Faulty::arm`. Changes no byte.
+    /// Arms the medium, as `Faulty::arm` does. Changes no byte.
     pub fn arm(&mut self, writes: u32, tear: &[u8], stop: bool) {
         self.medium.arm(writes, tear, stop);
     }
 
-    /// Arms the medium for a lie, as `Faulty::arm_lie`. Changes no byte.
+    /// Arms the medium to lie, as `Faulty::arm_lie` does. Changes no byte.
     pub fn arm_lie(&mut self, writes: u32, tear: &[u8]) {
         self.medium.arm_lie(writes, tear);
     }
 
-    /// Clears the fuse of the medium, as `Faulty::disarm`. Changes no byte.
+    /// Clears the fuse of the medium, as `Faulty::disarm` does. Changes no byte.
     pub fn disarm(&mut self) {
         self.medium.disarm();
     }

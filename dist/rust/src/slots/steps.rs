@@ -1,6 +1,6 @@
 // Of crates/dfu_slots/src/steps.rt, whose contracts are taken away.
 
-//! The steps of `begin`, `put` and `commit`, each on a medium and its puts.
+//! Performs `begin`, `put` and `commit` on a medium and the state of its puts.
 
 use crate::slots::gates::{close_gate, open_slot};
 use crate::slots::layout::{VERSION, capacity_of, make_header};
@@ -10,7 +10,7 @@ use crate::slots::read::{generation, is_open};
 use crate::slots::register::register_of_put;
 use crate::slots::{Medium, PutFault, WriteFault};
 
-// Closes the spare's gate, if it reads open.
+// Closes the spare's gate if it is open.
 fn close_spare<M: Medium>(medium: &mut M, places: Places) -> Result<(), WriteFault> {
     if is_open(medium, places.spare) {
         return close_gate(medium, places.spare);
@@ -18,7 +18,7 @@ fn close_spare<M: Medium>(medium: &mut M, places: Places) -> Result<(), WriteFau
     Ok(())
 }
 
-/// Closes the spare's gate, if it reads open, and discards the bytes put.
+/// Closes the spare's gate if it is open, and discards the bytes put.
 pub(crate) fn begin<M: Medium>(
     medium: &mut M,
     puts: &mut Puts,
@@ -32,7 +32,7 @@ pub(crate) fn begin<M: Medium>(
     }
 }
 
-/// Puts `bytes` at `at`, the end of the puts before: writes their whole units, and holds the rest back.
+/// Puts `bytes` at offset `at` of the spare's data, the end of the bytes put before: writes their whole units, and holds the rest back.
 pub(crate) fn put<M: Medium>(
     medium: &mut M,
     puts: &mut Puts,
@@ -62,7 +62,7 @@ pub(crate) fn put<M: Medium>(
     }
 }
 
-// Writes the bytes held back, then the spare's header, and then, in a write of its own, opens its gate.
+// Writes the bytes held back, then the spare's header, and then, in a separate write, its open gate.
 fn open_spare<M: Medium>(
     medium: &mut M,
     places: Places,
@@ -77,7 +77,8 @@ fn open_spare<M: Medium>(
     open_slot(medium, places.spare, puts.end, held, &head)
 }
 
-/// Makes the first `len` bytes put the image of the spare, opens its gate, and discards the bytes put.
+/// Writes the bytes held back and the spare's header for an image of the first `len` bytes put, opens the spare's gate, and discards the
+/// bytes put.
 pub(crate) fn commit<M: Medium>(
     medium: &mut M,
     puts: &mut Puts,

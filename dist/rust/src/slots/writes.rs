@@ -1,12 +1,12 @@
 // Of crates/dfu_slots/src/writes.rt, whose contracts are taken away.
 
-//! Writes of the store, which are read back, and the erases before them.
+//! Writes bytes to a medium, after the erases that they need, and reads them back.
 
 use crate::slots::erasing::erase_within;
 use crate::slots::read::stands_at;
 use crate::slots::{Medium, WriteFault};
 
-/// Writes `bytes` to `medium` at `at`, and reads them back. All writes of the store go through this call.
+/// Writes `bytes` at offset `at` of `medium`, and reads them back. Every write of the store goes through this function.
 pub(crate) fn write<M: Medium>(medium: &mut M, at: u32, bytes: &[u8]) -> Result<(), WriteFault> {
     match medium.write(at, bytes) {
         Err(_) => Err(WriteFault::Failed),
@@ -19,8 +19,8 @@ pub(crate) fn write<M: Medium>(medium: &mut M, at: u32, bytes: &[u8]) -> Result<
     }
 }
 
-/// Writes `bytes` to `medium` at `at`, and nothing for no bytes. On a medium with sectors the sectors that begin in their range are erased
-/// before.
+/// Writes `bytes` at offset `at` of `medium`, or nothing if there are no bytes. On a medium with sectors it first erases the sectors that
+/// begin in the range.
 pub(crate) fn write_some<M: Medium>(medium: &mut M, at: u32, bytes: &[u8]) -> Result<(), WriteFault> {
     if bytes.is_empty() {
         return Ok(());

@@ -1,6 +1,6 @@
 // Of crates/dfu_suffix/src/adding.rt, whose contracts are taken away.
 
-//! Adding a suffix to all bytes of a reader.
+//! Adds a suffix to the bytes of a reader.
 
 use crate::suffix::fault::SuffixFault;
 use crate::suffix::file::MAX_PAYLOAD;
@@ -11,7 +11,7 @@ use crate::wire::Ids;
 use crate::memory::{Global, Vec};
 use std::io::{Read, Write};
 
-/// Returns the fault of `add` for a fault of gathering.
+/// Returns the fault of `add` for a fault of `gather`.
 fn fault_of(fault: GatherFault) -> SuffixFault {
     match fault {
         GatherFault::TooLarge => SuffixFault::TooLarge,
@@ -20,7 +20,7 @@ fn fault_of(fault: GatherFault) -> SuffixFault {
     }
 }
 
-/// Returns the file of `payload` and its suffix with `ids`, in memory; or AlreadySuffixed, or NoMemory.
+/// Appends the suffix with `ids` to `payload`, and returns the file. The fault is AlreadySuffixed or NoMemory.
 fn with_suffix(mut payload: Vec<u8>, ids: Ids) -> Result<Vec<u8>, SuffixFault> {
     if has_suffix(&payload) {
         return Err(SuffixFault::AlreadySuffixed);
@@ -31,7 +31,7 @@ fn with_suffix(mut payload: Vec<u8>, ids: Ids) -> Result<Vec<u8>, SuffixFault> {
     }
 }
 
-/// Returns the file of all bytes that `reader` gives and their suffix with `ids`, in memory; or a fault of `add` other than Write.
+/// Returns the reader's bytes, followed by a suffix with `ids`. The faults are those of `add`, except Write.
 fn file_of<R: Read>(alloc: Global, reader: R, ids: Ids) -> Result<Vec<u8>, SuffixFault> {
     match gather(alloc, reader, MAX_PAYLOAD) {
         Ok(payload) => with_suffix(payload, ids),
@@ -39,16 +39,16 @@ fn file_of<R: Read>(alloc: Global, reader: R, ids: Ids) -> Result<Vec<u8>, Suffi
     }
 }
 
-/// Writes all bytes that a reader gives and then a suffix of 16 bytes, with these identifiers and bcdDFU 0100h (USB DFU 1.1, appendix B).
-/// Returns the number of bytes written, at most 16,777,216. The whole file is gathered in memory before its first byte is written, and the
-/// writer is not flushed, because it remains the caller's.
+/// Writes all bytes of a reader, followed by a suffix of 16 bytes with these identifiers and bcdDFU 0100h (USB DFU 1.1, appendix B).
+/// Returns the number of bytes written, at most 16,777,216. The whole file is gathered in memory before its first byte is written. The
+/// writer is not flushed, because the caller keeps it.
 ///
 /// # Errors
 ///
-/// TooLarge once byte 16,777,201 was read, and no read is made after that; Read at the first error of the reader, with no second try;
-/// AlreadySuffixed exactly if `read` would return Ok or DfuSe for the bytes; NoMemory if an allocation was refused, while the bytes are
-/// gathered or, after the check for AlreadySuffixed, for the suffix. After these nothing is written. After Write only the start of the file
-/// is written; Write is returned at the first error of the writer, with no second try, and if the writer takes none of the remaining bytes.
+/// TooLarge after byte 16,777,201 was read, without another read; Read at the first error of the reader, without a retry; AlreadySuffixed
+/// exactly if `read` would return Ok or DfuSe for the bytes; NoMemory if an allocation was refused while the bytes are gathered or, after
+/// the test for AlreadySuffixed, for the suffix. After these faults, nothing is written. Write at the first error of the writer, without a
+/// retry, and if the writer accepts none of the remaining bytes. After Write, only a prefix of the file is written.
 pub fn add<R: Read, W: Write>(
     alloc: Global,
     reader: R,

@@ -1,6 +1,6 @@
 // Of crates/dfu_suffix/src/checking.rt, whose contracts are taken away.
 
-//! Checks of a file whose bytes a reader gives.
+//! Checks the file that a reader returns.
 
 use crate::suffix::crc::Crc;
 use crate::suffix::fault::SuffixFault;
@@ -9,20 +9,20 @@ use crate::suffix::findings::{Findings, findings_of};
 use crate::suffix::summary::{Summary, check_register};
 use std::io::Read;
 
-/// Checks all bytes that a reader gives, as `read` checks a slice. Only the register over them, their count and the last 16 are kept, and
-/// no memory is allocated, for any number of bytes. Up to 16,384 bytes are read at a time, into a buffer on the stack.
+/// Checks all bytes of a reader, as `read` checks a slice. Only the register over the bytes, their count and the last 16 are kept, and no
+/// memory is allocated. Each read fetches at most 16,384 bytes, into a buffer on the stack.
 ///
 /// # Errors
 ///
-/// TooLarge once byte 16,777,217 was read, and no read is made after that; Read at the first error of the reader, with no second try; else
-/// the fault that `read` returns for the bytes.
+/// TooLarge after byte 16,777,217 was read, without another read; Read at the first error of the reader, without a retry; otherwise the
+/// fault that `read` returns for the bytes.
 pub fn check<R: Read>(reader: R) -> Result<Summary, SuffixFault> {
     let mut findings = Findings::new();
     check_with(reader, &mut findings)
 }
 
-/// Checks as `check` does, and writes to `findings` the numbers that explain BadLength or BadCrc. After TooShort, TooLarge and Read they
-/// say nothing about the file.
+/// Checks like `check`, and writes the numbers that explain BadLength or BadCrc to `findings`. After TooShort, TooLarge and Read, these
+/// numbers have no meaning.
 ///
 /// # Errors
 ///
@@ -57,7 +57,7 @@ pub fn check_with<R: Read>(
     unreachable!()
 }
 
-// Slides a window of 16 bytes over `more`: the window becomes the last 16 bytes of itself and `more`.
+// Appends `more` to a window of 16 bytes, and removes as many bytes from its front.
 fn slide(window: &mut [u8; 16], more: &[u8]) {
     if more.len() >= 16 {
         let (_, last) = more.split_at(more.len() - 16);

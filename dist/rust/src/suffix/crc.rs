@@ -1,81 +1,81 @@
 // Of crates/dfu_suffix/src/crc.rt, whose contracts are taken away.
 
-//! The register of USB DFU 1.1, appendix B, eight bytes at a time.
+//! The CRC register of USB DFU 1.1, appendix B, eight bytes at a time.
 
 use crate::suffix::table::TABLES;
 use crate::suffix::{folding, small};
 use byteorder::{ByteOrder, LittleEndian};
 
-/// The register over the bytes so far: reflected CRC-32 with the polynomial EDB88320h, which begins at
-/// FFFFFFFFh and has no final complement. Its complement is the usual CRC-32.
+/// The CRC register over the bytes so far: reflected CRC-32 with the polynomial EDB88320h and the start value FFFFFFFFh, without a final
+/// complement. Its complement is the usual CRC-32.
 #[derive(Clone, Copy, Debug, PartialEq, Eq)]
 pub struct Crc {
     register: u32,
 }
 
 impl Crc {
-    /// Returns the register over no bytes.
+    /// Returns the register over no bytes, FFFFFFFFh.
     pub fn new() -> Self {
         Crc {
             register: 0xffff_ffff,
         }
     }
 
-    /// Takes more bytes: the register continues from the bytes before them. A program that calls `update` links 8,192 bytes of tables;
-    /// `update_small` does the same without them.
+    /// Adds bytes to the register, after those that were added before. A program that calls `update` links 8,192 bytes of tables, which
+    /// `update_small` doesn't need.
     pub fn update(&mut self, bytes: &[u8]) {
         *self = Crc {
             register: after_bytes(self.register, bytes),
         };
     }
 
-    /// Takes more bytes, as `update` does, in about half as many instructions if there are 65,536 of them: 4,096 and more are folded first,
-    /// for which the call has 6,064 bytes on the stack. Fewer bytes are taken as by `update`.
+    /// Adds bytes like `update`, in about half as many instructions for 65,536 bytes. 4,096 bytes or more are folded first, which needs
+    /// 6,064 bytes of stack.
     pub fn update_long(&mut self, bytes: &[u8]) {
         *self = Crc {
             register: folding::after_bytes(self.register, bytes),
         };
     }
 
-    /// Takes more bytes, as `update` does, by a table of 64 bytes, in over four times as many instructions: for a device that has no room
-    /// for the large tables. Only a program that nowhere calls `update` or `update_long` links without them.
+    /// Adds bytes like `update`, with a table of 64 bytes, in over four times as many instructions. It is meant for devices without room
+    /// for the large tables, which are only left out of a program that never calls `update` or `update_long`.
     pub fn update_small(&mut self, bytes: &[u8]) {
         *self = Crc {
             register: small::after_bytes(self.register, bytes),
         };
     }
 
-    /// Returns the register over the bytes so far: the dwCRC of a file whose other bytes these are.
+    /// Returns the register over the bytes so far. For all bytes of a file before its dwCRC, this is the dwCRC.
     pub fn value(&self) -> u32 {
         self.register
     }
 }
 
-// Returns the table at index `place`. Only this function names all tables, because each proof that does so is slow.
+// Returns the table at index `place`. Only this function names all tables, because proofs about code that names them are slow.
 #[inline(always)]
 fn table(place: usize) -> &'static [u32; 256] {
     &TABLES[place]
 }
 
-// Returns the entry of a table for the lowest byte of a number.
+// Returns the table's entry for the low byte of a number.
 #[inline(always)]
 fn entry(table: &[u32; 256], number: u32) -> u32 {
     table[(number & 0xff) as usize]
 }
 
-// Returns the register after a further byte.
+// Returns the register after one more byte.
 #[inline(always)]
 fn after_byte(register: u32, byte: u8) -> u32 {
     (register >> 8) ^ entry(table(7), register ^ u32::from(byte))
 }
 
-// Returns the entry of a table for a byte.
+// Returns the table's entry for a byte.
 #[inline(always)]
 fn byte_entry(table: &[u32; 256], byte: u8) -> u32 {
     table[usize::from(byte)]
 }
 
-// Returns the number in four bytes, shifted by 32 bits 0.
+// Returns the CRC shift of a four-byte number by 32 bits.
 #[inline(always)]
 fn after_32_zeros(bytes: &[u8]) -> u32 {
     byte_entry(table(4), bytes[0])
@@ -84,7 +84,7 @@ fn after_32_zeros(bytes: &[u8]) -> u32 {
         ^ byte_entry(table(7), bytes[3])
 }
 
-// Returns a number, shifted by 64 bits 0.
+// Returns the CRC shift of a number by 64 bits.
 #[inline(always)]
 fn after_64_zeros(number: u32) -> u32 {
     entry(table(0), number)
@@ -93,15 +93,15 @@ fn after_64_zeros(number: u32) -> u32 {
         ^ entry(table(3), number >> 24)
 }
 
-// Returns the register after eight further bytes. Only the first four bytes wait for the register, as one number; the others are loaded one
-// by one, because that takes fewer instructions than to cut them out of a word.
+// Returns the register after eight more bytes. The first four are combined with the register as one number. The other four are loaded one
+// by one, because this takes fewer instructions than splitting a word into bytes.
 #[inline(always)]
 fn after_eight(register: u32, bytes: &[u8]) -> u32 {
     let (first, second) = bytes.split_at(4);
     after_32_zeros(second) ^ after_64_zeros(register ^ LittleEndian::read_u32(first))
 }
 
-// Returns the register after further bytes, one at a time.
+// Returns the register after more bytes, one at a time.
 #[inline(always)]
 fn after_each(start: u32, bytes: &[u8]) -> u32 {
     let mut register = start;
@@ -111,14 +111,14 @@ fn after_each(start: u32, bytes: &[u8]) -> u32 {
     register
 }
 
-// Returns the register after sixteen further bytes.
+// Returns the register after sixteen more bytes.
 #[inline(always)]
 fn after_sixteen(register: u32, bytes: &[u8]) -> u32 {
     let (first, second) = bytes.split_at(8);
     after_eight(after_eight(register, first), second)
 }
 
-// Returns the register after a few further bytes: the first eight at once if there are that many.
+// Returns the register after more bytes. The first eight are processed at once, if there are as many, and the others one by one.
 fn after_few(register: u32, bytes: &[u8]) -> u32 {
     match bytes.split_first_chunk::<8>() {
         Some((eight, more)) => after_each(after_eight(register, eight), more),
@@ -126,7 +126,7 @@ fn after_few(register: u32, bytes: &[u8]) -> u32 {
     }
 }
 
-/// Returns the register `start` after `bytes`, sixteen at a time, so that two steps of eight share one turn of the loop.
+/// Returns the register `start` after `bytes`, sixteen at a time, because this halves the number of loop iterations.
 pub(crate) fn after_bytes(start: u32, bytes: &[u8]) -> u32 {
     let mut register = start;
     let mut rest = bytes;

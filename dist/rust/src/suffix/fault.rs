@@ -1,33 +1,33 @@
 // Of crates/dfu_suffix/src/fault.rt, whose contracts are taken away.
 
-//! Faults for which a file is refused.
+//! Faults of files with a suffix.
 
 use core::fmt;
 use thiserror::Error;
 
-/// Faults for which a file isn't read, checked or written. `read` and `check` return the first of TooLarge, TooShort, NoSignature,
-/// BadLength, DfuSe, BadCrc whose condition holds, in this order; `add` checks for TooLarge and then AlreadySuffixed.
+/// Fault of reading, checking or writing a file. `read` and `check` test for TooLarge, TooShort, NoSignature, BadLength, DfuSe and BadCrc,
+/// in this order, and return the first. `add` tests for TooLarge and then for AlreadySuffixed.
 #[derive(Clone, Copy, Debug, PartialEq, Eq, Error)]
 pub enum SuffixFault {
-    /// The file has under 16 bytes.
+    /// The file has fewer than 16 bytes.
     TooShort,
-    /// The bytes 8 to 10 of the file's last 16 aren't 55h 46h 44h ('U', 'F', 'D').
+    /// Bytes 8 to 10 of the file's last 16 aren't 55h 46h 44h ('U', 'F', 'D').
     NoSignature,
-    /// bLength is under 16 or over the file's length.
+    /// bLength is less than 16, or more than the length of the file.
     BadLength,
-    /// bcdDFU is 011Ah: the payload is in the DfuSe format.
+    /// bcdDFU is 011Ah, so the payload is in the DfuSe format.
     DfuSe,
-    /// dwCRC isn't the register over the bytes before it.
+    /// dwCRC isn't the CRC register over the bytes before it.
     BadCrc,
-    /// The bytes that are to get a suffix have one: `read` would return Ok or DfuSe for them.
+    /// The bytes already have a suffix, because `read` would return Ok or DfuSe for them.
     AlreadySuffixed,
-    /// The file has over 16,777,216 bytes, or would have with the 16 bytes of a suffix.
+    /// The file has over 16,777,216 bytes, or would have them with a suffix of 16 bytes.
     TooLarge,
-    /// An allocation was refused, in `add`.
+    /// An allocation of `add` was refused.
     NoMemory,
     /// The reader failed.
     Read,
-    /// The writer failed, or took none of the remaining bytes.
+    /// The writer failed, or accepted none of the remaining bytes.
     Write,
 }
 
@@ -59,7 +59,7 @@ static NAMES: [&str; 10] = [
 ];
 
 impl SuffixFault {
-    /// Returns the name of the fault: the name of its variant, such as `TooShort`.
+    /// Returns the name of the fault's variant, such as `TooShort`.
     pub fn name(self) -> &'static str {
         NAMES[self as usize]
     }

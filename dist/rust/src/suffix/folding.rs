@@ -1,27 +1,27 @@
 // Of crates/dfu_suffix/src/folding.rt, whose contracts are taken away.
 
-//! The register of many bytes, which are folded onto their last 1,968, so that only these go through the tables.
+//! The CRC register over many bytes. All bytes are folded onto the last 1,968 bytes, so only these need the tables.
 //!
-//! Seven shifts of a number below 2^32, by 0, 720, 848, 1184, 1280, 1920 and 1968 bytes, combine to 0 (crates/dfu_suffix/proofs/Spread.antt). Therefore a
-//! byte may be taken away if the bytes that come 48, 688, 784, 1120, 1248 and 1968 places later are each combined with it, because the
-//! register stays the same. These places are multiples of sixteen, so that sixteen bytes go at once.
+//! The CRC shifts of a number below 2^32 by 0, 720, 848, 1184, 1280, 1920 and 1968 bytes combine to 0 (crates/dfu_suffix/proofs/LongShifts.antt). A byte can
+//! therefore be removed if each of the bytes 48, 688, 784, 1120, 1248 and 1968 after it is combined with it by xor, because this doesn't
+//! change the register. All of these distances are multiples of sixteen, so sixteen bytes can be folded at once.
 
 use crate::suffix::crc;
 
-/// Smallest number of bytes that are worth folding, and the largest that are folded at a time.
+/// Smallest number of bytes for which folding is used, and largest number of bytes that is folded at a time.
 const FOLDED_BYTES: usize = 4096;
 
-/// Size of the room: a residue of 1,968 bytes, and a piece after it.
+/// Number of bytes in the room: a residue of 1,968 bytes, and a piece after it.
 const ROOM: usize = 6064;
 
-// Returns a room with a residue at its front that represents `register`.
+// Returns a room whose first 1,968 bytes are a residue that represents `register`.
 fn residue_for(register: u32) -> [u8; ROOM] {
     let mut room = [0u8; ROOM];
     room[..4].copy_from_slice(&register.to_le_bytes());
     room
 }
 
-// Folds at most 4,096 further bytes into the residue, which then represents the register after them.
+// Folds at most 4,096 bytes into the residue, which then represents the register after them.
 fn fold(room: &mut [u8; ROOM], bytes: &[u8]) {
     for place in 0..bytes.len() {
         room[place + 1968] = bytes[place]
@@ -46,7 +46,7 @@ fn register_of(room: &[u8; ROOM]) -> u32 {
     whole ^ first ^ second ^ third ^ fourth ^ fifth
 }
 
-// Returns the register `start` after many bytes, by folding them.
+// Returns the register `start` after many bytes, which are folded.
 fn after_many(start: u32, bytes: &[u8]) -> u32 {
     let mut room = residue_for(start);
     let mut rest = bytes;

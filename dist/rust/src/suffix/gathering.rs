@@ -1,15 +1,15 @@
 // Of crates/dfu_suffix/src/gathering.rt, whose contracts are taken away.
 
-//! Gathering of all bytes that a reader gives, up to a limit.
+//! Gathers all bytes of a reader, up to a limit.
 
 use crate::suffix::file::{MAX_READS, READ_BYTES};
 use crate::memory::{Global, Vec};
 use std::io::Read;
 
-/// A fault for which the bytes of a reader were not all gathered.
+/// Fault of `gather`.
 #[derive(Clone, Copy, Debug, PartialEq, Eq)]
 pub enum GatherFault {
-    /// The reader gives more bytes than the limit.
+    /// The reader has more bytes than the limit.
     TooLarge,
     /// An allocation was refused.
     NoMemory,
@@ -17,12 +17,12 @@ pub enum GatherFault {
     Read,
 }
 
-/// Gathers all bytes that the reader gives, at most `limit`. Up to 16,384 bytes are read at a time.
+/// Gathers all bytes of the reader, at most `limit`. Each read fetches at most 16,384 bytes.
 ///
 /// # Errors
 ///
-/// TooLarge once the byte past the limit was read, and no read is made after that; Read at the
-/// first error of the reader, with no second try; NoMemory if an allocation was refused.
+/// TooLarge after the first byte beyond the limit was read, without another read; Read at the first error of the reader, without a retry;
+/// NoMemory if an allocation was refused.
 ///
 /// # What the caller must keep to
 ///

@@ -1,6 +1,6 @@
 // Of crates/dfu_suffix/src/making.rt, whose contracts are taken away.
 
-//! The suffix of a payload (USB DFU 1.1, appendix B), and a test whether bytes have one.
+//! The suffix of a payload (USB DFU 1.1, appendix B), and a test for bytes that already have one.
 
 use crate::suffix::crc::Crc;
 use crate::suffix::fault::SuffixFault;
@@ -9,7 +9,7 @@ use crate::suffix::parse::read;
 use crate::wire::Ids;
 use crate::memory::{AllocError, Vec};
 
-/// Returns the fields up to dwCRC of a suffix with `ids`: bcdDFU is 0100h and bLength 16.
+/// Returns the fields before dwCRC in a suffix with `ids`. bcdDFU is 0100h, and bLength is 16.
 fn fields_of(ids: Ids) -> [u8; 12] {
     let device = ids.device.to_le_bytes();
     let product = ids.product.to_le_bytes();
@@ -30,7 +30,7 @@ fn fields_of(ids: Ids) -> [u8; 12] {
     ]
 }
 
-/// Returns dwCRC: the register over `payload` and the `fields` after it.
+/// Returns dwCRC, the register over `payload` and the `fields` after it.
 fn crc_over(payload: &[u8], fields: &[u8]) -> u32 {
     let mut crc = Crc::new();
     crc.update_long(payload);
@@ -38,7 +38,7 @@ fn crc_over(payload: &[u8], fields: &[u8]) -> u32 {
     crc.value()
 }
 
-/// Appends the suffix to the payload `text`. If an allocation is refused, `text` must not be used.
+/// Appends the suffix to the payload `text`. If an allocation is refused, `text` may contain a part of the suffix.
 pub(crate) fn append_suffix(text: &mut Vec<u8>, ids: Ids) -> Result<(), AllocError> {
     let fields = fields_of(ids);
     let crc = crc_over(text, &fields);
@@ -56,7 +56,7 @@ fn is_dfuse(fault: SuffixFault) -> bool {
     }
 }
 
-/// Returns true if `bytes` have a suffix, which may be that of a DfuSe file.
+/// Returns true if `bytes` already have a suffix, even that of a DfuSe file.
 pub(crate) fn has_suffix(bytes: &[u8]) -> bool {
     match read(bytes) {
         Ok(_) => true,

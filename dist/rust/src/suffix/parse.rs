@@ -13,7 +13,7 @@ fn tail(bytes: &[u8]) -> &[u8] {
     tail
 }
 
-// Returns the register over all bytes, which is the same by the large tables and by the small one.
+// Returns the register over all bytes, with the large tables or with the small one. Both give the same result.
 #[inline(always)]
 fn register_over(bytes: &[u8], by_small_table: bool) -> u32 {
     let mut crc = Crc::new();
@@ -25,14 +25,14 @@ fn register_over(bytes: &[u8], by_small_table: bool) -> u32 {
     crc.value()
 }
 
-// Returns the bytes before the last `suffix` bytes.
+// Returns the bytes before the suffix, which has `suffix` bytes.
 fn payload_of(bytes: &[u8], suffix: usize) -> &[u8] {
     let (payload, _) = bytes.split_at(bytes.len() - suffix);
     payload
 }
 
-/// Reads the fields of the bytes from their end, or returns their first fault. The body is inlined into each reader, so that the small
-/// reader is linked without the large tables.
+/// Reads the fields from the end of the bytes, or returns the first fault. The body is inlined into each reader, so that the small reader
+/// doesn't link the large tables.
 #[inline(always)]
 fn parse(bytes: &[u8], by_small_table: bool) -> Result<File<'_>, SuffixFault> {
     if bytes.len() > MAX_FILE {
@@ -60,20 +60,20 @@ fn read_by(bytes: &[u8], by_small_table: bool) -> Result<File<'_>, SuffixFault> 
 ///
 /// # Errors
 ///
-/// The first of these whose condition holds: TooLarge over 16,777,216 bytes, TooShort under 16, NoSignature if the last 16 bytes lack
-/// 'UFD', BadLength if bLength is under 16 or over the file's length, DfuSe if bcdDFU is 011Ah, BadCrc if dwCRC isn't the register over the
-/// bytes before it.
+/// The first of these that applies: TooLarge over 16,777,216 bytes, TooShort under 16, NoSignature if the last 16 bytes lack 'UFD',
+/// BadLength if bLength is less than 16 or more than the length of the file, DfuSe if bcdDFU is 011Ah, BadCrc if dwCRC isn't the CRC
+/// register over the bytes before it.
 pub fn read(bytes: &[u8]) -> Result<File<'_>, SuffixFault> {
     read_by(bytes, false)
 }
 
-/// Reads a whole file as `read` does, with the same faults, by a table of 64 bytes, in about nine times as many instructions: for a program
-/// that has no room for the 8,192 bytes of the large tables. Only a program that nowhere calls `read`, `check`, `add`, `Crc::update` or
-/// `Crc::update_long` links without them.
+/// Reads a whole file like `read`, with a table of 64 bytes, in about nine times as many instructions. It is meant for programs without
+/// room for the 8,192 bytes of the large tables, which are only left out of a program that never calls `read`, `check`, `add`,
+/// `Crc::update` or `Crc::update_long`.
 ///
 /// # Errors
 ///
-/// Those of `read`, in its order.
+/// Those of `read`, in the same order.
 pub fn read_small(bytes: &[u8]) -> Result<File<'_>, SuffixFault> {
     read_by(bytes, true)
 }

@@ -1,8 +1,9 @@
 // Of crates/dfu_suffix/src/small.rt, whose contracts are taken away.
 
-//! The register of USB DFU 1.1, appendix B, four bits at a time: for a program that has no room for the large tables.
+//! The CRC register of USB DFU 1.1, appendix B, four bits at a time, for programs without room for the large tables.
 
-/// Each number below 16, shifted by 4 bits 0. The proof computes all entries by the definition over single bits (crates/dfu_suffix/proofs/SmallTable.antt).
+/// The CRC shifts of the numbers below 16 by four bits. The proof computes all entries bit by bit from the definition
+/// (crates/dfu_suffix/proofs/SmallTable.antt).
 static AFTER_4: [u32; 16] = [
     0x0000_0000,
     0x1db7_1064,
@@ -22,13 +23,13 @@ static AFTER_4: [u32; 16] = [
     0xbdbd_f21c,
 ];
 
-// Returns a number, shifted by 4 bits 0.
+// Returns the CRC shift of a number by four bits.
 #[inline(always)]
 fn after_4_zeros(number: u32) -> u32 {
     (number >> 4) ^ AFTER_4[(number & 0xf) as usize]
 }
 
-// Returns the register after a further byte.
+// Returns the register after one more byte.
 #[inline(always)]
 fn after_byte(register: u32, byte: u8) -> u32 {
     after_4_zeros(after_4_zeros(register ^ u32::from(byte)))

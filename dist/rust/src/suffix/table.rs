@@ -1,9 +1,9 @@
 // Of crates/dfu_suffix/src/table.rt, whose contracts are taken away.
 
-//! Tables of the register: each number below 256, shifted by 64, 56, .. 8 bits 0.
+//! The large tables: the CRC shifts of each number below 256 by 64, 56, .. 8 bits.
 
-// Makes a table from 32 entries, in four rows: those for 0, 1, .. 15 and those for 0, 16, .. 240. The shift of the XOR of two numbers is
-// the XOR of their shifts, so that the 32 entries give all 256.
+// Expands 32 entries, in four rows, to a table of 256. The rows are the entries for 0, 1, .. 15 and for 0, 16, .. 240. All others are the
+// xor of two of these, because the CRC shift of an xor is the xor of the CRC shifts.
 macro_rules! tables {
     ($([$($a:literal)+] [$($b:literal)+] [$($c:literal)+] [$($d:literal)+])+) => {
         [$(tables!(@ [] [$($a)+ $($b)+] $($c)+ $($d)+)),+]
@@ -14,9 +14,9 @@ macro_rules! tables {
     };
 }
 
-/// The table for each of eight bytes: the first byte is shifted by 64 bits, the last by 8. The tables follow one another in memory, so that
-/// one address serves for all. The proof computes all entries of the last table by the definition over single bits, and those of each other
-/// table from the table after it (crates/dfu_suffix/proofs/Tables.antt).
+/// The tables for eight bytes. The first byte is shifted by 64 bits, and the last by 8. The tables are contiguous in memory, so that one
+/// base address is enough. The proof computes the last table bit by bit from the definition, and each other table from the table after it
+/// (crates/dfu_suffix/proofs/Tables.antt).
 #[rustfmt::skip]
 pub(crate) static TABLES: [[u32; 256]; 8] = tables!(
     [0x0000_0000 0xccaa_009e 0x4225_077d 0x8e8f_07e3 0x844a_0efa 0x48e0_0e64 0xc66f_0987 0x0ac5_0919]

@@ -4,14 +4,14 @@
 
 use crate::wire::WireFault;
 
-/// A status code, the value of bStatus.
+/// Status code, the value of bStatus.
 #[derive(Clone, Copy, Debug, PartialEq, Eq)]
 pub enum Code {
-    /// 00h: all is well.
+    /// 00h: no error.
     Ok,
     /// 01h: the file is not for this device.
     Target,
-    /// 02h: the file fails a verification test of the vendor.
+    /// 02h: the file fails a vendor-specific verification test.
     File,
     /// 03h: a block could not be written.
     Write,
@@ -25,7 +25,7 @@ pub enum Code {
     Verify,
     /// 08h: the address of a block is out of range.
     Address,
-    /// 09h: the image ended before the device had all of it.
+    /// 09h: the host ended the download, but the device expects more data.
     NotDone,
     /// 0Ah: the application is corrupt, so the device stays in upgrade mode.
     Firmware,
@@ -37,7 +37,7 @@ pub enum Code {
     Por,
     /// 0Eh: an error of unknown cause.
     Unknown,
-    /// 0Fh: the device stalled a request that its state does not allow.
+    /// 0Fh: the device stalled a request that its state doesn't allow.
     StalledPkt,
 }
 
@@ -49,7 +49,7 @@ static NAMES: [&str; 16] = [
 ];
 
 impl Code {
-    /// Returns the code with number `byte`; `UnknownCode` if `byte` is over 15.
+    /// Returns the code with number `byte`, or the error `UnknownCode` if `byte` is over 15.
     pub fn from_byte(byte: u8) -> Result<Code, WireFault> {
         variant_numbered!(byte, WireFault::UnknownCode, Code:
             0 Ok, 1 Target, 2 File, 3 Write, 4 Erase, 5 CheckErased, 6 Prog, 7 Verify, 8 Address, 9 NotDone,

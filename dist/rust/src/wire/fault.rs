@@ -1,16 +1,16 @@
 // Of crates/dfu_wire/src/fault.rt, whose contracts are taken away.
 
-//! Reasons why bytes or numbers are not a valid value of a wire format.
+//! Reasons why bytes or numbers aren't a valid value of a wire format.
 
 use core::fmt;
 use thiserror::Error;
 
-/// Reason why bytes or numbers are not a valid value of a wire format. Each decoder documents the order of its checks.
+/// Reason why bytes or numbers aren't a valid value of a wire format. Each decoder documents the order of its checks.
 #[derive(Clone, Copy, Debug, PartialEq, Eq, Error)]
 pub enum WireFault {
-    /// Too few bytes: a functional descriptor has none, or fewer than its first byte says (if that is 7 or 9); a status has under 6.
+    /// Too few bytes. A functional descriptor has none, or fewer than its first byte specifies (if that is 7 or 9). A status has under six.
     Short,
-    /// Too many bytes: a functional descriptor has more than its first byte says (if that is 7 or 9); a status has over 6.
+    /// Too many bytes. A functional descriptor has more than its first byte specifies (if that is 7 or 9). A status has over six.
     Long,
     /// The first byte of a functional descriptor, bLength, is neither 7 nor 9.
     WrongLength,
@@ -20,7 +20,7 @@ pub enum WireFault {
     UnknownState,
     /// A code byte is over 15, the highest number of a status code.
     UnknownCode,
-    /// A poll time is over 16,777,215 milliseconds, the most that three bytes hold.
+    /// A poll timeout is over 16,777,215 milliseconds, the largest number that fits in three bytes.
     PollTooLong,
 }
 

@@ -17,7 +17,7 @@ const VERSION_1_0: u16 = 0x0100;
 /// bDescriptorType of every functional descriptor.
 const TYPE: u8 = 0x21;
 
-/// Functional descriptor, in which a device describes its upgrades: 9 bytes on the wire, or 7 in DFU 1.0, which has no bcdDFUVersion.
+/// Functional descriptor, in which a device describes its upgrades. It has 9 bytes, or 7 in DFU 1.0, which has no bcdDFUVersion.
 ///
 /// | Bytes | Field of the standard | Field here |
 /// |---|---|---|
@@ -26,30 +26,30 @@ const TYPE: u8 = 0x21;
 /// | 2 | bmAttributes: bits 0 to 3 | the four flags, in their order here |
 /// | 3, 4 | wDetachTimeOut, milliseconds | `detach_ms` |
 /// | 5, 6 | wTransferSize, bytes | `transfer` |
-/// | 7, 8 | bcdDFUVersion, as 0110h; 0100h if there are 7 bytes | `version` |
+/// | 7, 8 | bcdDFUVersion, such as 0110h; 0100h if there are 7 bytes | `version` |
 ///
-/// Bits 4 to 7 of bmAttributes are reserved: ignored on reading, and written as 0. Bit 3 is read in both versions, though DFU 1.0 reserved
-/// it.
+/// Bits 4 to 7 of bmAttributes are reserved: the decoder ignores them, and the encoder writes 0. The decoder reads bit 3 in both versions,
+/// although DFU 1.0 reserves it.
 #[derive(Clone, Copy, Debug, PartialEq, Eq)]
 pub struct Functional {
-    /// bitCanDnload: a host may send an image.
+    /// bitCanDnload: a host may download an image.
     pub can_download: bool,
-    /// bitCanUpload: a host may read the image.
+    /// bitCanUpload: a host may upload the image.
     pub can_upload: bool,
-    /// bitManifestationTolerant: the device still answers requests once a new image is in place.
+    /// bitManifestationTolerant: the device still answers requests after the manifestation of a new image.
     pub tolerant: bool,
     /// bitWillDetach: the device detaches by itself after DETACH.
     pub will_detach: bool,
-    /// wDetachTimeOut: how long the device waits for a reset after DETACH, in milliseconds.
+    /// wDetachTimeOut: time in milliseconds that the device waits for a reset after DETACH.
     pub detach_ms: u16,
-    /// wTransferSize: the most bytes of one block.
+    /// wTransferSize: largest number of bytes in a block.
     pub transfer: u16,
     /// bcdDFUVersion: the version of the standard, as binary-coded decimal.
     pub version: u16,
 }
 
 impl Functional {
-    /// Returns the descriptor with bmAttributes `attributes`, of which bits 4 to 7 are ignored, wDetachTimeOut `detach_ms`, wTransferSize
+    /// Returns the descriptor with bmAttributes `attributes`, whose bits 4 to 7 are ignored, wDetachTimeOut `detach_ms`, wTransferSize
     /// `transfer` and bcdDFUVersion `version`.
     pub fn of_attributes(attributes: u8, detach_ms: u16, transfer: u16, version: u16) -> Functional {
         Functional {
@@ -63,12 +63,12 @@ impl Functional {
         }
     }
 
-    /// Reads `bytes` as a functional descriptor. The faults, in the order of the checks:
+    /// Decodes `bytes` as a functional descriptor. The faults, in the order of the checks:
     ///
     /// 1. `Short`: there are no bytes.
     /// 2. `WrongLength`: the first byte is neither 7 nor 9.
-    /// 3. `Short`: there are fewer bytes than the first byte says.
-    /// 4. `Long`: there are more bytes than the first byte says.
+    /// 3. `Short`: there are fewer bytes than the first byte specifies.
+    /// 4. `Long`: there are more bytes than the first byte specifies.
     /// 5. `WrongType`: the second byte is not 21h.
     pub fn decode(bytes: &[u8]) -> Result<Functional, WireFault> {
         if bytes.is_empty() {
@@ -95,8 +95,8 @@ impl Functional {
         Ok(Functional::of_attributes(bytes[2], number_at(bytes, 3), number_at(bytes, 5), version))
     }
 
-    /// Writes the descriptor in the form of DFU 1.1, in 9 bytes for every version, with the reserved bits 0. `decode` of the result returns
-    /// an equal descriptor.
+    /// Encodes the descriptor in the form of DFU 1.1, with 9 bytes for every version and with the reserved bits 0. `decode` of the result
+    /// returns an equal descriptor.
     pub fn encode(&self) -> [u8; 9] {
         let Functional {
             can_download,
@@ -125,7 +125,7 @@ impl Functional {
     }
 }
 
-/// Returns bmAttributes with these four flags, and with the reserved bits 0.
+/// Returns bmAttributes with these four flags. The reserved bits are 0.
 fn attributes_of(can_download: bool, can_upload: bool, tolerant: bool, will_detach: bool) -> u8 {
     u8::from(can_download)
         | u8::from(can_upload) << 1

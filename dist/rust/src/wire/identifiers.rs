@@ -2,8 +2,8 @@
 
 //! Identifiers written as four hexadecimal digits.
 
-/// Returns the number written in `digits`, four hexadecimal digits of either case, the highest first; None for any other text. Scripts and
-/// options write idVendor, idProduct and bcdDevice in this form.
+/// Returns the number in `digits`, four hexadecimal digits of either case with the highest first, or None for any other text. Scripts and
+/// options contain idVendor, idProduct and bcdDevice in this form.
 pub fn identifier(digits: &[u8]) -> Option<u16> {
     let mut bytes = [0u8; 2];
     match hex::decode_to_slice(digits, &mut bytes) {

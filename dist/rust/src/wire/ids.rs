@@ -2,14 +2,14 @@
 
 //! The three numbers that identify a device.
 
-/// The identifiers of a device, in its device descriptor and in the suffix of a file (USB DFU 1.1, appendix B). In a suffix, FFFFh in a
-/// field means that the file doesn't specify it.
+/// Identifiers of a device, which its device descriptor and the suffix of a file contain (USB DFU 1.1, appendix B). FFFFh in a field of a
+/// suffix means that the file doesn't specify it.
 #[derive(Clone, Copy, Debug, PartialEq, Eq)]
 pub struct Ids {
-    /// bcdDevice: the release of the device.
+    /// bcdDevice: release number of the device.
     pub device: u16,
-    /// idProduct: the number of the product.
+    /// idProduct: number of the product.
     pub product: u16,
-    /// idVendor: the number of the vendor.
+    /// idVendor: number of the vendor.
     pub vendor: u16,
 }

@@ -1,46 +1,46 @@
 // Of crates/dfu_wire/src/requests.rt, whose contracts are taken away.
 
-//! Requests that a setup asks for (USB DFU 1.1, section 3).
+//! Requests and their setups (USB DFU 1.1, section 3).
 
 use crate::wire::Setup;
 use crate::wire::setups::{IN, OUT};
 
-/// Request that a setup asks for: one of the seven DFU requests, or another.
+/// Request that a setup encodes: one of the seven DFU requests, or another one.
 ///
 /// | Request | Kind | Number | Value | Length |
 /// |---|---|---|---|---|
 /// | DETACH | 21h | 0 | timeout in milliseconds | 0 |
-/// | DNLOAD | 21h | 1 | block | bytes that are sent |
-/// | UPLOAD | A1h | 2 | block | most bytes of the answer |
-/// | GETSTATUS | A1h | 3 | none | most bytes of the answer |
+/// | DNLOAD | 21h | 1 | block number | number of bytes sent |
+/// | UPLOAD | A1h | 2 | block number | largest number of bytes in the answer |
+/// | GETSTATUS | A1h | 3 | none | largest number of bytes in the answer |
 /// | CLRSTATUS | 21h | 4 | none | 0 |
-/// | GETSTATE | A1h | 5 | none | most bytes of the answer |
+/// | GETSTATE | A1h | 5 | none | largest number of bytes in the answer |
 /// | ABORT | 21h | 6 | none | 0 |
 #[derive(Clone, Copy, Debug, PartialEq, Eq)]
 pub enum Request {
-    /// Leave the application for upgrade mode at a reset within `timeout` milliseconds.
+    /// Enter upgrade mode at the next reset, if it occurs within `timeout` milliseconds.
     Detach { timeout: u16 },
-    /// Take block `block` of an image, `length` bytes; a length of 0 ends the image.
+    /// Receive block `block` of an image with `length` bytes; a length of 0 ends the image.
     Dnload { block: u16, length: u16 },
     /// Send block `block` of the image, at most `length` bytes.
     Upload { block: u16, length: u16 },
-    /// Send the 6 bytes of the status, at most `length` of them.
+    /// Send the 6 bytes of the status, or only the first `length` of them if `length` is below 6.
     GetStatus { length: u16 },
     /// Leave the state dfuERROR.
     ClrStatus,
-    /// Send the 1 byte of the state, or no byte if `length` is 0.
+    /// Send the single byte of the state, or no byte if `length` is 0.
     GetState { length: u16 },
-    /// Abandon the download or upload under way, and return to dfuIDLE.
+    /// Abandon the current download or upload, and return to dfuIDLE.
     Abort,
-    /// Another class request to interface 0, not in the table.
+    /// Another class request to interface 0, which the table doesn't contain.
     OtherClass,
-    /// No class request, or a class request to another interface.
+    /// A request of another type, or a class request to another interface.
     NotDfu,
 }
 
 impl Request {
-    /// Returns the setup of the request, with index 0, and value 0 if the table has none. `None` exactly for `OtherClass` and `NotDfu`.
-    /// `Setup::request` of the result returns an equal request.
+    /// Returns the setup of the request, with index 0, and with value 0 if the table lists no value. Returns `None` exactly for
+    /// `OtherClass` and `NotDfu`. `Setup::request` of the result returns an equal request.
     pub fn setup(&self) -> Option<Setup> {
         let (kind, request, value, length) = match *self {
             Request::Detach { timeout } => (OUT, 0, timeout, 0),
@@ -61,7 +61,8 @@ impl Request {
         })
     }
 
-    /// Returns the name of the request in the standard, such as `DETACH`; `other-class` for `OtherClass`, and `not-dfu` for `NotDfu`.
+    /// Returns the name of the request in the standard, such as `DETACH`. `OtherClass` has the name `other-class`, and `NotDfu` has
+    /// `not-dfu`.
     pub fn name(self) -> &'static str {
         match self {
             Request::Detach { .. } => "DETACH",

@@ -6,29 +6,30 @@ use crate::wire::Request;
 use crate::wire::bytes::two_bytes;
 use byteorder::{ByteOrder, LittleEndian};
 
-/// bmRequestType of a class request to an interface that sends to the device.
+/// bmRequestType of a class request to an interface, host to device.
 pub(crate) const OUT: u8 = 0x21;
 
-/// bmRequestType of a class request to an interface that reads from the device.
+/// bmRequestType of a class request to an interface, device to host.
 pub(crate) const IN: u8 = 0xa1;
 
-/// Setup packet, the eight bytes that begin a request. Any eight bytes are a setup; two-byte numbers have their low byte first.
+/// Setup packet, the eight bytes that begin a request. Any eight bytes are a setup. Two-byte numbers have their low byte first.
 #[derive(Clone, Copy, Debug, PartialEq, Eq)]
 pub struct Setup {
-    /// bmRequestType, byte 0: 21h sends to the device, A1h reads from it, others are not DFU.
+    /// bmRequestType, byte 0. 21h is a DFU request from host to device, and A1h is one from device to host. No DFU request has another
+    /// value.
     pub kind: u8,
-    /// bRequest, byte 1: the number of the request.
+    /// bRequest, byte 1: number of the request.
     pub request: u8,
-    /// wValue, bytes 2 and 3: the timeout of DETACH, or the block's number of DNLOAD and UPLOAD.
+    /// wValue, bytes 2 and 3: timeout of DETACH, or block number of DNLOAD and UPLOAD.
     pub value: u16,
-    /// wIndex, bytes 4 and 5: the interface, which is 0 in a setup of a DFU request.
+    /// wIndex, bytes 4 and 5: interface, which is 0 in the setup of a DFU request.
     pub index: u16,
-    /// wLength, bytes 6 and 7: the number of bytes that follow, or the most that the device may send.
+    /// wLength, bytes 6 and 7: number of bytes that follow, or the largest number that the device may send.
     pub length: u16,
 }
 
 impl Setup {
-    /// Reads `bytes` as a setup. The call never fails, because any eight bytes are a setup.
+    /// Decodes `bytes` as a setup. The call never fails, because any eight bytes are a setup.
     pub fn decode(bytes: &[u8; 8]) -> Setup {
         Setup {
             kind: bytes[0],
@@ -39,7 +40,7 @@ impl Setup {
         }
     }
 
-    /// Writes the setup. `decode` of the result returns an equal setup.
+    /// Encodes the setup. `decode` of the result returns an equal setup.
     pub fn encode(&self) -> [u8; 8] {
         let [value_low, value_high] = two_bytes(self.value);
         let [index_low, index_high] = two_bytes(self.index);
@@ -56,12 +57,12 @@ impl Setup {
         ]
     }
 
-    /// Returns the request of the setup:
+    /// Returns the request of the setup, by the first case that applies:
     ///
     /// - `NotDfu` if the kind is neither 21h nor A1h, or the index is not 0;
-    /// - else `OtherClass` if the kind and the number of the request are not a pair of the table at
-    ///   [`Request`], or the length of a DETACH, CLRSTATUS or ABORT is not 0;
-    /// - else the request of the table. The value of a GETSTATUS, CLRSTATUS, GETSTATE or ABORT is
+    /// - `OtherClass` if the table at [`Request`] doesn't contain the kind with the number, or if the
+    ///   length of a DETACH, CLRSTATUS or ABORT is not 0;
+    /// - the request of the table, where the value of a GETSTATUS, CLRSTATUS, GETSTATE or ABORT is
     ///   ignored.
     pub fn request(&self) -> Request {
         if self.kind != OUT && self.kind != IN || self.index != 0 {

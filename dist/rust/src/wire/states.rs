@@ -4,28 +4,28 @@
 
 use crate::wire::WireFault;
 
-/// A state of a device, the value of bState.
+/// State of a device, the value of bState.
 #[derive(Clone, Copy, Debug, PartialEq, Eq)]
 pub enum State {
     /// 0: the application runs.
     AppIdle,
-    /// 1: the application runs, got DETACH, and waits for a reset.
+    /// 1: the application runs, has received DETACH, and waits for a reset.
     AppDetach,
-    /// 2: ready for a request of upgrade mode.
+    /// 2: the device is ready for a request of upgrade mode.
     DfuIdle,
-    /// 3: a block was received, and the device waits for GETSTATUS.
+    /// 3: the device has received a block and waits for GETSTATUS.
     DownloadSync,
-    /// 4: a block is being written.
+    /// 4: the device is writing a block.
     DownloadBusy,
-    /// 5: ready for the next block.
+    /// 5: the device is ready for the next block.
     DownloadIdle,
-    /// 6: the whole image was received, or is in place; the device waits for GETSTATUS.
+    /// 6: the device has received the whole image, or its manifestation is complete. The device waits for GETSTATUS.
     ManifestSync,
-    /// 7: the new image is being put in place.
+    /// 7: the manifestation of the new image is in progress.
     Manifest,
-    /// 8: the new image is in place, and the device waits for a reset.
+    /// 8: the manifestation is complete, and the device waits for a reset.
     ManifestWaitReset,
-    /// 9: ready to send the next block of its image.
+    /// 9: the device is ready to send the next block of its image.
     UploadIdle,
     /// 10: an error occurred, and the device waits for CLRSTATUS.
     Error,
@@ -39,7 +39,7 @@ static NAMES: [&str; 11] = [
 ];
 
 impl State {
-    /// Returns the state with number `byte`; `UnknownState` if `byte` is over 10.
+    /// Returns the state with number `byte`, or the error `UnknownState` if `byte` is over 10.
     pub fn from_byte(byte: u8) -> Result<State, WireFault> {
         variant_numbered!(byte, WireFault::UnknownState, State:
             0 AppIdle, 1 AppDetach, 2 DfuIdle, 3 DownloadSync, 4 DownloadBusy, 5 DownloadIdle, 6 ManifestSync,

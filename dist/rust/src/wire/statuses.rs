@@ -5,31 +5,31 @@
 use crate::wire::{Code, State, WireFault};
 use byteorder::{ByteOrder, LittleEndian};
 
-/// Largest number of milliseconds that the three bytes of bwPollTimeout hold: 16,777,215.
+/// Largest number of milliseconds that fits in the three bytes of bwPollTimeout: 16,777,215.
 const LONGEST_POLL: u32 = 0xff_ffff;
 
-/// The answer to GETSTATUS: 6 bytes on the wire.
+/// The answer to GETSTATUS, which has 6 bytes.
 ///
 /// | Bytes | Field of the standard | Call |
 /// |---|---|---|
 /// | 0 | bStatus | `code` |
 /// | 1 to 3, low byte first | bwPollTimeout, milliseconds | `poll_ms` |
 /// | 4 | bState: the state that the device enters right after this answer | `state` |
-/// | 5 | iString: ignored on reading, and written as 0 | |
+/// | 5 | iString: ignored by the decoder, and written as 0 | |
 ///
-/// The poll time of a status is always at most 16,777,215.
+/// The poll timeout of a status is always at most 16,777,215.
 #[derive(Clone, Copy, Debug, PartialEq, Eq)]
 pub struct Status {
     // Status code.
     code: Code,
-    // Poll time in milliseconds.
+    // Poll timeout in milliseconds.
     poll: u32,
     // State that the device enters after the answer.
     state: State,
 }
 
 impl Status {
-    /// Returns a status of `code`, `poll_ms` and `state`; `PollTooLong` if `poll_ms` is over 16,777,215.
+    /// Returns the status with `code`, `poll_ms` and `state`, or the error `PollTooLong` if `poll_ms` is over 16,777,215.
     pub fn new(code: Code, poll_ms: u32, state: State) -> Result<Status, WireFault> {
         if poll_ms > LONGEST_POLL {
             return Err(WireFault::PollTooLong);
@@ -51,12 +51,12 @@ impl Status {
         self.poll
     }
 
-    /// Returns the state that the device enters right after it sent the status.
+    /// Returns the state that the device enters right after it has sent the status.
     pub fn state(&self) -> State {
         self.state
     }
 
-    /// Reads `bytes` as a status. The faults, in the order of the checks:
+    /// Decodes `bytes` as a status. The faults, in the order of the checks:
     ///
     /// 1. `Short`: there are fewer than 6 bytes.
     /// 2. `Long`: there are more than 6 bytes.
@@ -81,7 +81,7 @@ impl Status {
         Ok(Status { code, poll, state })
     }
 
-    /// Writes the status, with 0 for iString. `decode` of the result returns an equal status.
+    /// Encodes the status, with 0 for iString. `decode` of the result returns an equal status.
     pub fn encode(&self) -> [u8; 6] {
         let mut bytes = [0; 6];
         bytes[0] = self.code.byte();

@@ -1,10 +1,10 @@
 // Of crates/dfu_boot/src/install/area.rt, whose contracts are taken away.
 
-//! Sizes of a run area, and the test of its blank bytes.
+//! Allowed sizes of a run area, and the check for blank bytes.
 
 use crate::slots::{MAX_SECTOR, PAGE, flash_byte_at};
 
-/// Bytes that are programmed at a time.
+/// Number of bytes that one program operation writes.
 pub(crate) const PROGRAM: u32 = 256;
 
 /// Returns true if a run area of `len` bytes may have sectors of `sector` bytes.
@@ -16,7 +16,7 @@ pub(crate) fn is_run_area(len: usize, sector: u32) -> bool {
         && len % sector as usize == 0
 }
 
-/// Returns true if the bytes of `run` from `from` to before `to` are all FFh.
+/// Returns true if all bytes of `run` with offsets in `from..to` are FFh.
 ///
 /// # What the caller must keep to
 ///

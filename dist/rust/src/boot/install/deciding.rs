@@ -1,12 +1,13 @@
 // Of crates/dfu_boot/src/install/deciding.rt, whose contracts are taken away.
 
-//! Operation that is due next, by the place at which the run area differs.
+//! Choice of the next operation, by the first offset at which the run area differs from the image.
 
 use crate::boot::install::area::{PROGRAM, are_blank, is_run_area};
 use crate::boot::install::compare::next_difference;
-use crate::boot::install::due::{Due, Refusal};
+use crate::boot::install::due::{Due, InstallRefusal};
 
-// Returns the place at which the search for a difference begins: that of the last operation, at most the end of the image; 0 without one.
+// Returns the first offset of the search for a difference: the offset of the last operation, limited to the length of the image, or 0
+// without a last operation.
 fn look_from(image: &[u8], last: Option<u32>) -> u32 {
     match last {
         Some(at) => at.min(image.len() as u32),
@@ -14,8 +15,8 @@ fn look_from(image: &[u8], last: Option<u32>) -> u32 {
     }
 }
 
-// Returns whether the piece that begins at `piece` may be programmed: it is blank, and the last operation went to its sector, not behind
-// it.
+// Returns true if the piece at offset `piece` may be programmed: the piece is blank, and the last operation was in the sector of the piece,
+// and not after the piece.
 fn may_program(run: &[u8], sector: u32, last: Option<u32>, piece: u32) -> bool {
     match last {
         Some(at) => {
@@ -27,7 +28,7 @@ fn may_program(run: &[u8], sector: u32, last: Option<u32>, piece: u32) -> bool {
     }
 }
 
-// Returns the next operation for the byte at `at`, which differs: a program of its piece, or else an erase of its sector.
+// Returns the next operation for the differing byte at `at`: a program of its piece if that is allowed, else an erase of its sector.
 fn mend(_image: &[u8], run: &[u8], sector: u32, last: Option<u32>, at: u32) -> Due {
     let piece = at - at % PROGRAM;
     if may_program(run, sector, last, piece) {
@@ -37,22 +38,22 @@ fn mend(_image: &[u8], run: &[u8], sector: u32, last: Option<u32>, at: u32) -> D
     }
 }
 
-/// Returns the next operation that brings the image to the run area.
+/// Returns the next operation that copies the image to the run area.
 ///
-/// `image` has the bytes of the image, `run` the present bytes of the run area, in sectors of `sector` bytes. `last` is what `took`
-/// returned for the last operation, and None after each loss of power. For any `last`, Start is returned only if the run area holds the
-/// whole image, and each operation lies within the sectors of the image.
+/// `image` is the image, and `run` the present bytes of the run area, in sectors of `sector` bytes. `last` is the result of `took` for the
+/// last operation, and None after each loss of power. For any `last`, Start is returned only if the run area holds the whole image, and
+/// each operation lies within the sectors of the image.
 ///
 /// Refused, in this order: `WrongSize`, `NoImage`, `TooLarge`.
 pub fn next(image: &[u8], run: &[u8], sector: u32, last: Option<u32>) -> Due {
     if !is_run_area(run.len(), sector) {
-        return Due::Refuse(Refusal::WrongSize);
+        return Due::Refuse(InstallRefusal::WrongSize);
     }
     if image.is_empty() {
-        return Due::Refuse(Refusal::NoImage);
+        return Due::Refuse(InstallRefusal::NoImage);
     }
     if image.len() > run.len() {
-        return Due::Refuse(Refusal::TooLarge);
+        return Due::Refuse(InstallRefusal::TooLarge);
     }
     match next_difference(image, run, look_from(image, last)) {
         Some(at) => mend(image, run, sector, last, at),

@@ -1,12 +1,13 @@
 // Of crates/dfu_boot/src/trial/again.rt, whose contracts are taken away.
 
-//! Finds the standing of an earlier look again, without reading the images.
+//! Derives the standing that an earlier `look` found, without reading the images.
 
 use crate::boot::trial::marks::{is_set, starts};
 use crate::boot::trial::{Settled, Standing, Trial};
 use crate::slots::{Medium, Places, data_at, generation, is_open, is_sized};
 
-// Returns the places of the slots, with the slot whose data begins at `at` as the active one; None if no slot's data begins there.
+// Returns the offsets of both slots, with the slot whose data begins at `at` as the active one. None means that no slot's data begins
+// there.
 fn places_by_data<M: Medium>(medium: &M, at: u32) -> Option<Places> {
     let second = medium.len() / 2;
     let gates = data_at(medium, 0);
@@ -25,8 +26,8 @@ fn places_by_data<M: Medium>(medium: &M, at: u32) -> Option<Places> {
     None
 }
 
-// Returns whether the slot at `places.active` is open, and the other slot is closed or one generation older. If so, and if the first slot
-// counts, it is the newest.
+// Returns true if the slot at `places.active` is open, and the other slot is closed or one generation older. If the slot at `places.active`
+// counts (`SlotCounts`), it is the newest then.
 fn is_ahead<M: Medium>(medium: &M, places: Places) -> bool {
     if !is_open(medium, places.active) {
         return false;
@@ -35,9 +36,10 @@ fn is_ahead<M: Medium>(medium: &M, places: Places) -> bool {
         || generation(medium, places.active) == generation(medium, places.spare).wrapping_add(1)
 }
 
-/// Finds the standing of an earlier `look` again: the image that begins at `at` was active and, if it was on trial, the image that begins
-/// at `base` was the one to come back. Reads gates, headers and marks, but no image: it relies on the look for these images being whole.
-/// None if another slot may have the active image by now, or if an image may be on trial that the look did not report: call `look` then.
+/// Derives the standing that an earlier `look` found. The image at offset `at` was active then, and if it was on trial, the image at offset
+/// `base` was the confirmed one. The call reads gates, headers and marks, and relies on the earlier `look` for the fact that both images
+/// are whole. None means that no slot's data begins at `at`, that the other slot may be active now, or that an image may be on trial that
+/// `look` did not report; call `look` then.
 ///
 /// # What the caller must keep to
 ///

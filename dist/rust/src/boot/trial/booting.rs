@@ -1,17 +1,17 @@
 // Of crates/dfu_boot/src/trial/booting.rt, whose contracts are taken away.
 
-//! Carries out a start on a medium.
+//! Start of an image on a medium.
 
 use crate::boot::trial::look;
 use crate::slots::{Medium, OpenFault};
 
-/// Chooses the image to start, carries out the operation that must come first, and returns the place at which the slot that runs begins.
-/// Even if the operation fails, some image is active afterwards, and one of the two images runs. On a medium that works, the image on trial
-/// runs as long as a start is left.
+/// Chooses the image to start, carries out the operation that must come first, and returns the offset of the slot to run. Even if the
+/// operation fails, some image is active afterwards, and one of the two images runs. On a medium without failures, the image on trial runs
+/// as long as a try is left.
 ///
 /// # Errors
 ///
-/// Those of `check` of slots: the medium has no active image. The medium is unchanged then.
+/// The errors of `check` of slots: the medium has no active image. The medium is unchanged then.
 ///
 /// # What the caller must keep to
 ///
@@ -23,7 +23,7 @@ pub fn boot<M: Medium>(medium: &mut M, tries: u32) -> Result<u32, OpenFault> {
     match starting.operation {
         None => Ok(starting.slot),
         Some(operation) => {
-            // The result is ignored, because the mark is read back.
+            // The result is ignored, because `runs` reads the mark.
             let _ = operation.carry_out(medium);
             Ok(starting.runs(medium))
         }

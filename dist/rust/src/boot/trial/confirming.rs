@@ -6,25 +6,26 @@ use crate::boot::trial::marks::{mark_at, mark_size};
 use crate::boot::trial::{Operation, Standing};
 use crate::slots::{Medium, data_at};
 
-/// Answer to a running image that asks to be confirmed.
+/// Result of `confirm` for the running image.
 #[derive(Clone, Copy, Debug, PartialEq, Eq)]
 pub enum Confirmation {
-    /// The caller must carry out this operation.
+    /// The image is confirmed once the caller has carried out this operation.
     By(Operation),
     /// The image is confirmed already.
     Confirmed,
-    /// No image that may run begins at the place given.
+    /// No image that may run begins at the given offset.
     Elsewhere,
 }
 
-// Returns the operation that sets the confirmation mark of the slot that begins at `slot`.
+// Returns the operation that sets the confirmation mark of the slot at offset `slot`.
 fn by_mark<M: Medium>(medium: &M, slot: u32) -> Confirmation {
     Confirmation::By(Operation::Mark(mark_at(medium, slot, 0), mark_size(medium)))
 }
 
 impl Standing {
-    /// Returns the confirmation of the image that begins at `at`: the calling image's own place, as `image_at` of a store gives it. So an
-    /// old image that runs because the mark of a start failed does not confirm the new one.
+    /// Returns the `Confirmation` of the running image, which begins at the offset `at`, as `image_at` of a store returns it. If the
+    /// confirmed image runs because the mark of a start failed, its offset is not that of the image on trial, and the image on trial is not
+    /// confirmed.
     ///
     /// # What the caller must keep to
     ///

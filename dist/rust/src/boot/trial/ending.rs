@@ -1,15 +1,16 @@
 // Of crates/dfu_boot/src/trial/ending.rt, whose contracts are taken away.
 
-//! End of a trial.
+//! End of a trial, on request or before an upload.
 
 use crate::boot::trial::{Operation, Standing};
 use crate::slots::Medium;
 
 impl Standing {
-    /// Returns the operation that ends the trial: it closes the gate of the slot on trial. None if nothing is on trial. Reads nothing.
+    /// Returns the operation that ends the trial, by closing the gate of the slot on trial. None means that no image is on trial. Does not
+    /// read the medium.
     ///
-    /// A download must end the trial before its store is opened and `begin` is called: until then the store's spare is the slot of the
-    /// confirmed image, which `begin` would give up.
+    /// A download must end the trial before it opens the store and calls `begin`. Before the end, the store's spare slot is that of the
+    /// confirmed image, which `begin` would close.
     ///
     /// # What the caller must keep to
     ///
@@ -22,8 +23,9 @@ impl Standing {
             Standing::OnTrial(trial) => Some(Operation::Close(trial.slot)),
         }
     }
-    /// Returns the operation that must come before an upload: without a start left it ends the trial, as the next start would, so that a
-    /// host reads the image that the next start runs. None if nothing is on trial or a start is left. Reads nothing.
+    /// Returns the operation that must come before an upload. If no try is left, the operation ends the trial, as the next start would, so
+    /// that the host reads the image that the next start runs. None means that no image is on trial, or that a try is left. Does not read
+    /// the medium.
     ///
     /// # What the caller must keep to
     ///

@@ -1,16 +1,16 @@
 // Of crates/dfu_boot/src/trial/looking.rt, whose contracts are taken away.
 
-//! Standing of a medium's images, which a look finds.
+//! Standing of the images on a medium, as `look` finds it.
 
 use crate::boot::trial::marks::{is_set, starts};
 use crate::boot::trial::{Settled, Standing, Trial};
 use crate::slots::{Medium, OpenFault, check_both};
 
-/// Finds the standing of a medium's images. It reads each image once, as `check` of slots does.
+/// Finds the standing of the images on a medium. Reads each image once, as `check` of slots does.
 ///
 /// # Errors
 ///
-/// Those of `check`: the medium has no active image.
+/// The errors of `check`: the medium has no active image.
 ///
 /// # What the caller must keep to
 ///

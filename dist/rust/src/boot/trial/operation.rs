@@ -1,20 +1,20 @@
 // Of crates/dfu_boot/src/trial/operation.rt, whose contracts are taken away.
 
-//! Operations that the calls ask their caller to carry out.
+//! Operations of a trial, which the caller carries out.
 
 use crate::slots::{Failed, Medium};
 
-/// One operation on the medium, which the caller must carry out. Even if it fails, only the bytes of its range may change.
+/// One operation on the medium, which the caller must carry out. It changes only bytes of its range, even if it fails.
 #[derive(Clone, Copy, Debug, PartialEq, Eq)]
 pub enum Operation {
-    /// Programs zeros, at most 256, over a mark whose bytes are all FFh: the place of the first byte, and the number of bytes.
+    /// Program of zeros, at most 256, over a mark whose bytes are all FFh: the offset of the first byte, and the number of bytes.
     Mark(u32, u32),
-    /// Erases the sector that begins at this place, and so closes a gate.
+    /// Erase of the sector at this offset, which closes a gate.
     Close(u32),
 }
 
 impl Operation {
-    /// Performs the operation on `medium`. Nothing is read back: the next look at the medium shows its outcome.
+    /// Carries out the operation on `medium`. Does not read the bytes afterwards, because the next `look` or `runs` does.
     ///
     /// # Errors
     ///

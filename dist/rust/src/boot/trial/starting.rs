@@ -1,25 +1,25 @@
 // Of crates/dfu_boot/src/trial/starting.rt, whose contracts are taken away.
 
-//! The image that starts: the choice at a power-on, and the operation that must come before it.
+//! Choice of the image that starts at a power on, and of the operation before it.
 
 use crate::boot::trial::marks::{is_marked, mark_at, mark_size};
 use crate::boot::trial::{Operation, Standing};
 use crate::slots::Medium;
 
-/// Image that starts, and the operation that the caller must carry out first.
+/// Choice of the image that starts, with the operation that the caller must carry out first.
 #[derive(Clone, Copy, Debug, PartialEq, Eq)]
 pub struct Starting {
-    /// The operation that is carried out first, if any.
+    /// Operation to carry out before the start, or None.
     pub operation: Option<Operation>,
-    /// Place at which the slot that runs after the operation begins; after a mark it runs only if the mark reads set.
+    /// Offset of the slot that runs after the operation. After a mark, it runs only if the mark reads as set.
     pub slot: u32,
-    /// Place at which the slot that runs if the mark does not read set begins; equal to `slot` without a mark.
+    /// Offset of the slot that runs if the mark does not read as set. Equal to `slot` if there is no mark.
     pub otherwise: u32,
 }
 
 impl Standing {
-    /// Returns the image that starts, and the operation that must come first: on trial the mark of the next start or, without a start left,
-    /// the erase that closes the gate of the slot on trial. After the operation `Starting::runs` returns the slot that runs.
+    /// Returns the image that starts, and the operation that must come first. On trial, that is the mark of the next start, or if no try is
+    /// left, the erase that closes the gate of the slot on trial. After the operation, `Starting::runs` returns the slot that runs.
     ///
     /// # What the caller must keep to
     ///
@@ -54,7 +54,8 @@ impl Standing {
 }
 
 impl Starting {
-    /// Returns the place at which the slot that runs begins, once the operation was carried out, with any outcome: a mark is read back.
+    /// Returns the offset of the slot that runs, after the operation was carried out with any outcome. Reads the mark if the operation is a
+    /// mark.
     ///
     /// # What the caller must keep to
     ///

@@ -1,26 +1,27 @@
 // Of crates/dfu_boot/src/trial/tries.rt, whose contracts are taken away.
 
-//! Tries for which a medium has marks.
+//! Numbers of tries that a medium allows.
 
 use crate::boot::trial::marks::mark_size;
 use crate::slots::Medium;
 use thiserror::Error;
 
-/// A fault for which a number of tries is refused. The faults are checked in this order.
+/// Reason for which a number of tries is refused. The reasons are checked in this order.
 #[derive(Clone, Copy, Debug, PartialEq, Eq, Error)]
 pub enum TriesFault {
-    /// The medium has no sectors, so no marks are erased with a header.
+    /// The medium has no sectors, and therefore no marks that are erased with a header.
     #[error("the medium has no sectors, so no room for marks")]
     NoSectors,
-    /// A trial has two tries at least: a download that is verified starts the new image twice.
+    /// The number of tries is below 2. A download that the host verifies starts the new image twice.
     #[error("a trial has two tries at least")]
     TooFew,
-    /// The header, the confirmation and a mark for each try, a unit of 16 bytes or more each, don't fit in a sector.
+    /// The header, the confirmation mark and one mark for each try don't fit in a sector. Each of these takes a write unit, at least 16
+    /// bytes.
     #[error("a sector has no room for so many tries")]
     TooMany,
 }
 
-/// Checks that an image of `medium` can have `tries` tries: 2 or more, whose marks fit in a sector.
+/// Checks that an image of `medium` can have `tries` tries: at least 2, and marks that fit in a sector.
 ///
 /// # Errors
 ///

@@ -2,7 +2,7 @@
 
 //! Elements of an image.
 
-/// Bytes, and the address at which they are to be stored. A program in C passes its image as a list of elements.
+/// Bytes, and the address at which a session stores the first byte. A C program passes its image as a list of elements.
 #[derive(Clone, Copy, Debug, PartialEq, Eq)]
 #[repr(C)]
 pub struct Element<'f> {

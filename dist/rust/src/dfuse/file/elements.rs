@@ -1,19 +1,19 @@
 // Of crates/dfu_formats/src/dfuse/elements.rt, whose contracts are taken away.
 
-//! Elements of a target, one after the other.
+//! The elements of a target.
 
 use crate::dfuse::file::element::Element;
 use crate::dfuse::file::fault::FileFault;
 use crate::dfuse::file::numbers::number_at;
 
-/// An element, and the bytes after it.
+/// An element and the bytes after it.
 #[derive(Debug, PartialEq, Eq)]
 struct ElementAndRest<'f> {
     element: Element<'f>,
     rest: &'f [u8],
 }
 
-/// Takes an element off the front of `bytes`. Returns the element and the bytes after it, or its fault.
+/// Splits an element off the front of `bytes`, or returns the fault of this element.
 fn take_element(bytes: &[u8]) -> Result<ElementAndRest<'_>, FileFault> {
     if bytes.len() < 8 {
         return Err(FileFault::ElementPastTheTarget);
@@ -40,16 +40,16 @@ fn take_element(bytes: &[u8]) -> Result<ElementAndRest<'_>, FileFault> {
     })
 }
 
-/// Checks that `rest` has no bytes.
+/// Checks that `rest` is empty.
 ///
 /// # Errors
 ///
-/// `fault` if it has some.
+/// `fault` if `rest` has a byte.
 pub(crate) fn check_end(rest: &[u8], fault: FileFault) -> Result<(), FileFault> {
     if rest.is_empty() { Ok(()) } else { Err(fault) }
 }
 
-/// Checks that `bytes` are `count` elements, and nothing else.
+/// Checks that `bytes` are the encoding of `count` elements, and nothing more.
 pub(crate) fn check_elements(count: u32, bytes: &[u8]) -> Result<(), FileFault> {
     let mut rest = bytes;
     for _ in 0..count {
@@ -61,7 +61,7 @@ pub(crate) fn check_elements(count: u32, bytes: &[u8]) -> Result<(), FileFault> 
     check_end(rest, FileFault::BadTargetSize)
 }
 
-/// The elements of a target, in the order of the file.
+/// Iterator over the elements of a target, in the order of the file.
 #[derive(Debug, PartialEq, Eq)]
 pub struct Elements<'f> {
     left: u32,
@@ -69,7 +69,7 @@ pub struct Elements<'f> {
 }
 
 impl<'f> Elements<'f> {
-    /// Returns the `left` elements at the front of `rest`, which must have been checked.
+    /// Returns an iterator over the next `left` elements of `rest`, which `check_elements` must have accepted.
     pub(crate) fn new(left: u32, rest: &'f [u8]) -> Elements<'f> {
         Elements { left, rest }
     }
@@ -79,7 +79,7 @@ impl<'f> Elements<'f> {
         self.left
     }
 
-    /// Takes the first element off, and returns it. If no element is left, nothing changes, and None is returned.
+    /// Removes and returns the first element. Returns None if no element is left.
     pub fn next_element(&mut self) -> Option<Element<'f>> {
         if self.left == 0 {
             return None;

@@ -1,43 +1,43 @@
 // Of crates/dfu_formats/src/dfuse/fault.rt, whose contracts are taken away.
 
-//! Faults for which a DfuSe file is refused.
+//! Faults of bytes that aren't a DfuSe file.
 
 use core::fmt;
 use thiserror::Error;
 
-/// A fault of bytes that aren't a DfuSe file: the first of these that holds. Faults up to BadCrc are found first, from the end of the file;
-/// the later ones in the bytes before the suffix, read from their front, target by target.
+/// Fault of bytes that aren't a DfuSe file. The faults up to BadCrc are tested first, in this order, on the size and the suffix of the
+/// file. The others are tested on the bytes before the suffix, which are read from the front, target by target.
 #[derive(Clone, Copy, Debug, PartialEq, Eq, Error)]
 pub enum FileFault {
-    /// The file has over 16,777,216 bytes.
+    /// The file is longer than 16,777,216 bytes.
     TooLarge,
-    /// The file has under 16 bytes.
+    /// The file is shorter than 16 bytes.
     TooShort,
-    /// The bytes 8 to 10 of the file's last 16 aren't 55h 46h 44h ('U', 'F', 'D').
+    /// Bytes 8 to 10 of the file's last 16 aren't 55h 46h 44h ('U', 'F', 'D').
     NoSignature,
-    /// bLength is under 16 or over the file's length.
+    /// bLength is less than 16, or more than the length of the file.
     BadLength,
-    /// bcdDFU isn't 011Ah: the file is of USB DFU.
+    /// bcdDFU isn't 011Ah, so the file is not a DfuSe file but one of USB DFU.
     NotDfuSe,
-    /// dwCRC isn't the register over the bytes before it.
+    /// dwCRC isn't the CRC register over the bytes before it.
     BadCrc,
-    /// Before the suffix there are under 11 bytes, or they don't begin with the letters DfuSe.
+    /// There are fewer than 11 bytes before the suffix, or they don't begin with the letters DfuSe.
     NoPrefix,
-    /// The version isn't 1.
+    /// The version in the prefix isn't 1.
     BadVersion,
-    /// The size in the prefix is not the size of the file, with or without the suffix.
+    /// The size in the prefix isn't the length of the file, with or without the suffix.
     BadImageSize,
     /// The number of targets is 0.
     NoTargets,
-    /// There are under 274 bytes for a target, or they don't begin with the letters Target.
+    /// Fewer than 274 bytes are left for a target, or they don't begin with the letters Target.
     NoTarget,
-    /// The size of a target is larger than the bytes after it, or than its elements.
+    /// The size of a target is larger than the number of bytes after its header, or bytes remain after its last element.
     BadTargetSize,
-    /// An element has fewer bytes than its size says, or is missing.
+    /// An element is missing, or the target ends before the number of bytes in the element's size field.
     ElementPastTheTarget,
     /// The size of an element is 0.
     EmptyElement,
-    /// An element ends past address FFFFFFFFh.
+    /// An element ends beyond address FFFFFFFFh.
     AddressPastTheEnd,
     /// Bytes follow the last target.
     Trailing,

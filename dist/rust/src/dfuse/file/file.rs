@@ -9,7 +9,7 @@ use crate::dfuse::file::suffix::read_suffix;
 use crate::dfuse::file::targets::{Targets, check_targets};
 use crate::wire::Ids;
 
-/// A DfuSe file: the device that it is for, and one to 255 targets, as slices of the bytes that were read. Only `read` makes one.
+/// A DfuSe file: the identifiers of its device, and one to 255 targets, as slices of the bytes that were read. Only `read` creates one.
 #[derive(Debug, PartialEq, Eq)]
 pub struct File<'f> {
     ids: Ids,
@@ -17,11 +17,11 @@ pub struct File<'f> {
     targets: &'f [u8],
 }
 
-/// Reads the file of `whole` bytes with body `bytes`, and with `ids` in its suffix.
+/// Reads `bytes`, the part of a file before its suffix. The file has `whole` bytes, and its suffix contains `ids`.
 ///
 /// # Errors
 ///
-/// The first fault of the body, in the order of [`FileFault`].
+/// The first fault that is found in `bytes`, from the front.
 fn read_body(ids: Ids, whole: usize, bytes: &[u8]) -> Result<File<'_>, FileFault> {
     if bytes.len() < 11 {
         return Err(FileFault::NoPrefix);
@@ -51,11 +51,11 @@ fn read_body(ids: Ids, whole: usize, bytes: &[u8]) -> Result<File<'_>, FileFault
     }
 }
 
-/// Reads the DfuSe file `bytes`.
+/// Reads the suffix of `bytes`, and then the bytes before it.
 ///
 /// # Errors
 ///
-/// The first fault, in the order of [`FileFault`].
+/// The first fault of the suffix, or else the first fault of the bytes before the suffix.
 fn read_file(bytes: &[u8]) -> Result<File<'_>, FileFault> {
     match read_suffix(bytes) {
         Ok(suffixed) => read_body(suffixed.ids, bytes.len(), suffixed.payload),
@@ -63,12 +63,12 @@ fn read_file(bytes: &[u8]) -> Result<File<'_>, FileFault> {
     }
 }
 
-/// Reads a DfuSe file. The size in its prefix may include the suffix, as dfu-util's tools write it, or not, as ST's do. A file with a wrong
-/// dwCRC is refused for the CRC, whatever is wrong in the bytes before its suffix.
+/// Reads a DfuSe file. The size in its prefix may include the suffix, as dfu-util's tools write it, or not, as ST's tools do. If the dwCRC
+/// is wrong, no fault in the bytes before the suffix is reported.
 ///
 /// # Errors
 ///
-/// The first fault, in the order of [`FileFault`].
+/// The first fault that is found, in the order that [`FileFault`] describes.
 pub fn read(bytes: &[u8]) -> Result<File<'_>, FileFault> {
     read_file(bytes)
 }
@@ -84,7 +84,7 @@ impl<'f> File<'f> {
         Targets::new(self.count, self.targets)
     }
 
-    /// Returns the alternate setting that all targets are for; None if they are for different ones, or there are none.
+    /// Returns the alternate setting of all targets, or None if they have different ones.
     pub fn setting(&self) -> Option<u8> {
         let mut targets = self.targets();
         let first = match targets.next_target() {

@@ -6,7 +6,7 @@ use crate::dfuse::file::fault::FileFault;
 use crate::dfuse::file::marks::is_target;
 use crate::dfuse::file::numbers::number_at;
 
-/// Fields of a target before its elements, the bytes of the elements, and the bytes after the target.
+/// Fields of a target before its elements, the encoded elements, and the bytes after the target.
 #[derive(Debug, PartialEq, Eq)]
 pub(crate) struct Heading<'f> {
     pub setting: u8,
@@ -17,7 +17,7 @@ pub(crate) struct Heading<'f> {
     pub rest: &'f [u8],
 }
 
-/// Takes the first target off `bytes`: its 274 bytes of fields, and the bytes of its elements. Returns it, or its fault.
+/// Splits the first target off `bytes`: 274 bytes of fields, and then its encoded elements. The fault is NoTarget or BadTargetSize.
 pub(crate) fn take_heading(bytes: &[u8]) -> Result<Heading<'_>, FileFault> {
     if bytes.len() < 274 {
         return Err(FileFault::NoTarget);

@@ -1,6 +1,6 @@
 // Of crates/dfu_formats/src/dfuse/image.rt, whose contracts are taken away.
 
-//! The elements of a file for an alternate setting.
+//! The elements of a file for one alternate setting.
 
 use crate::dfuse::file::element::Element;
 use crate::dfuse::file::file::File;
@@ -8,12 +8,12 @@ use crate::dfuse::file::listing::put;
 use core::fmt;
 use thiserror::Error;
 
-/// A fault for which a file has no image for an alternate setting: the first of these that holds.
+/// Fault of a request for the elements of an alternate setting: the first one in this order that applies.
 #[derive(Clone, Copy, Debug, PartialEq, Eq, Error)]
 pub enum ImageFault {
     /// No target is for this alternate setting.
     NoSuchSetting,
-    /// There are more elements than there is room for.
+    /// There are more elements than slots in `room`.
     TooManyElements,
 }
 
@@ -40,12 +40,12 @@ fn sort(count: usize, room: &mut [Element<'_>]) {
 }
 
 impl<'f> File<'f> {
-    /// Writes the elements of all targets of an alternate setting to the front of `room`, in the order of the file. Returns their number. A
-    /// session needs them sorted by address, as `image` writes them.
+    /// Writes the elements of all targets for an alternate setting to the front of `room`, in the order of the file. Returns their number.
+    /// A session needs them sorted by address, as `image` writes them.
     ///
     /// # Errors
     ///
-    /// NoSuchSetting, or TooManyElements if `room` has fewer places than there are elements. Then `room` may have changed.
+    /// NoSuchSetting, or TooManyElements if `room` has fewer slots than there are elements. After TooManyElements, `room` may have changed.
     pub fn listed(&self, setting: u8, room: &mut [Element<'f>]) -> Result<usize, ImageFault> {
         let mut count: usize = 0;
         let mut has_target = false;
@@ -65,12 +65,12 @@ impl<'f> File<'f> {
         Ok(count)
     }
 
-    /// Writes the elements of alternate setting `setting` to the front of `room`, sorted by address. Returns their number. Elements that
-    /// overlap are listed too, because a session refuses them.
+    /// Writes the elements of alternate setting `setting` to the front of `room`, sorted by address. Returns their number. Overlapping
+    /// elements are listed too, because the session refuses them.
     ///
     /// # Errors
     ///
-    /// NoSuchSetting, or TooManyElements if `room` has fewer places than there are elements.
+    /// NoSuchSetting, or TooManyElements if `room` has fewer slots than there are elements.
     pub fn image(&self, setting: u8, room: &mut [Element<'f>]) -> Result<usize, ImageFault> {
         let count = match self.listed(setting, room) {
             Ok(count) => count,

@@ -1,11 +1,12 @@
 // Of crates/dfu_formats/src/dfuse/listing.rt, whose contracts are taken away.
 
-//! Lists of elements for a session, from the elements of files.
+//! Lists of elements for a session.
 
 use crate::dfuse::file::element::Element;
 use crate::dfuse::file::elements::Elements;
 
-/// Writes elements to `room` after its first `from`. Returns the number of elements that `room` then has, or None if they don't fit.
+/// Writes elements to `room`, after the first `from` slots. Returns the number of slots in use after that, or None if the elements don't
+/// fit.
 pub(crate) fn put<'f>(
     elements: Elements<'f>,
     from: usize,
@@ -23,8 +24,8 @@ pub(crate) fn put<'f>(
     Some(count)
 }
 
-/// Writes elements that a reader of `formats` returned to the front of `room`, in their order. Returns their number, or None if
-/// they don't fit. Elements of one file are sorted by address, as a session needs them.
+/// Writes elements that `formats` has read to the front of `room`, in their order. Returns their number, or None if they don't
+/// fit. The elements of one file are sorted by address, as a session needs them.
 #[cfg(feature = "formats")]
 pub fn list<'p>(pieces: &'p [crate::formats::Element], room: &mut [Element<'p>]) -> Option<usize> {
     if pieces.len() > room.len() {

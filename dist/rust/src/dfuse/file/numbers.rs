@@ -1,8 +1,8 @@
 // Of crates/dfu_formats/src/dfuse/numbers.rt, whose contracts are taken away.
 
-//! Numbers in bytes, the low byte first.
+//! Little-endian numbers in a file.
 
-/// Returns the number in the four bytes of `bytes` from index `place` on, the low byte first.
+/// Returns the number in the four bytes from index `place` on, the low byte first.
 pub(crate) fn number_at(place: usize, bytes: &[u8]) -> u32 {
     let (_, behind) = bytes.split_at(place);
     let (field, _) = behind.split_at(4);

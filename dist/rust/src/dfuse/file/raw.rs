@@ -1,6 +1,6 @@
 // Of crates/dfu_formats/src/dfuse/raw.rt, whose contracts are taken away.
 
-//! A file without addresses, as one element.
+//! Converts a file without addresses to one element.
 
 use crate::dfuse::file::element::Element;
 use crate::dfuse::file::marks::begins_with_dfuse;
@@ -8,20 +8,20 @@ use crate::suffix::SuffixFault;
 use core::fmt;
 use thiserror::Error;
 
-/// A fault for which a file can't be written to an address: the first of these that holds.
+/// Fault of a file that can't become an element at an address: the first one in this order that applies.
 #[derive(Clone, Copy, Debug, PartialEq, Eq, Error)]
 pub enum RawFault {
-    /// The file has over 16,777,216 bytes.
+    /// The file is longer than 16,777,216 bytes.
     TooLarge,
-    /// The file has a signature, and bLength is under 16 or over the file's length.
+    /// The file has a signature, and bLength is less than 16 or more than the length of the file.
     BadLength,
-    /// The file has a signature, bcdDFU isn't 011Ah, and dwCRC isn't the register over the bytes before it.
+    /// The file has a signature, bcdDFU isn't 011Ah, and dwCRC isn't the CRC register over the bytes before it.
     BadCrc,
-    /// bcdDFU is 011Ah, or the file begins with the letters DfuSe.
+    /// The file has a signature and bcdDFU 011Ah, or begins with the letters DfuSe.
     HasAddresses,
-    /// The file is empty, or empty before its suffix.
+    /// The file has no bytes, or none before its suffix.
     Empty,
-    /// The last byte would have an address past FFFFFFFFh.
+    /// The last byte would have an address beyond FFFFFFFFh.
     AddressPastTheEnd,
 }
 
@@ -41,7 +41,7 @@ impl fmt::Display for RawFault {
     }
 }
 
-/// Returns the refusal of a file in which suffix finds `fault`; None if the file is not refused for it.
+/// Returns the refusal of a file in which suffix finds `fault`, or None if the fault causes no refusal.
 fn refusal(fault: SuffixFault) -> Option<RawFault> {
     match fault {
         SuffixFault::TooLarge => Some(RawFault::TooLarge),
@@ -52,7 +52,7 @@ fn refusal(fault: SuffixFault) -> Option<RawFault> {
     }
 }
 
-/// Returns the bytes of a file before a suffix, all of `bytes` if the file has none, or the refusal of the file.
+/// Returns the bytes before the suffix, or all bytes of a file without a suffix, or the refusal of the file.
 fn payload_of(bytes: &[u8]) -> Result<&[u8], RawFault> {
     match crate::suffix::read(bytes) {
         Ok(file) => Ok(file.payload()),
@@ -68,7 +68,7 @@ fn has_prefix(bytes: &[u8]) -> bool {
     bytes.len() >= 5 && begins_with_dfuse(bytes)
 }
 
-/// Returns the element of `bytes` at `address`, or its first fault.
+/// Returns `bytes` as an element at `address`, or the first fault.
 fn placed_at(address: u32, bytes: &[u8]) -> Result<Element<'_>, RawFault> {
     if has_prefix(bytes) {
         return Err(RawFault::HasAddresses);
@@ -82,8 +82,8 @@ fn placed_at(address: u32, bytes: &[u8]) -> Result<Element<'_>, RawFault> {
     Ok(Element { address, bytes })
 }
 
-/// Reads a file without addresses as an element at `address`. Its suffix (USB DFU 1.1, appendix B), if it has one, is left out. A file with
-/// a damaged suffix, or that begins as a DfuSe file, is refused, because its suffix or its prefix would be written too.
+/// Reads a file without addresses as an element at `address`. A suffix (USB DFU 1.1, appendix B) is removed. A file with a damaged suffix
+/// is refused, and so is one that begins like a DfuSe file, because the suffix or the prefix would be written too.
 ///
 /// # Errors
 ///

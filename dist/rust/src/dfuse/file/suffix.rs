@@ -1,13 +1,13 @@
 // Of crates/dfu_formats/src/dfuse/suffix.rt, whose contracts are taken away.
 
-//! The suffix of a file, with bcdDFU 011Ah.
+//! The suffix with bcdDFU 011Ah, which ends a DfuSe file.
 
 use crate::dfuse::file::fault::FileFault;
 use byteorder::{ByteOrder, LittleEndian};
 use crate::suffix::{Crc, SuffixFault};
 use crate::wire::Ids;
 
-/// The bytes before the suffix, and the identifiers in it.
+/// The bytes before the suffix and the identifiers in the suffix.
 #[derive(Debug, PartialEq, Eq)]
 pub(crate) struct PayloadAndIds<'f> {
     pub payload: &'f [u8],
@@ -20,13 +20,13 @@ fn tail(bytes: &[u8]) -> &[u8] {
     tail
 }
 
-/// Returns the number in the two bytes of `tail` from index `place` on, the low byte first.
+/// Returns the number in the two bytes from index `place` of `tail` on, the low byte first.
 fn field(place: usize, tail: &[u8]) -> u16 {
     let (_, field) = tail.split_at(place);
     LittleEndian::read_u16(field)
 }
 
-/// Returns true if the dwCRC of `bytes` isn't the register over the bytes before it.
+/// Returns true if dwCRC isn't the CRC register over the bytes before it.
 fn has_bad_crc(bytes: &[u8]) -> bool {
     let (before, _) = bytes.split_at(bytes.len() - 4);
     let (_, crc) = tail(bytes).split_at(12);
@@ -35,7 +35,7 @@ fn has_bad_crc(bytes: &[u8]) -> bool {
     LittleEndian::read_u32(crc) != over.value()
 }
 
-/// Returns the payload and the identifiers, by the fields of the last 16 bytes.
+/// Returns the payload and the identifiers, which are taken from the last 16 bytes.
 fn payload_and_ids_of(bytes: &[u8]) -> PayloadAndIds<'_> {
     let tail = tail(bytes);
     let (payload, _) = bytes.split_at(bytes.len().saturating_sub(tail[11] as usize));
@@ -49,7 +49,7 @@ fn payload_and_ids_of(bytes: &[u8]) -> PayloadAndIds<'_> {
     }
 }
 
-/// Returns true if `fault` is `DfuSe`, which suffix finds in a DfuSe file.
+/// Returns true for the fault `DfuSe`, which suffix reports for every DfuSe file.
 fn is_dfuse(fault: SuffixFault) -> bool {
     match fault {
         SuffixFault::DfuSe => true,
@@ -77,8 +77,8 @@ fn read_signed(bytes: &[u8]) -> Result<PayloadAndIds<'_>, FileFault> {
     }
 }
 
-/// Reads the suffix, or returns its first fault. Its CRC is checked with the small table, because a file is read once, and a library for C
-/// has no large tables.
+/// Reads the suffix, or returns its first fault. The CRC is computed with the small table, because a file is read only once, and the large
+/// tables would enlarge the library for C.
 pub(crate) fn read_suffix(bytes: &[u8]) -> Result<PayloadAndIds<'_>, FileFault> {
     let fault = match crate::suffix::read_small(bytes) {
         Ok(_) => return Err(FileFault::NotDfuSe),

@@ -1,25 +1,25 @@
 // Of crates/dfu_formats/src/dfuse/targets.rt, whose contracts are taken away.
 
-//! Targets of a file, one after the other.
+//! The targets of a file.
 
 use crate::dfuse::file::elements::{Elements, check_elements, check_end};
 use crate::dfuse::file::fault::FileFault;
 use crate::dfuse::file::headings::take_heading;
 
-/// A target: elements for the memory of an alternate setting.
+/// A target: the elements for the memory of one alternate setting.
 #[derive(Debug, PartialEq, Eq)]
 pub struct Target<'f> {
-    /// The alternate setting.
+    /// The alternate setting, 0 to 255.
     pub setting: u8,
-    /// 0 if the target has no name; any other number if it has one.
+    /// 0 if the target has no name, and any other number if it has one.
     pub named: u32,
-    /// The 255 bytes for its name, which ends at the first 0.
+    /// The 255 bytes of the name field. The name ends before the first 0.
     pub name: &'f [u8],
-    /// Elements of the target.
+    /// The elements of the target, in the order of the file.
     pub elements: Elements<'f>,
 }
 
-/// Checks that `bytes` are `count` targets, each with as many elements as it says, and nothing else.
+/// Checks that `bytes` are the encoding of `count` targets, each with the number of elements in its header, and nothing more.
 pub(crate) fn check_targets(count: u8, bytes: &[u8]) -> Result<(), FileFault> {
     let mut rest = bytes;
     for _ in 0..count {
@@ -34,7 +34,7 @@ pub(crate) fn check_targets(count: u8, bytes: &[u8]) -> Result<(), FileFault> {
     check_end(rest, FileFault::Trailing)
 }
 
-/// The targets of a file, in its order.
+/// Iterator over the targets of a file, in its order.
 #[derive(Debug, PartialEq, Eq)]
 pub struct Targets<'f> {
     left: u8,
@@ -42,7 +42,7 @@ pub struct Targets<'f> {
 }
 
 impl<'f> Targets<'f> {
-    /// Returns the `left` targets at the front of `rest`, which must have been checked.
+    /// Returns an iterator over the next `left` targets of `rest`, which `check_targets` must have accepted.
     pub(crate) fn new(left: u8, rest: &'f [u8]) -> Targets<'f> {
         Targets { left, rest }
     }
@@ -52,7 +52,7 @@ impl<'f> Targets<'f> {
         self.left
     }
 
-    /// Takes the first target off, and returns it. If no target is left, nothing changes, and None is returned.
+    /// Removes and returns the first target. Returns None if no target is left.
     #[inline(always)]
     pub fn next_target(&mut self) -> Option<Target<'f>> {
         if self.left == 0 {

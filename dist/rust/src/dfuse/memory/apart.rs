@@ -1,6 +1,6 @@
 // Of crates/dfu_formats/src/memory/apart.rt, whose contracts are taken away.
 
-//! Test that ranges share no address.
+//! Test for ranges that share no address.
 
 use crate::dfuse::memory::pages::Pages;
 use crate::dfuse::memory::ranges::end_of;

@@ -1,10 +1,10 @@
 // Of crates/dfu_formats/src/memory/digits.rt, whose contracts are taken away.
 
-//! Numbers that are spelled in digits.
+//! Numbers in decimal or hexadecimal digits.
 
 use crate::dfuse::memory::text::Number;
 
-/// Returns the value of hexadecimal digit `byte`, of either case, or 16 if `byte` is not one.
+/// Returns the value of hexadecimal digit `byte`, of either case. Returns 16 for any other byte.
 fn digit_value(byte: u8) -> u64 {
     match byte {
         b'0'..=b'9' => (byte - b'0') as u64,
@@ -14,7 +14,7 @@ fn digit_value(byte: u8) -> u64 {
     }
 }
 
-/// Returns the number of digits of base `base` at the front of `text`.
+/// Returns the number of leading digits of base `base` in `text`.
 fn digits_in(base: u64, text: &[u8]) -> usize {
     let mut count: usize = 0;
     for byte in text {
@@ -26,7 +26,7 @@ fn digits_in(base: u64, text: &[u8]) -> usize {
     count
 }
 
-/// Returns the number that `digits`, at most eight, make in base `base`.
+/// Returns the value of `digits`, at most eight, in base `base`.
 fn said(base: u64, digits: &[u8]) -> u64 {
     let mut value: u64 = 0;
     for byte in digits {
@@ -35,7 +35,7 @@ fn said(base: u64, digits: &[u8]) -> u64 {
     value
 }
 
-/// Takes the number in base `base` off the front of `text`; all digits there belong to it. None without a digit, or with over `most`.
+/// Splits a number in base `base` off the front of `text`, with all leading digits. Returns None if there is no digit, or more than `most`.
 pub(crate) fn take_number(base: u64, most: usize, text: &[u8]) -> Option<Number<'_>> {
     let count = digits_in(base, text);
     if count == 0 || count > most {

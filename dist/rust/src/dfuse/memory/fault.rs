@@ -1,29 +1,29 @@
 // Of crates/dfu_formats/src/memory/fault.rt, whose contracts are taken away.
 
-//! Faults for which a string is refused.
+//! Faults of a string that isn't a memory map.
 
 use core::fmt;
 use thiserror::Error;
 
-/// Faults of a string that isn't a memory map. The string is read from the front, and its first fault is returned; Overlaps is checked once
+/// Fault of a string that isn't a memory map. The string is read from the front, and the first fault is returned. Overlaps is checked after
 /// all ranges are read.
 #[derive(Clone, Copy, Debug, PartialEq, Eq, Error)]
 pub enum MapFault {
     /// The string doesn't begin with `@`, or has no `/` after the name.
     NoMap,
-    /// After a `/` there is no address of one to eight hexadecimal digits, with or without `0x`, followed by another `/`.
+    /// A `/` isn't followed by one to eight hexadecimal digits, with or without `0x`, and another `/`.
     BadAddress,
-    /// A range lacks a count of one to five digits, from 1 on, and a `*`.
+    /// A range has no count from 1 to 99999 in at most five digits, followed by `*`.
     BadCount,
-    /// A range lacks a size of one to five digits, from 1 on.
+    /// A range has no size from 1 to 99999 in at most five digits.
     BadSize,
-    /// After the size and its unit there is no letter from `a` to `g`.
+    /// A size and its unit aren't followed by a letter from `a` to `g`.
     BadType,
-    /// The pages of a range end past address FFFFFFFFh.
+    /// A range ends beyond address FFFFFFFFh.
     PastTheEnd,
-    /// The map has over 32 ranges.
+    /// The map has more than 32 ranges.
     TooManyRanges,
-    /// After a range there is neither the end of the string, nor `,`, nor `/`.
+    /// A range is followed neither by the end of the string, nor by `,` or `/`.
     Trailing,
     /// Two ranges share an address.
     Overlaps,

@@ -1,6 +1,6 @@
 // Of crates/dfu_formats/src/memory/group.rt, whose contracts are taken away.
 
-//! A range, as the string spells it: a count, a size with its unit, and a letter.
+//! A range in the string of a map: a count, a size with its unit, and a letter.
 
 use crate::dfuse::memory::digits::take_number;
 use crate::dfuse::memory::fault::MapFault;
@@ -15,14 +15,14 @@ struct AccessAndRest<'t> {
     rest: &'t [u8],
 }
 
-/// A range, and the text after it.
+/// A range and the text after it.
 #[derive(Debug, PartialEq, Eq)]
 pub(crate) struct Group<'t> {
     pub pages: Pages,
     pub rest: &'t [u8],
 }
 
-/// Returns the number of bytes of unit `byte`, or 0 if it is no unit.
+/// Returns the number of bytes of unit `byte`, or 0 for any byte that is no unit.
 fn unit_of(byte: u8) -> u64 {
     match byte {
         b'K' => 1024,
@@ -32,7 +32,7 @@ fn unit_of(byte: u8) -> u64 {
     }
 }
 
-/// Takes the unit at the front of `text`. Returns `value` in that unit as a number of bytes; `value` itself if there is no unit.
+/// Splits the unit off the front of `text`. Returns `value` times the number of bytes of the unit, or `value` itself if there is no unit.
 fn take_unit(value: u64, text: &[u8]) -> Number<'_> {
     match front(text) {
         Some((byte, rest)) if unit_of(byte) != 0 => Number {
@@ -43,7 +43,7 @@ fn take_unit(value: u64, text: &[u8]) -> Number<'_> {
     }
 }
 
-/// Takes a count of pages, and `*`.
+/// Splits a count of pages, and the `*` after it, off the front of `text`.
 fn take_count(text: &[u8]) -> Result<Number<'_>, MapFault> {
     match take_number(10, 5, text) {
         Some(number) if number.value != 0 => match behind(b'*', number.rest) {
@@ -57,7 +57,7 @@ fn take_count(text: &[u8]) -> Result<Number<'_>, MapFault> {
     }
 }
 
-/// Takes the size of a page, with its unit.
+/// Splits the size of a page, with its unit, off the front of `text`.
 fn take_size(text: &[u8]) -> Result<Number<'_>, MapFault> {
     match take_number(10, 5, text) {
         Some(number) if number.value != 0 => Ok(take_unit(number.value, number.rest)),
@@ -65,7 +65,7 @@ fn take_size(text: &[u8]) -> Result<Number<'_>, MapFault> {
     }
 }
 
-/// Returns the access by the bits of a letter: `a` is 1, and bit 0 means readable, bit 1 erasable, bit 2 writable.
+/// Returns the access for a letter, `a` to `g` as 1 to 7. Bit 0 means readable, bit 1 erasable, and bit 2 writable.
 fn access_of(letter: u8) -> Access {
     let bits = letter - b'a' + 1;
     Access {
@@ -75,7 +75,7 @@ fn access_of(letter: u8) -> Access {
     }
 }
 
-/// Takes the letter for the access to the pages.
+/// Splits the letter for the access to the pages off the front of `text`.
 fn take_access(text: &[u8]) -> Result<AccessAndRest<'_>, MapFault> {
     match front(text) {
         Some((letter, rest)) if letter >= b'a' && letter <= b'g' => Ok(AccessAndRest {
@@ -86,7 +86,7 @@ fn take_access(text: &[u8]) -> Result<AccessAndRest<'_>, MapFault> {
     }
 }
 
-/// Takes a range that begins at `start`, or returns its first fault.
+/// Splits a range that begins at `start` off the front of `text`, or returns its first fault.
 pub(crate) fn take_group(start: u64, text: &[u8]) -> Result<Group<'_>, MapFault> {
     let count = match take_count(text) {
         Ok(count) => count,

@@ -2,7 +2,7 @@
 
 //! Limits of a memory map.
 
-/// The number of addresses of 32 bits.
+/// Number of 32-bit addresses.
 pub(crate) const ADDRESSES: u64 = 0x1_0000_0000;
 
 /// Largest number of ranges of a map.

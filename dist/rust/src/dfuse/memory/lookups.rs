@@ -5,12 +5,12 @@
 use crate::dfuse::memory::pages::{Access, Page, Pages};
 use crate::dfuse::memory::ranges::end_of;
 
-/// Returns true if range `pages` has `address`.
+/// Returns true if range `pages` contains `address`.
 fn has(address: u64, pages: &Pages) -> bool {
     pages.start as u64 <= address && address < end_of(pages)
 }
 
-/// Returns the range of `ranges` that has `address`; None if none has.
+/// Returns the range that contains `address`, or None if none contains it.
 pub(crate) fn range_at(address: u64, ranges: &[Pages]) -> Option<Pages> {
     for pages in ranges {
         if has(address, pages) {
@@ -20,7 +20,7 @@ pub(crate) fn range_at(address: u64, ranges: &[Pages]) -> Option<Pages> {
     None
 }
 
-/// Returns the page of range `pages` that has `address`. The range must have the address.
+/// Returns the page of range `pages` that contains `address`. The range must contain the address.
 fn page_in(address: u64, pages: &Pages) -> Page {
     let start = pages.start as u64;
     let number = (address - start) / pages.size;
@@ -31,7 +31,7 @@ fn page_in(address: u64, pages: &Pages) -> Page {
     }
 }
 
-/// Returns the page of `ranges` that has `address`; None if none has.
+/// Returns the page that contains `address`, or None if no range contains it.
 pub(crate) fn page_at(address: u64, ranges: &[Pages]) -> Option<Page> {
     match range_at(address, ranges) {
         Some(pages) => Some(page_in(address, &pages)),
@@ -39,7 +39,7 @@ pub(crate) fn page_at(address: u64, ranges: &[Pages]) -> Option<Page> {
     }
 }
 
-/// Returns true if each address from `start` to before `end` is in one of `ranges` that grants `wanted`.
+/// Returns true if each address from `start` to before `end` is in a range that grants `wanted`.
 pub(crate) fn all_granted(wanted: Access, start: u64, end: u64, ranges: &[Pages]) -> bool {
     let mut at = start;
     while at < end {

@@ -12,14 +12,14 @@ use crate::dfuse::memory::place::take_address;
 use crate::dfuse::memory::ranges::take_ranges;
 use arrayvec::ArrayVec;
 
-/// A memory map: the name of a memory, and its ranges of pages, no two of which share an address.
+/// A memory map: the name of a memory, and its ranges of pages, which share no address.
 #[derive(Debug, PartialEq, Eq)]
 pub struct Map<'t> {
     name: &'t [u8],
     ranges: ArrayVec<Pages, MOST_RANGES>,
 }
 
-/// Reads the map of string `text`.
+/// Reads a map from `text`.
 ///
 /// # Errors
 ///
@@ -47,11 +47,11 @@ fn read_map(text: &[u8]) -> Result<Map<'_>, MapFault> {
 }
 
 impl<'t> Map<'t> {
-    /// Reads `text`, the string of an alternate setting.
+    /// Reads the map in `text`, the string of an alternate setting.
     ///
     /// # Errors
     ///
-    /// The fault of the first place at which the string is not a map, or Overlaps.
+    /// The first fault of the string, read from its front, or Overlaps if two ranges share an address.
     pub fn read(text: &'t [u8]) -> Result<Map<'t>, MapFault> {
         read_map(text)
     }
@@ -66,17 +66,17 @@ impl<'t> Map<'t> {
         &self.ranges
     }
 
-    /// Returns the range that has `address`; None if none has.
+    /// Returns the range that contains `address`, or None if no range contains it.
     pub fn range_at(&self, address: u32) -> Option<Pages> {
         lookups::range_at(address as u64, &self.ranges)
     }
 
-    /// Returns the page that has `address`; None if none has.
+    /// Returns the page that contains `address`, or None if no range contains it.
     pub fn page_at(&self, address: u32) -> Option<Page> {
         lookups::page_at(address as u64, &self.ranges)
     }
 
-    /// Returns true if each address from `start` to before `end` lies in a range that grants `wanted`.
+    /// Returns true if each address from `start` to before `end` is in a range that grants `wanted`.
     pub fn grants(&self, wanted: Access, start: u64, end: u64) -> bool {
         lookups::all_granted(wanted, start, end, &self.ranges)
     }

@@ -1,11 +1,11 @@
 // Of crates/dfu_formats/src/memory/name.rt, whose contracts are taken away.
 
-//! The name of a memory, at the front of its map.
+//! The name of a memory, at the front of its map's string.
 
 use crate::dfuse::memory::fault::MapFault;
 use crate::dfuse::memory::text::behind;
 
-/// A name, and the text after it.
+/// A name and the text after it.
 #[derive(Debug, PartialEq, Eq)]
 pub(crate) struct Named<'t> {
     pub name: &'t [u8],
@@ -26,12 +26,12 @@ fn trimmed(bytes: &[u8]) -> &[u8] {
     kept
 }
 
-/// Returns the index of the first `/` of `text`; None if there is none.
+/// Returns the index of the first `/` in `text`, or None.
 fn slash_in(text: &[u8]) -> Option<usize> {
     text.iter().position(|byte| *byte == b'/')
 }
 
-/// Takes the name between `@` and the first `/`, without the spaces at its end.
+/// Splits the name between `@` and the first `/` off the front of `text`. Spaces at the end of the name are removed.
 pub(crate) fn take_name(text: &[u8]) -> Result<Named<'_>, MapFault> {
     let Some(name) = behind(b'@', text) else {
         return Err(MapFault::NoMap);

@@ -1,8 +1,8 @@
 // Of crates/dfu_formats/src/memory/pages.rt, whose contracts are taken away.
 
-//! Pages, and ranges of them.
+//! Pages and ranges of pages.
 
-/// Access to a page: any of reading, erasing and writing.
+/// Access to a page: any combination of read, erase and write.
 #[derive(Clone, Copy, Debug, Default, PartialEq, Eq)]
 pub struct Access {
     pub is_readable: bool,
@@ -11,7 +11,7 @@ pub struct Access {
 }
 
 impl Access {
-    /// Returns true if the access includes each access of `wanted`.
+    /// Returns true if the access includes all of `wanted`.
     pub fn grants(self, wanted: Access) -> bool {
         (self.is_readable || !wanted.is_readable)
             && (self.is_erasable || !wanted.is_erasable)
@@ -19,12 +19,12 @@ impl Access {
     }
 }
 
-/// Pages of one size and one access, one after the other.
+/// Consecutive pages of the same size and access.
 #[derive(Clone, Copy, Debug, Default, PartialEq, Eq)]
 pub struct Pages {
-    /// The address of the first byte.
+    /// Address of the first byte.
     pub start: u32,
-    /// Number of bytes of each page, up to 2^32.
+    /// Number of bytes in each page, at most 2^32.
     pub size: u64,
     /// Number of pages.
     pub count: u32,
@@ -32,12 +32,12 @@ pub struct Pages {
     pub access: Access,
 }
 
-/// A page: its place, its size, and the access to it.
+/// A page: its address, its size, and the access to it.
 #[derive(Clone, Copy, Debug, PartialEq, Eq)]
 pub struct Page {
-    /// The address of the first byte.
+    /// Address of the first byte.
     pub start: u32,
-    /// Number of bytes of the page, up to 2^32.
+    /// Number of bytes in the page, at most 2^32.
     pub size: u64,
     /// Access to the page.
     pub access: Access,

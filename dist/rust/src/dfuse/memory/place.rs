@@ -1,6 +1,6 @@
 // Of crates/dfu_formats/src/memory/place.rt, whose contracts are taken away.
 
-//! Starts of ranges: at an address of their own, or where the range before ends.
+//! Start addresses of ranges. A range begins at an address of its own, or at the end of the range before it.
 
 use crate::dfuse::memory::digits::take_number;
 use crate::dfuse::memory::fault::MapFault;
@@ -17,7 +17,7 @@ fn text_after_prefix(text: &[u8]) -> &[u8] {
     }
 }
 
-/// Takes an address, and the `/` after it.
+/// Splits an address, and the `/` after it, off the front of `text`.
 pub(crate) fn take_address(text: &[u8]) -> Result<Number<'_>, MapFault> {
     match take_number(16, 8, text_after_prefix(text)) {
         Some(number) => match behind(b'/', number.rest) {
@@ -31,7 +31,7 @@ pub(crate) fn take_address(text: &[u8]) -> Result<Number<'_>, MapFault> {
     }
 }
 
-/// Takes the start of the next range, after a range that ends at `end`; None at the end of the text.
+/// Splits the start of the next range off the front of `text`, after a range that ends at `end`. Returns None at the end of the text.
 pub(crate) fn take_next(end: u64, text: &[u8]) -> Result<Option<Number<'_>>, MapFault> {
     match front(text) {
         None => Ok(None),

@@ -1,6 +1,6 @@
 // Of crates/dfu_formats/src/memory/ranges.rt, whose contracts are taken away.
 
-//! Ranges of a map, one after the other.
+//! The ranges of a map.
 
 use crate::dfuse::memory::fault::MapFault;
 use crate::dfuse::memory::group::take_group;
@@ -9,12 +9,12 @@ use crate::dfuse::memory::pages::Pages;
 use crate::dfuse::memory::place::take_next;
 use arrayvec::ArrayVec;
 
-/// Returns the address after the last byte of range `pages`, up to 2^32.
+/// Returns the address after the last byte of range `pages`, at most 2^32.
 pub(crate) fn end_of(pages: &Pages) -> u64 {
     pages.start as u64 + pages.count as u64 * pages.size
 }
 
-/// Takes ranges, at most 32, up to the end of the text; the first begins at `start`. Returns them, or the first fault.
+/// Reads at most 32 ranges, up to the end of the text. The first begins at `start`. Returns them, or the first fault.
 pub(crate) fn take_ranges(start: u64, text: &[u8]) -> Result<ArrayVec<Pages, MOST_RANGES>, MapFault> {
     let mut ranges = ArrayVec::new();
     let mut at = start;

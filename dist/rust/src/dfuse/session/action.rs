@@ -1,19 +1,19 @@
 // Of crates/dfuse_host/src/action.rt, whose contracts are taken away.
 
-//! Actions that a session asks its caller to do.
+//! Actions of a session, which its caller must do.
 
 use crate::dfuse::session::report::Report;
 
-/// Actions that a session asks its caller to do.
+/// Action that the caller of a session must do next.
 #[derive(Clone, Copy, Debug, PartialEq, Eq)]
 pub enum Action<'f> {
-    /// Send the request with its body: bytes of the image with a DNLOAD that writes, else none. If the setup's first byte is A1h, the
-    /// device answers with bytes.
+    /// Send a request with this body, which holds bytes of the image for a DNLOAD that writes and is empty otherwise. If the first byte of
+    /// the setup is A1h, the device answers with bytes.
     Send { setup: [u8; 8], body: &'f [u8] },
-    /// Send this DNLOAD of block 0, whose body is a command of DfuSe.
+    /// Send this DNLOAD of block 0. Its body is a DfuSe command.
     Command { setup: [u8; 8], body: [u8; 5] },
     /// Wait for this number of milliseconds, 0 to 16,777,215.
     Wait(u32),
-    /// Do nothing: the session is over, and this is its report.
+    /// Do nothing, because the session is over with this report.
     Done(Report),
 }

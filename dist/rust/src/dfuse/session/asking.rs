@@ -1,6 +1,6 @@
 // Of crates/dfuse_host/src/asking.rt, whose contracts are taken away.
 
-//! The action of each step, in the form that the caller gets.
+//! Actions of a session: the setup and body of each request, and the length of each wait.
 
 use crate::dfuse::session::action::Action;
 use crate::dfuse::session::command::Command;
@@ -20,7 +20,7 @@ fn setup_of(request: Request) -> [u8; 8] {
     }
 }
 
-/// Returns the action that sends `request`, which must be one of the seven requests of DFU, without a body.
+/// Returns the action that sends `request`, one of the seven requests of DFU, without a body.
 fn ask<'f>(request: Request) -> Action<'f> {
     Action::Send {
         setup: setup_of(request),
@@ -28,7 +28,7 @@ fn ask<'f>(request: Request) -> Action<'f> {
     }
 }
 
-/// Returns the action that sends command `number` with address `at`.
+/// Returns the action that sends the command with this number for address `at`.
 fn address_command<'f>(number: u8, at: u64) -> Action<'f> {
     let [a, b, c, d] = ((at % 0x1_0000_0000) as u32).to_le_bytes();
     Action::Command {
@@ -40,7 +40,7 @@ fn address_command<'f>(number: u8, at: u64) -> Action<'f> {
     }
 }
 
-/// Returns the action that sends `body` by a DNLOAD, for the address to which the pointer was set.
+/// Returns the action that sends `body` with a DNLOAD of block 2, which writes it at the address in the pointer.
 fn download(body: &[u8]) -> Action<'_> {
     let length = body.len() as u16;
     Action::Send {
@@ -49,7 +49,7 @@ fn download(body: &[u8]) -> Action<'_> {
     }
 }
 
-/// Returns the address that `work` has reached; 0 for Leave.
+/// Returns the address that `work` has reached. It is the page's address for `EraseAgain`, and 0 for `Leave`.
 pub(crate) fn stands_at(work: Work) -> u64 {
     match work {
         Work::EraseAgain { page, .. } => page,
@@ -62,7 +62,7 @@ pub(crate) fn stands_at(work: Work) -> u64 {
     }
 }
 
-/// Returns the address to which the pointer was set for reading at `place`; `at` if `place` isn't reading.
+/// Returns the address to which the pointer was set for reading, or `at` if the session isn't reading.
 fn reading_base_of(place: Place, at: u64) -> u64 {
     match place {
         Place::Reading(pointer) => pointer,
@@ -71,8 +71,8 @@ fn reading_base_of(place: Place, at: u64) -> u64 {
 }
 
 impl<'f> Plan<'f> {
-    /// Returns the bytes of the image from address `at` to before `end`, up to the end of the element that has `at`; none if no element has
-    /// it.
+    /// Returns the bytes of the image from `at` up to `end`, but not beyond the end of the element that contains `at`. The slice is empty
+    /// if no element contains `at`.
     fn bytes_in(&self, at: u64, end: u64) -> &'f [u8] {
         let Some(element) = element_at(at, self.image) else {
             return &[];
@@ -84,13 +84,14 @@ impl<'f> Plan<'f> {
         bytes
     }
 
-    /// Returns the bytes of the image that one UPLOAD for `work` reads, from the address that the work has reached.
+    /// Returns the bytes of the image that one UPLOAD of `work` reads, beginning at the address that the work has reached.
     pub(crate) fn read_bytes(&self, work: Work) -> &'f [u8] {
         let at = stands_at(work);
         self.bytes_in(at, self.read_end(at, self.end_of_work(work)))
     }
 
-    /// Returns the number of the UPLOAD block that has address `at`, if the device reads at `place`.
+    /// Returns the number of the UPLOAD block that begins at address `at`. Block 2 begins at the address in the pointer, which `place`
+    /// contains while the session is reading.
     fn upload_block(&self, place: Place, at: u64) -> u16 {
         (at.saturating_sub(reading_base_of(place, at)) / self.block_size() % 65534 + 2) as u16
     }
@@ -107,14 +108,14 @@ impl<'f> Plan<'f> {
         }
     }
 
-    /// Returns the UPLOAD at `place` of the bytes that `work` reads back next.
+    /// Returns the UPLOAD that requests the bytes that `work` reads back next.
     fn upload(&self, work: Work, place: Place) -> Action<'f> {
         let block = self.upload_block(place, stands_at(work));
         let length = self.read_bytes(work).len() as u16;
         ask(Request::Upload { block, length })
     }
 
-    /// Returns the action of `step`, in `work` at `place`.
+    /// Returns the action of `step` in `work`, where `place` is the session's knowledge of the address pointer.
     fn action_of(&self, work: Work, place: Place, step: Step) -> Action<'f> {
         match step {
             Step::Abort | Step::BeginReading | Step::EndReading => ask(Request::Abort),

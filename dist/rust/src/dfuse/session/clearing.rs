@@ -1,6 +1,6 @@
 // Of crates/dfuse_host/src/clearing.rt, whose contracts are taken away.
 
-//! Clearing: commands of an earlier session are dropped, or waited for, but never started.
+//! Clearing: the session drops or waits for a command of an earlier session, but never starts it.
 
 use crate::dfuse::session::command::cleared;
 use crate::dfuse::session::heard::Heard;
@@ -13,10 +13,11 @@ use crate::dfuse::session::step::Step;
 use crate::dfuse::session::work::Work;
 use crate::wire::{Code, State, Status};
 
-/// Milliseconds to wait for a status that was asked for too early.
+/// Milliseconds to wait if the session requested the status too early.
 pub(crate) const TOO_EARLY_MS: u32 = 100;
 
-/// Returns the phase after dfuERROR with `code` while `work` reads bytes back.
+/// Returns the phase after dfuERROR with `code` while `work` reads bytes back. `errSTALLEDPKT` reports an unexpected request, not a fault
+/// of the memory.
 fn phase_after_comparing_fault(work: Work, code: Code) -> Phase {
     match code {
         Code::StalledPkt => stand(work, Place::Lost, Step::ClearStatus),
@@ -24,7 +25,7 @@ fn phase_after_comparing_fault(work: Work, code: Code) -> Phase {
     }
 }
 
-/// Returns the phase after dfuERROR with `code` while the device is cleared.
+/// Returns the phase after dfuERROR with `code` while the session clears the device.
 fn phase_after_fault(work: Work, code: Code) -> Phase {
     match (work, code) {
         (Work::Erase { .. }, _) => stand(work, Place::Lost, Step::ClearStatus),
@@ -36,7 +37,7 @@ fn phase_after_fault(work: Work, code: Code) -> Phase {
     }
 }
 
-/// Returns the phase after `status` while the device is cleared.
+/// Returns the phase after `status` while the session clears the device.
 fn status_found(work: Work, status: &Status) -> Phase {
     match status.state() {
         State::AppIdle | State::AppDetach => Phase::Over(Report::NotDfu),
@@ -47,7 +48,7 @@ fn status_found(work: Work, status: &Status) -> Phase {
     }
 }
 
-/// Returns the phase after ABORT with the result `heard`, while the device is cleared.
+/// Returns the phase after ABORT with the result `heard`, while the session clears the device.
 pub(crate) fn on_abort(work: Work, heard: &Heard) -> Phase {
     match heard {
         Heard::Acked | Heard::Stalled => stand(work, Place::Lost, Step::AskState),
@@ -55,7 +56,7 @@ pub(crate) fn on_abort(work: Work, heard: &Heard) -> Phase {
     }
 }
 
-/// Returns the phase after GETSTATUS with the result `heard`, while the device is cleared.
+/// Returns the phase after GETSTATUS with the result `heard`, while the session clears the device.
 pub(crate) fn on_ask_status(work: Work, heard: &Heard) -> Phase {
     match heard {
         Heard::Told(status) => status_found(work, status),
@@ -64,7 +65,7 @@ pub(crate) fn on_ask_status(work: Work, heard: &Heard) -> Phase {
     }
 }
 
-/// Returns the phase after a wait of `ms` milliseconds with the result `heard`, while the device is cleared.
+/// Returns the phase after a wait of `ms` milliseconds with the result `heard`, while the session clears the device.
 pub(crate) fn on_clear_wait(work: Work, ms: u32, heard: &Heard) -> Phase {
     match heard {
         Heard::Waited => stand(work, Place::Lost, Step::AskState),
@@ -86,7 +87,7 @@ impl Plan<'_> {
         }
     }
 
-    /// Returns the phase after GETSTATE with the result `heard`, while the device is cleared.
+    /// Returns the phase after GETSTATE with the result `heard`, while the session clears the device.
     pub(crate) fn on_ask_state(&self, work: Work, heard: &Heard) -> Phase {
         match heard {
             Heard::StateIs(state) => self.state_found(work, *state),

@@ -1,6 +1,6 @@
 // Of crates/dfuse_host/src/closing.rt, whose contracts are taken away.
 
-//! Leaving: the device is asked to start its application.
+//! Leaving: the leave request, a DNLOAD without bytes, makes the device start its application.
 
 use crate::dfuse::session::command::cleared;
 use crate::dfuse::session::heard::Heard;
@@ -12,7 +12,7 @@ use crate::dfuse::session::step::Step;
 use crate::dfuse::session::work::Work;
 use crate::wire::{Code, State};
 
-/// Returns the phase after the DNLOAD of no bytes, which asks the device to leave.
+/// Returns the phase after the leave request, with the result `heard`.
 pub(crate) fn on_close(work: Work, place: Place, heard: &Heard) -> Phase {
     match heard {
         Heard::Acked => stand(work, place, Step::ClosePoll),
@@ -20,7 +20,7 @@ pub(crate) fn on_close(work: Work, place: Place, heard: &Heard) -> Phase {
     }
 }
 
-/// Returns the phase after `state` of a device that didn't acknowledge the DNLOAD of no bytes.
+/// Returns the phase after an unacknowledged leave request, if GETSTATE then returned `state`.
 fn close_probed(work: Work, place: Place, state: State) -> Phase {
     match state {
         State::DfuIdle | State::DownloadIdle => stand(work, place, Step::Close),
@@ -29,7 +29,7 @@ fn close_probed(work: Work, place: Place, state: State) -> Phase {
     }
 }
 
-/// Returns the phase after GETSTATE, which asks if the DNLOAD of no bytes arrived.
+/// Returns the phase after GETSTATE, with which the session finds out if the leave request arrived.
 pub(crate) fn on_close_probe(work: Work, place: Place, heard: &Heard) -> Phase {
     match heard {
         Heard::StateIs(state) => close_probed(work, place, *state),
@@ -38,7 +38,7 @@ pub(crate) fn on_close_probe(work: Work, place: Place, heard: &Heard) -> Phase {
     }
 }
 
-/// Returns the phase after a status with `code` and `state` of a device that was asked to leave.
+/// Returns the phase after a leave request, if GETSTATUS then returned `code` and `state`.
 fn close_polled(work: Work, place: Place, code: Code, state: State) -> Phase {
     match (code, state) {
         (_, State::DfuIdle | State::DownloadIdle) => stand(work, place, Step::Close),
@@ -50,7 +50,7 @@ fn close_polled(work: Work, place: Place, code: Code, state: State) -> Phase {
     }
 }
 
-/// Returns the phase after GETSTATUS, which asks if the device leaves.
+/// Returns the phase after GETSTATUS, with which the session finds out if the device leaves.
 pub(crate) fn on_close_poll(work: Work, place: Place, heard: &Heard) -> Phase {
     match heard {
         Heard::Told(status) => close_polled(work, place, status.code(), status.state()),

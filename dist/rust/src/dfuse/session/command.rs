@@ -1,6 +1,6 @@
 // Of crates/dfuse_host/src/command.rt, whose contracts are taken away.
 
-//! Commands of DfuSe, and the phases after them.
+//! DfuSe commands, and the phases that follow them.
 
 use crate::dfuse::session::image::image_end;
 use crate::dfuse::session::phase::{Phase, Standing};
@@ -9,18 +9,18 @@ use crate::dfuse::session::plan::Plan;
 use crate::dfuse::session::step::Step;
 use crate::dfuse::session::work::Work;
 
-/// Command that a DNLOAD carries.
+/// DfuSe command, which a session sends with a DNLOAD.
 #[derive(Clone, Copy, Debug, PartialEq, Eq)]
 pub(crate) enum Command {
     /// Set the address pointer.
     SetAddress(u64),
-    /// Erase the page that has the address.
+    /// Erase the page that contains this address.
     ErasePage(u64),
-    /// Write the bytes of the image from this address on, to which the pointer was set.
+    /// Write the bytes of the image from this address on. The pointer must already hold this address.
     Write(u64),
 }
 
-/// Returns the next command to write the bytes at `at`: their write if `place` is At this address, else the setting of the pointer.
+/// Returns the next command for writing the bytes at `at`: `Write` if the pointer was set to `at`, and `SetAddress` otherwise.
 fn command_to_write(place: Place, at: u64) -> Command {
     match place {
         Place::At(pointer) if pointer == at => Command::Write(at),
@@ -28,7 +28,7 @@ fn command_to_write(place: Place, at: u64) -> Command {
     }
 }
 
-/// Returns the phase that clears the device, and then goes on with `work`.
+/// Returns the phase that clears the device before `work` goes on.
 pub(crate) fn cleared(work: Work) -> Phase {
     Phase::On(Standing {
         work,
@@ -38,7 +38,7 @@ pub(crate) fn cleared(work: Work) -> Phase {
 }
 
 impl Plan<'_> {
-    /// Returns the command of `work` at `place`.
+    /// Returns the command of `work`, which depends on the known address in the pointer.
     pub(crate) fn command_of(&self, work: Work, place: Place) -> Command {
         match work {
             Work::Erase { at } => Command::ErasePage(self.page_start(at)),
@@ -49,7 +49,7 @@ impl Plan<'_> {
         }
     }
 
-    /// Returns the address at which `work` ends; 0 for Leave.
+    /// Returns the address at which `work` ends; 0 for `Leave`.
     pub(crate) fn end_of_work(&self, work: Work) -> u64 {
         match work {
             Work::EraseAgain { end, .. } | Work::Write { end, .. } => end,
@@ -59,7 +59,7 @@ impl Plan<'_> {
         }
     }
 
-    /// Returns the phase after the page of `at` was erased for `work`.
+    /// Returns the phase after the page at `at` was erased for `work`.
     fn erased(&self, work: Work, at: u64) -> Phase {
         match work {
             Work::EraseAgain { page, end } => {
@@ -88,7 +88,8 @@ impl Plan<'_> {
         }
     }
 
-    /// Returns the work that repeats a write of `work` that may have stopped halfway; other works stay.
+    /// Returns the work that repeats a write that may have stopped halfway, beginning with an erase of its page. A work that doesn't write
+    /// stays unchanged.
     fn again(&self, work: Work) -> Work {
         match work {
             Work::Write { at, end } => Work::EraseAgain {
@@ -103,7 +104,7 @@ impl Plan<'_> {
         }
     }
 
-    /// Returns the phase after `command`, if it may have been started and its end isn't known.
+    /// Returns the phase after a `command` that may have been started and has an unknown outcome.
     pub(crate) fn phase_when_unsure(&self, work: Work, command: Command) -> Phase {
         match command {
             Command::SetAddress(_) | Command::ErasePage(_) => cleared(work),

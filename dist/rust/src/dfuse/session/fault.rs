@@ -1,26 +1,27 @@
 // Of crates/dfuse_host/src/fault.rt, whose contracts are taken away.
 
-//! Faults for which a plan is refused.
+//! Faults of a plan.
 
 use core::fmt;
 use thiserror::Error;
 
-/// A fault for which a plan is refused before anything is sent. A call returns the first one that holds, in this order.
+/// Fault because of which a session refuses a plan before it sends anything. If a plan has several faults, the first one in this order is
+/// reported.
 #[derive(Clone, Copy, Debug, PartialEq, Eq, Error)]
 pub enum PlanFault {
     /// The transfer size is 0.
     NoTransferSize,
-    /// There is no element, or one without bytes.
+    /// The image has no element, or an element has no bytes.
     EmptyImage,
-    /// An element begins before the one in front of it begins.
+    /// An element begins before the previous one begins.
     NotInOrder,
-    /// An element begins before the one in front of it ends.
+    /// An element begins before the previous one ends.
     Overlapping,
-    /// An address of the image is not on the map.
+    /// The map doesn't contain an address of the image.
     OutsideTheMap,
     /// A page of the image can't be written.
     NotWritable,
-    /// A page of the image can't be erased, as with option bytes.
+    /// A page of the image can't be erased, for example because it holds option bytes.
     NotErasable,
     /// A page of the image can't be read back.
     NotReadable,

@@ -1,6 +1,6 @@
 // Of crates/dfuse_host/src/heard.rt, whose contracts are taken away.
 
-//! Meanings of results for a session.
+//! Meanings of the results that a session receives.
 
 use crate::dfuse::session::plan::Plan;
 use crate::dfuse::session::seen::Seen;
@@ -11,25 +11,25 @@ use crate::wire::{State, Status};
 /// Meaning of the result of an action.
 #[derive(Clone, Copy, Debug, PartialEq, Eq)]
 pub(crate) enum Heard {
-    /// The request was acknowledged.
+    /// The device acknowledged the request.
     Acked,
-    /// GETSTATUS was answered with this status.
+    /// The device answered GETSTATUS with this status.
     Told(Status),
-    /// GETSTATE was answered with this state.
+    /// The device answered GETSTATE with this state.
     StateIs(State),
-    /// The bytes asked for were read back; true if they equal the image's.
+    /// The device answered UPLOAD; true if the bytes equal those of the image.
     Compared(bool),
-    /// The request was stalled.
+    /// The device stalled the request.
     Stalled,
-    /// The request or its answer was lost, or the answer has no meaning.
+    /// The request or its answer was lost, or the answer has no meaning at the step.
     Nothing,
     /// The wait is over.
     Waited,
-    /// The device was restarted.
+    /// The device restarted.
     Restarted,
 }
 
-/// Reads `bytes` as the answer to GETSTATUS; Nothing if they are no status.
+/// Decodes `bytes`, the answer to GETSTATUS. Returns `Nothing` if they don't encode a status.
 fn status_in(bytes: &[u8]) -> Heard {
     match Status::decode(bytes) {
         Ok(status) => Heard::Told(status),
@@ -37,7 +37,7 @@ fn status_in(bytes: &[u8]) -> Heard {
     }
 }
 
-/// Reads `bytes` as the answer to GETSTATE, of one byte; Nothing if they are no state.
+/// Decodes `bytes`, the answer to GETSTATE. Returns `Nothing` if they aren't the single byte of a state.
 fn state_in(bytes: &[u8]) -> Heard {
     match bytes {
         [byte] => match State::from_byte(*byte) {
@@ -48,7 +48,7 @@ fn state_in(bytes: &[u8]) -> Heard {
     }
 }
 
-/// Compares `bytes`, the answer to UPLOAD, with `wanted`; Nothing if the lengths differ.
+/// Compares `bytes`, the answer to UPLOAD, with `wanted`. Returns `Nothing` if the lengths differ.
 fn compared(wanted: &[u8], bytes: &[u8]) -> Heard {
     if bytes.len() == wanted.len() {
         Heard::Compared(bytes == wanted)
@@ -58,7 +58,7 @@ fn compared(wanted: &[u8], bytes: &[u8]) -> Heard {
 }
 
 impl Plan<'_> {
-    /// Returns the meaning of `bytes` as an answer at `step` of `work`; Nothing if the step asks for no bytes.
+    /// Returns the meaning of the answer `bytes` at `step` of `work`. It is `Nothing` if the step's request has no answer.
     fn answer_meaning(&self, work: Work, step: Step, bytes: &[u8]) -> Heard {
         match step {
             Step::AskState | Step::Probe | Step::CloseProbe => state_in(bytes),

@@ -1,6 +1,6 @@
 // Of crates/dfuse_host/src/image.rt, whose contracts are taken away.
 
-//! Bytes of an image, by their addresses.
+//! Bytes of an image and their addresses.
 
 use crate::dfuse::file::Element;
 
@@ -14,7 +14,7 @@ fn holds(at: u64, element: &Element<'_>) -> bool {
     element.address as u64 <= at && at < end_of(element)
 }
 
-/// Returns the first element of `image` that has a byte at address `at`; None if none has.
+/// Returns the first element of `image` that has a byte at address `at`, or None if there is none.
 pub(crate) fn element_at<'f>(at: u64, image: &[Element<'f>]) -> Option<Element<'f>> {
     for element in image {
         if holds(at, element) {
@@ -24,7 +24,8 @@ pub(crate) fn element_at<'f>(at: u64, image: &[Element<'f>]) -> Option<Element<'
     None
 }
 
-/// Returns the first address from `at` on at which `image`, whose elements ascend and have bytes, has a byte; None if there is none.
+/// Returns the first address from `at` on at which `image` has a byte, or None if there is none. The elements must ascend, and none may be
+/// empty.
 pub(crate) fn next_byte(at: u64, image: &[Element<'_>]) -> Option<u64> {
     for element in image {
         if at < end_of(element) {

@@ -7,10 +7,10 @@ use crate::dfuse::session::report::Report;
 use crate::dfuse::session::step::Step;
 use crate::dfuse::session::work::Work;
 
-/// A work of a session, its knowledge of the address pointer, and its next step.
+/// Standing of a session: its work, its knowledge of the address pointer, and its next step.
 #[derive(Clone, Copy, Debug, PartialEq, Eq)]
 pub struct Standing {
-    /// Work under way.
+    /// Work that the session is doing.
     pub work: Work,
     /// Knowledge of the device's address pointer.
     pub place: Place,
@@ -18,11 +18,11 @@ pub struct Standing {
     pub step: Step,
 }
 
-/// A phase of a session.
+/// Phase of a session: it goes on, or it is over.
 #[derive(Clone, Copy, Debug, PartialEq, Eq)]
 pub enum Phase {
-    /// The session goes on.
+    /// The session goes on from this standing.
     On(Standing),
-    /// The session is over.
+    /// The session is over with this report.
     Over(Report),
 }

@@ -2,13 +2,13 @@
 
 //! Knowledge of the device's address pointer.
 
-/// Knowledge of the device's address pointer, once the device is ready for a command.
+/// Knowledge of the device's address pointer when the device is ready for a command.
 #[derive(Clone, Copy, Debug, PartialEq, Eq)]
 pub enum Place {
-    /// Nothing is known of the pointer.
+    /// The address in the pointer isn't known.
     Lost,
     /// The pointer was set to this address.
     At(u64),
-    /// The pointer was set to this address, and the device is ready for UPLOAD, or is uploading.
+    /// The pointer was set to this address, and the device is in dfuIDLE or dfuUPLOAD-IDLE for reading.
     Reading(u64),
 }

@@ -1,6 +1,6 @@
 // Of crates/dfuse_host/src/reading.rt, whose contracts are taken away.
 
-//! Reading the image back.
+//! Reading the image back with UPLOAD.
 
 use crate::dfuse::session::command::cleared;
 use crate::dfuse::session::heard::Heard;
@@ -12,7 +12,7 @@ use crate::dfuse::session::settling::stand;
 use crate::dfuse::session::step::Step;
 use crate::dfuse::session::work::Work;
 
-/// Returns the place after `place` once the device went to dfuIDLE, from which bytes can be read.
+/// Returns `place` after the device went to dfuIDLE for reading.
 fn begun(place: Place) -> Place {
     match place {
         Place::At(pointer) => Place::Reading(pointer),
@@ -20,7 +20,7 @@ fn begun(place: Place) -> Place {
     }
 }
 
-/// Returns the place after `place` once the device left dfuUPLOAD-IDLE.
+/// Returns `place` after the device left dfuUPLOAD-IDLE.
 fn place_after_reading(place: Place) -> Place {
     match place {
         Place::Reading(pointer) => Place::At(pointer),
@@ -28,7 +28,7 @@ fn place_after_reading(place: Place) -> Place {
     }
 }
 
-/// Returns the place after `step`: an ABORT that begins or ends reading keeps the pointer's address, and other steps change nothing.
+/// Returns `place` after `step`. An ABORT that begins or ends reading leaves the pointer at its address, and other steps change nothing.
 fn place_after_step(step: Step, place: Place) -> Place {
     match step {
         Step::BeginReading => begun(place),
@@ -38,7 +38,7 @@ fn place_after_step(step: Step, place: Place) -> Place {
 }
 
 impl Plan<'_> {
-    /// Returns the phase after an ABORT that begins reading or ends it, according to `step`.
+    /// Returns the phase after the ABORT of `step`, which begins or ends reading.
     pub(crate) fn on_reading_abort(
         &self,
         work: Work,
@@ -53,7 +53,7 @@ impl Plan<'_> {
         }
     }
 
-    /// Returns `work` once its next bytes were read back: a comparison goes on behind them, and other works stay.
+    /// Returns `work` after its next bytes were read back. A comparison goes on after these bytes, and other works stay unchanged.
     fn read_on(&self, work: Work) -> Work {
         let end = self.end_of_work(work);
         match work {

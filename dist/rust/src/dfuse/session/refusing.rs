@@ -1,6 +1,6 @@
 // Of crates/dfuse_host/src/refusing.rt, whose contracts are taken away.
 
-//! Refusals of a plan.
+//! Checks of a plan. A session refuses a plan that fails one of them.
 
 use crate::dfuse::session::fault::PlanFault;
 use crate::dfuse::session::image::end_of;
@@ -8,7 +8,7 @@ use crate::dfuse::session::plan::Plan;
 use crate::dfuse::file::Element;
 use crate::dfuse::memory::Access;
 
-/// Returns true if `image` has no element, or an element without bytes.
+/// Returns true if `image` has no element, or if one of its elements has no bytes.
 fn is_empty(image: &[Element<'_>]) -> bool {
     image.len() == 0 || has_empty(image)
 }
@@ -23,7 +23,7 @@ fn has_empty(image: &[Element<'_>]) -> bool {
     false
 }
 
-/// Returns true if no element of `image` begins before the one in front of it begins.
+/// Returns true if no element of `image` begins before the previous one begins.
 fn ascends(image: &[Element<'_>]) -> bool {
     let mut start = 0;
     for element in image {
@@ -35,7 +35,7 @@ fn ascends(image: &[Element<'_>]) -> bool {
     true
 }
 
-/// Returns true if no element of `image` begins before the one in front of it ends.
+/// Returns true if no element of `image` begins before the previous one ends.
 fn are_apart(image: &[Element<'_>]) -> bool {
     let mut end = 0;
     for element in image {
@@ -48,7 +48,7 @@ fn are_apart(image: &[Element<'_>]) -> bool {
 }
 
 impl Plan<'_> {
-    /// Returns true if the pages of the image grant the access `wanted`.
+    /// Returns true if each page of the image grants the access `wanted`.
     fn grants(&self, wanted: Access) -> bool {
         for element in self.image {
             if !self
@@ -61,7 +61,7 @@ impl Plan<'_> {
         true
     }
 
-    /// Checks the plan, and returns its first fault, if it has one.
+    /// Returns the plan's first fault as an error, in the order of `PlanFault`.
     pub(crate) fn check(&self) -> Result<(), PlanFault> {
         let wants = |is_readable: bool, is_erasable: bool, is_writable: bool| Access {
             is_readable,

@@ -4,32 +4,33 @@
 
 use crate::wire::Code;
 
-/// State in which a session left the device: in its application, in upgrade mode, or unknown.
+/// Knowledge about the device at the end of a session: it stayed in upgrade mode, it left this mode, or the session doesn't know. The leave
+/// request is a DNLOAD without bytes.
 #[derive(Clone, Copy, Debug, PartialEq, Eq)]
 pub enum Leaving {
-    /// The device wasn't asked to leave.
+    /// The session didn't reach the leave request.
     Stayed,
-    /// The device said that it leaves.
+    /// The device reported that it leaves.
     Left,
-    /// The device was asked to leave, and its answer isn't known.
+    /// The session reached the leave request, but doesn't know if the device leaves.
     Unknown,
 }
 
 /// Report with which a session ended.
 #[derive(Clone, Copy, Debug, PartialEq, Eq)]
 pub enum Report {
-    /// Each byte of the image was read back, and equals the image's.
+    /// The session read back each byte of the image and found it equal.
     Verified(Leaving),
-    /// A byte that was read back differs from the image's.
+    /// The device returned a byte that differs from the one of the image.
     Different,
-    /// The device refused a command, or failed while bytes were read back, with this code.
+    /// The device refused a command or failed while bytes were read back, and reported this code.
     Refused(Code),
-    /// The device's memory is protected against reading.
+    /// The device reported errVENDOR, which means that its memory is protected against reading.
     ReadProtected,
-    /// No action was left, and not all of the image was compared.
+    /// No action was left before the whole image was compared.
     GaveUp,
     /// The device restarted more often than the limits allow.
     RestartsSpent,
-    /// The device is in its application.
+    /// The device runs its application and isn't in upgrade mode.
     NotDfu,
 }

@@ -1,6 +1,6 @@
 // Of crates/dfuse_host/src/rows.rt, whose contracts are taken away.
 
-//! The table of a session.
+//! The table of a session: the next phase for each step and result.
 
 use crate::dfuse::session::clearing::{on_abort, on_ask_status, on_clear_wait};
 use crate::dfuse::session::closing::{on_close, on_close_poll, on_close_probe};
@@ -14,7 +14,7 @@ use crate::dfuse::session::step::Step;
 use crate::dfuse::session::work::Work;
 
 impl Plan<'_> {
-    /// Returns the phase after the result `heard` in `work`, `place` and `step`.
+    /// Returns the phase after the result `heard` at `step` of `work`, where `place` is the session's knowledge of the address pointer.
     pub(crate) fn row(&self, work: Work, place: Place, step: Step, heard: &Heard) -> Phase {
         match step {
             Step::Abort => on_abort(work, heard),

@@ -1,20 +1,20 @@
 // Of crates/dfuse_host/src/seen.rt, whose contracts are taken away.
 
-//! Results that the caller gives a session.
+//! Results that the caller gives to a session.
 
-/// Result of an action. A result that doesn't fit the action is taken as [`Seen::Nothing`].
+/// Result of an action, as the caller reports it. A result that doesn't fit the action counts as [`Seen::Nothing`].
 #[derive(Clone, Copy, Debug, PartialEq, Eq)]
 pub enum Seen<'s> {
-    /// A request whose answer has no bytes was acknowledged.
+    /// The device acknowledged a request that has no answer.
     Ack,
-    /// A request was answered with these bytes, of any length.
+    /// The device answered a request with these bytes, of any length.
     Bytes(&'s [u8]),
-    /// A request was stalled.
+    /// The device stalled a request.
     Stall,
-    /// A request, or its answer, was lost.
+    /// A request or its answer was lost.
     Nothing,
-    /// The wait that was asked for is over.
+    /// The requested wait is over.
     Waited,
-    /// The device was restarted. This result must come before any later answer.
+    /// The device restarted. The caller must report this before any later answer.
     Restarted,
 }

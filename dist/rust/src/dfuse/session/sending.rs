@@ -1,6 +1,6 @@
 // Of crates/dfuse_host/src/sending.rt, whose contracts are taken away.
 
-//! Commands: a DNLOAD brings the command, and the GETSTATUS after it starts the command.
+//! Commands: a DNLOAD carries the command, and the next GETSTATUS starts it.
 
 use crate::dfuse::session::clearing::TOO_EARLY_MS;
 use crate::dfuse::session::command::cleared;
@@ -30,18 +30,18 @@ pub(crate) fn on_poll_wait(work: Work, place: Place, ms: u32, heard: &Heard) -> 
     }
 }
 
-/// Returns the milliseconds to wait after a stalled GETSTATUS: as many as at the last wait for the command, or 100 if these are 0.
+/// Returns the milliseconds to wait after a stalled GETSTATUS: the length of the last wait for the command, or 100 before any wait.
 fn stalled_ms(last: u32) -> u32 {
     if last == 0 { TOO_EARLY_MS } else { last }
 }
 
 impl Plan<'_> {
-    /// Returns the phase after the command of `work` at `place`, if it may have been started and its end isn't known.
+    /// Returns the phase after the command of `work`, if the command may have been started and has an unknown outcome.
     fn on_unsure_command(&self, work: Work, place: Place) -> Phase {
         self.phase_when_unsure(work, self.command_of(work, place))
     }
 
-    /// Returns the phase after `state` of a device that didn't acknowledge a command.
+    /// Returns the phase after an unacknowledged command, if GETSTATE then returned `state`.
     fn probed(&self, work: Work, place: Place, state: State) -> Phase {
         match state {
             State::DownloadSync => stand(work, place, Step::Poll(0)),
@@ -51,7 +51,7 @@ impl Plan<'_> {
         }
     }
 
-    /// Returns the phase after GETSTATE, which asks if a command arrived.
+    /// Returns the phase after GETSTATE, with which the session finds out if a command arrived.
     pub(crate) fn on_probe(&self, work: Work, place: Place, heard: &Heard) -> Phase {
         match heard {
             Heard::StateIs(state) => self.probed(work, place, *state),
@@ -69,7 +69,7 @@ impl Plan<'_> {
         }
     }
 
-    /// Returns the phase after `status`, asked for after a command.
+    /// Returns the phase after the `status` that follows a command.
     fn on_polled_status(&self, work: Work, place: Place, status: &Status) -> Phase {
         match status.state() {
             State::DownloadSync | State::DownloadBusy => {
@@ -81,7 +81,7 @@ impl Plan<'_> {
         }
     }
 
-    /// Returns the phase after GETSTATUS, which starts a command, or asks if it is done.
+    /// Returns the phase after GETSTATUS, with which the session starts a command or checks if it is done.
     pub(crate) fn on_poll(&self, work: Work, place: Place, last: u32, heard: &Heard) -> Phase {
         match heard {
             Heard::Told(status) => self.on_polled_status(work, place, status),

@@ -15,20 +15,21 @@ use crate::dfuse::session::seen::Seen;
 use crate::dfuse::session::step::Step;
 use crate::dfuse::session::work::Work;
 
-/// A session: its plan, its phase, and the rest of its limits. A session is plain data, which a caller can keep between two calls.
+/// A session of a host with a DfuSe device. It is plain data, which a caller may store between two calls.
 #[derive(Clone, Copy, Debug, PartialEq, Eq)]
 pub struct Session<'f> {
-    /// Image, and the memory for it.
+    /// Image to write, and the memory that receives it.
     pub plan: Plan<'f>,
-    /// Standing of the session, or its report once it is over.
+    /// Standing of the session, or its report when it is over.
     pub phase: Phase,
     /// Number of actions left.
     pub actions: u32,
-    /// Number of further restarts of the device that the session takes.
+    /// Number of restarts of the device that are still allowed.
     pub restarts: u16,
 }
 
-/// Returns the leaving of a session that ends at `step`: Unknown once the device was asked to leave, else Stayed.
+/// Returns the `Leaving` of a session that ends at `step`: `Unknown` if it has reached the leave request (a DNLOAD without bytes), and
+/// `Stayed` otherwise.
 fn left_at(step: Step) -> Leaving {
     match step {
         Step::Close | Step::CloseProbe | Step::ClosePoll => Leaving::Unknown,
@@ -36,7 +37,7 @@ fn left_at(step: Step) -> Leaving {
     }
 }
 
-/// Returns the phase once no action is left, in `work` at `step`.
+/// Returns the phase of a session without actions left: over as `Verified` if its work is `Leave`, and as `GaveUp` otherwise.
 fn phase_without_actions(work: Work, step: Step) -> Phase {
     match work {
         Work::Leave => Phase::Over(Report::Verified(left_at(step))),
@@ -44,7 +45,7 @@ fn phase_without_actions(work: Work, step: Step) -> Phase {
     }
 }
 
-/// Returns the phase after the budget check: with no actions left, a session that isn't over ends.
+/// Returns `phase` if `left` actions are more than 0 or the session is over, and the end of the session otherwise.
 fn budget_phase(left: u32, phase: Phase) -> Phase {
     match phase {
         Phase::Over(_) => phase,
@@ -54,7 +55,7 @@ fn budget_phase(left: u32, phase: Phase) -> Phase {
 }
 
 impl<'f> Session<'f> {
-    /// Returns the session after one action that leads to `phase`, with `restarts` restarts left.
+    /// Returns the session after an action that leads to `phase`, with `restarts` restarts left.
     fn spend_action(self, phase: Phase, restarts: u16) -> Session<'f> {
         let actions = self.actions.saturating_sub(1);
         Session {
@@ -65,7 +66,7 @@ impl<'f> Session<'f> {
         }
     }
 
-    /// Returns the phase in which the session resumes after a restart at `at`.
+    /// Returns the phase in which the session resumes after the device restarted at the standing `at`.
     fn resumed(self, at: Standing) -> Phase {
         match at.step {
             Step::Poll(_) | Step::PollWait(_) => {
@@ -76,7 +77,7 @@ impl<'f> Session<'f> {
         }
     }
 
-    /// Returns the session after a restart at `at`; over as RestartsSpent if no restart is left.
+    /// Returns the session after the device restarted at the standing `at`. It is over as `RestartsSpent` if no restart is left.
     fn take_restart(self, at: Standing) -> Session<'f> {
         if self.restarts == 0 {
             return self.spend_action(Phase::Over(Report::RestartsSpent), 0);
@@ -85,7 +86,8 @@ impl<'f> Session<'f> {
         self.spend_action(phase, self.restarts - 1)
     }
 
-    /// Returns the session after a restart at `at`, once the whole image was compared.
+    /// Returns the session after the device restarted at the standing `at`, whose work is `Leave`. If the session has reached the leave
+    /// request, it is over as `Verified`.
     fn restarted_leaving(self, at: Standing) -> Session<'f> {
         match at.step {
             Step::Close | Step::CloseProbe | Step::ClosePoll => {
@@ -98,7 +100,7 @@ impl<'f> Session<'f> {
         }
     }
 
-    /// Returns the session after a restart of the device at `at`.
+    /// Returns the session after the device restarted at the standing `at`.
     fn restarted(self, at: Standing) -> Session<'f> {
         match at.work {
             Work::Leave => self.restarted_leaving(at),
@@ -106,7 +108,7 @@ impl<'f> Session<'f> {
         }
     }
 
-    /// Returns the session after the result `heard` at `at`.
+    /// Returns the session after the result `heard` at the standing `at`.
     fn after(self, at: Standing, heard: Heard) -> Session<'f> {
         match heard {
             Heard::Restarted => self.restarted(at),
@@ -117,7 +119,8 @@ impl<'f> Session<'f> {
         }
     }
 
-    /// Begins a session that writes an image and reads it back. The front is written last, so that no image starts that is partly old.
+    /// Begins a session that writes an image and reads it back. The session writes the front last, so that a device doesn't start an image
+    /// that is only partly written.
     ///
     /// # Errors
     ///
@@ -141,8 +144,8 @@ impl<'f> Session<'f> {
         self.plan.action(self.phase)
     }
 
-    /// Gives the session the result of its action. With any results, the session is over after at most `actions` calls, or after one if the
-    /// limits have 0. From then on nothing changes.
+    /// Gives the session the result of its action. After `actions` calls, or after one call if the limits allow none, the session is over,
+    /// no matter which results it got. A session that is over never changes.
     pub fn take(&mut self, seen: Seen<'_>) {
         if let Phase::On(at) = self.phase {
             let heard = self.plan.hear(at.work, at.step, seen);

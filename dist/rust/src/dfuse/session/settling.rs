@@ -1,6 +1,6 @@
 // Of crates/dfuse_host/src/settling.rt, whose contracts are taken away.
 
-//! Order of works: the next work once the device is ready for a command.
+//! Order of the works: the next work when the device is ready for a command.
 
 use crate::dfuse::session::image::{element_at, image_end, image_start, next_byte};
 use crate::dfuse::session::phase::{Phase, Standing};
@@ -15,7 +15,7 @@ pub(crate) fn stand(work: Work, place: Place, step: Step) -> Phase {
     Phase::On(Standing { work, place, step })
 }
 
-/// Returns the next step from `place` towards a command.
+/// Returns the next step on the way to a command: `EndReading` if the session is reading, and `Send` otherwise.
 fn sending(place: Place) -> Step {
     match place {
         Place::Lost | Place::At(_) => Step::Send,
@@ -24,7 +24,7 @@ fn sending(place: Place) -> Step {
 }
 
 impl Plan<'_> {
-    /// Returns the address of the image's next byte from `at` on, if it is before `end`; else None.
+    /// Returns the address of the image's next byte from `at` on, or None if it isn't below `end`.
     fn byte_in(&self, at: u64, end: u64) -> Option<u64> {
         match next_byte(at, self.image) {
             Some(byte) if byte < end => Some(byte),
@@ -32,7 +32,8 @@ impl Plan<'_> {
         }
     }
 
-    /// Returns true if an UPLOAD block begins at `at`, in the same element, with the pointer set to `base`.
+    /// Returns true if an UPLOAD block with a number of at most 65,535 begins at `at` when the pointer is set to `base`, and both addresses
+    /// are in the same element.
     fn can_read(&self, base: u64, at: u64) -> bool {
         if at < base {
             return false;
@@ -48,7 +49,8 @@ impl Plan<'_> {
         }
     }
 
-    /// Returns the next step from `place` towards reading back the bytes at `at`.
+    /// Returns the next step on the way to an UPLOAD of the bytes at `at`: the pointer must be set to a suitable address, and the device
+    /// must be ready for reading.
     fn read_step(&self, at: u64, place: Place) -> Step {
         match place {
             Place::Lost => Step::Send,
@@ -97,7 +99,7 @@ impl Plan<'_> {
         }
     }
 
-    /// Returns the phase that writes the image from `at` to before `end`.
+    /// Returns the phase that writes the image from `at` up to `end`.
     pub(crate) fn to_write(&self, place: Place, at: u64, end: u64) -> Phase {
         match self.byte_in(at, end) {
             None => self.to_compare(place, self.front_end()),
@@ -105,7 +107,7 @@ impl Plan<'_> {
         }
     }
 
-    /// Returns the phase that erases pages from `at` on.
+    /// Returns the phase that erases the pages of the image from `at` on.
     pub(crate) fn to_erase(&self, place: Place, at: u64) -> Phase {
         match self.byte_in(at, image_end(self.image)) {
             None => self.to_write(place, self.front_end(), image_end(self.image)),
@@ -113,7 +115,7 @@ impl Plan<'_> {
         }
     }
 
-    /// Returns the next phase of `work` once the device is ready for a command.
+    /// Returns the next phase of `work` when the device is ready for a command.
     pub(crate) fn settle(&self, work: Work, place: Place) -> Phase {
         match work {
             Work::Erase { at } => self.to_erase(place, at),

@@ -1,38 +1,41 @@
 // Of crates/dfuse_host/src/step.rt, whose contracts are taken away.
 
-//! Next step of a work.
+//! Steps of a session's work.
 
-/// Next step of a work. Times are in milliseconds.
+/// Next step of a session's work. Times are in milliseconds.
 #[derive(Clone, Copy, Debug, PartialEq, Eq)]
 pub enum Step {
-    /// Drop with ABORT a command that was sent but not started, for example by an earlier session. GETSTATUS would start it.
+    /// Send ABORT, which drops a command that was sent but not started, for example by an earlier session. GETSTATUS would start the
+    /// command.
     Abort,
-    /// Ask for the device's state with GETSTATE.
+    /// Request the device's state with GETSTATE.
     AskState,
-    /// Ask for the status with GETSTATUS: the state shows an error or a device at work, or GETSTATE was stalled.
+    /// Request the status with GETSTATUS, because the state is dfuERROR, dfuDNBUSY, dfuMANIFEST or dfuMANIFEST-WAIT-RESET, or because
+    /// GETSTATE was stalled.
     AskStatus,
-    /// Wait while the device is cleared: for a command that was left running, or because its status was asked for too early.
+    /// Wait this long while the session clears the device, because the device is busy or the session requested the status too early.
     ClearWait(u32),
-    /// Clear dfuERROR with CLRSTATUS. The error may be an earlier session's.
+    /// Clear dfuERROR with CLRSTATUS. The error may come from an earlier session.
     ClearStatus,
     /// Send the command.
     Send,
-    /// Ask with GETSTATE if the command arrived, because it wasn't acknowledged.
+    /// Request the state with GETSTATE to find out if the command arrived, because the device didn't acknowledge it.
     Probe,
-    /// Start the command with GETSTATUS, or ask if it is done. The last wait for the command had this length; 0 before any wait.
+    /// Request the status with GETSTATUS, which starts the command and later reports if it is done. The number is the length of the last
+    /// wait for the command, and 0 before any wait.
     Poll(u32),
-    /// Wait, because the command isn't done yet, then ask again.
+    /// Wait this long because the command isn't done yet, and then poll again.
     PollWait(u32),
-    /// Go with ABORT from dfuDNLOAD-IDLE to dfuIDLE, where the device accepts UPLOAD.
+    /// Go from dfuDNLOAD-IDLE to dfuIDLE with ABORT, because the device accepts no UPLOAD in dfuDNLOAD-IDLE.
     BeginReading,
-    /// Go with ABORT from dfuUPLOAD-IDLE to dfuIDLE, where the device accepts DNLOAD.
+    /// Go from dfuUPLOAD-IDLE to dfuIDLE with ABORT, because the device accepts no DNLOAD in dfuUPLOAD-IDLE.
     EndReading,
     /// Read bytes of the image back with UPLOAD.
     Read,
-    /// Ask the device to leave, with a DNLOAD of no bytes.
+    /// Send the leave request, a DNLOAD without bytes.
     Close,
-    /// Ask with GETSTATE if the DNLOAD of no bytes arrived, because it wasn't acknowledged.
+    /// Request the state with GETSTATE to find out if the leave request arrived, because the device didn't acknowledge it.
     CloseProbe,
-    /// Ask with GETSTATUS if the device leaves.
+    /// Request the status with GETSTATUS to find out if the device leaves.
     ClosePoll,
 }
