@@ -115,7 +115,7 @@ static inline int32_t dfu_trial_boot_from(const struct dfu_trial *t, const struc
 static inline int32_t dfu_trial_transfer(const struct dfu_trial *t, struct dfu_device *d, const uint8_t setup[8]);
 
 /** @brief Confirms the caller's own image, whose first byte is flash[at], through the driver, and reads the confirmation back.
- * @return 0: the image is confirmed; DFU_NOT_WRITTEN: it is not, and the trial continues; DFU_ELSEWHERE; DFU_WRITE_PENDING: an operation is
+ * @return 0: the image is confirmed; DFU_NOT_WRITTEN: it is not, and a trial continues; DFU_ELSEWHERE; DFU_WRITE_PENDING: an operation is
  *         pending, and there is no driver; the refusals of dfu_trial_look */
 static inline int32_t dfu_trial_accept(const struct dfu_trial *t, uint32_t at);
 

@@ -79,9 +79,9 @@ static bool is_odd(int32_t refusal)
            || refusal == DFU_BAD_DESCRIPTOR;
 }
 
-/* In run-time mode the functional descriptor is used only to bring the device to DFU mode. There the descriptor for the transfers is read,
- * although by USB DFU 1.1, section 4.2.4, both are the same. If the descriptor of run-time mode is unusable, a substitute replaces it, and
- * session.c makes sure that no block is sent with the block size of the substitute. */
+/* The functional descriptor of run-time mode decides whether the session may begin, and how DETACH brings the device to DFU mode. The
+ * descriptor of DFU mode is read later, and decides the transfers, although by USB DFU 1.1, section 4.2.4, both are the same. If that of
+ * run-time mode is unusable, a substitute replaces it, and session.c makes sure that no block has the block size of the substitute. */
 static int32_t begin_by_another(struct session *session, int32_t refusal)
 {
     static const uint8_t another[FUNCTIONAL_BYTES] = {
